@@ -15,7 +15,7 @@ use Rattle.elfobj_file.specs.Spans.{IsInside, bytes_at}
 use Rattle.elfobj_file.specs.SymbolEntries.{symbol_entries_below, symbol_entry_at}
 use Rattle.elfobj_file.specs.Symbols.{entries_of, is_symbol_table, named_symbol, null_symbol, symbol_name, symbol_of}
 use Rattle.elfobj_file.specs.Symbols.{symbol_table, symbols_from}
-use Rattle.elfobj_file.specs.Tables.{has_misplaced_entry, has_wrong_header, is_local, is_wrong_symbol}
+use Rattle.elfobj_file.specs.Tables.{has_misplaced_entry, has_wrong_header, is_local_entry, is_wrong_symbol}
 use Rattle.elfobj_file.specs.declared.section_header.SectionHeader.{SectionHeader}
 use Rattle.elfobj_file.specs.declared.span.Span.{Span}
 use Rattle.elfobj_file.specs.declared.symbol.Symbol.{Symbol}
@@ -85,7 +85,7 @@ all_by p (x ∷ xs) h = and_from _ _ (h 0 x (omega arith)) (all_by p xs (λ k d 
 
 pub placed_all : (bytes : List ℕ) (t : SectionHeader) (n : ℕ) → t.sh_size / 24 ≤ n → 1 ≤ t.sh_info
     → t.sh_info ≤ t.sh_size / 24
-    → ((j : ℕ) → 1 ≤ j → j < n → is_local (symbol_entry_at bytes (t.sh_offset + 24 * j)) ≡ nat_lt j t.sh_info)
+    → ((j : ℕ) → 1 ≤ j → j < n → is_local_entry (symbol_entry_at bytes (t.sh_offset + 24 * j)) ≡ nat_lt j t.sh_info)
     → has_misplaced_entry t (entries_of bytes t) ≡ false
 placed_all bytes t n l low m h =
     let es = entries_of bytes t in
@@ -93,14 +93,14 @@ placed_all bytes t n l low m h =
     let long' = length-drop 1 es in
     let long'' = length-drop t.sh_info es in
     or_from _ _
-    (ap not (all_by is_local (slice_range es 1 t.sh_info) (λ k d a.
+    (ap not (all_by is_local_entry (slice_range es 1 t.sh_info) (λ k d a.
     let short = length-take-le (t.sh_info - 1) (drop 1 es) (omega arith) in
     let b : k < t.sh_info - 1 = omega arith in
-    ap is_local (get_or-take (t.sh_info - 1) (drop 1 es) k d b ∙ get_or-drop 1 es k d
+    ap is_local_entry (get_or-take (t.sh_info - 1) (drop 1 es) k d b ∙ get_or-drop 1 es k d
     ∙ entry_at bytes t.sh_offset (t.sh_size / 24) (1 + k) d (omega arith))
     ∙ h (1 + k) (omega arith) (omega arith) ∙ lt-ltb (1 + k) t.sh_info (omega arith))))
-    (list_any_none is_local (drop t.sh_info es) (λ k d a.
-    ap is_local (get_or-drop t.sh_info es k d
+    (list_any_none is_local_entry (drop t.sh_info es) (λ k d a.
+    ap is_local_entry (get_or-drop t.sh_info es k d
     ∙ entry_at bytes t.sh_offset (t.sh_size / 24) (t.sh_info + k) d (omega arith))
     ∙ h (t.sh_info + k) (omega arith) (omega arith) ∙ le-ltb (t.sh_info + k) t.sh_info (omega arith)))
 

@@ -14,7 +14,7 @@ use Rattle.elfobj_file.specs.SymbolEntries.{st_bind}
 use Rattle.elfobj_file.specs.Symbols.{NamedSymbol, entries_of, named_symbol, null_symbol, strings_of, symbol_of}
 use Rattle.elfobj_file.specs.Symbols.{symbol_table, symbols_from, symbols_in, symbols_of}
 use Rattle.elfobj_file.specs.SymbolKinds.{binding_of}
-use Rattle.elfobj_file.specs.Tables.{has_wrong_entry, has_wrong_symbol, is_local, is_not_local, is_wrong_common}
+use Rattle.elfobj_file.specs.Tables.{has_wrong_entry, has_wrong_symbol, is_local_entry, is_not_local, is_wrong_common}
 use Rattle.elfobj_file.specs.Tables.{is_wrong_non_local, is_wrong_symbol}
 use Rattle.elfobj_file.specs.declared.section_header.SectionHeader.{SectionHeader}
 use Rattle.elfobj_file.specs.declared.symbol.Binding.TheVariants.{Local, Global, Weak}
@@ -33,7 +33,7 @@ name_at : (l g : Bool) (o : Option (List ℕ)) → (l ≡ false → option_map_o
 name_at true g o h = refl
 name_at false g o h = strict_name g (unwrap_or o []) (name_told o (h refl))
 
-name_right : (strings : List ℕ) (e : SymbolEntry) → is_wrong_non_local strings e ≡ false → is_local e ≡ false
+name_right : (strings : List ℕ) (e : SymbolEntry) → is_wrong_non_local strings e ≡ false → is_local_entry e ≡ false
     → option_map_or is_name (string_at strings e.st_name) false ≡ true
 name_right strings e h l = ⊎_elim
     (λ a. absurd (false≢true (sym a ∙ ap not l)))

@@ -13,7 +13,7 @@ ghost use Rattle.elfobj.specs.Linkable.{IsNameTable, PassesTests};
 ghost use Rattle.elfobj_file.specs.Symbols.{entries_of, is_symbol_table, symbol_name, symbol_table, symbols_from};
 ghost use Rattle.elfobj_file.specs.Symbols.{symbols_of};
 ghost use Rattle.elfobj_file.specs.TableOf.{table_of};
-ghost use Rattle.elfobj_file.specs.Tables.{has_misplaced_entry, has_wrong_header, is_local, is_string_table};
+ghost use Rattle.elfobj_file.specs.Tables.{has_misplaced_entry, has_wrong_header, is_local_entry, is_string_table};
 ghost use Rattle.elfobj_file.specs.Tables.{is_wrong_non_local, is_wrong_symbol};
 ghost use Rattle.elfobj_file.specs.declared.refusal.ObjectRefusal.TheVariants.{NoMemory};
 
@@ -84,13 +84,13 @@ fn read_entries(
 }
 
 fn are_all_local(entries: &[SymbolEntry]) -> bool
-    ensures { result ≡ list_all is_local entries.now }
+    ensures { result ≡ list_all is_local_entry entries.now }
 {
     entries.iter().all(|e| e.is_local())
 }
 
 fn is_any_local(entries: &[SymbolEntry]) -> bool
-    ensures { result ≡ list_any is_local entries.now }
+    ensures { result ≡ list_any is_local_entry entries.now }
 {
     entries.iter().any(|e| e.is_local())
 }

@@ -47,27 +47,46 @@ is_outside_profile_by table h =
 abbrev pub is_outside_profile : List ℕ → SectionHeader → Bool
 is_outside_profile bytes h = is_outside_profile_by (name_table bytes) h
 
--- the condition of each refusal
+-- the condition of each refusal, and above it what bytes have that are not refused so
 unfoldable pub holds : List ℕ → ObjectRefusal → Bool
+-- the 64 bytes of an ELF header
 holds bytes Short = nat_lt (length bytes) 64
+-- the magic number
 holds bytes NotElf = not ((e_ident bytes 0 == 0x7F) && (e_ident bytes 1 == 0x45) && (e_ident bytes 2 == 0x4C)
     && (e_ident bytes 3 == 0x46))
+-- 64 bits, little-endian, version 1; relocatable, x86-64, version 1
 holds bytes Machine =
     not ((e_ident bytes 4 == ELFCLASS64) && (e_ident bytes 5 == ELFDATA2LSB) && (e_ident bytes 6 == EV_CURRENT)
     && (e_type bytes == ET_REL) && (e_machine bytes == EM_X86_64) && (e_version bytes == EV_CURRENT))
+-- section headers of 64 bytes, all of them in the file
 holds bytes SectionTable = not (e_shentsize bytes == 64) || nat_lt (length bytes) (e_shoff bytes + 64 * e_shnum bytes)
+-- 1 to 65,279 section headers, and that of the table of names is one of them
 holds bytes SectionCount = (e_shnum bytes == 0) || nat_lt MAX_SECTION_HEADERS (e_shnum bytes)
     || nat_le (e_shnum bytes) (e_shstrndx bytes)
+-- a string table as table of names; and each section, if not of type NULL, has its bytes in the file, where it has any
+-- there, 2^31 bytes at most, and the alignment 0 or a power of two
 holds bytes SectionBounds =
     not ((header bytes (e_shstrndx bytes)).sh_type == SHT_STRTAB)
     || list_any (is_out_of_bounds (length bytes)) (headers bytes)
+-- each allocated section has a type that is linked, no flags but those of the profile, and a name within the limits
 holds bytes SectionProfile = list_any (is_outside_profile bytes) (headers bytes)
+-- one symbol table at most: whole entries of 24 bytes, one or more, with a string table, and from entry 1 on first all
+-- that are local, up to sh_info, and then all others
 holds bytes SymbolTable = has_wrong_symbol_table bytes
+-- each symbol from entry 1 on is local, global or weak, of type 0 to 5, and UNDEF, ABS, COMMON or in a section of the
+-- file. A local one is neither UNDEF nor COMMON; any other has a name within the limits, and is of neither type SECTION
+-- nor FILE; a common one is global, has a power of two as its alignment, and 2^31 bytes at most
 holds bytes Symbol = has_wrong_symbol bytes
+-- each relocation section is for a section of the file; and for a linked section there is one at most: RELA, whole
+-- entries of 24 bytes, with the symbol table of the object, whose symbols they name
 holds bytes RelocationSection = has_wrong_relocation_section bytes
+-- each relocation of a linked section is of a type of the profile
 holds bytes RelocationType = has_wrong_type bytes
+-- its field ends in its section, which has bytes in the file
 holds bytes FieldBounds = has_wrong_bounds bytes
+-- and shares no byte with another field
 holds bytes FieldOverlap = has_overlap bytes
+-- no bytes are refused so: memory has run out
 holds bytes NoMemory = false
 
 -- those that the ELF header alone gives

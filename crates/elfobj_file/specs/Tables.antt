@@ -39,16 +39,17 @@ has_wrong_header all table =
     (not (table.sh_entsize == 24)) || (table.sh_size == 0) || (not (table.sh_size % 24 == 0))
     || (not (is_string_table all table.sh_link)) || (table.sh_info == 0) || nat_lt (table.sh_size / 24) table.sh_info
 
-abbrev pub is_local : SymbolEntry → Bool
-is_local e = st_bind e == STB_LOCAL
+abbrev pub is_local_entry : SymbolEntry → Bool
+is_local_entry e = st_bind e == STB_LOCAL
 
 abbrev pub is_not_local : SymbolEntry → Bool
-is_not_local e = not (is_local e)
+is_not_local e = not (is_local_entry e)
 
 -- of the entries from 1 on, one below sh_info is not local, or one from sh_info on is
 abbrev pub has_misplaced_entry : SectionHeader → List SymbolEntry → Bool
 has_misplaced_entry table entries =
-    (not (list_all is_local (slice_range entries 1 table.sh_info))) || list_any is_local (drop table.sh_info entries)
+    (not (list_all is_local_entry (slice_range entries 1 table.sh_info)))
+    || list_any is_local_entry (drop table.sh_info entries)
 
 abbrev pub is_wrong_symbol_table : List ℕ → SectionHeader → Bool
 is_wrong_symbol_table bytes table =
@@ -65,7 +66,7 @@ is_nowhere n e = (not (nat_lt e.st_shndx n)) && (not (e.st_shndx == SHN_ABS)) &&
 
 -- a local symbol at UNDEF or COMMON
 abbrev pub is_wrong_local : SymbolEntry → Bool
-is_wrong_local e = is_local e && ((e.st_shndx == SHN_UNDEF) || (e.st_shndx == SHN_COMMON))
+is_wrong_local e = is_local_entry e && ((e.st_shndx == SHN_UNDEF) || (e.st_shndx == SHN_COMMON))
 
 -- a symbol that isn't local: of type section or file, or with a name without an end in the string table or outside the
 -- limits

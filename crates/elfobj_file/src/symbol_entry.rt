@@ -38,8 +38,8 @@ impl SymbolEntry {
     ghost use Rattle.elfobj_file.specs.SectionHeaders.{file_bytes};
     ghost use Rattle.elfobj_file.specs.Spans.{IsInside, bytes_at};
     ghost use Rattle.elfobj_file.specs.TableOf.{table_of};
-    ghost use Rattle.elfobj_file.specs.Tables.{is_local, is_nowhere, is_wrong_local, is_wrong_non_local, is_wrong_common};
-    ghost use Rattle.elfobj_file.specs.Tables.{is_wrong_symbol};
+    ghost use Rattle.elfobj_file.specs.Tables.{is_local_entry, is_nowhere, is_wrong_local, is_wrong_non_local};
+    ghost use Rattle.elfobj_file.specs.Tables.{is_wrong_common, is_wrong_symbol};
 
     /// `ELF64_ST_BIND` of `st_info`.
     pub fn bind(&self) -> u8
@@ -57,7 +57,7 @@ impl SymbolEntry {
 
     /// Whether only its own object sees the symbol.
     pub fn is_local(&self) -> bool
-        ensures { result ≡ is_local self.now }
+        ensures { result ≡ is_local_entry self.now }
     {
         self.bind() == STB_LOCAL
     }

@@ -9,10 +9,9 @@ use Rattle.ldscript.specs.statements.declared.statement.Statement.{Statement}
 use Rattle.ldmodel_laws.specs.Traces.{BodyEffect, dot_noted, inputs_counted, symbol_given, dot_moved, entry_placed}
 use Rattle.ldmodel_laws.specs.Traces.{data_added, BodyEffects, no_effect, effect_then, AddsSection, Trace, all_added}
 use Rattle.ldmodel_laws.specs.Traces.{nothing_added, region_added, section_added}
-use Rattle.ldmodel.specs.Body.{Body}
+use Rattle.ldmodel.specs.Placement.{Body}
 use Rattle.ldmodel.specs.Layout.{Layout, PlacedPiece, PlacedSection, nothing_placed}
-use Rattle.ldmodel.specs.Placement.{opened}
-use Rattle.ldmodel.specs.SectionEnd.{placed_section}
+use Rattle.ldmodel.specs.Placement.{opened, placed_section}
 
 -- an input section ends at an address
 abbrev pub EndsBelow : PlacedPiece → Type 0

@@ -7,7 +7,7 @@ use Rattle.ldscript.specs.statements.declared.statement.Region.{Region}
 use Rattle.ldscript.specs.statements.declared.statement.Statement.{Statement}
 use Rattle.ldmodel_laws.specs.Traces.{AddsSection, Trace, all_added, nothing_added, region_added, section_added}
 use Rattle.ldmodel.specs.Layout.{Layout, PlacedSection, nothing_placed}
-use Rattle.ldmodel.specs.SectionEnd.{placed_section}
+use Rattle.ldmodel.specs.Placement.{placed_section}
 
 -- the fills of the output sections so far
 abbrev fills : Layout → List (Option (List ℕ))

@@ -16,11 +16,11 @@ use Rattle.emit_image.specs.declared.section.ImageSection.{ImageSection}
 use Rattle.ldmodel_laws.specs.ImageBytes.{AreNamed}
 use Rattle.place.proofs.Walking.{in_file_are}
 use Rattle.place.specs.Offsets.{IsOffset}
-use Rattle.ldmodel.specs.FileLayout.{IsFileLayout}
+use Rattle.ldmodel_laws.specs.FileLayout.{IsFileLayout}
 use Rattle.ldmodel.specs.Layout.{Layout, PlacedSection}
 use Rattle.ldmodel.specs.Lent.{placed_of}
 use Rattle.ldmodel.specs.Project.{Project}
-use Rattle.ldmodel.specs.Segments.{SectionInFile, has_file_bytes, nonempty, segments}
+use Rattle.ldmodel.specs.Segments.{SectionInFile, nonempty, segments}
 use Rattle.ldmodel.specs.declared.laid.Placed.{Placed}
 use Rattle.ldmodel.specs.declared.laid.PlacedData.{PlacedData}
 use Rattle.ldmodel.specs.declared.sections.SectionKey.{SectionKey}
@@ -100,7 +100,7 @@ module _ (p : Project) (s : Layout) (stays : SectionKey → Bool) (places : List
 -- ---- output sections with bytes in the file
 
 abbrev loads : SectionInFile → Bool
-loads x = has_file_bytes x.section
+loads x = x.section.has_file_bytes
 
 with_append : (s : Layout) (qs rs : List PlacedSection) → with_bytes s (qs ++ rs) ≡ with_bytes s qs ++ with_bytes s rs
 with_append s qs rs =
@@ -109,27 +109,23 @@ with_append s qs rs =
     ∙ filter-append loads (map (in_file_at s) (nonempty qs)) (map (in_file_at s) (nonempty rs))
 
 abbrev one_of : Layout → PlacedSection → Bool → Bool → List SectionInFile
-one_of s q empty unloaded =
-    cond empty [] (cond unloaded [] (in_file_at s q ∷ []))
+one_of s q empty loaded =
+    cond empty [] (cond loaded (in_file_at s q ∷ []) [])
 
-with_one : (s : Layout) (q : PlacedSection) → with_bytes s (q ∷ []) ≡ one_of s q (q.size == 0) (q.load_size == 0)
+with_one : (s : Layout) (q : PlacedSection) → with_bytes s (q ∷ []) ≡ one_of s q (q.size == 0) q.has_file_bytes
 with_one s q = go (q.size == 0)
   where
-    inner : (c : Bool) → cond (not c) (in_file_at s q ∷ []) [] ≡ cond c [] (in_file_at s q ∷ [])
-    inner true = refl
-    inner false = refl
-
     go : (b : Bool) → filter loads (map (in_file_at s) (cond (not b) (q ∷ []) []))
-        ≡ one_of s q b (q.load_size == 0)
+        ≡ one_of s q b q.has_file_bytes
     go true = refl
-    go false = inner (q.load_size == 0)
+    go false = refl
 
 pub drawn_same : (p : Project) (s : Layout) (stays : SectionKey → Bool) (qs : List PlacedSection) (q : PlacedSection)
-    (ys : List ImageSection) (b c : Bool) → (q.size == 0) ≡ b → (q.load_size == 0) ≡ c → one_of s q b c ≡ []
+    (ys : List ImageSection) (b c : Bool) → (q.size == 0) ≡ b → q.has_file_bytes ≡ c → one_of s q b c ≡ []
     → AreDrawnOf p s stays qs ys → AreDrawnOf p s stays (qs ++ q ∷ []) ys
 drawn_same p s stays qs q ys b c e f none h =
     let one : with_bytes s (q ∷ []) ≡ [] =
-    with_one s q ∙ ap (λ t. one_of s q t (q.load_size == 0)) e ∙ ap (one_of s q b) f ∙ none in
+    with_one s q ∙ ap (λ t. one_of s q t q.has_file_bytes) e ∙ ap (one_of s q b) f ∙ none in
     let same = with_append s qs (q ∷ []) ∙ ap (λ l. with_bytes s qs ++ l) one ∙ append-nil (with_bytes s qs) in
     record {
       wholes = h.wholes;
@@ -140,12 +136,12 @@ drawn_same p s stays qs q ys b c e f none h =
     }
 
 pub drawn_more : (p : Project) (s : Layout) (stays : SectionKey → Bool) (qs : List PlacedSection) (q : PlacedSection)
-    (old new : List ImageSection) (y : ImageSection) → (q.size == 0) ≡ false → (q.load_size == 0) ≡ false
+    (old new : List ImageSection) (y : ImageSection) → (q.size == 0) ≡ false → q.has_file_bytes ≡ true
     → IsDrawn p s stays q y → new ≡ old ++ y ∷ []
     → AreDrawnOf p s stays qs old → AreDrawnOf p s stays (qs ++ q ∷ []) new
 drawn_more p s stays qs q old new y e f is pushed h =
     let one : with_bytes s (q ∷ []) ≡ in_file_at s q ∷ [] =
-    with_one s q ∙ ap (λ t. one_of s q t (q.load_size == 0)) e ∙ ap (one_of s q false) f in
+    with_one s q ∙ ap (λ t. one_of s q t q.has_file_bytes) e ∙ ap (one_of s q false) f in
     let more = with_append s qs (q ∷ []) ∙ ap (λ l. with_bytes s qs ++ l) one in
     subst (AreDrawnOf p s stays (qs ++ q ∷ [])) (sym pushed) (record {
       wholes = h.wholes ++ is.whole ∷ [];

@@ -21,7 +21,8 @@ use Rattle.emit_image.specs.Joined.{IsKeptAt, StandFor}
 use Rattle.emit_image.specs.OfLink.{IsImagePiece}
 use Rattle.emit_image.specs.declared.section.ImagePiece.{ImagePiece}
 use Rattle.ldmodel.specs.Edits.{AreNamesDistinct, has_name}
-use Rattle.ldmodel.specs.Image.{object_byte, object_named, part_byte, section_byte, section_numbered}
+use Rattle.ldmodel_laws.specs.ByteCases.{object_byte, part_byte, section_byte}
+use Rattle.ldmodel.specs.Image.{object_named, section_numbered}
 use Rattle.ldmodel.specs.Layout.{Layout, PlacedPiece, PlacedSection}
 use Rattle.ldmodel.specs.NameFaults.{object_name}
 use Rattle.ldmodel.specs.Project.{NamedObject, Project}

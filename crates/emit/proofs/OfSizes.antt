@@ -7,11 +7,11 @@ use Rattle.std.proofs.lemmas.Option.{same_Some}
 use Rattle.elfobj.specs.Sections.{LinkedSection}
 use Rattle.ldmodel_laws.specs.PlacedOnce.{AreNumbered}
 use Rattle.ldmodel.specs.Edits.{AreNamesDistinct}
-use Rattle.ldmodel.specs.FileLayout.{Each}
+use Rattle.ldmodel.specs.Each.{Each}
 use Rattle.ldmodel.specs.Gathering.{candidates}
 use Rattle.ldmodel.specs.Image.{object_named, section_numbered}
 use Rattle.ldmodel.specs.InputSections.{block_at, block_of, common_block, common_blocks, input_sections, is_same_entry}
-use Rattle.ldmodel.specs.InputSections.{linked_section, sections_of}
+use Rattle.ldmodel.specs.InputSections.{linked_input, object_inputs}
 use Rattle.ldmodel.specs.Live.{live}
 use Rattle.ldmodel.specs.NameFaults.{object_name}
 use Rattle.ldmodel.specs.Names.{Common, Decision, Duplicate, Entry, Provided, Script, Strong, Undefined, Weak}
@@ -76,7 +76,7 @@ module _ (p : Project) (distinct : AreNamesDistinct p.objects) (numbered : AreNu
   AlwaysSized s = (n : ℕ) → IsSized p (piece_of n s)
 
   linked_sized : (k i : ℕ) (o : NamedObject) → slice_get p.objects k ≡ Some o → (j : ℕ) (x : LinkedSection)
-      → slice_get o.object.sections j ≡ Some x → AlwaysSized (linked_section i o x)
+      → slice_get o.object.sections j ≡ Some x → AlwaysSized (linked_input i o x)
   linked_sized k i o e j x f n other number y part named found =
       let name : object_name p k ≡ o.name = ap (λ a. option_map_or (λ (z : NamedObject). z.name) a []) e in
       let same : other ≡ o =
@@ -107,11 +107,11 @@ module _ (p : Project) (distinct : AreNamesDistinct p.objects) (numbered : AreNu
   inputs_sized : Each AlwaysSized (input_sections p)
   unfolding input_sections
   inputs_sized =
-      each_flat AlwaysSized (λ (o : ℕ × NamedObject). sections_of p o.0 o.1) (enumerate_from 0 p.objects)
-      (each_where (λ (o : ℕ × NamedObject). Each AlwaysSized (sections_of p o.0 o.1)) (enumerate_from 0 p.objects)
-      (λ k o e. each_join AlwaysSized (map (linked_section o.0 o.1) o.1.object.sections) (common_blocks p o.0 o.1)
-      (each_into_map AlwaysSized (linked_section o.0 o.1) o.1.object.sections
-      (each_where (λ x. AlwaysSized (linked_section o.0 o.1 x)) o.1.object.sections
+      each_flat AlwaysSized (λ (o : ℕ × NamedObject). object_inputs p o.0 o.1) (enumerate_from 0 p.objects)
+      (each_where (λ (o : ℕ × NamedObject). Each AlwaysSized (object_inputs p o.0 o.1)) (enumerate_from 0 p.objects)
+      (λ k o e. each_join AlwaysSized (map (linked_input o.0 o.1) o.1.object.sections) (common_blocks p o.0 o.1)
+      (each_into_map AlwaysSized (linked_input o.0 o.1) o.1.object.sections
+      (each_where (λ x. AlwaysSized (linked_input o.0 o.1 x)) o.1.object.sections
       (λ j x f. linked_sized k o.0 o.1 (enumerated 0 p.objects k o e) j x f)))
       (each_some AlwaysSized (block_at p o.0 o.1)
       (λ x s f. block_sized o.1.name (record { object = o.0; symbol = x.0 }) (decision p x.1.name) s f)

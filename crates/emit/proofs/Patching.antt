@@ -7,7 +7,7 @@ use Rattle.emit_fields.specs.declared.patch.Patch.{Patch}
 use Rattle.emit_image.specs.Kept.{IsSitePatch}
 use Rattle.emit_image.specs.Stretches.{EndsBy}
 use Rattle.ldmodel.specs.Relocations.{Site, site_field}
-use Rattle.ldmodel.specs.Stayed.{GoodLink, LinkedPiece, pieces_in, sites_in, stayed}
+use Rattle.ldmodel.specs.Stayed.{GoodLink, LinkedPiece, link_pieces, sites_in, stayed}
 use Rattle.emit_relocate.specs.Patched.{IsPatchOfSite}
 
 pub each_is : (old new : GoodLink) (qs : List Patch) → All (IsPatchOfSite old new) qs → All (IsSitePatch old new) qs
@@ -26,11 +26,11 @@ each_is old new qs h =
 
 -- they end in the image
 pub each_ends : (old new : GoodLink) (n : ℕ)
-    → ((x : LinkedPiece) → Contains (pieces_in new) x → (i : ℕ) → i < x.range.length → x.range.offset + i < n)
+    → ((x : LinkedPiece) → Contains (link_pieces new) x → (i : ℕ) → i < x.range.length → x.range.offset + i < n)
     → ((x : LinkedPiece) (t : Site) → Contains (sites_in new.project x) t → 0 < width t.relocation.kind)
     → ((x : LinkedPiece) (t : Site) (field : List ℕ) → Contains (sites_in new.project x) t
     → site_field new.project new.layout t ≡ Ok field → length field ≡ width t.relocation.kind)
-    → ((x : LinkedPiece) → Contains (stayed old new) x → Contains (pieces_in new) x) → (qs : List Patch)
+    → ((x : LinkedPiece) → Contains (stayed old new) x → Contains (link_pieces new) x) → (qs : List Patch)
     → All (IsPatchOfSite old new) qs → All (EndsBy n) qs
 each_ends old new n own some wide linked qs h =
     All-weaker (IsPatchOfSite old new) (EndsBy n)

@@ -20,7 +20,7 @@ use Rattle.ldmodel.specs.Edits.{AreNamesDistinct, has_name}
 use Rattle.ldmodel.specs.Gathering.{candidates, is_out}
 use Rattle.ldmodel.specs.Image.{object_named, section_numbered}
 use Rattle.ldmodel.specs.InputSections.{block_at, block_of, common_block, common_blocks, input_sections, is_same_entry}
-use Rattle.ldmodel.specs.InputSections.{linked_section, sections_of}
+use Rattle.ldmodel.specs.InputSections.{linked_input, object_inputs}
 use Rattle.ldmodel.specs.Layout.{Layout, PlacedPiece, PlacedSection}
 use Rattle.ldmodel.specs.Live.{live}
 use Rattle.ldmodel.specs.Names.{Entry, Decision, Strong, Script, Common, Weak, Provided, Undefined, Duplicate, decision}
@@ -99,7 +99,7 @@ module _ (p : Project) (names : AreNamesDistinct p.objects)
   IsSizedPlace x = IsSizedPiece x.piece
 
   section_sized : (i : ℕ) (o : NamedObject) → Contains p.objects o → (z : LinkedSection)
-      → Contains o.object.sections z → IsSized (linked_section i o z)
+      → Contains o.object.sections z → IsSized (linked_input i o z)
   section_sized i o c z d = λ q k y e f same part.
       let is : q ≡ o = one_passes (has_name o.name) p.objects q o (names o.name) e c
       ((bytes_eq-Decides q.name o.name).1 (sym ((bytes_eq-Decides o.name q.name).0 same)))
@@ -128,11 +128,11 @@ module _ (p : Project) (names : AreNamesDistinct p.objects)
   block_sized object e Undefined = tt
   block_sized object e Duplicate = tt
 
-  own_sized : (i : ℕ) (o : NamedObject) → Contains p.objects o → All IsSized (sections_of p i o)
+  own_sized : (i : ℕ) (o : NamedObject) → Contains p.objects o → All IsSized (object_inputs p i o)
   own_sized i o c =
-      All-append IsSized (map (linked_section i o) o.object.sections) (common_blocks p i o)
-      (All-map IsSized (linked_section i o) o.object.sections
-      (All-weaker (Contains o.object.sections) (λ z. IsSized (linked_section i o z)) (λ z d. section_sized i o c z d)
+      All-append IsSized (map (linked_input i o) o.object.sections) (common_blocks p i o)
+      (All-map IsSized (linked_input i o) o.object.sections
+      (All-weaker (Contains o.object.sections) (λ z. IsSized (linked_input i o z)) (λ z d. section_sized i o c z d)
       o.object.sections (All-contains_itself o.object.sections)))
       (all_filter_map IsSized (block_at p i o) (enumerate_from 0 o.object.symbols)
       (λ e. block_sized o.name (record { object = i; symbol = e.0 }) (decision p e.1.name)))
@@ -140,9 +140,9 @@ module _ (p : Project) (names : AreNamesDistinct p.objects)
   inputs_sized : All IsSized (input_sections p)
   unfolding input_sections
   inputs_sized =
-      all_flat_map IsSized (λ (o : ℕ × NamedObject). sections_of p o.0 o.1) (enumerate_from 0 p.objects)
+      all_flat_map IsSized (λ (o : ℕ × NamedObject). object_inputs p o.0 o.1) (enumerate_from 0 p.objects)
       (All-weaker (λ (o : ℕ × NamedObject). Contains p.objects o.1)
-      (λ (o : ℕ × NamedObject). All IsSized (sections_of p o.0 o.1)) (λ o c. own_sized o.0 o.1 c)
+      (λ (o : ℕ × NamedObject). All IsSized (object_inputs p o.0 o.1)) (λ o c. own_sized o.0 o.1 c)
       (enumerate_from 0 p.objects)
       (all_second (Contains p.objects) 0 p.objects (All-contains_itself p.objects)))
 

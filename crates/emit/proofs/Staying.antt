@@ -10,8 +10,8 @@ use Rattle.emit_image.specs.declared.section.ImagePiece.{ImagePiece}
 use Rattle.emit_image.specs.declared.section.ImageSection.{ImageSection}
 use Rattle.ldmodel.specs.Layout.{Layout, PlacedPiece, PlacedSection}
 use Rattle.ldmodel.specs.Project.{Project}
-use Rattle.ldmodel.specs.Segments.{SectionInFile, has_file_bytes, in_file, nonempty, segments}
-use Rattle.ldmodel.specs.Stayed.{GoodLink, LinkedPiece, has_stayed, linked_piece, pieces_in}
+use Rattle.ldmodel.specs.Segments.{SectionInFile, in_file, nonempty, segments}
+use Rattle.ldmodel.specs.Stayed.{GoodLink, LinkedPiece, has_stayed, linked_piece, link_pieces}
 use Rattle.ldmodel.specs.declared.sections.SectionKey.{SectionKey}
 use Rattle.symres.specs.Naming.{NamingState}
 use Rattle.emit_relocate.specs.Earlier.{HasStayedAt, IsComplete, IsPieceOf}
@@ -52,7 +52,7 @@ mapped f (y ∷ ys) x c = go c.0 c.1 c.2 (mapped f ys x)
 -- the laws of links that are used
 pub record Laws : Type 0 where
   pub linked : (l : GoodLink) (q : PlacedSection) (z : PlacedPiece) → Contains l.layout.sections q
-      → Contains q.pieces z → Contains (pieces_in l) (linked_piece l.project (segments l.layout.sections) q z)
+      → Contains q.pieces z → Contains (link_pieces l) (linked_piece l.project (segments l.layout.sections) q z)
   pub all : (sections : List PlacedSection)
       → map (λ (x : SectionInFile). x.section) (in_file (segments sections)) ≡ nonempty sections
 
@@ -62,7 +62,7 @@ in_layout laws s x c =
     filtered (λ (q : PlacedSection). not (q.size == 0)) s.sections x.section
     (subst (λ qs. Contains qs x.section) (laws.all s.sections)
     (mapped (λ (y : SectionInFile). y.section) (in_file (segments s.sections)) x
-    (filtered (λ (y : SectionInFile). has_file_bytes y.section) (in_file (segments s.sections)) x c)))
+    (filtered (λ (y : SectionInFile). y.section.has_file_bytes) (in_file (segments s.sections)) x c)))
 
 -- nothing stays where no key does
 pub none_stays : (p : Project) (s : Layout) (stays : SectionKey → Bool) (ys : List ImageSection)

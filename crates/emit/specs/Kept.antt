@@ -4,7 +4,7 @@ use Rattle.emit_image.specs.declared.section.ImagePiece.{ImagePiece}
 use Rattle.ldmodel.specs.Layout.{PlacedPiece}
 use Rattle.ldmodel.specs.NameFaults.{object_name}
 use Rattle.ldmodel.specs.Project.{Project}
-use Rattle.ldmodel.specs.Stayed.{GoodLink, LinkedPiece, has_stayed, pieces_in}
+use Rattle.ldmodel.specs.Stayed.{GoodLink, LinkedPiece, has_stayed, link_pieces}
 use Rattle.ldmodel.specs.declared.sections.SectionKey.{SectionKey}
 use Rattle.emit_relocate.specs.Earlier.{HasStayedAt}
 use Rattle.emit_relocate.specs.KnownLink.{KnownLink}
@@ -19,7 +19,7 @@ pub record IsKeptBy (p : Project) (stays : SectionKey → Bool) (w : PlacedPiece
 
 -- an input section of a link by its key
 pub record IsKeyed (l : GoodLink) (k : SectionKey) (x : LinkedPiece) : Type 0 where
-  pub among : Contains (pieces_in l) x
+  pub among : Contains (link_pieces l) x
   pub object : object_name l.project k.object.0 ≡ x.object
   pub part : k.part ≡ x.part
 

@@ -5,7 +5,7 @@ use Rattle.ldmodel.specs.Image.{fill_byte}
 use Rattle.ldmodel.specs.Layout.{Layout, PlacedSection}
 use Rattle.ldmodel.specs.Lent.{placed_of}
 use Rattle.ldmodel.specs.Project.{Project}
-use Rattle.ldmodel.specs.Segments.{SectionInFile, file_offset, has_file_bytes, nonempty, segments}
+use Rattle.ldmodel.specs.Segments.{SectionInFile, file_offset, nonempty, segments}
 use Rattle.ldmodel.specs.declared.sections.SectionKey.{SectionKey}
 use Rattle.emit_image.specs.Drawing.{IsFilled}
 use Rattle.emit_image.specs.InMemory.{IsSectionFilled}
@@ -62,7 +62,7 @@ pub record IsDrawn (p : Project) (s : Layout) (stays : SectionKey → Bool) (q :
 
 -- those of some output sections that have bytes in the file
 abbrev pub with_bytes : Layout → List PlacedSection → List SectionInFile
-with_bytes s qs = filter (λ (x : SectionInFile). has_file_bytes x.section) (map (in_file_at s) (nonempty qs))
+with_bytes s qs = filter (λ (x : SectionInFile). x.section.has_file_bytes) (map (in_file_at s) (nonempty qs))
 
 pub record AreDrawnOf (p : Project) (s : Layout) (stays : SectionKey → Bool) (qs : List PlacedSection)
     (ys : List ImageSection) : Type 0 where

@@ -4,14 +4,14 @@ use Rattle.ldmodel.specs.Layout.{Layout}
 use Rattle.ldmodel.specs.Names.{Decision, Entry}
 use Rattle.ldmodel.specs.Project.{Project}
 use Rattle.ldmodel.specs.Tail.{entry_header, entry_size, entry_type, kind_number, st_binding, st_shndx, st_size}
-use Rattle.ldmodel.specs.Tail.{st_type}
+use Rattle.ldmodel.specs.Tail.{st_type_of}
 use Rattle.emit_image.specs.Tables.{binding_number}
 use Rattle.emit.specs.declared.symbols.Facts.{Facts}
 
 -- of what a name stands for
 pub record AreFacts (p : Project) (s : Layout) (d : Decision) (f : Facts) : Type 0 where
   pub binding : binding_number f.weak ≡ st_binding d
-  pub type : kind_number f.kind ≡ st_type p d
+  pub type : kind_number f.kind ≡ st_type_of p d
   pub section : f.section ≡ st_shndx p s d
   pub size : f.size ≡ st_size p d
 

@@ -84,7 +84,7 @@ fn add_section<'a>(
         (qs : List PlacedSection) → IsOutput p s stays q output.now → AreDrawnOf p s stays qs sections.old.items
         → AreDrawnOf p s stays (qs ++ q ∷ []) sections.new.items) }
 {
-    if output.placed.size == 0 || output.placed.load_size == 0 {
+    if output.placed.size == 0 || !output.placed.has_file_bytes {
         return Ok(());
     }
     let section = image_section(output)?;

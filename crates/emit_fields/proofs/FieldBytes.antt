@@ -8,7 +8,7 @@ use Rattle.elfobj.specs.declared.relocation.RelocationKind.TheVariants.{None, Ab
 use Rattle.elfobj.specs.declared.relocation.RelocationKind.TheVariants.{Abs16, Pc16, Abs8, Pc8, Pc64}
 use Rattle.emit_fields.specs.declared.field.Overflow.{Overflow}
 use Rattle.elfobj.specs.RelocationKinds.{width}
-use Rattle.emit_fields.specs.Fields.{value, fits, field_with, field_of}
+use Rattle.emit_fields.specs.Fields.{relocation_value, fits, field_with, field_of}
 
 pub width_at_most : (kind : RelocationKind) → width kind ≤ 8
 width_at_most None = omega arith
@@ -46,7 +46,7 @@ chosen_false false bytes v h = refl
 chosen_false true bytes v h = cc
 
 -- a value in range gives its bytes
-pub field_of_fitting : (r : Relocation) (s p v : ℕ) → v ≡ value r s p → fits r.kind v ≡ true
+pub field_of_fitting : (r : Relocation) (s p v : ℕ) → v ≡ relocation_value r s p → fits r.kind v ≡ true
     → Ok (little_bytes (width r.kind) v) ≡ field_of r s p
 unfolding field_of
 field_of_fitting r s p v e h =
@@ -54,7 +54,7 @@ field_of_fitting r s p v e h =
     ∙ ap (λ (n : ℕ). field_with r.kind n) e
 
 -- one out of range gives itself
-pub field_of_overflowing : (r : Relocation) (s p v : ℕ) → v ≡ value r s p → fits r.kind v ≡ false
+pub field_of_overflowing : (r : Relocation) (s p v : ℕ) → v ≡ relocation_value r s p → fits r.kind v ≡ false
     → Err (record { value = v }) ≡ field_of r s p
 unfolding field_of
 field_of_overflowing r s p v e h =

@@ -7,13 +7,14 @@ use Rattle.std.proofs.lemmas.List.Elements.{filter-append}
 use Rattle.std.proofs.lemmas.List.{get_or_append_left, get_or-append-add, length-append}
 use Rattle.std.proofs.lemmas.List.Concat.{flat_map-cons}
 use Rattle.std.proofs.lemmas.Bool.Decides.{nat_tests}
-use Rattle.ldmodel.specs.FileLayout.{BeginFrom, Each, IsTogether, Neighbours, Shares}
+use Rattle.ldmodel_laws.specs.FileLayout.{BeginFrom, IsTogether, Neighbours, Shares}
+use Rattle.ldmodel.specs.Each.{Each}
 use Rattle.ldmodel.specs.Layout.{PlacedSection}
-use Rattle.ldmodel.specs.Segments.{SectionInFile, Segment, end_of, file_end, has_file_bytes, in_file, in_segment}
-use Rattle.ldmodel.specs.Segments.{sections_in, shares_segment, start_of}
+use Rattle.ldmodel.specs.Segments.{SectionInFile, Segment, end_of, file_end, in_file, in_segment}
+use Rattle.ldmodel.specs.Segments.{group_sections, shares_segment, segment_start}
 
 abbrev is_loaded : SectionInFile → Bool
-is_loaded x = has_file_bytes x.section
+is_loaded x = x.section.has_file_bytes
 
 abbrev file_end_of : SectionInFile → ℕ
 file_end_of x = x.offset + x.section.size
@@ -49,7 +50,7 @@ ended-some : (end offset n : ℕ) → 0 < n → ended end offset n ≡ offset + 
 ended-some end offset n h = grind (arith, nat_tests)
 
 abbrev reached : ℕ → ℕ → PlacedSection → ℕ
-reached start n q = cond (has_file_bytes q) (end_of q - start) n
+reached start n q = cond q.has_file_bytes (end_of q - start) n
 
 record Walk (end offset start n : ℕ) (qs : List PlacedSection) : Type 0 where
   order : InFile (ended end offset n)
@@ -62,7 +63,7 @@ walk : (end offset start low n : ℕ) (qs : List PlacedSection) → start ≤ lo
     → ended end offset n ≤ offset + (low - start) → Chain low qs → All Full qs → Walk end offset start n qs
 walk end offset start low n [] a b c f = record { order = tt; last = refl }
 walk end offset start low n (q ∷ qs) a b c f =
-    (let done = claims (has_file_bytes q) (λ low' m i j k l. walk end offset start low' m qs i j k l) in
+    (let done = claims q.has_file_bytes (λ low' m i j k l. walk end offset start low' m qs i j k l) in
     record { order = done.0; last = done.1 })
   where
     full : 0 < q.size
@@ -118,21 +119,21 @@ last-append from (x ∷ xs) ys = last-append (file_end_of x) xs ys
 
 -- those with file bytes stand in order past an end, and end where the segments' file bytes do
 pub files : (end : ℕ) (gs : List Segment) → Each IsTogether (map (λ (g : Segment). g.group) gs) → BeginFrom end gs
-    → All Full (flat_map sections_in (map (λ (g : Segment). g.group) gs))
+    → All Full (flat_map group_sections (map (λ (g : Segment). g.group) gs))
     → InFile end (filter is_loaded (in_file gs))
     × (last_file_end end (filter is_loaded (in_file gs)) ≡ fold file_end end gs)
 files end [] t b f = (tt, refl)
 files end (g ∷ gs) t b f =
-    let sections : List PlacedSection = sections_in g.group in
+    let sections : List PlacedSection = group_sections g.group in
     let others : List Segment = gs in
-    let all : All Full (sections ++ flat_map sections_in (map (λ (g : Segment). g.group) gs)) =
-    subst (All Full) (flat_map-cons sections_in g.group (map (λ (g : Segment). g.group) gs)) f in
-    let w = walk end g.offset (start_of g) (start_of g) 0 sections (omega arith) (omega (arith, b.0.above))
+    let all : All Full (sections ++ flat_map group_sections (map (λ (g : Segment). g.group) gs)) =
+    subst (All Full) (flat_map-cons group_sections g.group (map (λ (g : Segment). g.group) gs)) f in
+    let w = walk end g.offset (segment_start g) (segment_start g) 0 sections (omega arith) (omega (arith, b.0.above))
     (omega arith, chain-of g.group.first g.group.others t.0) (all-left Full sections _ all) in
     let r = files (file_end end g) gs t.1 b.1 (all-right Full sections _ all) in
     let own : List SectionInFile = filter is_loaded (map (in_segment g) sections) in
     let cut : filter is_loaded (in_file (g ∷ gs)) ≡ own ++ filter is_loaded (in_file gs) =
-    ap (filter is_loaded) (flat_map-cons (λ (g : Segment). map (in_segment g) (sections_in g.group)) g gs)
+    ap (filter is_loaded) (flat_map-cons (λ (g : Segment). map (in_segment g) (group_sections g.group)) g gs)
     ∙ filter-append is_loaded (map (in_segment g) sections) (in_file gs) in
     let order : InFile end (own ++ filter is_loaded (in_file gs)) =
     file-append end own (filter is_loaded (in_file gs)) w.order

@@ -16,8 +16,8 @@ use Rattle.ldmodel.specs.Layout.{Layout, PlacedPiece, PlacedSection}
 use Rattle.ldmodel.specs.Project.{Project}
 use Rattle.ldmodel.specs.Relocations.{Site, site_field}
 use Rattle.ldmodel.specs.SectionHeaders.{image_length}
-use Rattle.ldmodel.specs.Segments.{SectionInFile, Segment, file_offset, has_file_bytes, in_file, nonempty, segments}
-use Rattle.ldmodel.specs.Stayed.{FileRange, GoodLink, LinkedPiece, has_stayed, linked_piece, pieces_in, range_in}
+use Rattle.ldmodel.specs.Segments.{SectionInFile, Segment, file_offset, in_file, nonempty, segments}
+use Rattle.ldmodel.specs.Stayed.{FileRange, GoodLink, LinkedPiece, has_stayed, linked_piece, link_pieces, range_in}
 use Rattle.ldmodel.specs.Stayed.{retargeted, sites_in, stayed}
 use Rattle.ldmodel.specs.declared.laid.PlacedData.{PlacedData}
 use Rattle.ldmodel_laws.specs.ImageBytes.{AreNamed}
@@ -45,20 +45,20 @@ pub record Laws : Type 0 where
       → i < x.range.length
       → byte_at old.project old.layout (x.range.offset + i) ≡ byte_at new.project new.layout (x.range.offset + i)
   pub linked : (l : GoodLink) (q : PlacedSection) (z : PlacedPiece) → Contains l.layout.sections q
-      → Contains q.pieces z → Contains (pieces_in l) (linked_piece l.project (segments l.layout.sections) q z)
+      → Contains q.pieces z → Contains (link_pieces l) (linked_piece l.project (segments l.layout.sections) q z)
   pub stayed_are : (old new : GoodLink) (x : LinkedPiece)
-      → Contains (stayed old new) x ↔ (Contains (pieces_in new) x × (has_stayed old x ≡ true))
-  pub own : (l : GoodLink) → IsGood l → (x : LinkedPiece) → Contains (pieces_in l) x → (i : ℕ)
+      → Contains (stayed old new) x ↔ (Contains (link_pieces new) x × (has_stayed old x ≡ true))
+  pub own : (l : GoodLink) → IsGood l → (x : LinkedPiece) → Contains (link_pieces l) x → (i : ℕ)
       → i < x.range.length → x.range.offset + i < image_length l.project l.layout
   pub in_old : (old new : GoodLink) → IsGood old → (x : LinkedPiece) → Contains (stayed old new) x → (i : ℕ)
       → i < x.range.length → x.range.offset + i < image_length old.project old.layout
-  pub found : (l : GoodLink) → IsGood l → (x : LinkedPiece) → Contains (pieces_in l) x → (t : Site)
+  pub found : (l : GoodLink) → IsGood l → (x : LinkedPiece) → Contains (link_pieces l) x → (t : Site)
       → Contains (sites_in l.project x) t → HasField l t
   pub some : (l : GoodLink) (x : LinkedPiece) (t : Site) → Contains (sites_in l.project x) t
       → 0 < width t.relocation.kind
   pub wide : (l : GoodLink) (x : LinkedPiece) (t : Site) (field : List ℕ) → Contains (sites_in l.project x) t
       → site_field l.project l.layout t ≡ Ok field → length field ≡ width t.relocation.kind
-  pub byte : (l : GoodLink) → IsGood l → (x : LinkedPiece) → Contains (pieces_in l) x → (t : Site)
+  pub byte : (l : GoodLink) → IsGood l → (x : LinkedPiece) → Contains (link_pieces l) x → (t : Site)
       → Contains (sites_in l.project x) t → AreApart t.section.relocations → (field : List ℕ)
       → site_field l.project l.layout t ≡ Ok field → (i : ℕ) → i < length field
       → t.relocation.offset + i < x.range.length
@@ -81,7 +81,7 @@ full_size n k h = grind (arith, nat_tests)
 
 -- an output section with file bytes
 pub record InLayout (s : Layout) (x : SectionInFile) : Type 0 where
-  pub bytes : has_file_bytes x.section ≡ true
+  pub bytes : x.section.has_file_bytes ≡ true
   pub there : Contains s.sections x.section
   pub offset : file_offset (segments s.sections) x.section ≡ x.offset
 
@@ -89,7 +89,7 @@ pub in_layout : Laws → (l : GoodLink) → IsGood l → (x : SectionInFile) →
     → InLayout l.layout x
 in_layout laws l good x c =
     let s : Layout = l.layout in
-    let k = filter_member (λ (y : SectionInFile). has_file_bytes y.section) (in_file (segments s.sections)) x c in
+    let k = filter_member (λ (y : SectionInFile). y.section.has_file_bytes) (in_file (segments s.sections)) x c in
     record {
       bytes = k.1;
       there = (filter_member (λ (q : PlacedSection). not (q.size == 0)) s.sections x.section
@@ -99,7 +99,7 @@ in_layout laws l good x c =
     }
 
 -- an input section that isn't empty, in an output section with file bytes, has its bytes in the file
-pub full_range : (gs : List Segment) (q : PlacedSection) (u : PlacedPiece) (k : ℕ) → has_file_bytes q ≡ true
+pub full_range : (gs : List Segment) (q : PlacedSection) (u : PlacedPiece) (k : ℕ) → q.has_file_bytes ≡ true
     → k < u.piece.size
     → range_in gs q u ≡ record { offset = file_offset gs q + (u.start - q.start); length = u.piece.size }
 full_range gs q u k e l =
@@ -192,10 +192,10 @@ module _ (laws : Laws) (old new : GoodLink) (good_old : IsGood old) (good_new : 
         go false e = past (find (covers_section o) d.sections.now) refl (find (covers_part o) d.tail.now) e
 
     module _ (ps : List Patch) (fields : ArePatchesOf old new ps) where
-      among_new : (x : LinkedPiece) → Contains (stayed old new) x → Contains (pieces_in new) x
+      among_new : (x : LinkedPiece) → Contains (stayed old new) x → Contains (link_pieces new) x
       among_new x c = ((laws.stayed_are old new x).0 c).0
 
-      covered_by : (q : Patch) (o : ℕ) → q.offset ≤ o → o < patch_end q → patches.covers q o ≡ true
+      covered_by : (q : Patch) (o : ℕ) → q.offset ≤ o → o < patch_end q → patches.patch_covers q o ≡ true
       covered_by q o a b = grind (arith, nat_tests)
 
       -- a byte that no patch covers lies in no field whose symbol has another value
@@ -211,7 +211,7 @@ module _ (laws : Laws) (old new : GoodLink) (good_old : IsGood old) (good_new : 
             | inl a ↦ inl a
             | inr a ↦ elim (cases_lt k.at (t.relocation.offset + width t.relocation.kind)) [
               | inl b ↦ absurd (true≢false
-                  (sym (any_member (λ (q : Patch). patches.covers q o) ps (file_patch x t f.0) there
+                  (sym (any_member (λ (q : Patch). patches.patch_covers q o) ps (file_patch x t f.0) there
                   (covered_by (file_patch x t f.0) o (omega (arith, a, k.place)) (omega (arith, b, w, k.place))))
                   ∙ none))
               | inr b ↦ inr b

@@ -6,14 +6,17 @@ use Rattle.std.specs.List.{All, AllZip, find}
 use Rattle.std.proofs.lemmas.Bool.Decides.{nat_tests}
 use Rattle.std.proofs.lemmas.List.FromFn.{fill_by_all}
 use Rattle.byteorder.specs.Endian.{little_bytes}
-use Rattle.ldmodel.specs.Image.{byte_at, byte_past_headers, covers, covering_data, covering_piece, fill_byte, headers}
-use Rattle.ldmodel.specs.Image.{output_byte, part_byte, section_at, tail_at}
+use Rattle.ldmodel.specs.Image.{byte_at, covers, covering_data, covering_piece, file_headers, file_section_at}
+use Rattle.ldmodel.specs.Image.{fill_byte, tail_at}
 use Rattle.ldmodel.specs.Image as image
+use Rattle.ldmodel_laws.specs.ByteCases.{byte_past_headers, output_byte, part_byte}
+use Rattle.ldmodel_laws.specs.ByteCases as cases
+use Rattle.ldmodel_laws.proofs.ByteCases.{by_cases}
 use Rattle.ldmodel.specs.Layout.{Layout, PlacedPiece, PlacedSection}
 use Rattle.ldmodel.specs.Layout as layout
 use Rattle.ldmodel.specs.Project.{Project}
 use Rattle.ldmodel.specs.SectionHeaders.{FilePart, end_of_part, image_length, tail}
-use Rattle.ldmodel.specs.Segments.{SectionInFile, segments, in_file, has_file_bytes}
+use Rattle.ldmodel.specs.Segments.{SectionInFile, segments, in_file}
 use Rattle.ldmodel.specs.declared.laid.PlacedData.{PlacedData}
 use Rattle.ldscript.specs.statements.Widths.{byte_count}
 use Rattle.ldscript.specs.statements.declared.section.Width.{Width}
@@ -127,7 +130,7 @@ module _ (p : Project) (s : Layout) where
         ∙ ap (λ (ns : List ℕ). fill_byte x.section.fill (at - last_end at x.section.start ns)) same-ends
 
     piece-same : (at : ℕ) (u : PlacedPiece) (v : ImagePiece) → IsImagePiece p s u v → v.stays ≡ false
-        → covers_piece at v ≡ true → piece_byte at v ≡ image.piece_byte p s at u
+        → covers_piece at v ≡ true → piece_byte at v ≡ cases.piece_byte p s at u
     piece-same at u v r e c =
         let low : v.start ≤ at = covers-low v.start v.size at c in
         let high : at < v.start + v.size = covers-high v.start v.size at c in
@@ -141,7 +144,7 @@ module _ (p : Project) (s : Layout) where
 
     among : (at : ℕ) (u : Option PlacedPiece) (v : Option ImagePiece) (w : Option layout.PlacedData)
         (z : Option PlacedData) → Both (IsImagePiece p s) (covers_piece at) u v → Both IsImageData (covers_data at) w z
-        → (spot_among y at v z).stays ≡ false → (spot_among y at v z).byte ≡ image.byte_among p s x.section at u w
+        → (spot_among y at v z).stays ≡ false → (spot_among y at v z).byte ≡ cases.byte_among p s x.section at u w
     among at u v w z (both r t) d e = piece-same at _ _ r e t
     among at u v w z neither (both r t) e = data-same at _ _ r
     among at u v w z neither neither e = gap-same at
@@ -175,12 +178,12 @@ module _ (p : Project) (s : Layout) where
   past o (Some x) None w z c d e = elim c [ ]
 
   sections-both : (d : Drawing) → IsDrawingOf p s d → (o : ℕ)
-      → Both (IsImageSection p s) (covers_section o) (section_at s o) (find (covers_section o) d.sections.now)
+      → Both (IsImageSection p s) (covers_section o) (file_section_at s o) (find (covers_section o) d.sections.now)
   sections-both d h o =
       let found = find-zip (IsImageSection p s) (λ (x : SectionInFile). covers x.offset x.section.size o)
       (covers_section o) (λ x y r. rw (r.offset, r.size) refl) (loaded s) d.sections.now h.sections in
       subst (λ u. Both (IsImageSection p s) (covers_section o) u (find (covers_section o) d.sections.now))
-      (sym (find-filter (λ (x : SectionInFile). has_file_bytes x.section) (λ (x : SectionInFile).
+      (sym (find-filter (λ (x : SectionInFile). x.section.has_file_bytes) (λ (x : SectionInFile).
       covers x.offset x.section.size o) (in_file (segments s.sections)))) found
 
   parts-both : (d : Drawing) → IsDrawingOf p s d → (o : ℕ)
@@ -194,10 +197,10 @@ module _ (p : Project) (s : Layout) where
   -- a byte of the image
   pub drawing-same : (d : Drawing) → IsDrawingOf p s d → (o : ℕ) → (drawing_spot d o).stays ≡ false
       → (drawing_spot d o).byte ≡ byte_at p s o
-  unfolding drawing_spot byte_at
+  unfolding drawing_spot
   drawing-same d h o e =
-      go (nat_lt o (length d.headers.now)) (nat_lt o (length (headers p s)))
-      (ap (λ (bs : List ℕ). nat_lt o (length bs)) h.headers) e
+      go (nat_lt o (length d.headers.now)) (nat_lt o (length (file_headers p s)))
+      (ap (λ (bs : List ℕ). nat_lt o (length bs)) h.headers) e ∙ sym (by_cases p s o)
     where
       there : Spot
       there = spot_past_headers o (find (covers_section o) d.sections.now) (find (covers_part o) d.tail.now)
@@ -206,9 +209,9 @@ module _ (p : Project) (s : Layout) where
       own = record { byte = slice_index d.headers.now o; stays = false }
 
       go : (b c : Bool) → b ≡ c → (cond b own there).stays ≡ false → (cond b own there).byte
-          ≡ cond c (slice_index (headers p s) o) (byte_past_headers p s o (section_at s o) (tail_at p s o))
+          ≡ cond c (slice_index (file_headers p s) o) (byte_past_headers p s o (file_section_at s o) (tail_at p s o))
       go true true f e = ap (λ (bs : List ℕ). slice_index bs o) h.headers
-      go false false f e = past o (section_at s o) (find (covers_section o) d.sections.now) (tail_at p s o)
+      go false false f e = past o (file_section_at s o) (find (covers_section o) d.sections.now) (tail_at p s o)
           (find (covers_part o) d.tail.now) (sections-both d h o) (parts-both d h o) e
       go true false f e = cc
       go false true f e = cc

@@ -9,7 +9,7 @@ use Rattle.std.proofs.lemmas.List.Sums.{sum_by_more}
 use Rattle.elfobj.specs.Counts.{Counts}
 use Rattle.elfobj.specs.Raised.{raised}
 use Rattle.elfobj.specs.declared.meter.Count.TheVariants.{Bytes}
-use Rattle.emit_fields.specs.Patches.{covers}
+use Rattle.emit_fields.specs.Patches.{patch_covers}
 use Rattle.emit_fields.specs.declared.patch.Patch.{Patch}
 use Rattle.emit_image.specs.Stretches.{IsPatchOf, is_patched, patch_bytes}
 use Rattle.emit_image.proofs.Counting.{raised_more}
@@ -25,10 +25,10 @@ pub record Patched (image : ℕ → ℕ) (patches : List Patch) (k : ℕ) (old n
   pub grows : (o : ℕ) → get_or old o 0 ≡ image o → get_or new o 0 ≡ image o
   pub settled : (o : ℕ) → is_patched (take k patches) o ≡ true → get_or new o 0 ≡ image o
 
-covered-low : (q : Patch) (o : ℕ) → covers q o ≡ true → q.offset ≤ o
+covered-low : (q : Patch) (o : ℕ) → patch_covers q o ≡ true → q.offset ≤ o
 covered-low q o h = grind (arith, nat_tests)
 
-covered-high : (q : Patch) (o : ℕ) → covers q o ≡ true → o < q.offset + length q.field
+covered-high : (q : Patch) (o : ℕ) → patch_covers q o ≡ true → o < q.offset + length q.field
 covered-high q o h = grind (arith, nat_tests)
 
 or_parts : (a b : Bool) → (a || b) ≡ true → (a ≡ true) ⊎ (b ≡ true)
@@ -54,8 +54,8 @@ pub patch_on : (image : ℕ → ℕ) (patches : List Patch) (k : ℕ) (old now n
 patch_on image patches k old now new d l p w r = record {
   grows = λ o h. stays_right image (get_or patches k d) now new r p o (w.grows o h);
   settled = λ o h. elim
-      (or_parts (is_patched (take k patches) o) (covers (get_or patches k d) o)
-      (sym (list_any_more (λ (q : Patch). covers q o) patches k d l) ∙ h)) [
+      (or_parts (is_patched (take k patches) o) (patch_covers (get_or patches k d) o)
+      (sym (list_any_more (λ (q : Patch). patch_covers q o) patches k d l) ∙ h)) [
         | inl a ↦ stays_right image (get_or patches k d) now new r p o (w.settled o a)
         | inr a ↦ in_patch image (get_or patches k d) now new r p o (covered-low (get_or patches k d) o a)
             (covered-high (get_or patches k d) o a)

@@ -8,19 +8,19 @@ use Rattle.std.specs.Ordering.{is_lt, nat_cmp}
 use Rattle.std.specs.declared.cmp.Ordering.TheVariants.{Less, Equal, Greater}
 use Rattle.std.proofs.lemmas.Slice.Zip.{AllZip-long}
 use Rattle.ldmodel.specs.Headers.{elf_header, program_header, ascending}
-use Rattle.ldmodel.specs.Image.{headers}
+use Rattle.ldmodel.specs.Image.{file_headers}
 use Rattle.ldmodel.specs.Project.{Project}
 use Rattle.ldmodel.specs.SectionHeaders.{header_part}
 use Rattle.ldmodel.specs.SymbolValues.{entry_point, number_or_0}
 use Rattle.ldmodel.specs.Layout.{Layout, PlacedSection}
 use Rattle.ldmodel.specs.Lent.{IsSegment, AreSegments}
-use Rattle.ldmodel.specs.Segments.{Segment, file_end, loaded_end, segments, start_of}
+use Rattle.ldmodel.specs.Segments.{Segment, file_end, loaded_end, segments, segment_start}
 use Rattle.ldmodel.specs.Sorting.{insert_by, sort_by}
 use Rattle.ldmodel.specs.declared.segment.Segment as code
 use Rattle.emit_image.specs.SegmentBytes.{file_end_of, segment_bytes, starts_before}
 
 abbrev pub lower : Segment → Segment → Bool
-lower g h = nat_lt (start_of g) (start_of h)
+lower g h = nat_lt (segment_start g) (segment_start h)
 
 less : (a b : ℕ) → is_lt (nat_cmp a b) ≡ nat_lt a b
 less a b = go (nat_lt a b)
@@ -35,7 +35,7 @@ less a b = go (nat_lt a b)
 
 same_test : (sections : List PlacedSection) (g h : Segment) (x y : code.Segment) → IsSegment sections g x
     → IsSegment sections h y → starts_before x y ≡ lower g h
-same_test sections g h x y a b = rw (a.start, b.start) (less (start_of g) (start_of h))
+same_test sections g h x y a b = rw (a.start, b.start) (less (segment_start g) (segment_start h))
 
 module _ (sections : List PlacedSection) where
   inserted : (g : Segment) (x : code.Segment) (gs : List Segment) (xs : List code.Segment) → IsSegment sections g x
@@ -85,8 +85,8 @@ pub headers_are : (p : Project) (s : Layout) (entry table count : ℕ) (xs : Lis
     → AreSegments s.sections (segments s.sections) xs → entry ≡ number_or_0 (entry_point p s)
     → table ≡ (header_part p s).offset → count ≡ length s.sections
     → elf_header entry (length xs) table (count + 4) (count + 3) ++ flat_map segment_bytes (sort_by starts_before xs)
-    ≡ headers p s
-unfolding headers
+    ≡ file_headers p s
+unfolding file_headers
 headers_are p s entry table count xs segs e t n =
     rw (e, t, n, AllZip-long (IsSegment s.sections) (segments s.sections) xs segs)
     (ap (λ z. elf_header (number_or_0 (entry_point p s)) (length (segments s.sections)) ((header_part p s).offset)

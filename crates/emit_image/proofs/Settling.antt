@@ -13,11 +13,10 @@ use Rattle.ldmodel_laws.specs.Spread.{AreApart, EachLater, IsSpread, data_end, p
 use Rattle.ldmodel_laws.specs.Traces.{BodyEffect, dot_noted, inputs_counted, symbol_given, dot_moved, entry_placed}
 use Rattle.ldmodel_laws.specs.Traces.{data_added, BodyEffects, no_effect, effect_then, AddsSection, Trace, all_added}
 use Rattle.ldmodel_laws.specs.Traces.{nothing_added, region_added, section_added}
-use Rattle.ldmodel.specs.Body.{Body}
-use Rattle.ldmodel.specs.FileLayout.{Each}
+use Rattle.ldmodel.specs.Placement.{Body}
+use Rattle.ldmodel.specs.Each.{Each}
 use Rattle.ldmodel.specs.Layout.{Layout, PlacedData, PlacedPiece, PlacedSection, nothing_placed}
-use Rattle.ldmodel.specs.Placement.{opened}
-use Rattle.ldmodel.specs.SectionEnd.{placed_section}
+use Rattle.ldmodel.specs.Placement.{opened, placed_section}
 use Rattle.ldmodel.specs.Segments.{end_of, nonempty}
 use Rattle.emit_image.specs.InMemory.{DataInOrder, IsInMemory, PiecesInOrder}
 

@@ -10,10 +10,10 @@ use Rattle.std.proofs.lemmas.List.Sums.{sum_by-append, sum_by-cons}
 use Rattle.std.specs.List.Sorted.{IsPermutation}
 use Rattle.elfobj.specs.RelocationKinds.{width}
 use Rattle.emit_fields.specs.declared.patch.Patch.{Patch}
-use Rattle.ldmodel.specs.FileLayout.{Each}
+use Rattle.ldmodel.specs.Each.{Each}
 use Rattle.ldmodel.specs.Layout.{Layout, PlacedPiece, PlacedSection}
 use Rattle.ldmodel.specs.SectionHeaders.{image_length}
-use Rattle.ldmodel.specs.Segments.{SectionInFile, Segment, file_offset, has_file_bytes, in_file, nonempty, segments}
+use Rattle.ldmodel.specs.Segments.{SectionInFile, Segment, file_offset, in_file, nonempty, segments}
 use Rattle.ldmodel.specs.Stayed.{FileRange, GoodLink, LinkedPiece, has_stayed, linked_piece, linked_pieces}
 use Rattle.ldmodel.specs.Stayed.{range_in, retargeted, stayed}
 use Rattle.ldmodel.specs.WorkBound.{bytes_stayed, retargeted_bytes}
@@ -327,7 +327,7 @@ module _ (old new : GoodLink) where
 
   -- an input section has as many bytes in the file as in memory, or none
   range_short : (q : PlacedSection) (u : PlacedPiece) → (range_in gs q u).length ≤ u.piece.size
-  range_short q u = go (has_file_bytes q && not (u.piece.size == 0))
+  range_short q u = go (q.has_file_bytes && not (u.piece.size == 0))
     where
       own : FileRange
       own = record { offset = file_offset gs q + (u.start - q.start); length = u.piece.size }
@@ -342,7 +342,7 @@ module _ (old new : GoodLink) where
   no_length : (x : LinkedPiece) → x.range.length ≡ 0 → counted x ≡ 0
   no_length x e = ap (λ n. cond (has_stayed old x) n 0) e ∙ none_counted (has_stayed old x)
 
-  no_bytes : (q : PlacedSection) → has_file_bytes q ≡ false → stayed_in q ≡ 0
+  no_bytes : (q : PlacedSection) → q.has_file_bytes ≡ false → stayed_in q ≡ 0
   no_bytes q e =
       sum_zero (λ u. counted (linked_in new q u)) q.pieces
       (each_is (λ u. counted (linked_in new q u) ≡ 0) (λ u. no_length (linked_in new q u) (empty u)) q.pieces)
@@ -374,8 +374,8 @@ module _ (old new : GoodLink) where
         ∙ ap (sum_by stayed_in) (sym (all_in_file s.sections))
         ∙ sum_map stayed_in (λ (x : SectionInFile). x.section) (in_file gs)
         ∙ sum_passing (λ (x : SectionInFile). stayed_in x.section) (λ (x : SectionInFile).
-        has_file_bytes x.section) (in_file gs)
-        (each_is (λ (x : SectionInFile). has_file_bytes x.section ≡ false → stayed_in x.section ≡ 0)
+        x.section.has_file_bytes) (in_file gs)
+        (each_is (λ (x : SectionInFile). x.section.has_file_bytes ≡ false → stayed_in x.section ≡ 0)
         (λ x e. no_bytes x.section e) (in_file gs))
 
     piece_kept : (q : PlacedSection) (u : PlacedPiece) (v : ImagePiece)

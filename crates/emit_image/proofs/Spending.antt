@@ -9,7 +9,7 @@ use Rattle.ldmodel_laws.specs.Untouched.{IsGood}
 use Rattle.ldmodel.specs.Image.{covers}
 use Rattle.ldmodel.specs.Layout.{PlacedPiece, PlacedSection}
 use Rattle.ldmodel.specs.SectionHeaders.{image_length}
-use Rattle.ldmodel.specs.Segments.{SectionInFile, file_offset, has_file_bytes, in_file, nonempty, segments}
+use Rattle.ldmodel.specs.Segments.{SectionInFile, file_offset, in_file, nonempty, segments}
 use Rattle.ldmodel.specs.Stayed.{FileRange, GoodLink, range_in}
 use Rattle.ldmodel.specs.WorkBound.{bytes_stayed}
 use Rattle.std.specs.Prelude.{map}
@@ -257,7 +257,7 @@ module _ (old new : GoodLink) (all_in_file : (sections : List PlacedSection)
     → map (λ (x : SectionInFile). x.section) (in_file (segments sections)) ≡ nonempty sections)
     (good : IsGood new) where
   -- an input section that is kept stayed, with all its bytes
-  piece_stayed : (q : PlacedSection) (u : PlacedPiece) (v : ImagePiece) → has_file_bytes q ≡ true
+  piece_stayed : (q : PlacedSection) (u : PlacedPiece) (v : ImagePiece) → q.has_file_bytes ≡ true
       → IsImagePiece new.project new.layout u v × HasStayed old new q u v
       → kept_size v ≤ counted old new (linked_in new q u)
   piece_stayed q u v bytes h = go v.stays refl
@@ -289,7 +289,7 @@ module _ (old new : GoodLink) (all_in_file : (sections : List PlacedSection)
           ap (λ b. cond b (range_in (segments new.layout.sections) q u).length 0) (h.1 e) in
           omega (arith, same, range, h.0.size)
 
-  section_stayed : (x : SectionInFile) (y : ImageSection) → (has_file_bytes x.section ≡ true)
+  section_stayed : (x : SectionInFile) (y : ImageSection) → (x.section.has_file_bytes ≡ true)
       × (IsImageSection new.project new.layout x y × AllZip (HasStayed old new x.section) x.section.pieces y.pieces.now)
       → kept_bytes y ≤ stayed_in old new x.section
   section_stayed x y h =
@@ -307,12 +307,12 @@ module _ (old new : GoodLink) (all_in_file : (sections : List PlacedSection)
       let most = all_spared old new all_in_file good d h is kept in
       let least = least_drawn d in
       let end = end-same new.project new.layout d is in
-      let few = sum_zip_back (λ x y. (has_file_bytes x.section ≡ true)
+      let few = sum_zip_back (λ x y. (x.section.has_file_bytes ≡ true)
       × (IsImageSection new.project new.layout x y × AllZip (HasStayed old new x.section) x.section.pieces y.pieces.now))
       (λ (x : SectionInFile). stayed_in old new x.section) kept_bytes section_stayed (loaded new.layout) d.sections.now
       (zip_filtered (λ x y. IsImageSection new.project new.layout x y
       × AllZip (HasStayed old new x.section) x.section.pieces y.pieces.now)
-      (λ (x : SectionInFile). has_file_bytes x.section) (in_file (segments new.layout.sections)) d.sections.now
+      (λ (x : SectionInFile). x.section.has_file_bytes) (in_file (segments new.layout.sections)) d.sections.now
       (zip_both (IsImageSection new.project new.layout) (λ x y.
       AllZip (HasStayed old new x.section) x.section.pieces y.pieces.now) (loaded new.layout) d.sections.now
       is.sections stayed)) in

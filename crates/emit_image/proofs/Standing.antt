@@ -8,16 +8,16 @@ use Rattle.std.proofs.lemmas.Bool.Decides.{nat_tests}
 use Rattle.std.proofs.lemmas.List.{length-append, length-map, get_or-map, map-append}
 use Rattle.std.proofs.lemmas.List.Concat.{flat_map-cons}
 use Rattle.std.proofs.lemmas.Slice.Zip.{AllZip-long}
-use Rattle.ldmodel.specs.FileLayout.{IsFileLayout}
+use Rattle.ldmodel_laws.specs.FileLayout.{IsFileLayout}
 use Rattle.ldmodel.specs.Headers.{ascending, elf_header, program_header}
-use Rattle.ldmodel.specs.Image.{headers}
+use Rattle.ldmodel.specs.Image.{file_headers}
 use Rattle.ldmodel.specs.Layout.{Layout, PlacedPiece, PlacedSection}
 use Rattle.ldmodel.specs.Layout as layout
 use Rattle.ldmodel.specs.Project.{Project}
 use Rattle.ldmodel.specs.SectionHeaders.{FilePart, end_of_part, header_count, header_names_number, header_part}
 use Rattle.ldmodel.specs.SectionHeaders.{image_length, tables, tail}
-use Rattle.ldmodel.specs.Segments.{SectionInFile, Segment, end_of, has_file_bytes, headers_end, in_file, in_segment}
-use Rattle.ldmodel.specs.Segments.{loaded_end, nonempty, sections_in, segments, start_of}
+use Rattle.ldmodel.specs.Segments.{SectionInFile, Segment, end_of, headers_end, in_file, in_segment}
+use Rattle.ldmodel.specs.Segments.{loaded_end, nonempty, group_sections, segments, segment_start}
 use Rattle.ldmodel.specs.SymbolValues.{entry_point, number_or_0}
 use Rattle.ldmodel.specs.Sorting.{insert_by, sort_by}
 use Rattle.ldmodel.specs.declared.laid.PlacedData.{PlacedData}
@@ -181,8 +181,8 @@ elf-long : (a b c d e : ℕ) → length (elf_header a b c d e) ≡ 64
 unfolding elf_header
 elf-long a b c d e = refl
 
-headers-long : (p : Project) (s : Layout) → length (headers p s) ≡ headers_end (length (segments s.sections))
-unfolding headers
+headers-long : (p : Project) (s : Layout) → length (file_headers p s) ≡ headers_end (length (segments s.sections))
+unfolding file_headers
 headers-long p s =
     let gs : List Segment = segments s.sections in
     length-append (elf_header (number_or_0 (entry_point p s)) (length gs) ((header_part p s).offset) (header_count s)
@@ -191,7 +191,7 @@ headers-long p s =
     (elf-long (number_or_0 (entry_point p s)) (length gs) ((header_part p s).offset) (header_count s)
     (header_names_number s))
     ∙ ap (λ (n : ℕ). 64 + n) (program-long (ascending gs)
-    ∙ ap (λ (n : ℕ). 56 * n) (sorted-long (λ (g h : Segment). nat_lt (start_of g) (start_of h)) gs))
+    ∙ ap (λ (n : ℕ). 56 * n) (sorted-long (λ (g h : Segment). nat_lt (segment_start g) (segment_start h)) gs))
 
 -- the tail stands in order past the loaded part
 module _ (p : Project) (s : Layout) where
@@ -232,16 +232,16 @@ sections-of g [] = refl
 sections-of g (q ∷ qs) = ap (λ (rs : List PlacedSection). q ∷ rs) (sections-of g qs)
 
 all-sections : (gs : List Segment) → map (λ (x : SectionInFile). x.section) (in_file gs)
-    ≡ flat_map sections_in (map (λ (g : Segment). g.group) gs)
+    ≡ flat_map group_sections (map (λ (g : Segment). g.group) gs)
 all-sections [] = refl
 all-sections (g ∷ gs) =
     ap (map (λ (x : SectionInFile). x.section))
-    (flat_map-cons (λ (g : Segment). map (in_segment g) (sections_in g.group)) g gs)
-    ∙ map-append (λ (x : SectionInFile). x.section) (map (in_segment g) (sections_in g.group)) (in_file gs)
+    (flat_map-cons (λ (g : Segment). map (in_segment g) (group_sections g.group)) g gs)
+    ∙ map-append (λ (x : SectionInFile). x.section) (map (in_segment g) (group_sections g.group)) (in_file gs)
     ∙ ap (λ (qs : List PlacedSection). qs ++ map (λ (x : SectionInFile). x.section) (in_file gs))
-    (sections-of g (sections_in g.group))
-    ∙ ap (λ (qs : List PlacedSection). sections_in g.group ++ qs) (all-sections gs)
-    ∙ sym (flat_map-cons sections_in g.group (map (λ (g : Segment). g.group) gs))
+    (sections-of g (group_sections g.group))
+    ∙ ap (λ (qs : List PlacedSection). group_sections g.group ++ qs) (all-sections gs)
+    ∙ sym (flat_map-cons group_sections g.group (map (λ (g : Segment). g.group) gs))
 
 all-unmapped : {X Y : Type 0} (P : Y → Type 0) (f : X → Y) (xs : List X) → All P (map f xs) → All (λ x. P (f x)) xs
 all-unmapped P f xs h = λ k d l.
@@ -261,14 +261,14 @@ pub stands : (p : Project) (s : Layout) (d : Drawing) → IsFileLayout s.section
 stands p s d layout-is h m f e =
     let gs : List Segment = segments s.sections in
     let parts = layout-is.grouping.parts in
-    let full : All (λ (q : PlacedSection). 0 < q.size) (flat_map sections_in (map (λ (g : Segment). g.group) gs)) =
+    let full : All (λ (q : PlacedSection). 0 < q.size) (flat_map group_sections (map (λ (g : Segment). g.group) gs)) =
     subst (All (λ (q : PlacedSection). 0 < q.size)) (sym parts) (all-full-sections s.sections) in
     let order = files (headers_end (length gs)) gs layout-is.grouping.together layout-is.offsets full in
     let placed : All (λ (x : SectionInFile). IsInMemory x.section) (in_file gs) =
     all-unmapped IsInMemory (λ (x : SectionInFile). x.section) (in_file gs)
     (subst (All IsInMemory) (sym (all-sections gs ∙ parts)) m) in
     let there : All (λ (x : SectionInFile). IsInMemory x.section) (loaded s) =
-    all-full (λ (x : SectionInFile). has_file_bytes x.section) (λ (x : SectionInFile).
+    all-full (λ (x : SectionInFile). x.section.has_file_bytes) (λ (x : SectionInFile).
     IsInMemory x.section) (in_file gs) (λ i x l t. placed i x l) in
     let front : length d.headers.now ≡ headers_end (length gs) = ap length h.headers ∙ headers-long p s in
     let past = parts-end (loaded_end gs) (tail p s) (tail-order p s) in

@@ -13,7 +13,7 @@ use Rattle.ldmodel.specs.SectionHeaders.{header_name_table, header_part, output_
 use Rattle.ldmodel.specs.SectionHeaders.{table_headers, tables, tail}
 use Rattle.ldmodel.specs.Segments.{segments, loaded_end}
 use Rattle.ldmodel.specs.Tail.{SymbolEntry, ValuedSymbol, string_table, symbol_bytes, symbol_entry, symbol_names}
-use Rattle.ldmodel.specs.Tail.{symbol_name_table, symbol_table, table_symbols}
+use Rattle.ldmodel.specs.Tail.{symbol_name_table, output_symbol_table, table_symbols}
 use Rattle.emit_image.specs.HeaderRecord.{header_of}
 use Rattle.emit_image.specs.Tables.{IsTableSection, IsTableSymbol, IsTailOf, entry_of, header_names_of, header_part_of}
 use Rattle.emit_image.specs.Tables.{names_of, output_headers_of, section_header_of, symbol_table_of, tables_of, tail_of}
@@ -133,8 +133,8 @@ module _ (p : Project) (s : Layout) where
       (enumerate_from (n + 1) qs))
 
   table_same : (xs : List TableSymbol) → AllZip (IsTableSymbol p s) (table_symbols p s) xs → symbol_table_of xs
-      ≡ symbol_table p s
-  unfolding symbol_table_of symbol_table
+      ≡ output_symbol_table p s
+  unfolding symbol_table_of output_symbol_table
   table_same xs h =
       let e : names_of xs ≡ symbol_names p s = names_same (table_symbols p s) xs h in
       ap (λ (ns : List (List ℕ)). replicate 24 0 ++ flat_map (λ x. symbol_bytes (entry_of ns x)) (enumerate_from 0 xs))
@@ -174,7 +174,8 @@ module _ (p : Project) (s : Layout) where
   from_values end xs ys = refl
 
   from_link : tables p s
-      ≡ tables_from (loaded_end (segments s.sections)) (symbol_table p s) (symbol_name_table p s) (header_name_table s)
+      ≡ tables_from (loaded_end (segments s.sections)) (output_symbol_table p s) (symbol_name_table p s)
+      (header_name_table s)
   unfolding tables
   from_link = refl
 
@@ -188,10 +189,10 @@ module _ (p : Project) (s : Layout) where
       tables_from (loaded_end (segments s.sections)) bs (string_table (names_of xs))
       (string_table (header_names_of ys))) (table_same xs h.symbols)
       ∙ ap (λ (bs : List ℕ).
-      tables_from (loaded_end (segments s.sections)) (symbol_table p s) bs (string_table (header_names_of ys)))
+      tables_from (loaded_end (segments s.sections)) (output_symbol_table p s) bs (string_table (header_names_of ys)))
       (symbol_strings_same xs h.symbols)
       ∙ ap (λ (bs : List ℕ).
-      tables_from (loaded_end (segments s.sections)) (symbol_table p s) (symbol_name_table p s) bs)
+      tables_from (loaded_end (segments s.sections)) (output_symbol_table p s) (symbol_name_table p s) bs)
       (header_strings_same ys h.sections)
       ∙ sym from_link
 

@@ -3,7 +3,7 @@
 use Rattle.std.specs.Prelude.{◌≡◌, ℕ, List, [], Option, None, find, filter, map, true}
 use Rattle.std.specs.List.{All, AllZip}
 use Rattle.std.specs.Option.{option_map}
-use Rattle.ldmodel.specs.FileLayout.{Each}
+use Rattle.ldmodel.specs.Each.{Each}
 use Rattle.ldmodel.specs.declared.laid.PlacedData.{PlacedData}
 use Rattle.emit_image.specs.Drawing.{AreApart, ArePieces, IsFilled, covers_piece, drawing_end, drawing_spot, is_full}
 use Rattle.emit_image.specs.Drawing.{last_end, piece_byte, piece_end}

@@ -4,13 +4,14 @@ use Rattle.std.specs.List.{All, AllZip}
 use Rattle.byteorder.specs.Endian.{little_bytes}
 use Rattle.emit_fields.specs.Patches.{patched_byte}
 use Rattle.ldmodel.specs.Image as image
-use Rattle.ldmodel.specs.Image.{fill_byte, part_byte}
+use Rattle.ldmodel.specs.Image.{fill_byte}
+use Rattle.ldmodel_laws.specs.ByteCases.{part_byte}
 use Rattle.ldmodel.specs.Layout.{Layout, PlacedPiece}
 use Rattle.ldmodel.specs.Layout as layout
 use Rattle.ldmodel.specs.Project.{Project}
 use Rattle.ldmodel.specs.SectionHeaders.{FilePart}
 use Rattle.ldmodel.specs.SectionHeaders as headings
-use Rattle.ldmodel.specs.Segments.{SectionInFile, segments, in_file, has_file_bytes}
+use Rattle.ldmodel.specs.Segments.{SectionInFile, segments, in_file}
 use Rattle.ldmodel.specs.declared.laid.PlacedData.{PlacedData}
 use Rattle.ldscript.specs.statements.Widths.{byte_count}
 use Rattle.emit_image.specs.declared.section.Drawing.{Drawing}
@@ -44,10 +45,10 @@ pub record IsImagePart (x : FilePart) (y : ImagePart) : Type 0 where
 
 -- the output sections of a layout that have bytes in the file, in their order there
 abbrev pub loaded : Layout → List SectionInFile
-loaded s = filter (λ (x : SectionInFile). has_file_bytes x.section) (in_file (segments s.sections))
+loaded s = filter (λ (x : SectionInFile). x.section.has_file_bytes) (in_file (segments s.sections))
 
 pub record IsDrawingOf (p : Project) (s : Layout) (d : Drawing) : Type 0 where
-  pub headers : d.headers.now ≡ image.headers p s
+  pub headers : d.headers.now ≡ image.file_headers p s
   pub sections : AllZip (IsImageSection p s) (loaded s) d.sections.now
   pub tail : AllZip IsImagePart (headings.tail p s) d.tail.now
 

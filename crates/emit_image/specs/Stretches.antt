@@ -4,7 +4,7 @@ use Rattle.std.specs.Prelude.{Bool, true, false, nat_lt, if◌then◌else◌, su
 use Rattle.std.specs.List.{list_any, All}
 use Rattle.std.specs.Option.{option_map_or}
 use Rattle.std.specs.Int.{to_le_bytes, w64}
-use Rattle.emit_fields.specs.Patches.{AreInOrder, patch_end, patched_byte, covers}
+use Rattle.emit_fields.specs.Patches.{AreInOrder, patch_end, patched_byte, patch_covers}
 use Rattle.emit_fields.specs.declared.patch.Patch.{Patch}
 use Rattle.emit_image.specs.declared.stretch.Content.{Content}
 use Rattle.emit_image.specs.declared.stretch.Content.TheVariants.{Fill, Number, Bytes}
@@ -74,7 +74,7 @@ written from (x ∷ xs) = written_in from x + written x.end xs
 
 -- some patch covers byte o of the image
 abbrev pub is_patched : List Patch → ℕ → Bool
-is_patched patches o = list_any (λ (q : Patch). covers q o) patches
+is_patched patches o = list_any (λ (q : Patch). patch_covers q o) patches
 
 -- a patch, at its offset in the file, has the bytes of an image
 abbrev pub IsPatchOf : (ℕ → ℕ) → Patch → Type 0

@@ -12,8 +12,7 @@ use Rattle.ldmodel.specs.SectionHeaders.{SectionHeader, FilePart, Tables, end_of
 use Rattle.ldmodel.specs.SectionHeaders.{table_headers}
 use Rattle.ldmodel.specs.Segments.{segments, file_offset, loaded_end}
 use Rattle.ldmodel.specs.Tail.{SymbolEntry, ValuedSymbol, name_offset, kind_number, symbol_bytes, table_symbols}
-use Rattle.ldmodel.specs.Tail.{st_binding}
-use Rattle.ldmodel.specs.Tail.{st_type, st_shndx, st_size, string_table}
+use Rattle.ldmodel.specs.Tail.{st_binding, st_type_of, st_shndx, st_size, string_table}
 use Rattle.ldmodel.specs.declared.laid.Placed.{Placed}
 use Rattle.emit_image.specs.declared.sections.TableSection.{TableSection}
 use Rattle.emit_image.specs.declared.symbols.TableSymbol.{TableSymbol}
@@ -26,7 +25,7 @@ binding_number weak = if weak then STB_WEAK else STB_GLOBAL
 pub record IsTableSymbol (p : Project) (s : Layout) (x : ValuedSymbol) (y : TableSymbol) : Type 0 where
   pub name : y.name.now ≡ x.name
   pub binding : binding_number y.weak ≡ st_binding x.decision
-  pub type : kind_number y.kind ≡ st_type p x.decision
+  pub type : kind_number y.kind ≡ st_type_of p x.decision
   pub section : y.section ≡ st_shndx p s x.decision
   pub value : y.value ≡ x.value
   pub size : y.size ≡ st_size p x.decision
@@ -79,7 +78,7 @@ header_names_of sections =
 abbrev pub section_header_of : List (List ℕ) → ℕ × TableSection → SectionHeader
 section_header_of names x = record {
   name = name_offset names x.0;
-  type = if not (x.1.placed.load_size == 0) then SHT_PROGBITS else SHT_NOBITS;
+  type = if x.1.placed.has_file_bytes then SHT_PROGBITS else SHT_NOBITS;
   flags = flags_of x.1.placed;
   address = x.1.placed.start;
   offset = x.1.offset;

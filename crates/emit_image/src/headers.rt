@@ -2,7 +2,7 @@
 
 ghost use Rattle.std.specs.Prelude.{◌≡◌, ◌+◌, ◌<◌, ◌^◌, ◌++◌, IfOk, OnOk, List, length, flat_map, ◌==◌, if◌then◌else◌};
 ghost use Rattle.ldmodel.specs.Headers.{elf_header};
-ghost use Rattle.ldmodel.specs.Image.{headers};
+ghost use Rattle.ldmodel.specs.Image.{file_headers};
 ghost use Rattle.ldmodel.specs.Layout.{Layout, PlacedSection};
 ghost use Rattle.ldmodel.specs.Lent.{AreSegments};
 ghost use Rattle.ldmodel.specs.Project.{Project};
@@ -146,7 +146,7 @@ pub fn headers(
     requires { sections + 4 < 2 ^ 64 }
     ensures { IfOk result (λ v. (p : Project) (s : Layout)
         → AreSegments s.sections (definition.segments s.sections) segments.now → entry ≡ number_or_0 (entry_point p s)
-        → table ≡ (header_part p s).offset → sections ≡ length s.sections → v.items ≡ headers p s) }
+        → table ≡ (header_part p s).offset → sections ≡ length s.sections → v.items ≡ file_headers p s) }
 {
     let sorted = ascending(alloc, segments)?;
     let mut out = Vec::with_capacity(alloc, length_of(segments.len()))?;

@@ -97,10 +97,10 @@ fn section_header(name: u64, x: &TableSection<'_>) -> Header
     let q = &x.placed;
     Header {
         name,
-        kind: if q.load_size == 0 {
-            SHT_NOBITS
-        } else {
+        kind: if q.has_file_bytes {
             SHT_PROGBITS
+        } else {
+            SHT_NOBITS
         },
         flags: flags_of(q),
         address: q.start,

@@ -3,7 +3,7 @@ use Rattle.std.proofs.Common.{◌≡◌, ◌∙◌, ◌+◌, ℕ, List, [], ◌�
 use Rattle.std.specs.Prelude.{Result, Ok, Err}
 use Rattle.std.specs.List.{Contains}
 use Rattle.std.proofs.lemmas.List.Sums.{sum_by-cons}
-use Rattle.ldmodel.specs.Relocations.{Site, field_with, site_field, site_value}
+use Rattle.ldmodel.specs.Relocations.{Site, site_field_with, site_field, site_value}
 use Rattle.ldmodel.specs.SymbolValues.{SymbolValue, Number, NotDefined, NotInOutput}
 use Rattle.ldmodel_laws.specs.Untouched.{HasField}
 use Rattle.emit_relocate.specs.Earlier.{good_link}
@@ -23,7 +23,7 @@ module _ (l : KnownLink) where
   unfolding site_field
   valued t h = go (site_value l.project l.layout t) h.1
     where
-      go : (v : SymbolValue) → field_with t v ≡ Ok h.0 → work_of v ≡ 1
+      go : (v : SymbolValue) → site_field_with t v ≡ Ok h.0 → work_of v ≡ 1
       go (Number x) e = refl
       go NotDefined e = absurd (let no : ⊥ = cc in no)
       go NotInOutput e = absurd (let no : ⊥ = cc in no)

@@ -17,9 +17,9 @@ use Rattle.ldmodel.specs.Fault.{Fault}
 use Rattle.ldmodel.specs.Layout.{Layout, PlacedPiece, PlacedSection}
 use Rattle.ldmodel.specs.Project.{NamedObject, Project}
 use Rattle.ldmodel.specs.Relocations.{Site, patch_of, site_field, sites}
-use Rattle.ldmodel.specs.Segments.{file_offset, has_file_bytes, segments}
+use Rattle.ldmodel.specs.Segments.{file_offset, segments}
 use Rattle.ldmodel.specs.Stayed.{FileRange as FileBytes, GoodLink, LinkedPiece, has_stayed, is_moved, linked_piece}
-use Rattle.ldmodel.specs.Stayed.{linked_pieces, pieces_in, retargeted, sites_in, stayed, value_in}
+use Rattle.ldmodel.specs.Stayed.{linked_pieces, link_pieces, retargeted, sites_in, stayed, site_value_in}
 use Rattle.ldmodel.specs.SymbolValues.{number_or_0}
 use Rattle.ldmodel.specs.declared.sections.SectionKey.{SectionKey}
 use Rattle.ldmodel_laws.specs.StayedSites.{has_part_stayed}
@@ -95,7 +95,7 @@ module _ (l : KnownLink) where
 module _ (old : GoodLink) (l : KnownLink) (range : SectionKey → Option FileRange)
     (by_piece : IsPermutation (sites l.project l.layout)
     (flat_map (sites_in l.project) (linked_pieces l.project l.layout)))
-    (both : (x : LinkedPiece) → Contains (pieces_in (good_link l)) x → has_stayed old x ≡ true
+    (both : (x : LinkedPiece) → Contains (link_pieces (good_link l)) x → has_stayed old x ≡ true
     → Contains (stayed old (good_link l)) x) (profile : AreOfProfile l.project) where
   inside : (s : ObjectSection) (t : Site) → Contains (sections_in l.project.objects) s → Contains (own_sites l s) t
       → Contains (sites l.project l.layout) t
@@ -153,7 +153,7 @@ range_whole p s x c some =
     in
     let mapped = in_mapped (linked_piece p (segments s.sections) found.origin) found.origin.pieces x found.gives in
     whole found.origin mapped.source
-    (has_file_bytes found.origin && not (mapped.source.piece.size == 0))
+    (found.origin.has_file_bytes && not (mapped.source.piece.size == 0))
     (ap (λ (y : LinkedPiece). y.range.length) mapped.gives) (ap (λ (y : LinkedPiece). y.size) mapped.gives)
   where
     whole : (q : PlacedSection) (z : PlacedPiece) (b : Bool)
@@ -171,9 +171,9 @@ moved_of old l t e = go (has_moved old l t) refl
     go : (b : Bool) → has_moved old l t ≡ b → b ≡ true
     go true k = refl
     go false k =
-        let same : value_in old t ≡ value_in (good_link l) t = ap number_or_0 ((same_where old l t).0 k) in
+        let same : site_value_in old t ≡ site_value_in (good_link l) t = ap number_or_0 ((same_where old l t).0 k) in
         let none : is_moved old (good_link l) t ≡ false =
-        ap not (eq-eqb (value_in old t) (value_in (good_link l) t) same) in
+        ap not (eq-eqb (site_value_in old t) (site_value_in (good_link l) t) same) in
         cc
 
 among_moved : (old new : GoodLink) (t : Site) → Contains (retargeted old new) t → is_moved old new t ≡ true
@@ -189,7 +189,7 @@ module _ (old : GoodLink) (l : KnownLink) (range : SectionKey → Option FileRan
     (wide : (x : LinkedPiece) (t : Site) (field : List ℕ) → Contains (sites_in l.project x) t
     → site_field l.project l.layout t ≡ Ok field → length field ≡ width t.relocation.kind) where
   module _ (of_stayed : (x : LinkedPiece) → Contains (stayed old (good_link l)) x
-      → Contains (pieces_in (good_link l)) x × (has_stayed old x ≡ true)) (profile : AreOfProfile l.project)
+      → Contains (link_pieces (good_link l)) x × (has_stayed old x ≡ true)) (profile : AreOfProfile l.project)
       (sized : AreSized (good_link l)) where
     module _ (x : LinkedPiece) (t : Site) (f : List ℕ) (stays : Contains (stayed old (good_link l)) x)
         (some : 0 < x.range.length) (within : Contains (sites_in l.project x) t) (moved : has_moved old l t ≡ true)
@@ -257,7 +257,7 @@ module _ (old : GoodLink) (l : KnownLink) (range : SectionKey → Option FileRan
 
   -- ---- at most one patch for each site that is retargeted
 
-  module _ (by_part : (x : LinkedPiece) → Contains (pieces_in (good_link l)) x
+  module _ (by_part : (x : LinkedPiece) → Contains (link_pieces (good_link l)) x
       → has_part_stayed old (good_link l) x.object x.part ≡ has_stayed old x) where
     abbrev both : Site → Bool
     both t = lies old l t && has_moved old l t

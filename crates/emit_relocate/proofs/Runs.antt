@@ -14,7 +14,7 @@ use Rattle.elfobj.specs.Relocations.{field_end}
 use Rattle.elfobj.specs.declared.relocation.Relocation.{Relocation}
 use Rattle.elfobj.specs.declared.relocation.RelocationKind.{RelocationKind}
 use Rattle.elfobj.specs.declared.relocation.RelocationKind.TheVariants as kind
-use Rattle.emit_fields.specs.Patches.{IsWithin, meets}
+use Rattle.emit_fields.specs.Patches.{IsWithin, patches_meet}
 use Rattle.emit_fields.specs.declared.patch.Patch.{Patch}
 use Rattle.ldmodel.specs.Relocations.{is_evaluated}
 use Rattle.emit_relocate.specs.Fields.{AreFieldsOf, IsAmong, IsNext}
@@ -62,7 +62,8 @@ module _ {X : Type 0} (xs : List X) (x : X) where
   ]
 
 -- fields of two relocations that are apart are apart
-apart_fields : (r q : Relocation) (x y : Patch) → IsFieldOf r x → IsFieldOf q y → of.meets r q ≡ false → meets x y
+apart_fields : (r q : Relocation) (x y : Patch) → IsFieldOf r x → IsFieldOf q y → of.meets r q ≡ false
+    → patches_meet x y
     ≡ false
 apart_fields r q x y h k e = rw (h.offset_is, h.width_is, k.offset_is, k.width_is) e
 
@@ -70,7 +71,7 @@ module _ (rs : List Relocation) (i : ℕ) (r : Relocation) (is : slice_get rs i 
   further : (x : Patch) → IsAmong rs i x → IsAmong rs (i + 1) x
   further x h = (h.0, h.1, omega (arith, h.2), h.3, h.4)
 
-  apart_from : elf.AreApart rs → (y : Patch) → IsFieldOf r y → (x : Patch) → IsAmong rs i x → meets x y ≡ false
+  apart_from : elf.AreApart rs → (y : Patch) → IsFieldOf r y → (x : Patch) → IsAmong rs i x → patches_meet x y ≡ false
   apart_from all y k x h =
       let first : get_or rs h.0 r ≡ h.1 = get_or_from_slice_get rs h.0 h.1 r h.3 in
       let second : get_or rs i r ≡ r = get_or_from_slice_get rs i r r is in
@@ -81,7 +82,7 @@ module _ (rs : List Relocation) (i : ℕ) (r : Relocation) (is : slice_get rs i 
   added_one ps y h k = record {
     each = all_longer ps y (IsAmong rs (i + 1)) (λ j d low. further (get_or ps j d) (h.each j d low))
         (i, r, omega arith, is, k);
-    apart = λ all. pairs_longer ps y (λ p q. meets p q ≡ false) (h.apart all) (λ j d low.
+    apart = λ all. pairs_longer ps y (λ p q. patches_meet p q ≡ false) (h.apart all) (λ j d low.
         apart_from all y k (get_or ps j d) (h.each j d low));
   }
 

@@ -19,7 +19,7 @@ use Rattle.ldmodel.specs.Image.{object_named, section_numbered}
 use Rattle.ldmodel.specs.Layout.{PlacedPiece}
 use Rattle.ldmodel.specs.Project.{NamedObject, Project}
 use Rattle.ldmodel.specs.Relocations.{Site, is_evaluated, sites, sites_at, sites_of_section}
-use Rattle.ldmodel.specs.Stayed.{GoodLink, LinkedPiece, has_stayed, linked_pieces, pieces_in, sites_in, sites_in_part}
+use Rattle.ldmodel.specs.Stayed.{GoodLink, LinkedPiece, has_stayed, linked_pieces, link_pieces, sites_in, sites_in_part}
 use Rattle.ldmodel.specs.Stayed.{sites_in_section}
 use Rattle.ldmodel.specs.SymbolValues.{SymbolValue, Number, NotDefined, NotInOutput, placed_part}
 use Rattle.ldmodel.specs.declared.names.ObjectPlace.{ObjectPlace}
@@ -138,7 +138,7 @@ module _ (old : GoodLink) (l : KnownLink) where
   -- the input section of a site, of an object and a section
   pub record Home (t : Site) : Type 0 where
     pub piece : LinkedPiece
-    pub among : Contains (pieces_in (good_link l)) piece
+    pub among : Contains (link_pieces (good_link l)) piece
     pub within : Contains (sites_in l.project piece) t
     pub belongs_to : Belongs piece t
 
@@ -198,7 +198,7 @@ module _ (old : GoodLink) (l : KnownLink) where
   module _ (range : SectionKey → Option FileRange)
       (by_piece : IsPermutation (sites l.project l.layout)
       (flat_map (sites_in l.project) (linked_pieces l.project l.layout)))
-      (settled : (x : LinkedPiece) (t : Site) → Contains (pieces_in (good_link l)) x → has_stayed old x ≡ true
+      (settled : (x : LinkedPiece) (t : Site) → Contains (link_pieces (good_link l)) x → has_stayed old x ≡ true
       → Contains (sites_in l.project x) t → HasSameValue old (good_link l) t → HasField (good_link l) t) where
     faults_at : (key : ObjectPlace) (s : ObjectSection) (c : Evaluated) (r : Option FileRange)
         → named_object l key ≡ Some s.object → IsEvaluatedAt old l (section_key key s) r s c
@@ -245,7 +245,7 @@ module _ (old : GoodLink) (l : KnownLink) where
   module _ (range : SectionKey → Option FileRange) (complete : IsComplete range old l)
       (by_piece : IsPermutation (sites l.project l.layout)
       (flat_map (sites_in l.project) (linked_pieces l.project l.layout)))
-      (by_part : (x : LinkedPiece) → Contains (pieces_in (good_link l)) x
+      (by_part : (x : LinkedPiece) → Contains (link_pieces (good_link l)) x
       → has_part_stayed old (good_link l) x.object x.part ≡ has_stayed old x) where
     pub lies_as : (t : Site) → (h : Home t) → lies t ≡ has_stayed old h.piece
     lies_as t h =

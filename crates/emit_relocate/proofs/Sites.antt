@@ -6,7 +6,7 @@ use Rattle.emit_fields.specs.Fields.{field_of}
 use Rattle.emit_fields.specs.declared.field.Overflow.{Overflow}
 use Rattle.emit_fields.specs.declared.patch.Patch.{Patch}
 use Rattle.ldmodel.specs.FaultCode.{fault_of}
-use Rattle.ldmodel.specs.Relocations.{Site, field_with, site_field, site_value}
+use Rattle.ldmodel.specs.Relocations.{Site, site_field_with, site_field, site_value}
 use Rattle.ldmodel.specs.SymbolValues.{SymbolValue, Number, NotDefined, NotInOutput}
 use Rattle.ldmodel.specs.declared.fault.Fault as code
 use Rattle.ldmodel.specs.declared.fault.Fault.TheVariants as variant
@@ -23,13 +23,13 @@ module _ (l : KnownLink) (m : PlacedSection) (entry : ℕ) (t : Site) (h : IsSit
   relocation_is = sym (ap (λ rs. slice_get rs entry) h.site.placed.relocations_are) ∙ h.entry_is
 
   -- each fault of a site has its names, by the numbers that it is handed on with
-  pub undefined : (v : SymbolValue) → v ≡ NotDefined → field_with t v
+  pub undefined : (v : SymbolValue) → v ≡ NotDefined → site_field_with t v
       ≡ Err (fault_of l.project l.number
       (variant.UndefinedSymbol (record { object = m.object; section = m.section; entry = entry })))
   unfolding fault_of
   undefined v e = rw (e, h.site.placed.object_is, h.site.placed.section_is, relocation_is) refl
 
-  pub missing : (v : SymbolValue) → v ≡ NotInOutput → field_with t v
+  pub missing : (v : SymbolValue) → v ≡ NotInOutput → site_field_with t v
       ≡ Err (fault_of l.project l.number
       (variant.TargetNotInOutput (record { object = m.object; section = m.section; entry = entry })))
   unfolding fault_of
@@ -37,7 +37,7 @@ module _ (l : KnownLink) (m : PlacedSection) (entry : ℕ) (t : Site) (h : IsSit
 
   pub overflow : (v : SymbolValue) (x : ℕ) (r : Relocation) (f : Overflow) → v ≡ Number x → t.relocation ≡ r → Err f
       ≡ field_of r x (m.start + r.offset)
-      → field_with t v ≡ Err
+      → site_field_with t v ≡ Err
       (fault_of l.project l.number
       (variant.FieldOverflow (record { object = m.object; section = m.section; entry = entry }) f.value))
   unfolding fault_of
@@ -48,5 +48,5 @@ module _ (l : KnownLink) (m : PlacedSection) (entry : ℕ) (t : Site) (h : IsSit
 pub evaluated : (l : KnownLink) (t : Site) (v : SymbolValue) (r : Result Patch code.Fault) → v
     ≡ site_value l.project l.layout t → IsOutcome l t v r → IsEvaluated l t r
 unfolding site_field
-evaluated l t v (Ok x) e h = (sym (ap (field_with t) e) ∙ h.0, h.1)
-evaluated l t v (Err f) e h = sym (ap (field_with t) e) ∙ h
+evaluated l t v (Ok x) e h = (sym (ap (site_field_with t) e) ∙ h.0, h.1)
+evaluated l t v (Err f) e h = sym (ap (site_field_with t) e) ∙ h

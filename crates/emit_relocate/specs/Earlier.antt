@@ -2,7 +2,7 @@
 use Rattle.std.specs.Prelude.{◌≡◌, Option, None, Some, Contains, IsSome, Bool, true, false, not, ◌==◌}
 use Rattle.ldmodel.specs.Relocations.{Site, site_value}
 use Rattle.ldmodel.specs.Stayed as model
-use Rattle.ldmodel.specs.Stayed.{GoodLink, LinkedPiece, has_stayed, pieces_in}
+use Rattle.ldmodel.specs.Stayed.{GoodLink, LinkedPiece, has_stayed, link_pieces}
 use Rattle.ldmodel.specs.SymbolValues.{SymbolValue, Number, NotDefined, NotInOutput}
 use Rattle.ldmodel.specs.declared.names.ObjectPlace.{ObjectPlace}
 use Rattle.ldmodel.specs.declared.sections.Part.{Part}
@@ -16,7 +16,7 @@ good_link l = record { project = l.project; layout = l.layout }
 
 -- an input section in the output, by its key
 pub record IsPieceOf (l : KnownLink) (key : SectionKey) (x : LinkedPiece) : Type 0 where
-  pub among : Contains (pieces_in (good_link l)) x
+  pub among : Contains (link_pieces (good_link l)) x
   pub object_is : x.object ≡ name_of_object l key.object
   pub part_is : x.part ≡ key.part
 

@@ -9,7 +9,7 @@ use Rattle.emit_fields.specs.Patches.{patch_end}
 use Rattle.emit_fields.specs.declared.patch.Patch.{Patch}
 use Rattle.ldmodel.specs.Project.{NamedObject, Project}
 use Rattle.ldmodel.specs.Relocations.{Site, site_field}
-use Rattle.ldmodel.specs.Stayed.{GoodLink, LinkedPiece, pieces_in, retargeted, sites_in, stayed}
+use Rattle.ldmodel.specs.Stayed.{GoodLink, LinkedPiece, link_pieces, retargeted, sites_in, stayed}
 
 -- the field of a site of an input section, in its place in the file
 abbrev pub file_patch : LinkedPiece → Site → List ℕ → Patch
@@ -24,7 +24,7 @@ AreOfProfile p =
 -- an input section in the output with sites has the size of its section
 abbrev pub AreSized : GoodLink → Type 0
 AreSized l =
-    (x : LinkedPiece) (t : Site) → Contains (pieces_in l) x → Contains (sites_in l.project x) t
+    (x : LinkedPiece) (t : Site) → Contains (link_pieces l) x → Contains (sites_in l.project x) t
     → x.size ≡ t.section.size
 
 -- the new field of a site of an input section that stayed, where the relocations of the section share no byte

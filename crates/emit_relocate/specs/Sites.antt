@@ -9,7 +9,7 @@ use Rattle.emit_fields.specs.declared.patch.Patch.{Patch}
 use Rattle.ldmodel.specs.FaultCode.{fault_of}
 use Rattle.ldmodel.specs.Image.{section_numbered}
 use Rattle.ldmodel.specs.Project.{NamedObject}
-use Rattle.ldmodel.specs.Relocations.{Site, field_with, is_evaluated, site_field}
+use Rattle.ldmodel.specs.Relocations.{Site, site_field_with, is_evaluated, site_field}
 use Rattle.ldmodel.specs.SymbolValues.{SymbolValue}
 use Rattle.ldmodel.specs.declared.fault.Fault as code
 use Rattle.ldmodel.specs.declared.names.ObjectPlace.{ObjectPlace}
@@ -44,8 +44,8 @@ pub record IsSiteAt (l : KnownLink) (m : PlacedSection) (entry : ℕ) (t : Site)
 
 -- what a site comes to: its field in its place, or its fault
 abbrev pub IsOutcome : KnownLink → Site → SymbolValue → Result Patch code.Fault → Type 0
-IsOutcome l t v (Ok x) = (field_with t v ≡ Ok x.field) × (x.offset ≡ t.relocation.offset)
-IsOutcome l t v (Err f) = field_with t v ≡ Err (fault_of l.project l.number f)
+IsOutcome l t v (Ok x) = (site_field_with t v ≡ Ok x.field) × (x.offset ≡ t.relocation.offset)
+IsOutcome l t v (Err f) = site_field_with t v ≡ Err (fault_of l.project l.number f)
 
 abbrev pub IsEvaluated : KnownLink → Site → Result Patch code.Fault → Type 0
 IsEvaluated l t (Ok x) = (site_field l.project l.layout t ≡ Ok x.field) × (x.offset ≡ t.relocation.offset)

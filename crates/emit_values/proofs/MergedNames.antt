@@ -10,7 +10,7 @@ use Rattle.std.specs.declared.cmp.Ordering.TheVariants.{Equal, Greater, Less}
 use Rattle.std.proofs.lemmas.Bool.{false≢true}
 use Rattle.std.proofs.lemmas.List.{drop-map, drop_all, get_or-drop, get_or-map, length-drop, length-map, take-map}
 use Rattle.std.proofs.lemmas.List.Sorted.{ranks_by, sorted_far}
-use Rattle.ldmodel.specs.FileLayout.{Each}
+use Rattle.ldmodel.specs.Each.{Each}
 use Rattle.ldmodel.specs.OutputSymbols.{is_before}
 use Rattle.symres.specs.declared.sorted.NamedKey.{NamedKey}
 use Rattle.emit_values.specs.Candidates.{comes_before, with_key}

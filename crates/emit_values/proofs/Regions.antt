@@ -8,7 +8,7 @@ use Rattle.ldscript.specs.statements.declared.statement.Region.{Region}
 use Rattle.ldscript.specs.statements.declared.statement.Statement.{Statement}
 use Rattle.ldmodel_laws.specs.Traces.{AddsSection, Trace, all_added, nothing_added, region_added, section_added}
 use Rattle.ldmodel.specs.Layout.{Layout, MemoryRegion, PlacedSection, nothing_placed}
-use Rattle.ldmodel.specs.SectionEnd.{freed_from, load_region, placed_section}
+use Rattle.ldmodel.specs.Placement.{freed_from, load_region, placed_section}
 
 -- the names of the regions so far
 abbrev names : Layout → List (List ℕ)

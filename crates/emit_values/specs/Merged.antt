@@ -1,7 +1,7 @@
 -- A sorted list with the members of another at their places.
 use Rattle.std.specs.Prelude.{◌≡◌, ◌++◌, ◌∷◌, ℕ, Bool, List, [], drop, false, map, take}
 use Rattle.std.specs.List.Sorted.{IsPartitionPoint}
-use Rattle.ldmodel.specs.FileLayout.{Each}
+use Rattle.ldmodel.specs.Each.{Each}
 use Rattle.ldmodel.specs.OutputSymbols.{is_before}
 use Rattle.symres.specs.declared.sorted.NamedKey.{NamedKey}
 use Rattle.emit_values.specs.Candidates.{comes_before, with_key}

@@ -11,7 +11,7 @@ use Rattle.elfobj.specs.Sections.{LinkedSection, section_of}
 use Rattle.elfobj.specs.Symbols.{NamedSymbol}
 use Rattle.elfobj.specs.file.declared.section.Section.{Section}
 use Rattle.ldmodel.specs.InputSections.{block_at, block_of, common_block, common_blocks, input_sections, is_same_entry}
-use Rattle.ldmodel.specs.InputSections.{linked_section, sections_of}
+use Rattle.ldmodel.specs.InputSections.{linked_input, object_inputs}
 use Rattle.ldmodel.specs.Names.{Decision, Entry, Strong, Script, Common, Weak, Provided, Undefined, Duplicate, decision}
 use Rattle.ldmodel.specs.Project.{NamedObject, Project}
 use Rattle.ldmodel.specs.Sections.{InputSection, SectionId}
@@ -112,7 +112,7 @@ pairs_tail s ss h = λ i j d l m. h (suc i) (suc j) d (omega (arith, l)) (omega 
 
 linked_before : (i : ℕ) (o : NamedObject) (s : LinkedSection) (ss : List LinkedSection)
     → All (λ (t : Section). s.number.0 < t.number.0) (map section_of ss)
-    → Before (record { object = i; part = InTable s.number }) (ids (map (linked_section i o) ss))
+    → Before (record { object = i; part = InTable s.number }) (ids (map (linked_input i o) ss))
 linked_before i o s [] h = tt
 linked_before i o s (t ∷ ts) h = (
   inr (refl, inr (refl, All-head (λ (t : Section). s.number.0 < t.number.0) (section_of t) (map section_of ts) h)),
@@ -121,12 +121,12 @@ linked_before i o s (t ∷ ts) h = (
 
 linked_ascend : (i : ℕ) (o : NamedObject) (ss : List LinkedSection)
     → AllPairs (λ (s t : Section). s.number.0 < t.number.0) (map section_of ss)
-    → Ascend (ids (map (linked_section i o) ss))
+    → Ascend (ids (map (linked_input i o) ss))
 linked_ascend i o [] h = tt
 linked_ascend i o (s ∷ ss) h = (linked_before i o s ss (pairs_head s ss h), linked_ascend i o ss (pairs_tail s ss h))
 
 linked_tables : (i : ℕ) (o : NamedObject) (ss : List LinkedSection)
-    → Each (IsTableOf i) (ids (map (linked_section i o) ss))
+    → Each (IsTableOf i) (ids (map (linked_input i o) ss))
 linked_tables i o [] = tt
 linked_tables i o (s ∷ ss) = ((refl, refl), linked_tables i o ss)
 
@@ -190,43 +190,43 @@ module _ (p : Project) (i : ℕ) (o : NamedObject) where
           )
 
   abbrev of_object : List SectionId
-  of_object = ids (sections_of p i o)
+  of_object = ids (object_inputs p i o)
 
-  split : of_object ≡ ids (map (linked_section i o) o.object.sections) ++ found 0 o.object.symbols
-  split = map-append (λ (s : InputSection). s.id) (map (linked_section i o) o.object.sections) (common_blocks p i o)
+  split : of_object ≡ ids (map (linked_input i o) o.object.sections) ++ found 0 o.object.symbols
+  split = map-append (λ (s : InputSection). s.id) (map (linked_input i o) o.object.sections) (common_blocks p i o)
 
   object_ascends : AllPairs (λ (s t : Section). s.number.0 < t.number.0) (map section_of o.object.sections)
       → Ascend of_object
   object_ascends h = subst Ascend (sym split)
       (ascend_append (IsTableOf i) (IsBlockFrom i 0) (λ x y a b. inr (a.0 ∙ sym b.0, inl (omega (arith, a.1, b.1))))
-      (ids (map (linked_section i o) o.object.sections)) (found 0 o.object.symbols)
+      (ids (map (linked_input i o) o.object.sections)) (found 0 o.object.symbols)
       (linked_ascend i o o.object.sections h) (blocks_ascend 0 o.object.symbols)
       (linked_tables i o o.object.sections) (blocks_from 0 o.object.symbols))
 
   of_this : Each (λ x. x.object ≡ i) of_object
   of_this = subst (Each (λ x. x.object ≡ i)) (sym split)
-      (each_append (λ x. x.object ≡ i) (ids (map (linked_section i o) o.object.sections)) (found 0 o.object.symbols)
-      (each_weaker (IsTableOf i) (λ x. x.object ≡ i) (λ x h. h.0) (ids (map (linked_section i o) o.object.sections))
+      (each_append (λ x. x.object ≡ i) (ids (map (linked_input i o) o.object.sections)) (found 0 o.object.symbols)
+      (each_weaker (IsTableOf i) (λ x. x.object ≡ i) (λ x h. h.0) (ids (map (linked_input i o) o.object.sections))
       (linked_tables i o o.object.sections))
       (each_weaker (IsBlockFrom i 0) (λ x. x.object ≡ i) (λ x h. h.0) (found 0 o.object.symbols)
       (blocks_from 0 o.object.symbols)))
 
 module _ (p : Project) where
   abbrev of_all : ℕ → List NamedObject → List SectionId
-  of_all n os = ids (flat_map (λ (o : ℕ × NamedObject). sections_of p o.0 o.1) (enumerate_from n os))
+  of_all n os = ids (flat_map (λ (o : ℕ × NamedObject). object_inputs p o.0 o.1) (enumerate_from n os))
 
-  parts : (n : ℕ) (o : NamedObject) (os : List NamedObject) → of_all n (o ∷ os) ≡ ids (sections_of p n o)
+  parts : (n : ℕ) (o : NamedObject) (os : List NamedObject) → of_all n (o ∷ os) ≡ ids (object_inputs p n o)
       ++ of_all (n + 1) os
   parts n o os =
-      ap ids (flat_map-cons (λ (o : ℕ × NamedObject). sections_of p o.0 o.1) (n, o) (enumerate_from (n + 1) os))
-      ∙ map-append (λ (s : InputSection). s.id) (sections_of p n o)
-      (flat_map (λ (o : ℕ × NamedObject). sections_of p o.0 o.1) (enumerate_from (n + 1) os))
+      ap ids (flat_map-cons (λ (o : ℕ × NamedObject). object_inputs p o.0 o.1) (n, o) (enumerate_from (n + 1) os))
+      ∙ map-append (λ (s : InputSection). s.id) (object_inputs p n o)
+      (flat_map (λ (o : ℕ × NamedObject). object_inputs p o.0 o.1) (enumerate_from (n + 1) os))
 
   from_object : (n : ℕ) (os : List NamedObject) → Each (λ x. n ≤ x.object) (of_all n os)
   from_object n [] = tt
   from_object n (o ∷ os) = subst (Each (λ x. n ≤ x.object)) (sym (parts n o os))
-      (each_append (λ x. n ≤ x.object) (ids (sections_of p n o)) (of_all (n + 1) os)
-      (each_weaker (λ x. x.object ≡ n) (λ x. n ≤ x.object) (λ x h. omega (arith, h)) (ids (sections_of p n o))
+      (each_append (λ x. n ≤ x.object) (ids (object_inputs p n o)) (of_all (n + 1) os)
+      (each_weaker (λ x. x.object ≡ n) (λ x. n ≤ x.object) (λ x h. omega (arith, h)) (ids (object_inputs p n o))
       (of_this p n o))
       (each_weaker (λ x. n + 1 ≤ x.object) (λ x. n ≤ x.object) (λ x h. omega (arith, h)) (of_all (n + 1) os)
       (from_object (n + 1) os)))
@@ -238,7 +238,7 @@ module _ (p : Project) where
   all_ascend n [] h = tt
   all_ascend n (o ∷ os) h = subst Ascend (sym (parts n o os))
       (ascend_append (λ x. x.object ≡ n) (λ y. n + 1 ≤ y.object) (λ x y a b. inl (omega (arith, a, b)))
-      (ids (sections_of p n o)) (of_all (n + 1) os)
+      (ids (object_inputs p n o)) (of_all (n + 1) os)
       (object_ascends p n o
       (All-head (λ (o : NamedObject).
       AllPairs (λ (s t : Section). s.number.0 < t.number.0) (map section_of o.object.sections)) o os h))

@@ -10,7 +10,8 @@ use Rattle.std.proofs.lemmas.Bool.Decides.{nat_tests}
 use Rattle.std.proofs.lemmas.Slice.Eq.{bytes_eq-Decides}
 use Rattle.std.proofs.lemmas.Iterator.Adapters.{position_from-zero}
 use Rattle.ldscript.specs.terms.Parts.{Part, AnyRun, AnyByte, Byte, OneOf}
-use Rattle.ldscript.specs.terms.Matching.{is_match, exact_name}
+use Rattle.ldscript.specs.terms.Matching.{is_match}
+use Rattle.ldscript.specs.terms.CodeTerms.{exact_name}
 use Rattle.ldscript.specs.statements.Numbering.{InputStatementAt, input_statements}
 use Rattle.ldscript.specs.statements.declared.input.Input.{Input}
 use Rattle.ldscript.specs.statements.declared.input.SectionWord.{SectionWord}

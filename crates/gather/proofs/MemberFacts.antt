@@ -11,7 +11,7 @@ use Rattle.std.proofs.lemmas.Option.{get_or_from_slice_get, slice_get_within}
 use Rattle.elfobj.specs.Sections.{LinkedSection}
 use Rattle.ldmodel.specs.FirstMatch.{first_match}
 use Rattle.ldmodel.specs.HandedOver.{section_id}
-use Rattle.ldmodel.specs.InputSections.{common_blocks, input_sections, linked_section, sections_of}
+use Rattle.ldmodel.specs.InputSections.{common_blocks, input_sections, linked_input, object_inputs}
 use Rattle.ldmodel.specs.Project.{NamedObject, Project}
 use Rattle.ldmodel.specs.Sections.{InputSection}
 use Rattle.ldmodel.specs.declared.rows.InputIndex.{InputIndex}
@@ -89,7 +89,7 @@ map_agree f g h (x ∷ xs) = ap (λ y. y ∷ map f xs) (h x) ∙ ap (λ l. g x �
 
 module _ (p : Project) (keys : Keys) (i : ℕ) (o : NamedObject) (m : Member) (r : IsMember p keys i o m) where
   linked_is : (s : LinkedSection) → facts_of_linked keys m s (first_match p.script o.name s.name)
-      ≡ facts p (linked_section i o s)
+      ≡ facts p (linked_input i o s)
   linked_is s =
       let with_names : ℕ → List ℕ → Facts = λ number name. record {
         id = record { object = number; part = InTable s.number };
@@ -104,10 +104,10 @@ module _ (p : Project) (keys : Keys) (i : ℕ) (o : NamedObject) (m : Member) (r
       ap (λ number. with_names number (keys.naming.object m.key.0)) r.number ∙ ap (with_names i) r.name
 
   beside_is : (ss : List LinkedSection) → beside keys m ss (matches_of p.script o.name ss)
-      ≡ map (facts p) (map (linked_section i o) ss)
+      ≡ map (facts p) (map (linked_input i o) ss)
   beside_is [] = refl
   beside_is (s ∷ ss) = ap (λ f. f ∷ beside keys m ss (matches_of p.script o.name ss)) (linked_is s)
-      ∙ ap (λ l. facts p (linked_section i o s) ∷ l) (beside_is ss)
+      ∙ ap (λ l. facts p (linked_input i o s) ∷ l) (beside_is ss)
 
   block_is : (b : CommonBlock) → block_facts keys m b ≡ facts p (block_of i o.name b)
   block_is b =
@@ -124,28 +124,29 @@ module _ (p : Project) (keys : Keys) (i : ℕ) (o : NamedObject) (m : Member) (r
       ap (λ number. at_names number (keys.naming.object m.key.0) (number_of m.common)) r.number
       ∙ ap (λ name. at_names i name (number_of m.common)) r.name ∙ ap (at_names i o.name) r.common
 
-  member_is : member_facts keys m ≡ map (facts p) (sections_of p i o)
+  member_is : member_facts keys m ≡ map (facts p) (object_inputs p i o)
   member_is =
       ap (λ l. l ++ map (block_facts keys m) m.blocks.now)
       (ap (λ d. beside keys m d.sections (map number_of m.matches.now)) r.object
       ∙ ap (beside keys m o.object.sections) r.matches ∙ beside_is o.object.sections)
-      ∙ ap (λ l. map (facts p) (map (linked_section i o) o.object.sections) ++ l)
+      ∙ ap (λ l. map (facts p) (map (linked_input i o) o.object.sections) ++ l)
       (map_agree (block_facts keys m) (λ b. facts p (block_of i o.name b)) block_is m.blocks.now
       ∙ sym (map_twice (facts p) (block_of i o.name) m.blocks.now) ∙ ap (map (facts p)) r.blocks)
-      ∙ sym (map-append (facts p) (map (linked_section i o) o.object.sections) (common_blocks p i o))
+      ∙ sym (map-append (facts p) (map (linked_input i o) o.object.sections) (common_blocks p i o))
 
 all_facts : (p : Project) (keys : Keys) (os : List (ℕ × NamedObject)) (ms : List Member)
     → AllZip (λ (o : ℕ × NamedObject) m. IsMember p keys o.0 o.1 m) os ms
-    → flat_map (member_facts keys) ms ≡ map (facts p) (flat_map (λ (o : ℕ × NamedObject). sections_of p o.0 o.1) os)
+    → flat_map (member_facts keys) ms ≡ map (facts p) (flat_map (λ (o : ℕ × NamedObject). object_inputs p o.0 o.1) os)
 all_facts p keys [] [] h = refl
 all_facts p keys [] (m ∷ ms) h = absurd h
 all_facts p keys (o ∷ os) [] h = absurd h
 all_facts p keys (o ∷ os) (m ∷ ms) h =
     flat_map-cons (member_facts keys) m ms
     ∙ ap (λ l. l ++ flat_map (member_facts keys) ms) (member_is p keys o.0 o.1 m h.0)
-    ∙ ap (λ l. map (facts p) (sections_of p o.0 o.1) ++ l) (all_facts p keys os ms h.1)
-    ∙ sym (map-append (facts p) (sections_of p o.0 o.1) (flat_map (λ (o : ℕ × NamedObject). sections_of p o.0 o.1) os))
-    ∙ ap (map (facts p)) (sym (flat_map-cons (λ (o : ℕ × NamedObject). sections_of p o.0 o.1) o os))
+    ∙ ap (λ l. map (facts p) (object_inputs p o.0 o.1) ++ l) (all_facts p keys os ms h.1)
+    ∙ sym (map-append (facts p) (object_inputs p o.0 o.1) (flat_map (λ
+    (o : ℕ × NamedObject). object_inputs p o.0 o.1) os))
+    ∙ ap (map (facts p)) (sym (flat_map-cons (λ (o : ℕ × NamedObject). object_inputs p o.0 o.1) o os))
 
 names_hold : (p : Project) (keys : Keys) (xs : List Gathered) (ss : List InputSection) → map (shown_facts keys) xs
     ≡ map (facts p) ss

@@ -16,7 +16,7 @@ use Rattle.ldmodel.specs.FaultCode.{fault_of, name_of_part, section_at}
 use Rattle.ldmodel.specs.Gathering.{candidates}
 use Rattle.ldmodel.specs.HandedOver.{section_id}
 use Rattle.ldmodel.specs.InputSections.{block_at, block_of, common_block, common_blocks, input_sections, is_same_entry}
-use Rattle.ldmodel.specs.InputSections.{linked_section, sections_of}
+use Rattle.ldmodel.specs.InputSections.{linked_input, object_inputs}
 use Rattle.ldmodel.specs.Link.{gathering_faults}
 use Rattle.ldmodel.specs.Live.{live, orphans}
 use Rattle.ldmodel.specs.NameFaults.{object_name}
@@ -65,12 +65,12 @@ module _ (p : Project) (up : AscendingSections p) where
   name_is i o e = ap (λ m. option_map_or (λ (o : NamedObject). o.name) m []) e
 
   linked_found : (i : ℕ) (o : NamedObject) → slice_get p.objects i ≡ Some o
-      → All (IsFound p) (map (linked_section i o) o.object.sections)
-  linked_found i o e = All-map (IsFound p) (linked_section i o) o.object.sections (λ k d low.
+      → All (IsFound p) (map (linked_input i o) o.object.sections)
+  linked_found i o e = All-map (IsFound p) (linked_input i o) o.object.sections (λ k d low.
       of_section k (get_or o.object.sections k d) (slice_get-get_or o.object.sections k d low))
     where
       of_section : (k : ℕ) (x : LinkedSection) → slice_get o.object.sections k ≡ Some x
-          → IsFound p (linked_section i o x)
+          → IsFound p (linked_input i o x)
       of_section k x is =
           let there : section_at p i x.number ≡ Some x = section_found p i k o x up e is in record {
             object = name_is i o e;
@@ -88,9 +88,9 @@ module _ (p : Project) (up : AscendingSections p) where
   pub all_found : All (IsFound p) (input_sections p)
   unfolding input_sections
   all_found =
-      all_flat_map (IsFound p) (λ (o : ℕ × NamedObject). sections_of p o.0 o.1) (enumerate_from 0 p.objects)
-      (all_numbered (λ (o : ℕ × NamedObject). All (IsFound p) (sections_of p o.0 o.1)) p.objects (λ i o e.
-      All-append (IsFound p) (map (linked_section i o) o.object.sections) (common_blocks p i o) (linked_found i o e)
+      all_flat_map (IsFound p) (λ (o : ℕ × NamedObject). object_inputs p o.0 o.1) (enumerate_from 0 p.objects)
+      (all_numbered (λ (o : ℕ × NamedObject). All (IsFound p) (object_inputs p o.0 o.1)) p.objects (λ i o e.
+      All-append (IsFound p) (map (linked_input i o) o.object.sections) (common_blocks p i o) (linked_found i o e)
       (blocks_found i o e)))
 
   pub found_one : (s : InputSection) → Contains (input_sections p) s → IsFound p s

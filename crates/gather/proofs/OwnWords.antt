@@ -7,7 +7,7 @@ use Rattle.std.specs.Ordering.{nat_cmp}
 use Rattle.std.specs.Prelude.{bytes_eq}
 use Rattle.std.specs.Option.{is_none, option_map_or}
 use Rattle.std.proofs.lemmas.List.{append-nil}
-use Rattle.ldscript.specs.terms.Matching.{exact_name}
+use Rattle.ldscript.specs.terms.CodeTerms.{exact_name}
 use Rattle.ldscript.specs.statements.declared.input.Input.{Input}
 use Rattle.ldscript.specs.statements.declared.input.SectionWord.{SectionWord}
 use Rattle.gather.specs.FileTables.{AddsOf, AddsOwn, own_listed, own_wild}

@@ -2,7 +2,8 @@
 use Rattle.std.specs.Prelude.{ℕ, ◌+◌, List, [], ◌∷◌, ◌++◌, map, Option, Some, None, Bool, false, not, ◌&&◌}
 use Rattle.std.specs.Prelude.{bytes_eq, if◌then◌else◌, is_none, min}
 use Rattle.std.specs.Option.{option_map_or}
-use Rattle.ldscript.specs.terms.Matching.{is_match, exact_name}
+use Rattle.ldscript.specs.terms.Matching.{is_match}
+use Rattle.ldscript.specs.terms.CodeTerms.{exact_name}
 use Rattle.ldscript.specs.statements.Numbering.{InputStatementAt}
 use Rattle.ldscript.specs.statements.declared.input.Input.{Input}
 use Rattle.ldscript.specs.statements.declared.input.SectionWord.{SectionWord}

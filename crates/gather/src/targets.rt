@@ -5,7 +5,7 @@ ghost use Rattle.std.specs.Option.{option_map};
 ghost use Rattle.elfobj.specs.Symbols.{NamedSymbol};
 ghost use Rattle.gather.specs.Symbols.{IsObjectAt};
 ghost use Rattle.ldmodel.specs.HandedOver.{decision_of, entry_of, section_id};
-ghost use Rattle.ldmodel.specs.Live.{entry_section, section_at, section_of_decision, section_of_entry};
+ghost use Rattle.ldmodel.specs.Live.{entry_section, section_of_place, section_of_decision, section_of_entry};
 ghost use Rattle.ldmodel.specs.Live.{section_of_symbol, symbol_at};
 ghost use Rattle.symres.specs.Naming.{IsNaming};
 
@@ -20,7 +20,7 @@ use symres::Naming;
 
 /// The section that a symbol of the object at a place is defined in, if it is in one.
 fn section_at(place: usize, at: SymbolPlace) -> Option<SectionKey>
-    ensures { option_map (section_id (λ key. key)) result ≡ section_at place at }
+    ensures { option_map (section_id (λ key. key)) result ≡ section_of_place place at }
 {
     match at {
         SymbolPlace::Section(number) => Some(SectionKey {

@@ -6,7 +6,7 @@ use Rattle.std.proofs.lemmas.List.Elements.{All-append, All-cons, All-head, All-
 use Rattle.std.specs.List.{All, Contains, cons_option, enumerate_from, filter_map, slice_get}
 use Rattle.elfobj.specs.Symbols.{NamedSymbol}
 use Rattle.ldmodel.specs.InputSections.{block_at, block_of, common_block, common_blocks, input_sections, is_same_entry}
-use Rattle.ldmodel.specs.InputSections.{linked_section, sections_of}
+use Rattle.ldmodel.specs.InputSections.{linked_input, object_inputs}
 use Rattle.ldmodel.specs.Names.{Decision, Duplicate, Entry, Strong, Script, Common, Weak, Provided, Undefined, decision}
 use Rattle.ldmodel.specs.Project.{NamedObject, Project}
 use Rattle.ldmodel.specs.Sections.{InputSection}
@@ -14,26 +14,26 @@ use Rattle.gather_sections.specs.OfObjects.{IsOfObject}
 
 -- what holds of the sections of each object holds of all
 module _ (p : Project) (P : InputSection → Type 0)
-    (each : (i : ℕ) (o : NamedObject) → slice_get p.objects i ≡ Some o → All P (sections_of p i o)) where
+    (each : (i : ℕ) (o : NamedObject) → slice_get p.objects i ≡ Some o → All P (object_inputs p i o)) where
   from_each : (n : ℕ) (os : List NamedObject)
-      → ((k : ℕ) (o : NamedObject) → slice_get os k ≡ Some o → All P (sections_of p (n + k) o))
-      → All P (flat_map (λ (o : ℕ × NamedObject). sections_of p o.0 o.1) (enumerate_from n os))
+      → ((k : ℕ) (o : NamedObject) → slice_get os k ≡ Some o → All P (object_inputs p (n + k) o))
+      → All P (flat_map (λ (o : ℕ × NamedObject). object_inputs p o.0 o.1) (enumerate_from n os))
   from_each n [] h = All-nil P
   from_each n (o ∷ os) h =
       let first : n + 0 ≡ n = omega arith in
-      All-append P (sections_of p n o)
-      (flat_map (λ (o : ℕ × NamedObject). sections_of p o.0 o.1) (enumerate_from (n + 1) os))
-      (subst (λ (m : ℕ). All P (sections_of p m o)) first (h 0 o refl))
+      All-append P (object_inputs p n o)
+      (flat_map (λ (o : ℕ × NamedObject). object_inputs p o.0 o.1) (enumerate_from (n + 1) os))
+      (subst (λ (m : ℕ). All P (object_inputs p m o)) first (h 0 o refl))
       (from_each (n + 1) os (λ k x e.
       let next : n + suc k ≡ (n + 1) + k = omega arith in
-      subst (λ (m : ℕ). All P (sections_of p m x)) next (h (suc k) x e)))
+      subst (λ (m : ℕ). All P (object_inputs p m x)) next (h (suc k) x e)))
 
   pub all_sections : All P (input_sections p)
   unfolding input_sections
   all_sections =
       from_each 0 p.objects (λ k o e.
       let from : k ≡ 0 + k = omega arith in
-      subst (λ (m : ℕ). All P (sections_of p m o)) from (each k o e))
+      subst (λ (m : ℕ). All P (object_inputs p m o)) from (each k o e))
 
   pub one_section : (s : InputSection) → Contains (input_sections p) s → P s
   one_section s c = subst P c.2 (all_sections c.0 s c.1)
@@ -73,10 +73,10 @@ module _ (p : Project) where
       with_option (IsOf i o.name) (block_at p i o e) (filter_map (block_at p i o) es)
       (block_is o.name (record { object = i; symbol = e.0 }) (decision p e.1.name)) (of_blocks i o es)
 
-  of_object : (i : ℕ) (o : NamedObject) → All (IsOf i o.name) (sections_of p i o)
+  of_object : (i : ℕ) (o : NamedObject) → All (IsOf i o.name) (object_inputs p i o)
   of_object i o =
-      All-append (IsOf i o.name) (map (linked_section i o) o.object.sections) (common_blocks p i o)
-      (All-map (IsOf i o.name) (linked_section i o) o.object.sections
+      All-append (IsOf i o.name) (map (linked_input i o) o.object.sections) (common_blocks p i o)
+      (All-map (IsOf i o.name) (linked_input i o) o.object.sections
       (λ k d low. record { number = refl; named = refl }))
       (of_blocks i o (enumerate_from 0 o.object.symbols))
 

@@ -3,8 +3,8 @@
 use Rattle.std.specs.Prelude.{◌≡◌, ℕ, ◌⊎◌, List, [], ◌∷◌, ◌++◌, length, flat_map, Ok, Err, codes, decimal}
 use Rattle.ldmodel.specs.Commands.{Command, Edit, Ask, Query, Image, Map, Faults, AreCommands, IsBad, spelling}
 use Rattle.ldmodel.specs.Project.{Project}
-use Rattle.ldmodel.specs.Edits.{Change, Add, Replace, Move, Remove, SetScript, After, Refusal, NoMemory, refusal_number}
-use Rattle.ldmodel.specs.Edits.{inner_number}
+use Rattle.ldmodel.specs.Edits.{Change, Add, Replace, Move, Remove, SetScript, After, Refusal, NoMemory}
+use Rattle.ldmodel.specs.Edits.{edit_refusal_number, inner_number}
 use Rattle.ldmodel.specs.Link.{Link, link}
 
 -- a word, two numbers and a line feed
@@ -17,7 +17,7 @@ linked_line l = answer_line (codes "linked") l.status (length l.image)
 
 -- `refused N M`
 abbrev pub refused_line : Refusal → List ℕ
-refused_line r = answer_line (codes "refused") (refusal_number r) (inner_number r)
+refused_line r = answer_line (codes "refused") (edit_refusal_number r) (inner_number r)
 
 -- `bytes LENGTH`, and the bytes right after the line feed
 unfoldable pub bytes_answer : List ℕ → List ℕ

@@ -14,15 +14,16 @@ pub data Command : Type 0 where
   Ask : (query : Query) → Command
 
 -- words with one space between them
-abbrev pub spaced : List ℕ → List ℕ → List ℕ
-spaced first rest = first ++ 32 ∷ rest
+abbrev pub with_space : List ℕ → List ℕ → List ℕ
+with_space first rest = first ++ 32 ∷ rest
 
 abbrev pub edit_line : Change → List ℕ
-edit_line (Add name at bytes) = spaced (codes "add") (spaced name (spaced (decimal at) (decimal (length bytes))))
-edit_line (Replace name bytes) = spaced (codes "replace") (spaced name (decimal (length bytes)))
-edit_line (Move name to) = spaced (codes "move") (spaced name (decimal to))
-edit_line (Remove name) = spaced (codes "remove") name
-edit_line (SetScript text) = spaced (codes "script") (decimal (length text))
+edit_line (Add name at bytes) =
+    with_space (codes "add") (with_space name (with_space (decimal at) (decimal (length bytes))))
+edit_line (Replace name bytes) = with_space (codes "replace") (with_space name (decimal (length bytes)))
+edit_line (Move name to) = with_space (codes "move") (with_space name (decimal to))
+edit_line (Remove name) = with_space (codes "remove") name
+edit_line (SetScript text) = with_space (codes "script") (decimal (length text))
 
 abbrev pub query_line : Query → List ℕ
 query_line Image = codes "image"

@@ -10,7 +10,7 @@ use Rattle.elfobj.specs.Object.{object_of}
 use Rattle.elfobj.specs.Refusal.{object_refusal}
 use Rattle.elfobj.specs.RefusalNumber as object
 use Rattle.elfobj.specs.declared.refusal.ObjectRefusal.{ObjectRefusal}
-use Rattle.ldscript.specs.RefusalNumber as script
+use Rattle.ldscript.specs.RefusalNumber.{script_refusal_number}
 use Rattle.ldscript.specs.Script.{IsScript, IsRefusal}
 use Rattle.ldscript.specs.declared.refusal.ScriptRefusal.{ScriptRefusal}
 use Rattle.ldscript.specs.declared.refusal.ScriptRefusal.TheVariants as reader
@@ -40,19 +40,19 @@ pub data Refusal : Type 0 where
   NoMemory : Refusal
 
 -- the number under which a refusal is reported
-abbrev pub refusal_number : Refusal → ℕ
-refusal_number InUse = 1
-refusal_number Unknown = 2
-refusal_number PastEnd = 3
-refusal_number (NotAnObject why) = 4
-refusal_number (NotAScript why) = 5
-refusal_number Limit = 6
-refusal_number NoMemory = 7
+abbrev pub edit_refusal_number : Refusal → ℕ
+edit_refusal_number InUse = 1
+edit_refusal_number Unknown = 2
+edit_refusal_number PastEnd = 3
+edit_refusal_number (NotAnObject why) = 4
+edit_refusal_number (NotAScript why) = 5
+edit_refusal_number Limit = 6
+edit_refusal_number NoMemory = 7
 
 -- for an object or a script the reader's own number, else 0
 abbrev pub inner_number : Refusal → ℕ
 inner_number (NotAnObject why) = object.refusal_number why
-inner_number (NotAScript why) = script.refusal_number why
+inner_number (NotAScript why) = script_refusal_number why
 inner_number _ = 0
 
 abbrev pub has_name : List ℕ → NamedObject → Bool
@@ -100,8 +100,8 @@ early_refusal p (Move name to) =
 early_refusal p (Remove name) = if not (is_in_use p.objects name) then Some Unknown else None
 early_refusal p (SetScript text) = if is_too_long text then Some Limit else None
 
-abbrev pub named : List ℕ → List ℕ → NamedObject
-named name bytes = record { name = name; object = object_of bytes }
+abbrev pub new_object : List ℕ → List ℕ → NamedObject
+new_object name bytes = record { name = name; object = object_of bytes }
 
 -- the object at a place becomes another
 abbrev pub replaced : List NamedObject → NamedObject → Option ℕ → List NamedObject
@@ -115,7 +115,7 @@ removed objects (Some i) = remove objects i
 
 -- what a look-up past the end gives; no project has it
 abbrev pub unnamed : NamedObject
-unnamed = named [] []
+unnamed = new_object [] []
 
 -- the object at a place is taken out, and inserted before another place of the list without it
 abbrev pub moved : List NamedObject → ℕ → Option ℕ → List NamedObject
@@ -128,10 +128,10 @@ with_objects p objects = record p { objects = objects }
 -- the next project, where no early refusal applies
 abbrev pub Accepts : Project → Change → Project → Type 0
 Accepts p (Add name at bytes) q =
-    (object_refusal bytes ≡ None) × (q ≡ with_objects p (insert p.objects at (named name bytes)))
+    (object_refusal bytes ≡ None) × (q ≡ with_objects p (insert p.objects at (new_object name bytes)))
 Accepts p (Replace name bytes) q =
     (object_refusal bytes ≡ None)
-    × (q ≡ with_objects p (replaced p.objects (named name bytes) (place_of p.objects name)))
+    × (q ≡ with_objects p (replaced p.objects (new_object name bytes) (place_of p.objects name)))
 Accepts p (Move name to) q = q ≡ with_objects p (moved p.objects to (place_of p.objects name))
 Accepts p (Remove name) q = q ≡ with_objects p (removed p.objects (place_of p.objects name))
 Accepts p (SetScript text) q = (s : List Statement) × IsScript text s × (q ≡ record p { script = s })

@@ -4,7 +4,7 @@ use Rattle.std.specs.Prelude.{ℕ, ◌+◌, List, [], ◌∷◌, ◌++◌, repli
 use Rattle.std.specs.List.{flat_map}
 use Rattle.std.specs.Int.{to_le_bytes, w16, w32, w64}
 use Rattle.ldmodel.specs.Sorting.{sort_by}
-use Rattle.ldmodel.specs.Segments.{Segment, Group, start_of, load_of, file_size, memory_size, page_size}
+use Rattle.ldmodel.specs.Segments.{Segment, Group, segment_start, segment_load, file_size, memory_size, page_size}
 
 -- 64 bytes: the entry point, the number of program headers, where the section headers stand and how many they are, and
 -- which of them is that of their names
@@ -30,11 +30,11 @@ segment_flags g = 4 + (if g.first.writable then 2 else 0) + (if g.first.executab
 unfoldable pub program_header : Segment → List ℕ
 program_header g =
     to_le_bytes w32 1 ++ to_le_bytes w32 (segment_flags g.group)
-    ++ to_le_bytes w64 g.offset ++ to_le_bytes w64 (start_of g) ++ to_le_bytes w64 (load_of g)
+    ++ to_le_bytes w64 g.offset ++ to_le_bytes w64 (segment_start g) ++ to_le_bytes w64 (segment_load g)
     ++ to_le_bytes w64 (file_size g.group) ++ to_le_bytes w64 (memory_size g.group) ++ to_le_bytes w64 page_size
 
 abbrev pub ascending : List Segment → List Segment
-ascending gs = sort_by (λ (g h : Segment). nat_lt (start_of g) (start_of h)) gs
+ascending gs = sort_by (λ (g h : Segment). nat_lt (segment_start g) (segment_start h)) gs
 
 abbrev pub program_headers : List Segment → List ℕ
 program_headers gs = flat_map program_header (ascending gs)

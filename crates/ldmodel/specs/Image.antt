@@ -1,30 +1,38 @@
 -- The image, byte by byte: an executable file (gABI, "Object Files"; GNU ld manual, "Output Section Fill"). A byte is
 -- found by the first case that holds at its offset: a header's; that of an output section with file bytes, which is
 -- that of the field, else the input section, else the data command, else the gap that it lies in; the tail's; else 0.
-use Rattle.std.specs.Prelude.{ℕ, ◌+◌, ◌-◌, ◌%◌, max, List, ◌++◌, length, map, find, fold, slice_index, Option, Some}
-use Rattle.std.specs.Prelude.{None, Bool, not, ◌&&◌, ◌==◌, nat_lt, nat_le, bytes_eq, filter, if◌then◌else◌}
+-- `byte_at` and `placed_byte` have these cases in this order.
+use Rattle.std.specs.Prelude.{ℕ, ◌+◌, ◌-◌, ◌%◌, max, List, [], ◌∷◌, ◌++◌, length, map, find, fold, slice_index, Option}
+use Rattle.std.specs.Prelude.{Some, None, Bool, not, ◌&&◌, ◌==◌, nat_lt, nat_le, bytes_eq, filter, if◌then◌else◌}
 use Rattle.std.specs.List.{range_with_len}
-use Rattle.std.specs.Option.{option_map_or}
+use Rattle.std.specs.Option.{option_and_then, option_map, option_map_or}
 use Rattle.elfobj.specs.Sections.{LinkedSection}
 use Rattle.elfobj.specs.declared.section.SectionIndex.{SectionIndex}
-use Rattle.emit_fields.specs.Patches.{patched_byte}
+use Rattle.emit_fields.specs.Patches.{patch_covers}
+use Rattle.emit_fields.specs.declared.patch.Patch.{Patch}
 use Rattle.ldmodel.specs.Headers.{elf_header, program_headers}
 use Rattle.ldmodel.specs.Layout.{Layout, PlacedPiece, PlacedData, PlacedSection}
 use Rattle.ldmodel.specs.Project.{NamedObject, Project}
 use Rattle.ldmodel.specs.Relocations.{fields_of}
 use Rattle.ldmodel.specs.SectionHeaders.{FilePart, header_part, header_count, header_names_number, tail, image_length}
-use Rattle.ldmodel.specs.Segments.{Segment, SectionInFile, segments, in_file, has_file_bytes}
+use Rattle.ldmodel.specs.Segments.{Segment, SectionInFile, segments, in_file}
 use Rattle.ldmodel.specs.SymbolValues.{entry_point, number_or_0}
 use Rattle.ldmodel.specs.declared.sections.Part.{Part}
 use Rattle.ldmodel.specs.declared.sections.Part.TheVariants.{InTable, InCommon}
+
+-- of the cases of a byte, in this order, the first that holds; 0 where none does
+abbrev pub first_of : List (Option ℕ) → ℕ
+first_of [] = 0
+first_of (Some byte ∷ cases) = byte
+first_of (None ∷ cases) = first_of cases
 
 -- a number lies among the first `size` from `start` on
 abbrev pub covers : ℕ → ℕ → ℕ → Bool
 covers start size x = nat_le start x && nat_lt x (start + size)
 
 -- the ELF header and the program headers
-unfoldable pub headers : Project → Layout → List ℕ
-headers p s =
+unfoldable pub file_headers : Project → Layout → List ℕ
+file_headers p s =
     let gs : List Segment = segments s.sections in
     elf_header (number_or_0 (entry_point p s)) (length gs)
     ((header_part p s).offset) (header_count s) (header_names_number s)
@@ -36,21 +44,31 @@ object_named p name = find (λ (o : NamedObject). bytes_eq o.name name) p.object
 abbrev pub section_numbered : NamedObject → SectionIndex → Option LinkedSection
 section_numbered o k = find (λ (x : LinkedSection). x.number.0 == k.0) o.object.sections
 
--- byte i of a section that starts at an address: that of the field that covers it, else its own, which is 0 for NOBITS
-abbrev pub section_byte : Project → Layout → NamedObject → ℕ → ℕ → LinkedSection → ℕ
-section_byte p s o start i x = patched_byte x.bytes (fields_of p s o x start) i
+-- the section of an object that an input section is, with its object; a common block is none
+abbrev pub linked_part : Project → List ℕ → Part → Option (NamedObject × LinkedSection)
+linked_part p name (InTable k) =
+    option_and_then (λ (o : NamedObject). option_map (λ (x : LinkedSection). (o, x)) (section_numbered o k))
+    (object_named p name)
+linked_part p name (InCommon x) = None
 
-abbrev pub object_byte : Project → Layout → SectionIndex → ℕ → ℕ → NamedObject → ℕ
-object_byte p s k start i o = option_map_or (section_byte p s o start i) (section_numbered o k) 0
+abbrev pub section_of_piece : Project → PlacedPiece → Option (NamedObject × LinkedSection)
+section_of_piece p x = linked_part p x.piece.object x.piece.part
 
--- a common block is 0
-abbrev pub part_byte : Project → Layout → List ℕ → Part → ℕ → ℕ → ℕ
-part_byte p s object (InTable k) start i = option_map_or (object_byte p s k start i) (object_named p object) 0
-part_byte p s object (InCommon x) start i = 0
+-- byte i of a section, where a field covers it
+abbrev pub field_byte : List Patch → ℕ → Option ℕ
+field_byte fields i =
+    option_map (λ (f : Patch). slice_index f.field (i - f.offset)) (find (λ (f : Patch). patch_covers f i) fields)
 
--- the byte of an input section at an address
-abbrev pub piece_byte : Project → Layout → ℕ → PlacedPiece → ℕ
-piece_byte p s at x = part_byte p s x.piece.object x.piece.part x.start (at - x.start)
+-- the byte of a field of an input section at an address
+abbrev pub piece_field_byte : Project → Layout → ℕ → PlacedPiece → Option ℕ
+piece_field_byte p s at x =
+    option_and_then (λ (z : NamedObject × LinkedSection). field_byte (fields_of p s z.0 z.1 x.start) (at - x.start))
+    (section_of_piece p x)
+
+-- the byte that an input section itself has at an address: 0 for NOBITS and for a common block
+abbrev pub own_byte : Project → ℕ → PlacedPiece → ℕ
+own_byte p at x =
+    option_map_or (λ (z : NamedObject × LinkedSection). slice_index z.1.bytes (at - x.start)) (section_of_piece p x) 0
 
 -- the byte of a data command at an address
 abbrev pub data_byte : ℕ → PlacedData → ℕ
@@ -80,36 +98,49 @@ covering_piece q at = find (λ (x : PlacedPiece). covers x.start x.piece.size at
 abbrev pub covering_data : PlacedSection → ℕ → Option PlacedData
 covering_data q at = find (λ (d : PlacedData). covers d.start (length d.bytes) at) q.data_commands
 
--- of the input section that lies there, else of the data command, else of the gap
-abbrev pub byte_among : Project → Layout → PlacedSection → ℕ → Option PlacedPiece → Option PlacedData → ℕ
-byte_among p s q at (Some x) d = piece_byte p s at x
-byte_among p s q at None (Some d) = data_byte at d
-byte_among p s q at None None = gap_byte q at
+-- the cases of a byte of an output section, at an address
+abbrev pub field_case : Project → Layout → PlacedSection → ℕ → Option ℕ
+field_case p s q at = option_and_then (piece_field_byte p s at) (covering_piece q at)
 
--- the byte of an output section at an address
-abbrev pub output_byte : Project → Layout → PlacedSection → ℕ → ℕ
-output_byte p s q at = byte_among p s q at (covering_piece q at) (covering_data q at)
+abbrev pub piece_case : Project → PlacedSection → ℕ → Option ℕ
+piece_case p q at = option_map (own_byte p at) (covering_piece q at)
+
+abbrev pub data_case : PlacedSection → ℕ → Option ℕ
+data_case q at = option_map (data_byte at) (covering_data q at)
+
+abbrev pub gap_case : PlacedSection → ℕ → Option ℕ
+gap_case q at = Some (gap_byte q at)
+
+-- the byte of an output section at an address: of the field, the input section, the data command or the gap there
+abbrev pub placed_byte : Project → Layout → PlacedSection → ℕ → ℕ
+placed_byte p s q at =
+    first_of (field_case p s q at ∷ piece_case p q at ∷ data_case q at ∷ gap_case q at ∷ [])
 
 -- the output section whose file bytes lie at an offset
-abbrev pub section_at : Layout → ℕ → Option SectionInFile
-section_at s o =
-    find (λ (x : SectionInFile). has_file_bytes x.section && covers x.offset x.section.size o)
+abbrev pub file_section_at : Layout → ℕ → Option SectionInFile
+file_section_at s o =
+    find (λ (x : SectionInFile). x.section.has_file_bytes && covers x.offset x.section.size o)
     (in_file (segments s.sections))
 
 -- the part of the tail that lies there
 abbrev pub tail_at : Project → Layout → ℕ → Option FilePart
 tail_at p s o = find (λ (x : FilePart). covers x.offset (length x.bytes) o) (tail p s)
 
-abbrev pub byte_past_headers : Project → Layout → ℕ → Option SectionInFile → Option FilePart → ℕ
-byte_past_headers p s o (Some x) t = output_byte p s x.section (x.section.start + (o - x.offset))
-byte_past_headers p s o None (Some t) = slice_index t.bytes (o - t.offset)
-byte_past_headers p s o None None = 0
+-- the cases of a byte of the image, at an offset
+abbrev pub header_case : Project → Layout → ℕ → Option ℕ
+header_case p s o = if nat_lt o (length (file_headers p s)) then Some (slice_index (file_headers p s) o) else None
 
--- byte o of the image
+abbrev pub section_case : Project → Layout → ℕ → Option ℕ
+section_case p s o =
+    option_map (λ (x : SectionInFile). placed_byte p s x.section (x.section.start + (o - x.offset)))
+    (file_section_at s o)
+
+abbrev pub tail_case : Project → Layout → ℕ → Option ℕ
+tail_case p s o = option_map (λ (x : FilePart). slice_index x.bytes (o - x.offset)) (tail_at p s o)
+
+-- byte o of the image: of the header, the output section or the part of the tail there, else 0
 unfoldable pub byte_at : Project → Layout → ℕ → ℕ
-byte_at p s o =
-    if nat_lt o (length (headers p s)) then slice_index (headers p s) o
-    else byte_past_headers p s o (section_at s o) (tail_at p s o)
+byte_at p s o = first_of (header_case p s o ∷ section_case p s o ∷ tail_case p s o ∷ [])
 
 -- the bytes 0, 1, .. up to the length
 unfoldable pub image : Project → Layout → List ℕ

@@ -15,8 +15,8 @@ use Rattle.ldmodel.specs.Sections.{InputSection}
 use Rattle.ldmodel.specs.declared.sections.Part.TheVariants.{InTable, InCommon}
 
 -- a linked section of object number i
-abbrev pub linked_section : ℕ → NamedObject → LinkedSection → InputSection
-linked_section i o s = record {
+abbrev pub linked_input : ℕ → NamedObject → LinkedSection → InputSection
+linked_input i o s = record {
   id = record { object = i; part = InTable s.number };
   object = o.name;
   name = s.name;
@@ -58,9 +58,9 @@ abbrev pub common_blocks : Project → ℕ → NamedObject → List InputSection
 common_blocks p i o = filter_map (block_at p i o) (enumerate_from 0 o.object.symbols)
 
 -- the sections of object number i
-abbrev pub sections_of : Project → ℕ → NamedObject → List InputSection
-sections_of p i o = map (linked_section i o) o.object.sections ++ common_blocks p i o
+abbrev pub object_inputs : Project → ℕ → NamedObject → List InputSection
+object_inputs p i o = map (linked_input i o) o.object.sections ++ common_blocks p i o
 
 -- all input sections, in object order
 unfoldable pub input_sections : Project → List InputSection
-input_sections p = flat_map (λ (o : ℕ × NamedObject). sections_of p o.0 o.1) (enumerate_from 0 p.objects)
+input_sections p = flat_map (λ (o : ℕ × NamedObject). object_inputs p o.0 o.1) (enumerate_from 0 p.objects)

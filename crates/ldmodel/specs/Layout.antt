@@ -32,8 +32,8 @@ pub record PlacedData : Type 0 where
   pub start : ℕ
   pub bytes : List ℕ
 
--- an output section in its place: its addresses in memory are those from `start` on, and the `load_size` first of its
--- bytes, all or none, are loaded from `load` on. `region` is that of `>region`
+-- an output section in its place: its addresses in memory are those from `start` on. Where it has file bytes, they are
+-- loaded from `load` on, and `load_size` is its size; else that is 0. `region` is that of `>region`
 pub record PlacedSection : Type 0 where
   pub name : List ℕ
   pub region : Option (List ℕ)
@@ -41,6 +41,7 @@ pub record PlacedSection : Type 0 where
   pub start : ℕ
   pub size : ℕ
   pub load : ℕ
+  pub has_file_bytes : Bool
   pub load_size : ℕ
   pub writable : Bool
   pub executable : Bool

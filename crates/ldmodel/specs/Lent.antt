@@ -10,7 +10,7 @@ use Rattle.ldscript.specs.statements.declared.common.Common.{Common}
 use Rattle.ldscript.specs.statements.declared.common.Common.TheVariants as common
 use Rattle.ldscript.specs.statements.declared.statement.Statement.{Statement}
 use Rattle.ldmodel.specs.Layout.{Layout, MemoryRegion, PlacedPiece, PlacedSection, PlacedData, ScriptSymbol}
-use Rattle.ldmodel.specs.Segments.{Segment, start_of, load_of, file_size, memory_size}
+use Rattle.ldmodel.specs.Segments.{Segment, segment_start, segment_load, file_size, memory_size}
 use Rattle.ldmodel.specs.declared.laid.Laid.{Laid}
 use Rattle.ldmodel.specs.declared.laid.Placed.{Placed}
 use Rattle.ldmodel.specs.declared.laid.PlacedData as code_data
@@ -24,6 +24,7 @@ placed_of q = record {
   start = q.start;
   size = q.size;
   load = q.load;
+  has_file_bytes = q.has_file_bytes;
   load_size = q.load_size;
   alignment = q.alignment;
   writable = q.writable;
@@ -73,8 +74,8 @@ pub record IsLaid (script : List Statement) (s : Layout) (laid : Laid) : Type 0 
 -- a segment of the code
 pub record IsSegment (sections : List PlacedSection) (g : Segment) (x : code.Segment) : Type 0 where
   pub offset : x.offset ≡ g.offset
-  pub start : x.start ≡ start_of g
-  pub load : x.load ≡ load_of g
+  pub start : x.start ≡ segment_start g
+  pub load : x.load ≡ segment_load g
   pub in_file : x.file_size ≡ file_size g.group
   pub in_memory : x.memory_size ≡ memory_size g.group
   pub writable : x.writable ≡ g.group.first.writable

@@ -17,14 +17,11 @@ pub mod Sorting
 pub mod Rows
 pub mod HandedOver
 pub mod Chain
+pub mod Each
 pub mod Arithmetic
 pub mod Fault
 pub mod Value
 pub mod Layout
-pub mod Assigning
-pub mod Body
-pub mod SectionHead
-pub mod SectionEnd
 pub mod Placement
 pub mod Overlaps
 pub mod Segments
@@ -47,8 +44,6 @@ pub mod SessionWork
 pub mod Mentioned
 pub mod FaultCode
 pub mod Lent
-pub mod FileLayout
-pub mod Gaps
 pub mod Commands
 pub mod Answers
 pub mod LinkCommand

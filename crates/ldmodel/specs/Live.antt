@@ -23,13 +23,13 @@ abbrev pub symbol_at : Project → ℕ → ℕ → Option NamedSymbol
 symbol_at p i k = option_and_then (λ (o : NamedObject). slice_get o.object.symbols k) (slice_get p.objects i)
 
 -- the section that a symbol of object number i is defined in
-abbrev pub section_at : ℕ → SymbolPlace → Option SectionId
-section_at i (place.Section k) = Some (record { object = i; part = InTable k })
-section_at i _ = None
+abbrev pub section_of_place : ℕ → SymbolPlace → Option SectionId
+section_of_place i (place.Section k) = Some (record { object = i; part = InTable k })
+section_of_place i _ = None
 
 abbrev pub section_of_entry : Project → Entry → Option SectionId
 section_of_entry p e =
-    option_and_then (λ (s : NamedSymbol). section_at e.object s.symbol.place) (symbol_at p e.object e.symbol)
+    option_and_then (λ (s : NamedSymbol). section_of_place e.object s.symbol.place) (symbol_at p e.object e.symbol)
 
 -- the section that a name is defined in; a number, as the script's, is in none
 abbrev pub section_of_decision : Project → Decision → Option SectionId
@@ -43,7 +43,7 @@ section_of_decision p _ = None
 -- the object itself defines that
 abbrev pub section_of_symbol : Project → ℕ → NamedSymbol → Option SectionId
 section_of_symbol p i s =
-    if is_local s.symbol.binding then section_at i s.symbol.place else section_of_decision p (decision p s.name)
+    if is_local s.symbol.binding then section_of_place i s.symbol.place else section_of_decision p (decision p s.name)
 
 -- the section of the target of a relocation of object number i, whatever the relocation does
 unfoldable pub target_section : Project → ℕ → Relocation → Option SectionId

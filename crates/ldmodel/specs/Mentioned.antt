@@ -18,7 +18,7 @@ use Rattle.ldscript.specs.statements.declared.statement.ItemCommand.{ItemCommand
 use Rattle.ldscript.specs.statements.declared.statement.ItemCommand.TheVariants as item
 use Rattle.ldscript.specs.statements.declared.statement.Region.{Region}
 use Rattle.ldscript.specs.statements.declared.statement.Statement.{Statement}
-use Rattle.ldmodel.specs.SectionHead.{given_load}
+use Rattle.ldmodel.specs.Placement.{given_load}
 
 abbrev pub in_expression : Expr → List (List ℕ)
 in_expression (Number n) = []

@@ -33,16 +33,16 @@ abbrev pub is_first_of : List Declaration → Declaration → Bool
 is_first_of [] d = false
 is_first_of (x ∷ xs) d = is_same_entry x.entry d.entry
 
-abbrev pub first_of : Project → List Declaration → Definer
-first_of p [] = ByScript
-first_of p (x ∷ xs) = ByObject (object_name p x.entry.object)
+abbrev pub first_among : Project → List Declaration → Definer
+first_among p [] = ByScript
+first_among p (x ∷ xs) = ByObject (object_name p x.entry.object)
 
 -- a strong definition that isn't the first one of its name
 abbrev pub is_duplicate : Project → Declaration → Bool
 is_duplicate p d = is_strong d && (is_assigned p.script d.name || not (is_first_of (strong_definitions p d.name) d))
 
 abbrev pub first_definer : Project → List ℕ → Definer
-first_definer p name = if is_assigned p.script name then ByScript else first_of p (strong_definitions p name)
+first_definer p name = if is_assigned p.script name then ByScript else first_among p (strong_definitions p name)
 
 abbrev pub duplicate : Project → Declaration → DuplicateDefinition
 duplicate p d = record { name = d.name; object = object_name p d.entry.object; first = first_definer p d.name }

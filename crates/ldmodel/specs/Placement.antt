@@ -1,11 +1,40 @@
--- The layout of a script (GNU ld manual, "SECTIONS Command", "MEMORY Command" and "The Location Counter"): one pass
--- over its statements in the order of the text, each of which begins where the one before ended. What `.` is after each
--- of them is this project's own where the manual leaves it open. `.` is 0 at the start of SECTIONS: nothing before it
--- sets `.`, and a script has one SECTIONS.
-use Rattle.std.specs.Prelude.{ℕ, ◌+◌, List, [], ◌∷◌, ◌++◌, length, slice_index_or, Result, Ok}
+-- The layout of a script: one pass over its statements in the order of the text, each of which begins where the one
+-- before ended. `.` is 0 at the start of SECTIONS: nothing before it sets `.`, and a script has one SECTIONS.
+--
+-- A word stands below the words that it is made of, so the whole is read from the end of the file up:
+--
+--   `placement`     the statements of the script, one after the other: `statement_step`
+--   `item_step`     a statement of SECTIONS: `.`, an assignment, an output section, or `/DISCARD/`
+--   `section_step`  an output section: its head, its body, its end
+--   `section_end`   its size, load size and flags, and whether its regions have room
+--   `body_step`     a statement of its body: `.`, an assignment, a data command, or an input statement
+--   `head_of`       its alignment, then its start, then its load address, each with its fault
+--   `common_step`   an assignment of a symbol, a PROVIDE, an ASSERT
+--
+-- The first fault ends the pass. `Layout` has what a layout is, and `number` and `address`, which give most faults.
+use Rattle.std.specs.Prelude.{ℕ, ◌+◌, ◌-◌, max, List, [], ◌∷◌, ◌++◌, length, map, filter, slice_index_or, Option, Some}
+use Rattle.std.specs.Prelude.{None, Result, Ok, Err, Bool, true, false, not, ◌&&◌, ◌||◌, ◌==◌, nat_lt, nat_le, bit_and}
+use Rattle.std.specs.Prelude.{bytes_eq, if◌then◌else◌}
+use Rattle.std.specs.Int.{is_power_of_two, next_multiple_of}
+use Rattle.std.specs.List.{list_any, last_or}
+use Rattle.std.specs.Option.{option_map_or, option_and_then}
+use Rattle.byteorder.specs.Endian.{little_bytes}
+use Rattle.elfobj.specs.declared.section.SectionKind.{SectionKind}
+use Rattle.elfobj.specs.declared.section.SectionKind.TheVariants.{Nobits}
+use Rattle.elfobj.specs.file.declared.constants.TheConstants.{SHF_WRITE, SHF_EXECINSTR}
+use Rattle.ldscript.specs.statements.Widths.{byte_count}
+use Rattle.ldscript.specs.statements.declared.common.Assignment.{Assignment}
+use Rattle.ldscript.specs.statements.declared.common.Common.{Common}
+use Rattle.ldscript.specs.statements.declared.common.Common.TheVariants as common
 use Rattle.ldscript.specs.statements.declared.common.DotCommand.{DotCommand}
 use Rattle.ldscript.specs.statements.declared.common.DotCommand.TheVariants.{Set, Add}
+use Rattle.ldscript.specs.statements.declared.section.BodyCommand.{BodyCommand}
+use Rattle.ldscript.specs.statements.declared.section.BodyCommand.TheVariants as body
+use Rattle.ldscript.specs.statements.declared.section.BodyStatement.{BodyStatement}
+use Rattle.ldscript.specs.statements.declared.section.Load.{Load}
+use Rattle.ldscript.specs.statements.declared.section.Load.TheVariants.{Unstated, At, InRegion}
 use Rattle.ldscript.specs.statements.declared.section.OutputSection.{OutputSection}
+use Rattle.ldscript.specs.statements.declared.section.Width.{Width}
 use Rattle.ldscript.specs.statements.declared.statement.Command.{Command}
 use Rattle.ldscript.specs.statements.declared.statement.Command.TheVariants as top
 use Rattle.ldscript.specs.statements.declared.statement.Item.{Item}
@@ -13,15 +42,300 @@ use Rattle.ldscript.specs.statements.declared.statement.ItemCommand.{ItemCommand
 use Rattle.ldscript.specs.statements.declared.statement.ItemCommand.TheVariants as item
 use Rattle.ldscript.specs.statements.declared.statement.Region.{Region}
 use Rattle.ldscript.specs.statements.declared.statement.Statement.{Statement}
-use Rattle.ldmodel.specs.Arithmetic.{plus_modulo}
-use Rattle.ldmodel.specs.Assigning.{common_step}
-use Rattle.ldmodel.specs.Body.{Body, body_step}
+use Rattle.ldscript.specs.terms.DotForms.{DotForm, Advance, Align, Offset, dot_form}
+use Rattle.ldscript.specs.terms.Expressions.{Expr}
+use Rattle.ldscript.specs.terms.Expressions as expression
+use Rattle.ldmodel.specs.Arithmetic.{minus_modulo, plus_modulo}
 use Rattle.ldmodel.specs.Chain.{and_then, run}
-use Rattle.ldmodel.specs.Fault.{Fault}
-use Rattle.ldmodel.specs.Layout.{Layout, nothing_placed, number, noted}
-use Rattle.ldmodel.specs.Rows.{Piece}
-use Rattle.ldmodel.specs.SectionHead.{Head, head_of}
-use Rattle.ldmodel.specs.SectionEnd.{section_end}
+use Rattle.ldmodel.specs.Fault.{Fault, NoValue, MovedBack, RegionFull}
+use Rattle.ldmodel.specs.Layout.{Layout, number, with_symbol, MemoryRegion, PlacedSection, address, region_named}
+use Rattle.ldmodel.specs.Layout.{PlacedPiece, PlacedData, noted, nothing_placed}
+use Rattle.ldmodel.specs.Rows.{Piece, piece_alignment}
+
+-- ASSIGNMENTS (GNU ld manual, "Simple Assignments" and "The PROVIDE Command")
+
+-- NAME = e
+abbrev pub assigned : Layout → ℕ → Assignment → Result Layout Fault
+assigned s line a = and_then (number s line a.value) (λ x. Ok (with_symbol s a.name x))
+
+-- NAME = e; PROVIDE(NAME = e), which does nothing where it is not in force; ASSERT, which is tested at the end of the
+-- link
+unfoldable pub common_step : List (List ℕ) → Layout → ℕ → Common → Result Layout Fault
+common_step provided s line (common.Assign a) = assigned s line a
+common_step provided s line (common.Provide a) = if list_any (bytes_eq a.name) provided then assigned s line a else Ok s
+common_step provided s line (common.Assert a) = Ok s
+
+-- THE HEAD of an output section: its alignment, start and load address (GNU ld manual, "Output Section Address",
+-- "Output Section LMA" and "Forced Output Alignment"). In its expressions `.` is the value before the section. That an
+-- address given is taken as it is, even where it goes back, the difference between start and load address modulo 2^64,
+-- and which fault comes first, are this project's own.
+
+-- the numbers that the expressions of a head give
+pub record Given : Type 0 where
+  pub address : Option ℕ
+  pub load : Option ℕ
+  pub alignment : ℕ
+
+-- the alignment, start and load address of an output section
+pub record Head : Type 0 where
+  pub alignment : ℕ
+  pub start : ℕ
+  pub load : ℕ
+
+-- the number of an expression that may be absent
+abbrev pub number_if_given : Layout → ℕ → Option Expr → Result (Option ℕ) Fault
+number_if_given s line None = Ok None
+number_if_given s line (Some e) = and_then (number s line e) (λ x. Ok (Some x))
+
+-- the expression of AT(e)
+abbrev pub given_load : Load → Option Expr
+given_load Unstated = None
+given_load (At e) = Some e
+given_load (InRegion r) = None
+
+-- ALIGN(e): a power of two; without one it is 1
+abbrev pub given_alignment : ℕ → Option ℕ → Result ℕ Fault
+given_alignment line None = Ok 1
+given_alignment line (Some a) = if is_power_of_two a then Ok a else Err (NoValue line)
+
+-- the expressions of a head, in the order of the text
+unfoldable pub given : Layout → ℕ → OutputSection → Result Given Fault
+given s line o =
+    and_then (number_if_given s line o.address) (λ at.
+    and_then (number_if_given s line (given_load o.load)) (λ load.
+    and_then (number_if_given s line o.alignment) (λ align.
+    and_then (given_alignment line align) (λ alignment.
+    Ok (record { address = at; load = load; alignment = alignment })))))
+
+-- the greatest of a number and the alignments of a row
+abbrev pub widest : ℕ → List Piece → ℕ
+widest a [] = a
+widest a (p ∷ row) = widest (max a (piece_alignment p)) row
+
+-- the next free address of a region
+abbrev pub next_free : Layout → List ℕ → ℕ
+next_free s r = option_map_or (λ (x : MemoryRegion). x.next) (region_named s.regions r) 0
+
+-- where a section without an address may begin: at the next free address of its region, or at `.`
+abbrev pub first_free : Layout → Option (List ℕ) → ℕ
+first_free s None = s.dot
+first_free s (Some r) = next_free s r
+
+-- an address that is given is taken as it is
+unfoldable pub section_start : Layout → ℕ → Option (List ℕ) → Option ℕ → ℕ → Result ℕ Fault
+section_start s line region (Some x) alignment = Ok x
+section_start s line region None alignment = address line (next_multiple_of (first_free s region) alignment)
+
+abbrev pub same_region : Option (List ℕ) → Option (List ℕ) → Bool
+same_region None None = true
+same_region (Some r) (Some t) = bytes_eq r t
+same_region _ _ = false
+
+-- start less load address, modulo 2^64
+abbrev pub difference_of : PlacedSection → ℕ
+difference_of q = minus_modulo q.start q.load
+
+-- that of the last earlier output section of a region, 0 without one; sections that name no region count as one region
+unfoldable pub difference_in : List PlacedSection → Option (List ℕ) → ℕ
+difference_in sections region =
+    option_map_or difference_of (last_or None (filter (λ (q : PlacedSection). same_region q.region region) sections)) 0
+
+-- without AT(e) or AT>region: the start, where an address is given; else as far from the start as in the last section
+-- of the same region
+abbrev pub unstated_load : Layout → Option (List ℕ) → Option ℕ → ℕ → ℕ
+unstated_load s region (Some x) start = start
+unstated_load s region None start = minus_modulo start (difference_in s.sections region)
+
+unfoldable pub load_address : Layout → ℕ → OutputSection → Given → ℕ → ℕ → Result ℕ Fault
+load_address s line o g alignment start = load_by o.load g.load where
+  load_by : Load → Option ℕ → Result ℕ Fault
+  load_by (InRegion r) load = address line (next_multiple_of (next_free s r) alignment)
+  load_by l (Some x) = Ok x
+  load_by l None = Ok (unstated_load s o.region g.address start)
+
+-- faults come in this order: the expressions, the start, the load address
+unfoldable pub head_of : Layout → List Piece → ℕ → OutputSection → Result Head Fault
+head_of s row line o =
+    and_then (given s line o) (λ g.
+    let alignment : ℕ = widest g.alignment row in
+    and_then (section_start s line o.region g.address alignment) (λ start.
+    and_then (load_address s line o g alignment start) (λ load.
+    Ok (record { alignment = alignment; start = start; load = load }))))
+
+-- THE BODY of an output section (GNU ld manual, "Output Section Description", "Output Section Data" and "The Location
+-- Counter"): each input section starts at the least multiple of its alignment not below `.`, and `.` goes on to its
+-- end; inside an output section `.` does not go back. `. = e` counts from the section's start, `. += e` and
+-- `. = . + e` from `.`, and `. = ALIGN(e)` is an address. That the sums are whole numbers, and one of 2^64 or more a
+-- fault, is this project's own.
+
+-- an output section whose body is being placed: the layout, in which `.` and the symbols go on; where the section
+-- starts; the entries of its row that are still to be placed, and what has been placed
+pub record Body : Type 0 where
+  pub layout : Layout
+  pub start : ℕ
+  pub rest : List Piece
+  pub pieces : List PlacedPiece
+  pub data_commands : List PlacedData
+
+-- `.` goes on to a number
+abbrev pub with_dot : Body → ℕ → Body
+with_dot b x = record b { layout = record b.layout { dot = x } }
+
+-- the least multiple of its alignment not below `.`
+abbrev pub piece_start : ℕ → Piece → ℕ
+piece_start dot p = next_multiple_of dot (piece_alignment p)
+
+-- the next entry of the row takes its place
+unfoldable pub piece_placed : ℕ → Body → Piece → List Piece → Result Body Fault
+piece_placed line b p rest =
+    let start : ℕ = piece_start b.layout.dot p in
+    and_then (address line (start + p.size)) (λ end.
+    Ok (record (with_dot b end) { rest = rest; pieces = b.pieces ++ record { start = start; piece = p } ∷ [] }))
+
+-- the entries of input statement number n: those with this number that the row begins with. In the rows of `Rows` these
+-- are all entries of the statement, since a row goes statement by statement
+unfoldable pub pieces_placed : ℕ → ℕ → Body → List Piece → Result Body Fault
+pieces_placed line n b [] = Ok b
+pieces_placed line n b (p ∷ rest) =
+    if p.statement == n then and_then (piece_placed line b p rest) (λ c. pieces_placed line n c rest) else Ok b
+
+-- an input statement; input statements are numbered from 0 in the order of the script
+abbrev pub input_step : ℕ → Body → Result Body Fault
+input_step line b =
+    and_then (pieces_placed line b.layout.inputs b b.rest) (λ c.
+    Ok (record c { layout = record c.layout { inputs = b.layout.inputs + 1 } }))
+
+abbrev pub with_data : Body → List ℕ → Body
+with_data b bytes =
+    record b { data_commands = b.data_commands ++ record { start = b.layout.dot; bytes = bytes } ∷ [] }
+
+-- BYTE, SHORT, LONG, QUAD: the lowest bytes of a number, the lowest of them first, where `.` stands
+abbrev pub data_step : ℕ → Body → Width → Expr → Result Body Fault
+data_step line b w e =
+    and_then (number b.layout line e) (λ x.
+    and_then (address line (b.layout.dot + byte_count w)) (λ end.
+    Ok (with_dot (with_data b (little_bytes (byte_count w) x)) end)))
+
+-- `.` goes on to a whole number, and not back
+abbrev pub moved_on : ℕ → Body → ℕ → Result Body Fault
+moved_on line b to =
+    if nat_lt to b.layout.dot then Err (MovedBack line) else and_then (address line to) (λ x. Ok (with_dot b x))
+
+-- `. = . + e`, also spelled `. += e`
+abbrev pub advanced : ℕ → Body → Expr → Result Body Fault
+advanced line b e = and_then (number b.layout line e) (λ x. moved_on line b (b.layout.dot + x))
+
+-- `. = ALIGN(e)`, a value modulo 2^64; `. = e`, which counts from the section's start
+abbrev pub set_to : ℕ → Body → Option DotForm → Result Body Fault
+set_to line b (Some (Advance e)) = advanced line b e
+set_to line b (Some (Align e)) = and_then (number b.layout line (expression.AlignDot e)) (λ x. moved_on line b x)
+set_to line b (Some (Offset e)) = and_then (number b.layout line e) (λ x. moved_on line b (b.start + x))
+-- no script has another form
+set_to line b None = Ok b
+
+abbrev pub dot_step : ℕ → Body → DotCommand → Result Body Fault
+dot_step line b (Add e) = advanced line b e
+dot_step line b (Set e) = set_to line b (dot_form e)
+
+unfoldable pub body_command_step : List (List ℕ) → ℕ → Body → BodyCommand → Result Body Fault
+body_command_step provided line b (body.Dot c) = dot_step line b c
+body_command_step provided line b (body.Common c) =
+    and_then (common_step provided b.layout line c) (λ s. Ok (record b { layout = s }))
+body_command_step provided line b (body.Data w e) = data_step line b w e
+body_command_step provided line b (body.Input i) = input_step line b
+
+-- a statement of the body
+abbrev pub body_step : List (List ℕ) → Body → BodyStatement → Result Body Fault
+body_step provided b s = body_command_step provided s.line (record b { layout = noted b.layout }) s.command
+
+-- THE END of an output section: its size, load size and flags, whether its memory regions have room for it, and where
+-- they go on (GNU ld manual, "Output Section Region"; gABI, "Sections": SHF_WRITE and SHF_EXECINSTR). That a region
+-- goes on at the end of the last section in it, even where that is further back, and the order of the faults, are this
+-- project's own.
+
+abbrev pub is_nobits : SectionKind → Bool
+is_nobits Nobits = true
+is_nobits _ = false
+
+abbrev pub is_empty : PlacedPiece → Bool
+is_empty x = x.piece.size == 0
+
+-- an input section that brings bytes into the file
+abbrev pub is_in_file : PlacedPiece → Bool
+is_in_file x = not (is_nobits x.piece.kind) && not (is_empty x)
+
+-- a data command is in a body, or such an input section
+abbrev pub has_contents : Body → Bool
+has_contents b = not (length b.data_commands == 0) || list_any is_in_file b.pieces
+
+-- an input section of nonzero size has a flag
+abbrev pub has_flag : ℕ → Body → Bool
+has_flag flag b = list_any (λ (x : PlacedPiece). not (bit_and x.piece.flags flag == 0) && not (is_empty x)) b.pieces
+
+-- it has file bytes if there is something of that kind in it. The flags are the union over the input sections of
+-- nonzero size; a section that takes memory but no file bytes may be written
+unfoldable pub placed_section : OutputSection → Head → Body → PlacedSection
+placed_section o h b =
+    let size : ℕ = b.layout.dot - h.start in
+    let in_file : Bool = not (size == 0) && has_contents b in
+    record {
+      name = o.name;
+      region = o.region;
+      alignment = h.alignment;
+      start = h.start;
+      size = size;
+      load = h.load;
+      has_file_bytes = in_file;
+      load_size = if in_file then size else 0;
+      writable = has_flag SHF_WRITE b || (not (size == 0) && not in_file);
+      executable = has_flag SHF_EXECINSTR b;
+      fill = o.fill;
+      pieces = b.pieces;
+      data_commands = b.data_commands;
+    }
+
+-- a range of addresses of nonzero size lies in a region
+abbrev pub is_within : MemoryRegion → ℕ → ℕ → Bool
+is_within r at size = (size == 0) || (nat_le r.origin at && nat_le (at + size) (r.origin + r.extent))
+
+-- a section, where the region that it names, if any, has room for a range
+abbrev pub with_room : Option MemoryRegion → ℕ → ℕ → PlacedSection → Result PlacedSection Fault
+with_room None at size q = Ok q
+with_room (Some r) at size q = if is_within r at size then Ok q else Err (RegionFull q.name r.name)
+
+-- the region of AT>region
+abbrev pub load_region : Load → Option (List ℕ)
+load_region Unstated = None
+load_region (At e) = None
+load_region (InRegion r) = Some r
+
+abbrev pub find_region : Layout → Option (List ℕ) → Option MemoryRegion
+find_region s r = option_and_then (region_named s.regions) r
+
+-- a region's next free address, where it is the one that is named
+abbrev pub freed_from : Option (List ℕ) → ℕ → List MemoryRegion → List MemoryRegion
+freed_from None next regions = regions
+freed_from (Some name) next regions =
+    map (λ (r : MemoryRegion). if bytes_eq r.name name then record r { next = next } else r) regions
+
+-- after a section its region goes on at its end, then that of AT>region at its load end
+abbrev pub with_section : Layout → OutputSection → PlacedSection → Layout
+with_section s o q = record s {
+  regions = freed_from (load_region o.load) (q.load + q.load_size) (freed_from o.region (q.start + q.size) s.regions);
+  sections = s.sections ++ q ∷ [];
+}
+
+-- faults come in this order: the region, the region of load addresses, the load end
+unfoldable pub section_end : ℕ → OutputSection → Head → Body → Result Layout Fault
+section_end line o h b =
+    let q : PlacedSection = placed_section o h b in
+    and_then (with_room (find_region b.layout o.region) q.start q.size q) (λ _.
+    and_then (with_room (find_region b.layout (load_region o.load)) q.load q.load_size q) (λ _.
+    and_then (address line (q.load + q.load_size)) (λ _.
+    Ok (with_section b.layout o q))))
+
+-- THE WHOLE (GNU ld manual, "SECTIONS Command", "MEMORY Command" and "The Location Counter"). What `.` is after each
+-- statement is this project's own where the manual leaves it open.
 
 abbrev pub with_region : Layout → List ℕ → ℕ → ℕ → Layout
 with_region s name origin extent =

@@ -67,15 +67,15 @@ field_or_overflow t (Ok field) = Ok field
 field_or_overflow t (Err e) =
     Err (FieldOverflow t.object.name t.section.name t.relocation.offset t.relocation.kind e.value)
 
-abbrev pub field_with : Site → SymbolValue → Result (List ℕ) Fault
-field_with t (Number x) = field_or_overflow t (field_of t.relocation x (site_place t))
-field_with t NotDefined = Err (UndefinedSymbol t.object.name t.section.name t.relocation.offset (site_name t))
-field_with t NotInOutput =
+abbrev pub site_field_with : Site → SymbolValue → Result (List ℕ) Fault
+site_field_with t (Number x) = field_or_overflow t (field_of t.relocation x (site_place t))
+site_field_with t NotDefined = Err (UndefinedSymbol t.object.name t.section.name t.relocation.offset (site_name t))
+site_field_with t NotInOutput =
     Err (TargetNotInOutput t.object.name t.section.name t.relocation.offset t.relocation.symbol.0)
 
 -- the bytes of a site's field, or its fault
 unfoldable pub site_field : Project → Layout → Site → Result (List ℕ) Fault
-site_field p s t = field_with t (site_value p s t)
+site_field p s t = site_field_with t (site_value p s t)
 
 abbrev pub entry_fault : SymbolValue → List Fault
 entry_fault NotInOutput = EntryNotInOutput ∷ []

@@ -10,8 +10,8 @@ use Rattle.elfobj.specs.file.declared.constants.TheConstants.{SHT_PROGBITS, SHT_
 use Rattle.elfobj.specs.file.declared.constants.TheConstants.{SHF_ALLOC, SHF_EXECINSTR}
 use Rattle.ldmodel.specs.Layout.{Layout, PlacedSection}
 use Rattle.ldmodel.specs.Project.{Project}
-use Rattle.ldmodel.specs.Segments.{Segment, segments, loaded_end, file_offset, has_file_bytes}
-use Rattle.ldmodel.specs.Tail.{string_table, name_offset, symbol_table, symbol_name_table}
+use Rattle.ldmodel.specs.Segments.{Segment, segments, loaded_end, file_offset}
+use Rattle.ldmodel.specs.Tail.{string_table, name_offset, output_symbol_table, symbol_name_table}
 
 -- Elf64_Shdr, 64 bytes, in the order of its fields
 pub record SectionHeader : Type 0 where
@@ -60,7 +60,8 @@ part_at offset bytes = record { offset = offset; bytes = bytes }
 
 unfoldable pub tables : Project → Layout → Tables
 tables p s =
-    let symbols : FilePart = part_at (next_multiple_of (loaded_end (segments s.sections)) 8) (symbol_table p s) in
+    let symbols : FilePart =
+    part_at (next_multiple_of (loaded_end (segments s.sections)) 8) (output_symbol_table p s) in
     let symbol_names : FilePart = part_at (end_of_part symbols) (symbol_name_table p s) in
     record {
       symbols = symbols;
@@ -81,7 +82,7 @@ stated_alignment q = if q.start % q.alignment == 0 then q.alignment else 1
 abbrev pub output_header : Layout → List Segment → ℕ × PlacedSection → SectionHeader
 output_header s gs x = record {
   name = name_offset (header_names s) x.0;
-  type = if has_file_bytes x.1 then SHT_PROGBITS else SHT_NOBITS;
+  type = if x.1.has_file_bytes then SHT_PROGBITS else SHT_NOBITS;
   flags = section_flags x.1;
   address = x.1.start;
   offset = file_offset gs x.1 % 2 ^ 64;

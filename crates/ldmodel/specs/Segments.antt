@@ -7,7 +7,7 @@ use Rattle.std.specs.Prelude.{not, ◌&&◌, ◌==◌, nat_lt, nat_le, bytes_eq,
 use Rattle.std.specs.Option.{option_map_or}
 use Rattle.std.specs.Bool.{beq}
 use Rattle.ldmodel.specs.Layout.{PlacedSection}
-use Rattle.ldmodel.specs.SectionHead.{difference_of}
+use Rattle.ldmodel.specs.Placement.{difference_of}
 
 -- the size of a page
 abbrev pub page_size : ℕ
@@ -15,11 +15,6 @@ page_size = 4096
 
 abbrev pub end_of : PlacedSection → ℕ
 end_of q = q.start + q.size
-
--- a placed section has bytes in the file exactly where it is loaded: its load size is its size or 0 (`SectionEnd`,
--- where a body has file bytes by what is in it; the two agree on sections of nonzero size)
-abbrev pub has_file_bytes : PlacedSection → Bool
-has_file_bytes q = not (q.load_size == 0)
 
 -- a section stands in the segment of the one before it: their flags are equal, and so are their distances from start to
 -- load address; it begins at the other's end or less than a page past it; and it isn't so that it alone has file bytes
@@ -29,21 +24,21 @@ shares_segment p q =
     && (difference_of p == difference_of q)
     && nat_le (end_of p) q.start
     && nat_lt q.start (end_of p + page_size)
-    && not (has_file_bytes q && not (has_file_bytes p))
+    && not (q.has_file_bytes && not p.has_file_bytes)
 
 -- the sections of a segment: the first, and the others
 pub record Group : Type 0 where
   pub first : PlacedSection
   pub others : List PlacedSection
 
-abbrev pub sections_in : Group → List PlacedSection
-sections_in g = g.first ∷ g.others
+abbrev pub group_sections : Group → List PlacedSection
+group_sections g = g.first ∷ g.others
 
 -- a section before the groups of those after it
 abbrev pub with_front : PlacedSection → List Group → List Group
 with_front q [] = record { first = q; others = [] } ∷ []
 with_front q (g ∷ gs) =
-    if shares_segment q g.first then record { first = q; others = sections_in g } ∷ gs
+    if shares_segment q g.first then record { first = q; others = group_sections g } ∷ gs
     else (record { first = q; others = [] } ∷ g ∷ gs)
 
 -- neighbours that share a segment stand in one group
@@ -57,11 +52,11 @@ pub record Segment : Type 0 where
   pub group : Group
 
 -- p_vaddr and p_paddr: the addresses of the first section
-abbrev pub start_of : Segment → ℕ
-start_of g = g.group.first.start
+abbrev pub segment_start : Segment → ℕ
+segment_start g = g.group.first.start
 
-abbrev pub load_of : Segment → ℕ
-load_of g = g.group.first.load
+abbrev pub segment_load : Segment → ℕ
+segment_load g = g.group.first.load
 
 -- the end of a section, counted from the segment's start
 abbrev pub reach : Group → PlacedSection → ℕ
@@ -69,11 +64,11 @@ reach g q = end_of q - g.first.start
 
 -- p_filesz: up to the end of the last section with file bytes, 0 without one
 abbrev pub file_size : Group → ℕ
-file_size g = fold (λ n (q : PlacedSection). if has_file_bytes q then reach g q else n) 0 (sections_in g)
+file_size g = fold (λ n (q : PlacedSection). if q.has_file_bytes then reach g q else n) 0 (group_sections g)
 
 -- p_memsz: up to the end of the last section
 abbrev pub memory_size : Group → ℕ
-memory_size g = fold (λ n (q : PlacedSection). reach g q) 0 (sections_in g)
+memory_size g = fold (λ n (q : PlacedSection). reach g q) 0 (group_sections g)
 
 -- the least number not below an end that is congruent to an address modulo the page size
 abbrev pub congruent : ℕ → ℕ → ℕ
@@ -112,11 +107,11 @@ pub record SectionInFile : Type 0 where
   pub section : PlacedSection
 
 abbrev pub in_segment : Segment → PlacedSection → SectionInFile
-in_segment g q = record { offset = g.offset + (q.start - start_of g); section = q }
+in_segment g q = record { offset = g.offset + (q.start - segment_start g); section = q }
 
 -- the output sections of nonzero size in the file
 abbrev pub in_file : List Segment → List SectionInFile
-in_file gs = flat_map (λ (g : Segment). map (in_segment g) (sections_in g.group)) gs
+in_file gs = flat_map (λ (g : Segment). map (in_segment g) (group_sections g.group)) gs
 
 -- where an output section begins in the file; 0 where its size is 0
 abbrev pub file_offset : List Segment → PlacedSection → ℕ

@@ -35,20 +35,20 @@ abbrev pub names_of : Project → List ℕ → List (List ℕ)
 names_of p object = option_map_or (λ (o : NamedObject). names_in_objects (o ∷ [])) (object_named p object) []
 
 -- the symbols that an expression names
-abbrev pub symbols_in : Expr → List (List ℕ)
-symbols_in (Number n) = []
-symbols_in Dot = []
-symbols_in (Name n) = n ∷ []
-symbols_in (Unary o a) = symbols_in a
-symbols_in (Binary o a b) = symbols_in a ++ symbols_in b
-symbols_in (Choice t a b) = symbols_in t ++ symbols_in a ++ symbols_in b
-symbols_in (OfRegion q n) = []
-symbols_in (OfSection q n) = []
-symbols_in (AlignDot a) = symbols_in a
-symbols_in (Align a b) = symbols_in a ++ symbols_in b
+abbrev pub symbols_named : Expr → List (List ℕ)
+symbols_named (Number n) = []
+symbols_named Dot = []
+symbols_named (Name n) = n ∷ []
+symbols_named (Unary o a) = symbols_named a
+symbols_named (Binary o a b) = symbols_named a ++ symbols_named b
+symbols_named (Choice t a b) = symbols_named t ++ symbols_named a ++ symbols_named b
+symbols_named (OfRegion q n) = []
+symbols_named (OfSection q n) = []
+symbols_named (AlignDot a) = symbols_named a
+symbols_named (Align a b) = symbols_named a ++ symbols_named b
 
 abbrev pub asserted_names : List Statement → List (List ℕ)
-asserted_names script = flat_map (λ (a : AssertionAt). symbols_in a.assertion.condition) (asserts script)
+asserted_names script = flat_map (λ (a : AssertionAt). symbols_named a.assertion.condition) (asserts script)
 
 -- the names that a script assigns, provides or names in an ASSERT, and the entry symbol
 abbrev pub names_by_script : Project → List (List ℕ)

@@ -11,7 +11,7 @@ use Rattle.ldmodel.specs.Layout.{Layout, PlacedPiece, PlacedSection}
 use Rattle.ldmodel.specs.Project.{NamedObject, Project}
 use Rattle.ldmodel.specs.Relocations.{Site, sites_at, site_value}
 use Rattle.ldmodel.specs.Sections.{is_same_part}
-use Rattle.ldmodel.specs.Segments.{Segment, segments, file_offset, has_file_bytes}
+use Rattle.ldmodel.specs.Segments.{Segment, segments, file_offset}
 use Rattle.ldmodel.specs.SymbolValues.{number_or_0}
 use Rattle.ldmodel.specs.declared.sections.Part.{Part}
 use Rattle.ldmodel.specs.declared.sections.Part.TheVariants.{InTable, InCommon}
@@ -34,7 +34,7 @@ pub record LinkedPiece : Type 0 where
 -- no bytes, where the output section has none in the file
 abbrev pub range_in : List Segment → PlacedSection → PlacedPiece → FileRange
 range_in gs q x =
-    if has_file_bytes q && not (x.piece.size == 0)
+    if q.has_file_bytes && not (x.piece.size == 0)
     then record { offset = file_offset gs q + (x.start - q.start); length = x.piece.size }
     else record { offset = 0; length = 0 }
 
@@ -69,15 +69,15 @@ pub record GoodLink : Type 0 where
   pub project : Project
   pub layout : Layout
 
-abbrev pub pieces_in : GoodLink → List LinkedPiece
-pieces_in l = linked_pieces l.project l.layout
+abbrev pub link_pieces : GoodLink → List LinkedPiece
+link_pieces l = linked_pieces l.project l.layout
 
 -- an input section of the new link that the old one has too
 abbrev pub has_stayed : GoodLink → LinkedPiece → Bool
-has_stayed old x = list_any (same_piece x) (pieces_in old)
+has_stayed old x = list_any (same_piece x) (link_pieces old)
 
 unfoldable pub stayed : GoodLink → GoodLink → List LinkedPiece
-stayed old new = filter (has_stayed old) (pieces_in new)
+stayed old new = filter (has_stayed old) (link_pieces new)
 
 abbrev pub sites_in_section : NamedObject → LinkedPiece → Option LinkedSection → List Site
 sites_in_section o x None = []
@@ -93,12 +93,12 @@ abbrev pub sites_in : Project → LinkedPiece → List Site
 sites_in p x = sites_in_part p x x.part
 
 -- the value of a site's symbol in a link; a link without faults has one for each site
-abbrev pub value_in : GoodLink → Site → ℕ
-value_in l t = number_or_0 (site_value l.project l.layout t)
+abbrev pub site_value_in : GoodLink → Site → ℕ
+site_value_in l t = number_or_0 (site_value l.project l.layout t)
 
 -- the site's symbol has another value
 abbrev pub is_moved : GoodLink → GoodLink → Site → Bool
-is_moved old new t = not (value_in old t == value_in new t)
+is_moved old new t = not (site_value_in old t == site_value_in new t)
 
 -- the sites in input sections that stayed whose symbol has another value
 unfoldable pub retargeted : GoodLink → GoodLink → List Site

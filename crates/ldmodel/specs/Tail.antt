@@ -62,11 +62,11 @@ kind_number kind.Common = STT_OBJECT
 abbrev pub entry_type : Project → Entry → ℕ
 entry_type p e = option_map_or (λ (x : Symbol). kind_number x.kind) (symbol_of_entry p e) STT_NOTYPE
 
-abbrev pub st_type : Project → Decision → ℕ
-st_type p (Strong e) = entry_type p e
-st_type p (Weak e) = entry_type p e
-st_type p (Common owner size alignment) = STT_OBJECT
-st_type p _ = STT_NOTYPE
+abbrev pub st_type_of : Project → Decision → ℕ
+st_type_of p (Strong e) = entry_type p e
+st_type_of p (Weak e) = entry_type p e
+st_type_of p (Common owner size alignment) = STT_OBJECT
+st_type_of p _ = STT_NOTYPE
 
 abbrev pub entry_size : Project → Entry → ℕ
 entry_size p e = option_map_or (λ (x : Symbol). x.size) (symbol_of_entry p e) 0
@@ -122,15 +122,15 @@ abbrev pub symbol_entry : Project → Layout → ℕ × ValuedSymbol → SymbolE
 symbol_entry p s x = record {
   name = name_offset (symbol_names p s) x.0;
   binding = st_binding x.1.decision;
-  type = st_type p x.1.decision;
+  type = st_type_of p x.1.decision;
   section = st_shndx p s x.1.decision;
   value = x.1.value;
   size = st_size p x.1.decision;
 }
 
 -- `.symtab`: a null entry, and those of the symbols
-unfoldable pub symbol_table : Project → Layout → List ℕ
-symbol_table p s =
+unfoldable pub output_symbol_table : Project → Layout → List ℕ
+output_symbol_table p s =
     replicate 24 0 ++ flat_map (λ x. symbol_bytes (symbol_entry p s x)) (enumerate_from 0 (table_symbols p s))
 
 -- `.strtab`

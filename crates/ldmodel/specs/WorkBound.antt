@@ -4,12 +4,12 @@ use Rattle.std.specs.Prelude.{ℕ, ◌+◌, ◌≤◌, List, filter, flat_map, l
 use Rattle.elfobj.specs.RelocationKinds.{width}
 use Rattle.ldmodel.specs.Relocations.{Site}
 use Rattle.ldmodel.specs.SectionHeaders.{image_length}
-use Rattle.ldmodel.specs.Stayed.{GoodLink, LinkedPiece, pieces_in, has_stayed, stayed, retargeted, sites_in}
+use Rattle.ldmodel.specs.Stayed.{GoodLink, LinkedPiece, link_pieces, has_stayed, stayed, retargeted, sites_in}
 
 -- the sites of the new link outside input sections that stayed
 abbrev pub sites_outside : GoodLink → GoodLink → List Site
 sites_outside old new =
-    flat_map (sites_in new.project) (filter (λ (x : LinkedPiece). not (has_stayed old x)) (pieces_in new))
+    flat_map (sites_in new.project) (filter (λ (x : LinkedPiece). not (has_stayed old x)) (link_pieces new))
 
 abbrev pub bytes_stayed : GoodLink → GoodLink → ℕ
 bytes_stayed old new = sum_by (λ (x : LinkedPiece). x.range.length) (stayed old new)

@@ -2,7 +2,7 @@
 
 ghost use Rattle.std.specs.Prelude.{◌≡◌};
 ghost use Rattle.ldmodel.specs.EditMeaning.{refusal_of};
-ghost use Rattle.ldmodel.specs.Edits.{inner_number, refusal_number};
+ghost use Rattle.ldmodel.specs.Edits.{inner_number, edit_refusal_number};
 
 use elfobj::ObjectRefusal;
 use ldscript::ScriptRefusal;
@@ -81,7 +81,7 @@ pub enum EditRefusal {
 impl EditRefusal {
     /// The number under which the refusal is reported, from 1 to 7.
     pub fn number(self) -> u8
-        ensures { result ≡ refusal_number (refusal_of self) }
+        ensures { result ≡ edit_refusal_number (refusal_of self) }
     {
         match self {
             EditRefusal::InUse => 1,

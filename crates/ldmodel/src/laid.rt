@@ -20,7 +20,9 @@ pub struct Placed {
     pub size: u64,
     /// The address that its first byte is loaded at.
     pub load: u64,
-    /// How many bytes it has in the file: `size`, or 0 where nothing in it has file bytes.
+    /// Whether it has bytes in the file, all or none.
+    pub has_file_bytes: bool,
+    /// How many bytes it has in the file: `size`, or 0.
     pub load_size: u64,
     /// The alignment, a power of two. An address that the script gives need not be a multiple of it.
     pub alignment: u64,

@@ -24,10 +24,9 @@ use Rattle.ldscript.specs.statements.declared.section.BodyCommand.{BodyCommand}
 use Rattle.ldscript.specs.statements.declared.section.BodyCommand.TheVariants as body
 use Rattle.ldscript.specs.statements.declared.section.BodyStatement.{BodyStatement}
 use Rattle.ldscript.specs.statements.declared.section.Width.{Width}
-use Rattle.ldmodel.specs.Assigning.{assigned, common_step}
-use Rattle.ldmodel.specs.Body.{Body, piece_placed, piece_start, pieces_placed, input_step, with_dot, with_data}
-use Rattle.ldmodel.specs.Body.{data_step}
-use Rattle.ldmodel.specs.Body.{moved, advanced, set_to, dot_step, body_command_step, body_step}
+use Rattle.ldmodel.specs.Placement.{assigned, common_step, Body, piece_placed, piece_start, pieces_placed, input_step}
+use Rattle.ldmodel.specs.Placement.{with_dot, with_data, data_step, moved_on, advanced, set_to, dot_step}
+use Rattle.ldmodel.specs.Placement.{body_command_step, body_step}
 use Rattle.ldmodel.specs.Chain.{and_then}
 use Rattle.ldmodel.specs.Fault.{Fault, MovedBack}
 use Rattle.ldmodel.specs.Layout.{Layout, ScriptSymbol, address, noted, number, scope_of, script_value, symbol_named}
@@ -212,8 +211,8 @@ module _ (b : Body) (ys : List ScriptSymbol) (names : List (List ℕ))
   abbrev c : Body
   c = with_symbols b ys
 
-  moved_both : (line x y : ℕ) → x ≡ y → Both (AreBodiesAlike names) (moved line b x) (moved line c y)
-  moved_both line x y e = subst (λ z. Both (AreBodiesAlike names) (moved line b x) (moved line c z)) e
+  moved_both : (line x y : ℕ) → x ≡ y → Both (AreBodiesAlike names) (moved_on line b x) (moved_on line c y)
+  moved_both line x y e = subst (λ z. Both (AreBodiesAlike names) (moved_on line b x) (moved_on line c z)) e
       (both_choice (AreBodiesAlike names) (nat_lt x b.layout.dot) (Err (MovedBack line))
       (and_then (address line x) (λ z. Ok (with_dot b z))) (Err (MovedBack line))
       (and_then (address line x) (λ z. Ok (with_dot c z))) (λ d f p q. absurd (let none : ⊥ = cc in none))
@@ -228,18 +227,18 @@ module _ (b : Body) (ys : List ScriptSymbol) (names : List (List ℕ))
   advanced_both : (line : ℕ) (e : Expr) → Both (AreBodiesAlike names) (advanced line b e) (advanced line c e)
   advanced_both line e =
       both_then IsSame (AreBodiesAlike names) (number b.layout line e) (number c.layout line e)
-      (λ x. moved line b (b.layout.dot + x)) (λ x. moved line c (b.layout.dot + x)) (numbers line e)
+      (λ x. moved_on line b (b.layout.dot + x)) (λ x. moved_on line c (b.layout.dot + x)) (numbers line e)
       (λ x y p. moved_both line (b.layout.dot + x) (b.layout.dot + y) (ap (λ z. b.layout.dot + z) p))
 
   set_both : (line : ℕ) (f : Option DotForm) → Both (AreBodiesAlike names) (set_to line b f) (set_to line c f)
   set_both line (Some (Advance e)) = advanced_both line e
   set_both line (Some (Align e)) =
       both_then IsSame (AreBodiesAlike names) (number b.layout line (expression.AlignDot e))
-      (number c.layout line (expression.AlignDot e)) (λ x. moved line b x) (λ x. moved line c x)
+      (number c.layout line (expression.AlignDot e)) (λ x. moved_on line b x) (λ x. moved_on line c x)
       (numbers line (expression.AlignDot e)) (λ x y p. moved_both line x y p)
   set_both line (Some (Offset e)) =
       both_then IsSame (AreBodiesAlike names) (number b.layout line e) (number c.layout line e)
-      (λ x. moved line b (b.start + x)) (λ x. moved line c (b.start + x)) (numbers line e)
+      (λ x. moved_on line b (b.start + x)) (λ x. moved_on line c (b.start + x)) (numbers line e)
       (λ x y p. moved_both line (b.start + x) (b.start + y) (ap (λ z. b.start + z) p))
   set_both line None = both_ok (AreBodiesAlike names) b c (record { same = refl; symbols = h })
 

@@ -25,7 +25,7 @@ use Rattle.ldscript.specs.statements.declared.statement.ItemCommand.{ItemCommand
 use Rattle.ldscript.specs.statements.declared.statement.ItemCommand.TheVariants as item
 use Rattle.ldscript.specs.statements.declared.statement.Region.{Region}
 use Rattle.ldscript.specs.statements.declared.statement.Statement.{Statement}
-use Rattle.ldmodel.specs.Assigning.{common_step}
+use Rattle.ldmodel.specs.Placement.{common_step}
 use Rattle.ldmodel.specs.Chain.{and_then, run}
 use Rattle.ldmodel.specs.Fault.{Fault}
 use Rattle.ldmodel.specs.Layout.{Layout, ScriptSymbol, nothing_placed, number}

@@ -15,17 +15,15 @@ use Rattle.ldscript.specs.statements.declared.statement.Item.{Item}
 use Rattle.ldscript.specs.statements.declared.statement.ItemCommand.{ItemCommand}
 use Rattle.ldscript.specs.statements.declared.statement.ItemCommand.TheVariants as item
 use Rattle.ldmodel.specs.Arithmetic.{plus_modulo}
-use Rattle.ldmodel.specs.Assigning.{common_step}
-use Rattle.ldmodel.specs.Body.{Body, body_step}
+use Rattle.ldmodel.specs.Placement.{common_step, Body, body_step}
 use Rattle.ldmodel.specs.Chain.{and_then, run}
 use Rattle.ldmodel.specs.Fault.{Fault}
 use Rattle.ldmodel.specs.Layout.{Layout, PlacedSection, ScriptSymbol, address, noted, number}
 use Rattle.ldmodel.specs.Placement.{free_dot_step, item_command_step, item_step, next_row, opened, section_step}
 use Rattle.ldmodel.specs.Rows.{Piece}
-use Rattle.ldmodel.specs.SectionEnd.{find_region, load_region, placed_section, section_end, with_room, with_section}
-use Rattle.ldmodel.specs.SectionHead.{Given, Head, first_free, given, given_alignment, given_load, head_of}
-use Rattle.ldmodel.specs.SectionHead.{load_address}
-use Rattle.ldmodel.specs.SectionHead.{number_if_given, start_of, widest}
+use Rattle.ldmodel.specs.Placement.{find_region, load_region, placed_section, section_end, with_room, with_section}
+use Rattle.ldmodel.specs.Placement.{Given, Head, first_free, given, given_alignment, given_load, head_of, load_address}
+use Rattle.ldmodel.specs.Placement.{number_if_given, section_start, widest}
 use Rattle.ldmodel_laws.specs.Alike.{AreAlike, AreBodiesAlike, AreSameBefore, AreSymbolsAlike, given_names, names_given}
 use Rattle.ldmodel_laws.specs.Alike.{with_symbols}
 use Rattle.ldscript.specs.statements.Numbering.{CommonAt}
@@ -66,8 +64,8 @@ module _ (names : List (List ℕ)) (s : Layout) (ys : List ScriptSymbol) (a : Ar
       (record { address = at'; load = load'; alignment = n' }) (rw (p, q, u) refl)))))
 
   start_same : (line : ℕ) (region : Option (List ℕ)) (x : Option ℕ) (n : ℕ)
-      → start_of s line region x n ≡ start_of t line region x n
-  unfolding start_of
+      → section_start s line region x n ≡ section_start t line region x n
+  unfolding section_start
   start_same line region (Some x) n = refl
   start_same line None None n = refl
   start_same line (Some r) None n = refl
@@ -90,7 +88,7 @@ module _ (names : List (List ℕ)) (s : Layout) (ys : List ScriptSymbol) (a : Ar
   -- a head after its expressions
   abbrev going : List Piece → ℕ → OutputSection → Layout → Given → Result Head Fault
   going row line o u g =
-      and_then (start_of u line o.region g.address (widest g.alignment row)) (λ start.
+      and_then (section_start u line o.region g.address (widest g.alignment row)) (λ start.
       and_then (load_address u line o g (widest g.alignment row) start) (λ load.
       Ok (record { alignment = widest g.alignment row; start = start; load = load })))
 
@@ -110,7 +108,7 @@ module _ (names : List (List ℕ)) (s : Layout) (ys : List ScriptSymbol) (a : Ar
       ap (λ r. and_then r (λ start.
       and_then (load_address s line o g (widest g.alignment row) start) (loaded row g start)))
       (start_same line o.region g.address (widest g.alignment row))
-      ∙ same_start row line o g (start_of t line o.region g.address (widest g.alignment row))
+      ∙ same_start row line o g (section_start t line o.region g.address (widest g.alignment row))
 
   head_both : (row : List Piece) (line : ℕ) (o : OutputSection)
       → Both IsSame (head_of s row line o) (head_of t row line o)

@@ -11,14 +11,14 @@ use Rattle.elfobj.specs.Sections.{LinkedSection}
 use Rattle.elfobj.specs.declared.relocation.Relocation.{Relocation}
 use Rattle.elfobj.specs.declared.relocation.RelocationKind.{RelocationKind}
 use Rattle.elfobj.specs.declared.relocation.RelocationKind.TheVariants as kind
-use Rattle.emit_fields.specs.Fields.{field_of, fits, value}
+use Rattle.emit_fields.specs.Fields.{field_of, fits, relocation_value}
 use Rattle.emit_fields.specs.Patches as patches
 use Rattle.emit_fields.specs.Patches.{patch_end, IsWithin}
 use Rattle.emit_fields.specs.declared.patch.Patch.{Patch}
-use Rattle.ldmodel.specs.FileLayout.{Each}
+use Rattle.ldmodel.specs.Each.{Each}
 use Rattle.ldmodel.specs.Layout.{Layout}
 use Rattle.ldmodel.specs.Project.{NamedObject, Project}
-use Rattle.ldmodel.specs.Relocations.{Site, is_evaluated, site_value, site_place, site_field, field_with}
+use Rattle.ldmodel.specs.Relocations.{Site, is_evaluated, site_value, site_place, site_field, site_field_with}
 use Rattle.ldmodel.specs.Relocations.{field_or_overflow, patch_of, fields_of}
 use Rattle.ldmodel.specs.SymbolValues.{SymbolValue, Number, NotDefined, NotInOutput}
 use Rattle.ldmodel_laws.specs.Spread.{EachLater}
@@ -87,16 +87,16 @@ patch_stands t field a l w e =
 value_stands : (t : Site) (x : ℕ) (a : Patch) → 0 < width t.relocation.kind
     → patch_of t (field_or_overflow t (field_of t.relocation x (site_place t))) ≡ Some a → Stands t.relocation a
 unfolding field_of
-value_stands t x a w e = go (fits t.relocation.kind (value t.relocation x (site_place t))) e
+value_stands t x a w e = go (fits t.relocation.kind (relocation_value t.relocation x (site_place t))) e
   where
     go : (b : Bool) → patch_of t
         (field_or_overflow t (cond b
-        (Ok (little_bytes (width t.relocation.kind) (value t.relocation x (site_place t))))
-        (Err (record { value = value t.relocation x (site_place t) })))) ≡ Some a → Stands t.relocation a
-    go true k = patch_stands t _ a (bytes_wide t.relocation.kind (value t.relocation x (site_place t))) w k
+        (Ok (little_bytes (width t.relocation.kind) (relocation_value t.relocation x (site_place t))))
+        (Err (record { value = relocation_value t.relocation x (site_place t) })))) ≡ Some a → Stands t.relocation a
+    go true k = patch_stands t _ a (bytes_wide t.relocation.kind (relocation_value t.relocation x (site_place t))) w k
     go false k = absurd (let none : ⊥ = cc in none)
 
-site_stands : (t : Site) (v : SymbolValue) (a : Patch) → 0 < width t.relocation.kind → patch_of t (field_with t v)
+site_stands : (t : Site) (v : SymbolValue) (a : Patch) → 0 < width t.relocation.kind → patch_of t (site_field_with t v)
     ≡ Some a → Stands t.relocation a
 site_stands t (Number x) a w e = value_stands t x a w e
 site_stands t NotDefined a w e = absurd (let none : ⊥ = cc in none)
@@ -138,7 +138,7 @@ module _ (p : Project) (s : Layout) (o : NamedObject) (x : LinkedSection) (start
   Clear r q = meets r q ≡ false
 
   abbrev ClearFields : Patch → Patch → Type 0
-  ClearFields a b = patches.meets a b ≡ false
+  ClearFields a b = patches.patches_meet a b ≡ false
 
   clear : (r q : Relocation) (a b : Patch) → Clear r q → Stands r a → Stands q b → ClearFields a b
   clear r q a b h k l =
@@ -174,7 +174,7 @@ module _ (p : Project) (s : Layout) (o : NamedObject) (x : LinkedSection) (start
 pub fields_apart : (p : Project) (s : Layout) (o : NamedObject) (x : LinkedSection) (start : ℕ)
     → object.AreApart x.relocations → patches.AreApart (fields_of p s o x start)
 fields_apart p s o x start h =
-    pairs_of_later (λ (a b : Patch). patches.meets a b ≡ false) (fields_of p s o x start)
+    pairs_of_later (λ (a b : Patch). patches.patches_meet a b ≡ false) (fields_of p s o x start)
     (later_fields p s o x start x.relocations
     (later_of_pairs (λ (r q : Relocation). meets r q ≡ false) x.relocations h))
 

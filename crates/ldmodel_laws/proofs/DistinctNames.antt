@@ -9,8 +9,8 @@ use Rattle.std.proofs.lemmas.List.Quantifiers.{position-Some}
 use Rattle.std.proofs.lemmas.List.Sums.{sum_by-cons, sum_by-insert, sum_by-remove, sum_by-set}
 use Rattle.ldmodel.specs.Project.{Project, NamedObject}
 use Rattle.ldmodel.specs.Edits.{Change, Add, Replace, Move, Remove, SetScript, Refusal, InUse, has_name, place_of}
-use Rattle.ldmodel.specs.Edits.{is_in_use, AreNamesDistinct, early_refusal, named, unnamed, replaced, moved, removed}
-use Rattle.ldmodel.specs.Edits.{After}
+use Rattle.ldmodel.specs.Edits.{is_in_use, AreNamesDistinct, early_refusal, new_object, unnamed, replaced, moved}
+use Rattle.ldmodel.specs.Edits.{removed, After}
 
 -- 1 where the test passes
 abbrev one_if : Bool → ℕ
@@ -115,9 +115,11 @@ HasDistinctNames p = AreNamesDistinct p.objects
 pub names_stay_distinct : (p q : Project) (c : Change) → AreNamesDistinct p.objects → After p c (Ok q)
     → AreNamesDistinct q.objects
 names_stay_distinct p q (Add name at bytes) once a =
-    subst HasDistinctNames (sym a.1.1) (names-insert p.objects at (named name bytes) once (unused p name at bytes a.0))
+    subst HasDistinctNames (sym a.1.1) (names-insert p.objects at (new_object name bytes) once
+    (unused p name at bytes a.0))
 names_stay_distinct p q (Replace name bytes) once a =
-    subst HasDistinctNames (sym a.1.1) (replaced_names p.objects (named name bytes) (place_of p.objects name) refl once)
+    subst HasDistinctNames (sym a.1.1) (replaced_names p.objects (new_object name bytes)
+    (place_of p.objects name) refl once)
 names_stay_distinct p q (Move name to) once a =
     subst HasDistinctNames (sym a.1) (moved_names p.objects name to (place_of p.objects name) refl once)
 names_stay_distinct p q (Remove name) once a =

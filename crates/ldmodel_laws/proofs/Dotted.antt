@@ -10,7 +10,7 @@ use Rattle.ldscript.specs.statements.declared.statement.Item.{Item}
 use Rattle.ldscript.specs.statements.declared.statement.ItemCommand.{ItemCommand}
 use Rattle.ldscript.specs.statements.declared.statement.ItemCommand.TheVariants as item
 use Rattle.ldscript.specs.statements.declared.statement.Statement.{Statement}
-use Rattle.ldmodel.specs.Body.{Body, body_step}
+use Rattle.ldmodel.specs.Placement.{Body, body_step}
 use Rattle.ldmodel.specs.Layout.{Layout, noted, nothing_placed}
 use Rattle.ldmodel.specs.Placement.{command_step, item_command_step, item_step, next_row, opened, placement}
 use Rattle.ldmodel.specs.Placement.{region_step, statement_step}

@@ -19,16 +19,15 @@ use Rattle.ldscript.specs.statements.declared.section.OutputSection.{OutputSecti
 use Rattle.ldscript.specs.statements.declared.section.Width.{Width}
 use Rattle.ldscript.specs.statements.declared.section.Width.TheVariants.{Byte, Short, Long, Quad}
 use Rattle.ldscript.specs.statements.declared.statement.Region.{Region}
-use Rattle.ldmodel.specs.Assigning.{assigned, common_step}
-use Rattle.ldmodel.specs.Body.{Body, piece_placed, pieces_placed, body_command_step, with_dot, with_data, data_step}
-use Rattle.ldmodel.specs.Body.{moved, advanced, set_to, dot_step, body_step}
+use Rattle.ldmodel.specs.Placement.{assigned, common_step, Body, piece_placed, pieces_placed, body_command_step}
+use Rattle.ldmodel.specs.Placement.{with_dot, with_data, data_step, moved_on, advanced, set_to, dot_step, body_step}
 use Rattle.ldmodel.specs.Chain.{and_then, run}
 use Rattle.ldmodel.specs.Fault.{Fault, MovedBack, PastAddressSpace}
 use Rattle.ldmodel.specs.Layout.{Layout, PlacedSection, address, number, with_symbol}
 use Rattle.ldmodel.specs.Placement.{free_dot_step, region_step, section_step, opened, with_region}
 use Rattle.ldmodel.specs.Rows.{Piece}
-use Rattle.ldmodel.specs.SectionEnd.{section_end, placed_section, with_section, with_room, find_region, load_region}
-use Rattle.ldmodel.specs.SectionHead.{Head, head_of}
+use Rattle.ldmodel.specs.Placement.{section_end, placed_section, with_section, with_room, find_region, load_region}
+use Rattle.ldmodel.specs.Placement.{Head, head_of}
 use Rattle.ldmodel_laws.specs.Placed.{PieceTo, past_inputs}
 use Rattle.ldmodel_laws.proofs.Placements.{piece_to}
 
@@ -127,7 +126,7 @@ pub data Quiet (b c : Body) : Type 0 where
   onward : (to : ℕ) → b.layout.dot ≤ to → with_dot b to ≡ c → Quiet b c
   added : (bytes : List ℕ) → with_dot (with_data b bytes) (b.layout.dot + length bytes) ≡ c → Quiet b c
 
-moved_quiet : (line : ℕ) (b : Body) (to : ℕ) (c : Body) → moved line b to ≡ Ok c → Quiet b c
+moved_quiet : (line : ℕ) (b : Body) (to : ℕ) (c : Body) → moved_on line b to ≡ Ok c → Quiet b c
 moved_quiet line b to c e = go (nat_lt to b.layout.dot) refl e
   where
     go : (t : Bool) → nat_lt to b.layout.dot ≡ t
@@ -140,16 +139,16 @@ moved_quiet line b to c e = go (nat_lt to b.layout.dot) refl e
 
 advanced_quiet : (line : ℕ) (b : Body) (e : Expr) (c : Body) → advanced line b e ≡ Ok c → Quiet b c
 advanced_quiet line b e c h =
-    let k = came (number b.layout line e) (λ x. moved line b (b.layout.dot + x)) c h in
+    let k = came (number b.layout line e) (λ x. moved_on line b (b.layout.dot + x)) c h in
     moved_quiet line b (b.layout.dot + k.value) c k.gives
 
 set_quiet : (line : ℕ) (b : Body) (f : Option DotForm) (c : Body) → set_to line b f ≡ Ok c → Quiet b c
 set_quiet line b (Some (Advance e)) c h = advanced_quiet line b e c h
 set_quiet line b (Some (Align e)) c h =
-    let k = came (number b.layout line (expression.AlignDot e)) (λ x. moved line b x) c h in
+    let k = came (number b.layout line (expression.AlignDot e)) (λ x. moved_on line b x) c h in
     moved_quiet line b k.value c k.gives
 set_quiet line b (Some (Offset e)) c h =
-    let k = came (number b.layout line e) (λ x. moved line b (b.start + x)) c h in
+    let k = came (number b.layout line e) (λ x. moved_on line b (b.start + x)) c h in
     moved_quiet line b (b.start + k.value) c k.gives
 set_quiet line b None c h = still cc
 

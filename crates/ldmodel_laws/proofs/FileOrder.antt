@@ -4,11 +4,12 @@ use Rattle.std.proofs.Common.{◌∷◌, ◌++◌, length, map, filter, flat_map
 use Rattle.std.proofs.Math.Nat.{eq-zero-or-pos}
 use Rattle.std.proofs.lemmas.List.Elements.{filter-append}
 use Rattle.std.proofs.lemmas.Bool.{eqb-true, eq-eqb, false≢true, leb-true}
-use Rattle.ldmodel.specs.FileLayout.{Each, Neighbours, IsTogether, Shares}
+use Rattle.ldmodel.specs.Each.{Each}
+use Rattle.ldmodel_laws.specs.FileLayout.{Neighbours, IsTogether, Shares}
 use Rattle.ldmodel.specs.Layout.{PlacedSection}
-use Rattle.ldmodel.specs.Segments.{Group, Segment, SectionInFile, in_file, in_segment, has_file_bytes, headers_end}
-use Rattle.ldmodel.specs.Segments.{start_of, end_of, reach, file_size, file_end, segments, sections_in, groups, begun}
-use Rattle.ldmodel.specs.Segments.{begun_from, nonempty}
+use Rattle.ldmodel.specs.Segments.{Group, Segment, SectionInFile, in_file, in_segment, headers_end}
+use Rattle.ldmodel.specs.Segments.{segment_start, end_of, reach, file_size, file_end, segments, group_sections, groups}
+use Rattle.ldmodel.specs.Segments.{begun, begun_from, nonempty}
 use Rattle.ldmodel_laws.specs.FileOrder.{with_file_bytes, end_in_file, AreInFileOrder}
 use Rattle.ldmodel_laws.specs.Spread.{EachLater}
 use Rattle.ldmodel_laws.proofs.Grouped.{is_grouping}
@@ -91,11 +92,11 @@ abbrev Before : SectionInFile → SectionInFile → Type 0
 Before x y = end_in_file x ≤ y.offset
 
 abbrev with_bytes : List SectionInFile → List SectionInFile
-with_bytes xs = filter (λ (x : SectionInFile). has_file_bytes x.section) xs
+with_bytes xs = filter (λ (x : SectionInFile). x.section.has_file_bytes) xs
 
 module _ (g : Segment) where
   abbrev base : ℕ
-  base = start_of g
+  base = segment_start g
 
   abbrev placed : List PlacedSection → List SectionInFile
   placed qs = map (in_segment g) qs
@@ -120,14 +121,14 @@ module _ (g : Segment) where
       )
 
   abbrev last_reach : ℕ → List PlacedSection → ℕ
-  last_reach n qs = fold (λ m (q : PlacedSection). cond (has_file_bytes q) (reach g.group q) m) n qs
+  last_reach n qs = fold (λ m (q : PlacedSection). cond q.has_file_bytes (reach g.group q) m) n qs
 
   -- the end of the last file bytes is past those of all
   last_above : (n from : ℕ) (qs : List PlacedSection) → base ≤ from → n ≤ from - base → Ascends from qs
       → n ≤ last_reach n qs
   last_above n from [] l m h = omega arith
   last_above n from (q ∷ qs) l m h =
-      go (has_file_bytes q) (last_above (reach g.group q) (end_of q) qs (omega (arith, l, h.0)) (omega arith) h.1)
+      go q.has_file_bytes (last_above (reach g.group q) (end_of q) qs (omega (arith, l, h.0)) (omega arith) h.1)
       (last_above n (end_of q) qs (omega (arith, l, h.0)) (omega (arith, m, l, h.0)) h.1)
     where
       go : (b : Bool) → reach g.group q ≤ last_reach (reach g.group q) qs → n ≤ last_reach n qs
@@ -143,7 +144,7 @@ module _ (g : Segment) where
       → Each (EndsBy (g.offset + last_reach n qs)) (with_bytes (placed qs))
   ends_by n from [] l m h = tt
   ends_by n from (q ∷ qs) l m h =
-      go (has_file_bytes q) (ends_by (reach g.group q) (end_of q) qs up (omega arith) h.1)
+      go q.has_file_bytes (ends_by (reach g.group q) (end_of q) qs up (omega arith) h.1)
       (ends_by n (end_of q) qs up (omega (arith, m, l, h.0)) h.1)
     where
       up : base ≤ end_of q
@@ -163,28 +164,29 @@ module _ (g : Segment) where
   sizes [] h = tt
   sizes (q ∷ qs) h = (h.0, sizes qs h.1)
 
-  module _ (together : IsTogether g.group) (some : Each HasSize (sections_in g.group)) where
-    all_ascend : Ascends base (sections_in g.group)
+  module _ (together : IsTogether g.group) (some : Each HasSize (group_sections g.group)) where
+    all_ascend : Ascends base (group_sections g.group)
     all_ascend = (omega arith, ascends g.group.first g.group.others together)
 
-    own_past : Each (Past g.offset) (placed (sections_in g.group))
+    own_past : Each (Past g.offset) (placed (group_sections g.group))
     own_past = each_imply (Past (g.offset + (base - base))) (Past g.offset) (λ x k.
-        omega (arith, k)) (placed (sections_in g.group)) (past_all base (omega arith) (sections_in g.group) all_ascend)
+        omega (arith, k)) (placed (group_sections g.group)) (past_all base (omega arith)
+        (group_sections g.group) all_ascend)
 
-    own_order : EachLater Before (placed (sections_in g.group))
-    own_order = in_order base (omega arith) (sections_in g.group) all_ascend
+    own_order : EachLater Before (placed (group_sections g.group))
+    own_order = in_order base (omega arith) (group_sections g.group) all_ascend
 
-    own_end : (end : ℕ) → Each (EndsBy (file_end end g)) (with_bytes (placed (sections_in g.group)))
+    own_end : (end : ℕ) → Each (EndsBy (file_end end g)) (with_bytes (placed (group_sections g.group)))
     own_end end =
         each_and (EndsBy (g.offset + file_size g.group)) (λ x. (g.offset ≤ x.offset) × (0 < x.section.size))
         (EndsBy (file_end end g)) (λ x k l. go (file_size g.group == 0) refl x k l)
-        (with_bytes (placed (sections_in g.group)))
-        (ends_by 0 base (sections_in g.group) (omega arith) (omega arith) all_ascend)
+        (with_bytes (placed (group_sections g.group)))
+        (ends_by 0 base (group_sections g.group) (omega arith) (omega arith) all_ascend)
         (each_and (Past g.offset) (λ x. 0 < x.section.size) (λ x. (g.offset ≤ x.offset) × (0 < x.section.size))
-        (λ x k l. (k, l)) (with_bytes (placed (sections_in g.group)))
-        (each_filter (Past g.offset) (λ x. has_file_bytes x.section) (placed (sections_in g.group)) own_past)
-        (each_filter (λ x. 0 < x.section.size) (λ x. has_file_bytes x.section) (placed (sections_in g.group))
-        (sizes (sections_in g.group) some)))
+        (λ x k l. (k, l)) (with_bytes (placed (group_sections g.group)))
+        (each_filter (Past g.offset) (λ x. x.section.has_file_bytes) (placed (group_sections g.group)) own_past)
+        (each_filter (λ x. 0 < x.section.size) (λ x. x.section.has_file_bytes) (placed (group_sections g.group))
+        (sizes (group_sections g.group) some)))
       where
         go : (b : Bool) → (file_size g.group == 0) ≡ b → (x : SectionInFile) → EndsBy (g.offset + file_size g.group) x
             → (g.offset ≤ x.offset) × (0 < x.section.size) → EndsBy (cond b end (g.offset + file_size g.group)) x
@@ -211,7 +213,7 @@ record InOrder (end : ℕ) (gs : List Segment) : Type 0 where
   pub up : end ≤ fold file_end end gs
 
 abbrev HaveSize : Group → Type 0
-HaveSize g = Each HasSize (sections_in g)
+HaveSize g = Each HasSize (group_sections g)
 
 all_in_order : (end : ℕ) (gs : List Group) → Each IsTogether gs → Each HaveSize gs → InOrder end (begun_from end gs)
 all_in_order end [] h k = record { past = tt; later = tt; by = tt; up = omega arith }
@@ -222,18 +224,18 @@ all_in_order end (g ∷ gs) h k =
     let rest : InOrder next more = all_in_order next gs h.1 k.1 in
     let at : end ≤ s.offset = omega arith in
     let up : end ≤ next = further end s at in
-    let own : List SectionInFile = with_bytes (placed s (sections_in g)) in
+    let own : List SectionInFile = with_bytes (placed s (group_sections g)) in
     let split : all_in_file (s ∷ more) ≡ own ++ all_in_file more =
-    filter-append (λ (x : SectionInFile). has_file_bytes x.section) (placed s (sections_in g)) (in_file more) in
+    filter-append (λ (x : SectionInFile). x.section.has_file_bytes) (placed s (group_sections g)) (in_file more) in
     let ends : Each (EndsBy s next) own = own_end s h.0 k.0 end in
     record {
       past = subst (Each (Past end)) (sym split) (each_append (Past end) own (all_in_file more)
           (each_imply (Past s.offset) (Past end) (λ x l. omega (arith, l, at)) own
-          (each_filter (Past s.offset) (λ x. has_file_bytes x.section) (placed s (sections_in g))
+          (each_filter (Past s.offset) (λ x. x.section.has_file_bytes) (placed s (group_sections g))
           (own_past s h.0 k.0)))
           (each_imply (Past next) (Past end) (λ x l. omega (arith, l, up)) (all_in_file more) rest.past));
       later = subst (EachLater Before) (sym split) (later_both Before own (all_in_file more)
-          (later_filter Before (λ x. has_file_bytes x.section) (placed s (sections_in g)) (own_order s h.0 k.0))
+          (later_filter Before (λ x. x.section.has_file_bytes) (placed s (group_sections g)) (own_order s h.0 k.0))
           rest.later
           (each_imply (EndsBy s next) (λ x. Each (Before x) (all_in_file more)) (λ x l.
           each_imply (Past next) (Before x) (λ y m. omega (arith, l, m)) (all_in_file more) rest.past) own ends));
@@ -252,9 +254,9 @@ has_size qs = each_imply (λ q. not (q.size == 0) ≡ true) HasSize (λ q h. go 
     go q true e h = absurd (false≢true h)
     go q false e h = ⊎_elim (λ z. absurd (false≢true (sym e ∙ eq-eqb q.size 0 z))) (λ l. l) (eq-zero-or-pos q.size)
 
-have_size : (gs : List Group) → Each HasSize (flat_map sections_in gs) → Each HaveSize gs
+have_size : (gs : List Group) → Each HasSize (flat_map group_sections gs) → Each HaveSize gs
 have_size [] h = tt
-have_size (g ∷ gs) h = let parts = each_parts HasSize (sections_in g) (flat_map sections_in gs) h in
+have_size (g ∷ gs) h = let parts = each_parts HasSize (group_sections g) (flat_map group_sections gs) h in
     (parts.0, have_size gs parts.1)
 
 pub files_in_order : (sections : List PlacedSection) → AreInFileOrder (segments sections)

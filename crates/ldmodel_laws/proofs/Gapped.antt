@@ -3,8 +3,8 @@ use Rattle.std.proofs.Common.{◌≡◌, ℕ, ◌+◌, ◌≤◌, ◌<◌, max, 
 use Rattle.std.proofs.Common.{◌++◌, length, map, find, filter, fold, Some, None, ◌⊎◌, inl, inr, ⊎_elim, refl, sym, ◌∙◌}
 use Rattle.std.proofs.Common.{subst, arith, if◌then◌else◌}
 use Rattle.std.specs.List.{Contains}
-use Rattle.ldmodel.specs.FileLayout.{Each}
-use Rattle.ldmodel.specs.Gaps.{IsBare, IsGapStart}
+use Rattle.ldmodel.specs.Each.{Each}
+use Rattle.ldmodel_laws.specs.Gaps.{IsBare, IsGapStart}
 use Rattle.ldmodel.specs.Image.{covers, ends_in, gap_start}
 use Rattle.ldmodel.specs.Layout.{PlacedSection, PlacedPiece, PlacedData}
 use Rattle.ldmodel_laws.proofs.Members.{here, later}

@@ -11,7 +11,7 @@ use Rattle.elfobj.specs.Sections.{LinkedSection}
 use Rattle.elfobj.specs.declared.section.SectionIndex.{SectionIndex}
 use Rattle.ldmodel.specs.Fault.{Fault, ImageTooLong}
 use Rattle.ldmodel.specs.Edits.{AreNamesDistinct}
-use Rattle.ldmodel.specs.FileLayout.{Each}
+use Rattle.ldmodel.specs.Each.{Each}
 use Rattle.ldmodel.specs.Image.{object_named, section_numbered}
 use Rattle.ldmodel.specs.Layout.{Layout, PlacedPiece, PlacedSection}
 use Rattle.ldmodel.specs.Link.{laid_out, layout, of_length, without_overlaps}
@@ -25,7 +25,7 @@ use Rattle.ldmodel.specs.Rows.{Piece, rows}
 use Rattle.ldmodel.specs.SectionHeaders.{image_length}
 use Rattle.ldmodel.specs.Sections.{is_same_part}
 use Rattle.ldmodel.specs.Segments.{segments}
-use Rattle.ldmodel.specs.Stayed.{GoodLink, LinkedPiece, linked_piece, linked_pieces, pieces_in, sites_in}
+use Rattle.ldmodel.specs.Stayed.{GoodLink, LinkedPiece, linked_piece, linked_pieces, link_pieces, sites_in}
 use Rattle.ldmodel.specs.SymbolValues.{entry_point, is_part, placed_part, placed_pieces}
 use Rattle.ldmodel.specs.declared.sections.Part.{Part}
 use Rattle.ldmodel.specs.declared.sections.Part.TheVariants.{InTable, InCommon}
@@ -206,7 +206,7 @@ module _ (l : GoodLink) (h : IsFaultless l) where
           (flat_map_in (sites_of_section s o) o.object.sections z t numbered.1
           (subst (λ ts. Contains ts t) (sym all) f))
 
-  piece_fields : (x : LinkedPiece) → Contains (pieces_in l) x → Each (HasField l) (sites_in p x)
+  piece_fields : (x : LinkedPiece) → Contains (link_pieces l) x → Each (HasField l) (sites_in p x)
   unfolding linked_pieces
   piece_fields x c =
       let k = in_flat_map (λ (q : PlacedSection). map (linked_piece p (segments s.sections) q) q.pieces) s.sections x c

@@ -1,29 +1,30 @@
 -- The groups of a list of output sections are the one way to cut it exactly where neighbours do not share a segment.
 use Rattle.std.proofs.Common.{◌≡◌, Bool, true, false, List, [], ◌∷◌, ◌++◌, flat_map, refl, ap, sym, ◌∙◌, if◌then◌else◌}
-use Rattle.ldmodel.specs.FileLayout.{Neighbours, Each, IsTogether, AreApart, IsGrouping, Shares}
+use Rattle.ldmodel_laws.specs.FileLayout.{Neighbours, IsTogether, AreApart, IsGrouping, Shares}
+use Rattle.ldmodel.specs.Each.{Each}
 use Rattle.ldmodel.specs.Layout.{PlacedSection}
-use Rattle.ldmodel.specs.Segments.{Group, groups, with_front, sections_in, shares_segment}
+use Rattle.ldmodel.specs.Segments.{Group, groups, with_front, group_sections, shares_segment}
 
 abbrev alone : PlacedSection → Group
 alone q = record { first = q; others = [] }
 
 abbrev before : PlacedSection → Group → Group
-before q g = record { first = q; others = sections_in g }
+before q g = record { first = q; others = group_sections g }
 
 -- a section before groups, by whether it shares a segment with the first of them
 abbrev put : Bool → PlacedSection → Group → List Group → List Group
 put b q g gs = if b then before q g ∷ gs else (alone q ∷ g ∷ gs)
 
-front_parts : (q : PlacedSection) (gs : List Group) → flat_map sections_in (with_front q gs)
-    ≡ q ∷ flat_map sections_in gs
+front_parts : (q : PlacedSection) (gs : List Group) → flat_map group_sections (with_front q gs)
+    ≡ q ∷ flat_map group_sections gs
 front_parts q [] = refl
 front_parts q (g ∷ gs) = by (shares_segment q g.first)
   where
-    by : (b : Bool) → flat_map sections_in (put b q g gs) ≡ q ∷ flat_map sections_in (g ∷ gs)
+    by : (b : Bool) → flat_map group_sections (put b q g gs) ≡ q ∷ flat_map group_sections (g ∷ gs)
     by true = refl
     by false = refl
 
-parts : (qs : List PlacedSection) → flat_map sections_in (groups qs) ≡ qs
+parts : (qs : List PlacedSection) → flat_map group_sections (groups qs) ≡ qs
 unfolding groups
 parts [] = refl
 parts (q ∷ qs) = front_parts q (groups qs) ∙ ap (λ l. q ∷ l) (parts qs)
@@ -84,14 +85,14 @@ shorter_apart p q qs [] h = tt
 shorter_apart p q qs (f ∷ gs) h = h
 
 joined : (p : PlacedSection) (qs : List PlacedSection) (gs : List Group) → Neighbours Shares (p ∷ qs)
-    → Neighbours AreApart (group_of p qs ∷ gs) → groups (flat_map sections_in gs) ≡ gs
-    → groups (p ∷ (qs ++ flat_map sections_in gs)) ≡ group_of p qs ∷ gs
+    → Neighbours AreApart (group_of p qs ∷ gs) → groups (flat_map group_sections gs) ≡ gs
+    → groups (p ∷ (qs ++ flat_map group_sections gs)) ≡ group_of p qs ∷ gs
 unfolding groups
 joined p [] gs t a e = ap (with_front p) e ∙ put_alone p gs a
 joined p (q ∷ qs) gs t a e =
     ap (with_front p) (joined q qs gs (t.1) (shorter_apart p q qs gs a) e) ∙ put_before p q qs gs (t.0)
 
-unique : (gs : List Group) → Each IsTogether gs → Neighbours AreApart gs → groups (flat_map sections_in gs) ≡ gs
+unique : (gs : List Group) → Each IsTogether gs → Neighbours AreApart gs → groups (flat_map group_sections gs) ≡ gs
 unfolding groups
 unique [] t a = refl
 unique (g ∷ gs) t a = joined g.first g.others gs (t.0) a (unique gs (t.1) (tail_apart g gs a))

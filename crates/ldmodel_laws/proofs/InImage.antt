@@ -13,13 +13,14 @@ use Rattle.elfobj.specs.declared.relocation.Relocation.{Relocation}
 use Rattle.emit_fields.specs.Patches as patches
 use Rattle.emit_fields.specs.Patches.{patched_byte, patch_end}
 use Rattle.emit_fields.specs.declared.patch.Patch.{Patch}
-use Rattle.ldmodel.specs.Image.{byte_at, object_named, part_byte, section_byte, section_numbered}
+use Rattle.ldmodel.specs.Image.{byte_at, object_named, section_numbered}
+use Rattle.ldmodel_laws.specs.ByteCases.{part_byte, section_byte}
 use Rattle.ldmodel.specs.Layout.{Layout, PlacedPiece, PlacedSection}
 use Rattle.ldmodel.specs.Project.{NamedObject, Project}
 use Rattle.ldmodel.specs.Relocations.{Site, fields_of, is_evaluated, patch_of, site_field, sites_at}
 use Rattle.ldmodel.specs.SectionHeaders.{Tables, header_part, image_length, tables}
-use Rattle.ldmodel.specs.Segments.{SectionInFile, Segment, file_offset, has_file_bytes, in_file, loaded_end, segments}
-use Rattle.ldmodel.specs.Stayed.{FileRange, GoodLink, LinkedPiece, has_stayed, linked_piece, linked_pieces, pieces_in}
+use Rattle.ldmodel.specs.Segments.{SectionInFile, Segment, file_offset, in_file, loaded_end, segments}
+use Rattle.ldmodel.specs.Stayed.{FileRange, GoodLink, LinkedPiece, has_stayed, linked_piece, linked_pieces, link_pieces}
 use Rattle.ldmodel.specs.Stayed.{range_in, same_piece, sites_in, stayed}
 use Rattle.ldmodel.specs.declared.sections.Part.{Part}
 use Rattle.ldmodel.specs.declared.sections.Part.TheVariants.{InTable, InCommon}
@@ -47,7 +48,7 @@ offset_by_name sections named x c =
 -- ---- input sections in the image
 
 pub linked : (l : GoodLink) (q : PlacedSection) (z : PlacedPiece) → Contains l.layout.sections q → Contains q.pieces z
-    → Contains (pieces_in l) (linked_piece l.project (segments l.layout.sections) q z)
+    → Contains (link_pieces l) (linked_piece l.project (segments l.layout.sections) q z)
 unfolding linked_pieces
 linked l q z c d =
     flat_map_in (λ (r : PlacedSection). map (linked_piece l.project (segments l.layout.sections) r) r.pieces)
@@ -55,10 +56,10 @@ linked l q z c d =
     (map_in (linked_piece l.project (segments l.layout.sections) q) q.pieces z d)
 
 pub stayed_both : (old new : GoodLink) (x : LinkedPiece)
-    → Contains (stayed old new) x ↔ (Contains (pieces_in new) x × (has_stayed old x ≡ true))
+    → Contains (stayed old new) x ↔ (Contains (link_pieces new) x × (has_stayed old x ≡ true))
 unfolding stayed
 stayed_both old new x =
-    (in_filter (has_stayed old) (pieces_in new) x, λ k. filter_in (has_stayed old) (pieces_in new) x k.0 k.1)
+    (in_filter (has_stayed old) (link_pieces new) x, λ k. filter_in (has_stayed old) (link_pieces new) x k.0 k.1)
 
 up_to_multiple : (n : ℕ) → n ≤ next_multiple_of n 8
 up_to_multiple n = omega arith
@@ -78,7 +79,7 @@ module _ (l : GoodLink) (good : IsGood l) where
 
   range_inside : (q : PlacedSection) (z : PlacedPiece) (i : ℕ) → Contains l.layout.sections q → Contains q.pieces z
       → i < (range_in gs q z).length → (range_in gs q z).offset + i < image_length l.project l.layout
-  range_inside q z i there among low = go (has_file_bytes q && not (z.piece.size == 0)) refl low
+  range_inside q z i there among low = go (q.has_file_bytes && not (z.piece.size == 0)) refl low
     where
       here_in : FileRange
       here_in = record { offset = file_offset gs q + (z.start - q.start); length = z.piece.size }
@@ -86,16 +87,16 @@ module _ (l : GoodLink) (good : IsGood l) where
       none : FileRange
       none = record { offset = 0; length = 0 }
 
-      go : (b : Bool) → (has_file_bytes q && not (z.piece.size == 0)) ≡ b → i < (cond b here_in none).length
+      go : (b : Bool) → (q.has_file_bytes && not (z.piece.size == 0)) ≡ b → i < (cond b here_in none).length
           → (cond b here_in none).offset + i < image_length l.project l.layout
       go true e k =
           let under = before_end l.project l.layout q z i good.spread good.named there
-          (both_of (has_file_bytes q) (not (z.piece.size == 0)) e).0 among k in
+          (both_of q.has_file_bytes (not (z.piece.size == 0)) e).0 among k in
           let past = loaded_in_image l.project l.layout in
           omega (arith, under, past)
       go false e k = absurd (omega (arith, k))
 
-  pub inside_image : (x : LinkedPiece) → Contains (pieces_in l) x → (i : ℕ) → i < x.range.length
+  pub inside_image : (x : LinkedPiece) → Contains (link_pieces l) x → (i : ℕ) → i < x.range.length
       → x.range.offset + i < image_length l.project l.layout
   unfolding linked_pieces
   inside_image x c i low =
@@ -111,7 +112,7 @@ pub inside_old : (old new : GoodLink) → IsGood old → (x : LinkedPiece) → C
     → i < x.range.length → x.range.offset + i < image_length old.project old.layout
 inside_old old new good x c i low =
     let both = (stayed_both old new x).0 c in
-    let found = in_any (same_piece x) (pieces_in old) both.1 in
+    let found = in_any (same_piece x) (link_pieces old) both.1 in
     let alike = same x found.member found.passes in
     let inside = inside_image old good found.member found.among i (subst (λ n. i < n) alike.length low) in
     subst (λ n. n + i < image_length old.project old.layout) (sym alike.offset) inside
@@ -133,16 +134,17 @@ filter_map_in {X} {Y} f (z ∷ zs) x y c e = go (f z) refl (first_or_later z zs 
         subst (λ v. Contains (u ∷ filter_map f zs) v) one (here u (filter_map f zs))
     go (Some u) a (inr k) rest = later u (filter_map f zs) y (rest k)
 
-covers_from : (a : Patch) (i : ℕ) → patches.covers a i ≡ true → (a.offset ≤ i) × (i < patch_end a)
+covers_from : (a : Patch) (i : ℕ) → patches.patch_covers a i ≡ true → (a.offset ≤ i) × (i < patch_end a)
 covers_from a i e =
     let k = both_of (nat_le a.offset i) (nat_lt i (patch_end a)) e in
     (leb-true a.offset i k.0, ltb-true i (patch_end a) k.1)
 
 -- patches that share no byte do not both cover one
-not_both : (a b : Patch) (i : ℕ) → patches.meets a b ≡ false → patches.covers b i ≡ true → patches.covers a i ≡ false
-not_both a b i h e = go (patches.covers a i) refl
+not_both : (a b : Patch) (i : ℕ) → patches.patches_meet a b ≡ false → patches.patch_covers b i ≡ true
+    → patches.patch_covers a i ≡ false
+not_both a b i h e = go (patches.patch_covers a i) refl
   where
-    go : (c : Bool) → patches.covers a i ≡ c → c ≡ false
+    go : (c : Bool) → patches.patch_covers a i ≡ c → c ≡ false
     go false f = refl
     go true f =
         let m = covers_from a i f in
@@ -153,20 +155,21 @@ not_both a b i h e = go (patches.covers a i) refl
 
 -- a byte that one of them covers is its own
 of_patch : (bytes : List ℕ) (ps : List Patch) (a : Patch) (i : ℕ)
-    → EachLater (λ (b c : Patch). patches.meets b c ≡ false) ps → Contains ps a → patches.covers a i ≡ true
+    → EachLater (λ (b c : Patch). patches.patches_meet b c ≡ false) ps → Contains ps a → patches.patch_covers a i ≡ true
     → patched_byte bytes ps i ≡ slice_index a.field (i - a.offset)
 of_patch bytes [] a i h c e = absurd (none_in_nil a c)
 of_patch bytes (b ∷ ps) a i h c e = go (first_or_later b ps a c) (λ k. of_patch bytes ps a i h.1 k e)
   where
     go : (b ≡ a) ⊎ Contains ps a → (Contains ps a → patched_byte bytes ps i ≡ slice_index a.field (i - a.offset))
-        → cond (patches.covers b i) (slice_index b.field (i - b.offset)) (patched_byte bytes ps i)
+        → cond (patches.patch_covers b i) (slice_index b.field (i - b.offset)) (patched_byte bytes ps i)
         ≡ slice_index a.field (i - a.offset)
     go (inl is) rest =
         ap (λ t. cond t (slice_index b.field (i - b.offset)) (patched_byte bytes ps i))
-        (ap (λ (d : Patch). patches.covers d i) is ∙ e) ∙ ap (λ (d : Patch). slice_index d.field (i - d.offset)) is
+        (ap (λ (d : Patch). patches.patch_covers d i) is ∙ e)
+        ∙ ap (λ (d : Patch). slice_index d.field (i - d.offset)) is
     go (inr k) rest =
         ap (λ t. cond t (slice_index b.field (i - b.offset)) (patched_byte bytes ps i))
-        (not_both b a i (member_of (λ (d : Patch). patches.meets b d ≡ false) ps a h.0 k) e) ∙ rest k
+        (not_both b a i (member_of (λ (d : Patch). patches.patches_meet b d ≡ false) ps a h.0 k) e) ∙ rest k
 
 -- the section that a site of an input section lies in
 record IsIn (p : Project) (s : Layout) (start : ℕ) (part : Part) (m : Option NamedObject) (t : Site) : Type 0 where
@@ -220,7 +223,7 @@ module _ (l : GoodLink) (x : LinkedPiece) (t : Site) (c : Contains (sites_in l.p
       (ap (site_field l.project l.layout) own.gives ∙ e)
       ∙ ap (λ (u : Site). width u.relocation.kind) own.gives
 
-  module _ (good : IsGood l) (d : Contains (pieces_in l) x) where
+  module _ (good : IsGood l) (d : Contains (link_pieces l) x) where
     pub field_found : HasField l t
     field_found = member_of (HasField l) (sites_in l.project x) t (good.fields x d) c
 
@@ -235,8 +238,8 @@ module _ (l : GoodLink) (x : LinkedPiece) (t : Site) (c : Contains (sites_in l.p
       own_apart : elf.AreApart own.section.relocations
       own_apart = subst (λ (u : Site). elf.AreApart u.section.relocations) (sym own.gives) apart
 
-      clear : EachLater (λ (a b : Patch). patches.meets a b ≡ false) all
-      clear = later_of_pairs (λ (a b : Patch). patches.meets a b ≡ false) all
+      clear : EachLater (λ (a b : Patch). patches.patches_meet a b ≡ false) all
+      clear = later_of_pairs (λ (a b : Patch). patches.patches_meet a b ≡ false) all
           (fields_apart l.project l.layout own.object own.section x.start own_apart)
 
       in_all : Contains all here_in
@@ -248,7 +251,7 @@ module _ (l : GoodLink) (x : LinkedPiece) (t : Site) (c : Contains (sites_in l.p
           → byte_at l.project l.layout (x.range.offset + (t.relocation.offset + i)) ≡ slice_index field i
       field_byte i low inside =
           let at : ℕ = t.relocation.offset + i in
-          let covered : patches.covers here_in at ≡ true =
+          let covered : patches.patch_covers here_in at ≡ true =
           of_both (nat_le t.relocation.offset at) (nat_lt at (t.relocation.offset + length field))
           (le-leb t.relocation.offset at (omega arith))
           (lt-ltb at (t.relocation.offset + length field) (omega (arith, low))) in

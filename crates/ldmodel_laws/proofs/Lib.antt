@@ -25,12 +25,14 @@ pub mod RowsPlaced
 pub mod OwnRows
 pub mod Dotted
 pub mod Spreading
+pub mod Loading
 pub mod FileOrder
 pub mod Apart
 pub mod Traced
 pub mod Total
 pub mod Courses
 pub mod Finding
+pub mod ByteCases
 pub mod PieceBytes
 pub mod Untouched
 pub mod InImage

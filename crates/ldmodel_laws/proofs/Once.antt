@@ -8,10 +8,10 @@ use Rattle.std.proofs.lemmas.Slice.Eq.{bytes_eq-Decides}
 use Rattle.elfobj.specs.Sections.{LinkedSection}
 use Rattle.elfobj.specs.Symbols.{NamedSymbol}
 use Rattle.ldmodel.specs.Edits.{AreNamesDistinct, has_name}
-use Rattle.ldmodel.specs.FileLayout.{Each}
+use Rattle.ldmodel.specs.Each.{Each}
 use Rattle.ldmodel.specs.Gathering.{candidates, is_out}
 use Rattle.ldmodel.specs.InputSections.{block_at, block_of, common_block, common_blocks, input_sections, is_same_entry}
-use Rattle.ldmodel.specs.InputSections.{linked_section, sections_of}
+use Rattle.ldmodel.specs.InputSections.{linked_input, object_inputs}
 use Rattle.ldmodel.specs.Live.{live}
 use Rattle.ldmodel.specs.Names.{Decision, Strong, Script, Common, Weak, Provided, Undefined, Duplicate, decision}
 use Rattle.ldmodel.specs.Project.{NamedObject, Project}
@@ -162,10 +162,10 @@ no_both false b e = refl
 -- sections of one object, by their parts
 module _ (p : Project) (i : ℕ) (o : NamedObject) where
   tables_apart : (xs : List LinkedSection) → EachLater (λ (x y : LinkedSection). (x.number.0 == y.number.0) ≡ false) xs
-      → EachLater Apart (map (linked_section i o) xs)
-  tables_apart xs h = later_map (linked_section i o) Apart xs
+      → EachLater Apart (map (linked_input i o) xs)
+  tables_apart xs h = later_map (linked_input i o) Apart xs
       (later_imply (λ (x y : LinkedSection). (x.number.0 == y.number.0) ≡ false) (λ x y.
-      Apart (linked_section i o x) (linked_section i o y)) (λ x y e.
+      Apart (linked_input i o x) (linked_input i o y)) (λ x y e.
       no_both (bytes_eq o.name o.name) (x.number.0 == y.number.0) e) xs h)
 
   -- the block of an entry has the number of its symbol
@@ -228,22 +228,22 @@ module _ (p : Project) (i : ℕ) (o : NamedObject) where
   a_block s c = let k = in_filter_map (block_at p i o) (enumerate_from 0 o.object.symbols) s c in
       (k.origin.0, block_is k.origin s k.gives)
 
-  table_and_block : (s t : InputSection) → Contains (map (linked_section i o) o.object.sections) s
+  table_and_block : (s t : InputSection) → Contains (map (linked_input i o) o.object.sections) s
       → Contains (common_blocks p i o) t → Apart s t
   unfolding IsBlock
   table_and_block s t c d =
-      let k = in_map (linked_section i o) o.object.sections s c in
+      let k = in_map (linked_input i o) o.object.sections s c in
       let b = a_block t d in
       let first : s.id.part ≡ InTable k.origin.number = ap (λ (u : InputSection). u.id.part) (sym k.gives) in
       no_both (bytes_eq s.object t.object) (is_same_part s.id.part t.id.part) (ap (λ m. is_same_part m t.id.part) first
       ∙ ap (λ m. is_same_part (InTable k.origin.number) m) b.1)
 
   own_apart : EachLater (λ (x y : LinkedSection). (x.number.0 == y.number.0) ≡ false) o.object.sections
-      → EachLater Apart (sections_of p i o)
+      → EachLater Apart (object_inputs p i o)
   own_apart h =
-      later_both Apart (map (linked_section i o) o.object.sections) (common_blocks p i o)
+      later_both Apart (map (linked_input i o) o.object.sections) (common_blocks p i o)
       (tables_apart o.object.sections h) blocks_apart
-      (each_member (λ s. Each (Apart s) (common_blocks p i o)) (map (linked_section i o) o.object.sections) (λ s c.
+      (each_member (λ s. Each (Apart s) (common_blocks p i o)) (map (linked_input i o) o.object.sections) (λ s c.
       each_member (Apart s) (common_blocks p i o) (λ t d. table_and_block s t c d)))
 
   -- all have the name of the object
@@ -262,13 +262,13 @@ module _ (p : Project) (i : ℕ) (o : NamedObject) where
   block_named e Undefined s k = absurd (let none : ⊥ = cc in none)
   block_named e Duplicate s k = absurd (let none : ⊥ = cc in none)
 
-  own_name : (s : InputSection) → Contains (sections_of p i o) s → s.object ≡ o.name
+  own_name : (s : InputSection) → Contains (object_inputs p i o) s → s.object ≡ o.name
   own_name s c =
-      ⊎_elim (λ d. let k = in_map (linked_section i o) o.object.sections s d in
+      ⊎_elim (λ d. let k = in_map (linked_input i o) o.object.sections s d in
       ap (λ (u : InputSection). u.object) (sym k.gives))
       (λ d. let k = in_filter_map (block_at p i o) (enumerate_from 0 o.object.symbols) s d in
       block_named k.origin (decision p k.origin.1.name) s k.gives)
-      (in_either (map (linked_section i o) o.object.sections) (common_blocks p i o) s c)
+      (in_either (map (linked_input i o) o.object.sections) (common_blocks p i o) s c)
 
 -- ---- of all objects
 
@@ -309,8 +309,8 @@ module _ (p : Project) (names : AreNamesDistinct p.objects) (numbers : AreNumber
   all_apart : EachLater Apart (input_sections p)
   unfolding input_sections
   all_apart =
-      later_flat_map Apart (λ (o : ℕ × NamedObject). sections_of p o.0 o.1) (enumerate_from 0 p.objects)
-      (each_member (λ (o : ℕ × NamedObject). EachLater Apart (sections_of p o.0 o.1)) (enumerate_from 0 p.objects)
+      later_flat_map Apart (λ (o : ℕ × NamedObject). object_inputs p o.0 o.1) (enumerate_from 0 p.objects)
+      (each_member (λ (o : ℕ × NamedObject). EachLater Apart (object_inputs p o.0 o.1)) (enumerate_from 0 p.objects)
       (λ o c. own_apart p o.0 o.1
       (member_of (λ (a : ℕ × NamedObject).
       EachLater (λ (x y : LinkedSection). (x.number.0 == y.number.0) ≡ false) a.1.object.sections)
@@ -319,7 +319,7 @@ module _ (p : Project) (names : AreNamesDistinct p.objects) (numbers : AreNumber
       EachLater (λ (x y : LinkedSection). (x.number.0 == y.number.0) ≡ false) a.object.sections) 0 p.objects
       numbers) c)))
       (later_imply (λ (a b : ℕ × NamedObject). bytes_eq a.1.name b.1.name ≡ false) (λ a b. (u v : InputSection)
-      → Contains (sections_of p a.0 a.1) u → Contains (sections_of p b.0 b.1) v → Apart u v)
+      → Contains (object_inputs p a.0 a.1) u → Contains (object_inputs p b.0 b.1) v → Apart u v)
       (λ a b e u v c d. ap (λ t. t && is_same_part u.id.part v.id.part)
       (ap (λ n. bytes_eq n v.object) (own_name p a.0 a.1 u c)
       ∙ ap (λ n. bytes_eq a.1.name n) (own_name p b.0 b.1 v d) ∙ e))

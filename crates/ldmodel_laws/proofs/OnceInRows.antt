@@ -10,7 +10,7 @@ use Rattle.ldscript.specs.statements.Numbering.{InputStatementAt, input_statemen
 use Rattle.ldscript.specs.statements.declared.place.InputPlace.{InputPlace}
 use Rattle.ldscript.specs.statements.declared.place.InputPlace.TheVariants.{InSection, InDiscard}
 use Rattle.ldmodel.specs.Edits.{AreNamesDistinct}
-use Rattle.ldmodel.specs.FileLayout.{Each}
+use Rattle.ldmodel.specs.Each.{Each}
 use Rattle.ldmodel.specs.FirstMatch.{first_match}
 use Rattle.ldmodel.specs.Live.{live}
 use Rattle.ldmodel.specs.Project.{Project}

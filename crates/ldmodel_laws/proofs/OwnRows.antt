@@ -3,13 +3,13 @@ use Rattle.std.proofs.Common.{◌≡◌, ℕ, zero, suc, ◌+◌, ◌≤◌, ◌
 use Rattle.std.proofs.Common.{map, Ok, refl, sym, ap, ◌∙◌, arith, append-nil}
 use Rattle.std.specs.List.{range_with_len}
 use Rattle.std.proofs.lemmas.Bool.{eq-eqb, eqb-true}
-use Rattle.ldscript.specs.statements.Numbering.{InputStatementAt, items, inputs_in, item_inputs, inputs_from, sections_of}
-use Rattle.ldscript.specs.statements.Numbering.{sections_in}
+use Rattle.ldscript.specs.statements.Numbering.{InputStatementAt, items, inputs_in, item_inputs, inputs_from}
+use Rattle.ldscript.specs.statements.Numbering.{item_sections, sections_in}
 use Rattle.ldscript.specs.statements.declared.place.InputPlace.TheVariants.{InSection}
 use Rattle.ldscript.specs.statements.declared.statement.Item.{Item}
 use Rattle.ldscript.specs.statements.declared.statement.ItemCommand.{ItemCommand}
 use Rattle.ldscript.specs.statements.declared.statement.ItemCommand.TheVariants as item
-use Rattle.ldmodel.specs.FileLayout.{Each}
+use Rattle.ldmodel.specs.Each.{Each}
 use Rattle.ldmodel.specs.Layout.{Layout}
 use Rattle.ldmodel.specs.Placement.{placement}
 use Rattle.ldmodel.specs.Project.{Project}
@@ -41,17 +41,17 @@ module _ (of : ℕ → InputStatementAt → List Piece) (mark : (n : ℕ) (i : I
       ap (λ xs. xs ++ rows_of (n + length here) more j) (sym (in_none of mark j n here (h j l)))
       ∙ sym (in_append of mark j n here more)
 
-  no_section : (k n line : ℕ) (c : ItemCommand) (is : List Item) → sections_of line c ≡ []
+  no_section : (k n line : ℕ) (c : ItemCommand) (is : List Item) → item_sections line c ≡ []
       → ((j : ℕ) → k ≤ j → Each (StandsIn of mark j false) (item_inputs k c))
-      → coming of mark (k + length (sections_of line c)) (n + length (item_inputs k c)) is
-      ≡ all_rows (k + length (sections_of line c)) (n + length (item_inputs k c)) is
-      → coming of mark (k + length (sections_of line c)) (n + length (item_inputs k c)) is
-      ≡ map (rows_of n (item_inputs k c ++ inputs_from (k + length (sections_of line c)) is))
-      (range_with_len k (length (sections_of line c ++ sections_in is)))
+      → coming of mark (k + length (item_sections line c)) (n + length (item_inputs k c)) is
+      ≡ all_rows (k + length (item_sections line c)) (n + length (item_inputs k c)) is
+      → coming of mark (k + length (item_sections line c)) (n + length (item_inputs k c)) is
+      ≡ map (rows_of n (item_inputs k c ++ inputs_from (k + length (item_sections line c)) is))
+      (range_with_len k (length (item_sections line c ++ sections_in is)))
   no_section k n line c is e h i =
-      let here : k + length (sections_of line c) ≡ k =
-      (let f : length (sections_of line c) ≡ 0 = ap length e in omega (arith, f)) in
-      let more : List InputStatementAt = inputs_from (k + length (sections_of line c)) is in
+      let here : k + length (item_sections line c) ≡ k =
+      (let f : length (item_sections line c) ≡ 0 = ap length e in omega (arith, f)) in
+      let more : List InputStatementAt = inputs_from (k + length (item_sections line c)) is in
       i
       ∙ ap (λ m. map (rows_of (n + length (item_inputs k c)) more) (range_with_len m (length (sections_in is)))) here
       ∙ same_from (rows_of (n + length (item_inputs k c)) more) (rows_of n (item_inputs k c ++ more)) k
@@ -66,8 +66,8 @@ module _ (of : ℕ → InputStatementAt → List Piece) (mark : (n : ℕ) (i : I
       go false e = refl
 
   by_command : (k n line : ℕ) (c : ItemCommand) (is : List Item)
-      → coming of mark (k + length (sections_of line c)) (n + length (item_inputs k c)) is
-      ≡ all_rows (k + length (sections_of line c)) (n + length (item_inputs k c)) is
+      → coming of mark (k + length (item_sections line c)) (n + length (item_inputs k c)) is
+      ≡ all_rows (k + length (item_sections line c)) (n + length (item_inputs k c)) is
       → coming of mark k n (record { line = line; command = c } ∷ is)
       ≡ all_rows k n (record { line = line; command = c } ∷ is)
   by_command k n line (item.Dot c) is h = no_section k n line (item.Dot c) is refl (λ j l. tt) h
@@ -93,7 +93,7 @@ module _ (of : ℕ → InputStatementAt → List Piece) (mark : (n : ℕ) (i : I
   all_coming k n [] = refl
   all_coming k n (i ∷ is) =
       by_command k n i.line i.command is
-      (all_coming (k + length (sections_of i.line i.command)) (n + length (item_inputs k i.command)) is)
+      (all_coming (k + length (item_sections i.line i.command)) (n + length (item_inputs k i.command)) is)
 
 -- ---- those of a project
 

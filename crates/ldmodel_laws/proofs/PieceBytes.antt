@@ -6,19 +6,20 @@ use Rattle.std.specs.List.{Contains}
 use Rattle.std.specs.Option.{option_map_or}
 use Rattle.std.proofs.lemmas.Bool.{true≢false, false≢true, lt-ltb, le-leb, le-ltb, ltb-true, leb-true, eqb-true}
 use Rattle.std.proofs.lemmas.Slice.Eq.{bytes_eq-Decides}
-use Rattle.ldmodel.specs.FileLayout.{Each}
+use Rattle.ldmodel.specs.Each.{Each}
 use Rattle.ldmodel.specs.Headers.{elf_header, program_header, program_headers, ascending}
-use Rattle.ldmodel.specs.Image.{byte_at, byte_past_headers, covering_data, covering_piece, covers, headers, output_byte}
-use Rattle.ldmodel.specs.Image.{part_byte, section_at, tail_at, byte_among}
+use Rattle.ldmodel.specs.Image.{byte_at, covering_data, covering_piece, covers, file_headers, file_section_at, tail_at}
 use Rattle.ldmodel.specs.Layout.{Layout, PlacedPiece, PlacedSection}
 use Rattle.ldmodel.specs.Project.{Project}
-use Rattle.ldmodel.specs.Segments.{Group, Segment, SectionInFile, file_offset, groups, has_file_bytes, headers_end}
-use Rattle.ldmodel.specs.Segments.{in_file, in_segment, loaded_end, begun, begun_from, file_end, nonempty, sections_in}
-use Rattle.ldmodel.specs.Segments.{segments}
+use Rattle.ldmodel.specs.Segments.{Group, Segment, SectionInFile, file_offset, groups, headers_end}
+use Rattle.ldmodel.specs.Segments.{in_file, in_segment, loaded_end, begun, begun_from, file_end, nonempty}
+use Rattle.ldmodel.specs.Segments.{group_sections, segments}
 use Rattle.ldmodel.specs.Sorting.{insert_by, sort_by}
+use Rattle.ldmodel_laws.specs.ByteCases.{byte_among, byte_past_headers, output_byte, part_byte}
 use Rattle.ldmodel_laws.specs.FileOrder.{AreInFileOrder, end_in_file}
 use Rattle.ldmodel_laws.specs.ImageBytes.{AreNamed, offset_in_file}
 use Rattle.ldmodel_laws.specs.Spread.{EachLater, IsSpread, piece_end}
+use Rattle.ldmodel_laws.proofs.ByteCases.{by_cases}
 use Rattle.ldmodel_laws.proofs.FileOrder.{files_in_order}
 use Rattle.ldmodel_laws.proofs.Finding.{Comes, NotBoth, each_member, find_filter, find_only, in_map, later_imply, member_of}
 use Rattle.ldmodel_laws.proofs.Grouped.{is_grouping}
@@ -59,8 +60,8 @@ length_first : (a b c d e : ℕ) → length (elf_header a b c d e) ≡ 64
 unfolding elf_header
 length_first a b c d e = refl
 
-length_headers : (p : Project) (s : Layout) → length (headers p s) ≡ headers_end (length (segments s.sections))
-unfolding headers
+length_headers : (p : Project) (s : Layout) → length (file_headers p s) ≡ headers_end (length (segments s.sections))
+unfolding file_headers
 length_headers p s =
     let gs : List Segment = segments s.sections in
     let all : length (program_headers gs) ≡ 56 * length gs = length_all (ascending gs)
@@ -81,14 +82,14 @@ pub map_append : {X Y : Type 0} (f : X → Y) (xs ys : List X) → map f (xs ++ 
 map_append f [] ys = refl
 map_append f (x ∷ xs) ys = ap (λ l. f x ∷ l) (map_append f xs ys)
 
-sections_of : (end : ℕ) (gs : List Group) → map section_in (in_file (begun_from end gs)) ≡ flat_map sections_in gs
+sections_of : (end : ℕ) (gs : List Group) → map section_in (in_file (begun_from end gs)) ≡ flat_map group_sections gs
 sections_of end [] = refl
 sections_of end (g ∷ gs) =
-    map_append section_in (map (in_segment (begun end g)) (sections_in g))
+    map_append section_in (map (in_segment (begun end g)) (group_sections g))
     (in_file (begun_from (file_end end (begun end g)) gs))
     ∙ ap (λ l. l ++ map section_in (in_file (begun_from (file_end end (begun end g)) gs)))
-    (sections_placed (begun end g) (sections_in g))
-    ∙ ap (λ l. sections_in g ++ l) (sections_of (file_end end (begun end g)) gs)
+    (sections_placed (begun end g) (group_sections g))
+    ∙ ap (λ l. group_sections g ++ l) (sections_of (file_end end (begun end g)) gs)
 
 pub all_sections : (sections : List PlacedSection) → map section_in (in_file (segments sections)) ≡ nonempty sections
 unfolding segments
@@ -200,10 +201,10 @@ module _ (sections : List PlacedSection) (named : AreNamed sections) (q : Placed
       one_name x.section.name y.section.name q.name h) fs names_differ)
       found.among (ap (λ (r : PlacedSection). bytes_eq r.name q.name) found.gives ∙ same_name q.name))
 
-  module _ (bytes : has_file_bytes q ≡ true) where
-    in_bytes : Contains (filter (λ (x : SectionInFile). has_file_bytes x.section) fs) own
-    in_bytes = filter_in (λ (x : SectionInFile). has_file_bytes x.section) fs own found.among
-        (ap has_file_bytes found.gives ∙ bytes)
+  module _ (bytes : q.has_file_bytes ≡ true) where
+    in_bytes : Contains (filter (λ (x : SectionInFile). x.section.has_file_bytes) fs) own
+    in_bytes = filter_in (λ (x : SectionInFile). x.section.has_file_bytes) fs own found.among
+        (ap (λ (r : PlacedSection). r.has_file_bytes) found.gives ∙ bytes)
 
     order : AreInFileOrder gs
     order = files_in_order sections
@@ -220,12 +221,12 @@ module _ (sections : List PlacedSection) (named : AreNamed sections) (q : Placed
 
     -- the offset of an address of the section finds the section
     finds : (at : ℕ) → own.offset ≤ at → at < own.offset + q.size
-        → find (λ (x : SectionInFile). has_file_bytes x.section && covers x.offset x.section.size at) fs ≡ Some own
+        → find (λ (x : SectionInFile). x.section.has_file_bytes && covers x.offset x.section.size at) fs ≡ Some own
     finds at low high =
-        find_filter (λ (x : SectionInFile). has_file_bytes x.section) (λ (x : SectionInFile).
+        find_filter (λ (x : SectionInFile). x.section.has_file_bytes) (λ (x : SectionInFile).
         covers x.offset x.section.size at) fs
         ∙ find_only (λ (x : SectionInFile). covers x.offset x.section.size at)
-        (filter (λ (x : SectionInFile). has_file_bytes x.section) fs) own
+        (filter (λ (x : SectionInFile). x.section.has_file_bytes) fs) own
         (later_imply (λ (x y : SectionInFile). end_in_file x ≤ y.offset)
         (NotBoth (λ (x : SectionInFile). covers x.offset x.section.size at))
         (λ x y h. apart x.offset x.section.size y.offset y.section.size at h) _ order.ascend)
@@ -236,7 +237,7 @@ module _ (sections : List PlacedSection) (named : AreNamed sections) (q : Placed
 
 module _ (p : Project) (s : Layout) (q : PlacedSection) (x : PlacedPiece) (i : ℕ) (spread : Each IsSpread s.sections)
     (named : AreNamed s.sections)
-    (there : Contains s.sections q) (bytes : has_file_bytes q ≡ true) (among : Contains q.pieces x)
+    (there : Contains s.sections q) (bytes : q.has_file_bytes ≡ true) (among : Contains q.pieces x)
     (low : i < x.piece.size) where
   own_spread : IsSpread q
   own_spread = member_of IsSpread s.sections q spread there
@@ -261,13 +262,13 @@ module _ (p : Project) (s : Layout) (q : PlacedSection) (x : PlacedPiece) (i : �
   pub before_end : at < loaded_end (segments s.sections)
   before_end = omega (arith, at_is, inside.0, inside.1, low, by_end s.sections named q there some bytes)
 
-  section_found : section_at s at ≡ Some file
+  section_found : file_section_at s at ≡ Some file
   section_found =
       finds s.sections named q there some bytes at (omega (arith, at_is))
       (omega (arith, at_is, inside.0, inside.1, low))
 
-  not_header : nat_lt at (length (headers p s)) ≡ false
-  not_header = le-ltb at (length (headers p s))
+  not_header : nat_lt at (length (file_headers p s)) ≡ false
+  not_header = le-ltb at (length (file_headers p s))
       (omega (arith, at_is, length_headers p s, past_headers s.sections named q there some bytes))
 
   address : q.start + (at - file.offset) ≡ x.start + i
@@ -282,9 +283,10 @@ module _ (p : Project) (s : Layout) (q : PlacedSection) (x : PlacedPiece) (i : �
       among (covering x.start x.piece.size (x.start + i) (omega arith) (omega (arith, low)))
 
   pub byte_of_piece : byte_at p s at ≡ part_byte p s x.piece.object x.piece.part x.start i
-  unfolding byte_at
   byte_of_piece =
-      ap (λ b. cond b (slice_index (headers p s) at) (byte_past_headers p s at (section_at s at) (tail_at p s at)))
+      by_cases p s at
+      ∙ ap (λ b. cond b (slice_index (file_headers p s) at) (byte_past_headers p s at (file_section_at s at)
+      (tail_at p s at)))
       not_header
       ∙ ap (λ m. byte_past_headers p s at m (tail_at p s at)) section_found
       ∙ ap (λ (r : PlacedSection). output_byte p s r (r.start + (at - file.offset)))

@@ -10,15 +10,15 @@ use Rattle.ldscript.specs.statements.declared.statement.Command.TheVariants as t
 use Rattle.ldscript.specs.statements.declared.statement.ItemCommand.{ItemCommand}
 use Rattle.ldscript.specs.statements.declared.statement.ItemCommand.TheVariants as item
 use Rattle.ldscript.specs.statements.declared.statement.Statement.{Statement}
-use Rattle.ldmodel.specs.Body.{Body, body_command_step, body_step, piece_placed, piece_start, pieces_placed, with_dot}
+use Rattle.ldmodel.specs.Placement.{Body, body_command_step, body_step, piece_placed, piece_start, pieces_placed}
+use Rattle.ldmodel.specs.Placement.{with_dot}
 use Rattle.ldmodel.specs.Chain.{and_then, run}
 use Rattle.ldmodel.specs.Fault.{Fault, PastAddressSpace}
 use Rattle.ldmodel.specs.Layout.{Layout, noted, nothing_placed}
 use Rattle.ldmodel.specs.Placement.{command_step, item_command_step, item_step, opened, placement, region_step}
 use Rattle.ldmodel.specs.Placement.{section_step, statement_step, next_row}
 use Rattle.ldmodel.specs.Rows.{Piece, piece_alignment}
-use Rattle.ldmodel.specs.SectionEnd.{section_end}
-use Rattle.ldmodel.specs.SectionHead.{Head, head_of}
+use Rattle.ldmodel.specs.Placement.{section_end, Head, head_of}
 use Rattle.ldmodel_laws.specs.Placed.{Pieces, none, other, one_more, PieceFails, first, after_one, InputsTo, past_inputs}
 use Rattle.ldmodel_laws.specs.Placed.{SectionTo}
 use Rattle.ldmodel_laws.specs.Placed.{BodyCommandTo, BodyCommandAt, BodyTo, BodyAt, SectionAt, in_head, in_body, at_end}

@@ -4,8 +4,8 @@ use Rattle.std.proofs.Common.{flat_map, Ok, refl, sym, ap, ◌∙◌, subst, ari
 use Rattle.std.specs.List.{enumerate_from}
 use Rattle.std.proofs.lemmas.List.{map-append}
 use Rattle.std.proofs.lemmas.Bool.{eqb-true}
-use Rattle.ldscript.specs.statements.Numbering.{InputStatementAt, inputs_of, inputs_in, item_inputs, inputs_from, discarded_inputs}
-use Rattle.ldscript.specs.statements.Numbering.{sections_of}
+use Rattle.ldscript.specs.statements.Numbering.{InputStatementAt, inputs_of, inputs_in, item_inputs, inputs_from}
+use Rattle.ldscript.specs.statements.Numbering.{discarded_inputs, item_sections}
 use Rattle.ldscript.specs.statements.declared.input.InputStatement.{InputStatement}
 use Rattle.ldscript.specs.statements.declared.place.InputPlace.TheVariants.{InSection}
 use Rattle.ldscript.specs.statements.declared.section.BodyCommand.{BodyCommand}
@@ -14,9 +14,9 @@ use Rattle.ldscript.specs.statements.declared.section.BodyStatement.{BodyStateme
 use Rattle.ldscript.specs.statements.declared.statement.Item.{Item}
 use Rattle.ldscript.specs.statements.declared.statement.ItemCommand.{ItemCommand}
 use Rattle.ldscript.specs.statements.declared.statement.ItemCommand.TheVariants as item
-use Rattle.ldmodel.specs.Body.{Body, piece_placed, pieces_placed}
+use Rattle.ldmodel.specs.Placement.{Body, piece_placed, pieces_placed}
 use Rattle.ldmodel.specs.Chain.{and_then}
-use Rattle.ldmodel.specs.FileLayout.{Each}
+use Rattle.ldmodel.specs.Each.{Each}
 use Rattle.ldmodel.specs.Layout.{PlacedPiece}
 use Rattle.ldmodel.specs.Rows.{Piece, is_in_section}
 use Rattle.ldmodel_laws.specs.Placed.{PieceTo}
@@ -179,4 +179,4 @@ module _ (of : ℕ → InputStatementAt → List Piece) (mark : (n : ℕ) (i : I
   stands_later k j l [] = tt
   stands_later k j l (i ∷ is) =
       each_append (StandsIn j false) (item_inputs k i.command) _ (stands_item k j l i.command)
-      (stands_later (k + length (sections_of i.line i.command)) j (omega (arith, l)) is)
+      (stands_later (k + length (item_sections i.line i.command)) j (omega (arith, l)) is)

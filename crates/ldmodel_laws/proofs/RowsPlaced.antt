@@ -4,7 +4,8 @@ use Rattle.std.proofs.Common.{append_assoc, append-nil, length-append}
 use Rattle.std.specs.List.{slice_index_or}
 use Rattle.std.proofs.Math.Seq.{get_or-append_seam}
 use Rattle.std.proofs.lemmas.List.{map-append, length-map}
-use Rattle.ldscript.specs.statements.Numbering.{InputStatementAt, items, items_of, inputs_of, inputs_in, item_inputs, sections_of}
+use Rattle.ldscript.specs.statements.Numbering.{InputStatementAt, items, items_of, inputs_of, inputs_in, item_inputs}
+use Rattle.ldscript.specs.statements.Numbering.{item_sections}
 use Rattle.ldscript.specs.statements.declared.place.InputPlace.TheVariants.{InSection}
 use Rattle.ldscript.specs.statements.declared.section.BodyCommand.{BodyCommand}
 use Rattle.ldscript.specs.statements.declared.section.BodyCommand.TheVariants as body
@@ -16,13 +17,13 @@ use Rattle.ldscript.specs.statements.declared.statement.Item.{Item}
 use Rattle.ldscript.specs.statements.declared.statement.ItemCommand.{ItemCommand}
 use Rattle.ldscript.specs.statements.declared.statement.ItemCommand.TheVariants as item
 use Rattle.ldscript.specs.statements.declared.statement.Statement.{Statement}
-use Rattle.ldmodel.specs.Body.{Body, body_step, body_command_step, pieces_placed}
-use Rattle.ldmodel.specs.FileLayout.{Each}
+use Rattle.ldmodel.specs.Placement.{Body, body_step, body_command_step, pieces_placed}
+use Rattle.ldmodel.specs.Each.{Each}
 use Rattle.ldmodel.specs.Layout.{Layout, PlacedSection, noted, nothing_placed}
 use Rattle.ldmodel.specs.Placement.{command_step, item_command_step, item_step, next_row, opened, placement}
 use Rattle.ldmodel.specs.Placement.{region_step, statement_step}
 use Rattle.ldmodel.specs.Rows.{Piece}
-use Rattle.ldmodel.specs.SectionEnd.{placed_section}
+use Rattle.ldmodel.specs.Placement.{placed_section}
 use Rattle.ldmodel_laws.specs.Placed.{past_inputs}
 use Rattle.ldmodel_laws.specs.Spread.{entries_in}
 use Rattle.ldmodel_laws.proofs.Effects.{came, run_by, Kept, kept_same, Quiet, still, renamed, onward, added, named_kept}
@@ -142,21 +143,21 @@ module _ (of : ℕ → InputStatementAt → List Piece) (mark : (n : ℕ) (i : I
   abbrev pub coming : ℕ → ℕ → List Item → List (List Piece)
   coming k n [] = []
   coming k n (i ∷ is) = coming_of k n i.command
-      ++ coming (k + length (sections_of i.line i.command)) (n + length (item_inputs k i.command)) is
+      ++ coming (k + length (item_sections i.line i.command)) (n + length (item_inputs k i.command)) is
 
   -- what a statement of SECTIONS adds
   record Adds (line : ℕ) (c : ItemCommand) (s t : Layout) : Type 0 where
     pub rows : map entries_in t.sections ≡ map entries_in s.sections ++ coming_of (length s.sections) s.inputs c
-    pub count : length t.sections ≡ length s.sections + length (sections_of line c)
+    pub count : length t.sections ≡ length s.sections + length (item_sections line c)
     pub inputs : t.inputs ≡ s.inputs + length (item_inputs (length s.sections) c)
 
-  adds_none : (line : ℕ) (c : ItemCommand) (s t : Layout) → Kept s t → sections_of line c ≡ []
+  adds_none : (line : ℕ) (c : ItemCommand) (s t : Layout) → Kept s t → item_sections line c ≡ []
       → item_inputs (length s.sections) c ≡ [] → coming_of (length s.sections) s.inputs c ≡ [] → Adds line c s t
   adds_none line c s t h a b d = record {
     rows = ap (map entries_in) (sym h.sections) ∙ sym (append-nil (map entries_in s.sections))
         ∙ ap (λ xs. map entries_in s.sections ++ xs) (sym d);
     count = (let e : length s.sections ≡ length t.sections = ap length h.sections in
-        let f : length (sections_of line c) ≡ 0 = ap length a in omega (arith, e, f));
+        let f : length (item_sections line c) ≡ 0 = ap length a in omega (arith, e, f));
     inputs = (let f : length (item_inputs (length s.sections) c) ≡ 0 = ap length b in omega (arith, h.inputs, f));
   }
 
@@ -196,7 +197,7 @@ module _ (of : ℕ → InputStatementAt → List Piece) (mark : (n : ℕ) (i : I
         → Whole t is
     added_whole s i is t h w =
         let k : ℕ = length s.sections in
-        let m : ℕ = k + length (sections_of i.line i.command) in
+        let m : ℕ = k + length (item_sections i.line i.command) in
         let n : ℕ = s.inputs + length (item_inputs k i.command) in
         ap (λ xs. xs ++ coming (length t.sections) t.inputs is) h.rows
         ∙ ap (λ x. (map entries_in s.sections ++ coming_of k s.inputs i.command) ++ coming x t.inputs is) h.count

@@ -1,9 +1,9 @@
 -- The segments of a list of output sections are its one file layout.
 use Rattle.std.proofs.Common.{◌≡◌, ℕ, suc, ◌≤◌, List, [], ◌∷◌, length, map, refl, ap, sym, ◌∙◌, subst, arith}
-use Rattle.ldmodel.specs.FileLayout.{IsLeastCongruent, BeginFrom, IsFileLayout, IsGrouping}
+use Rattle.ldmodel_laws.specs.FileLayout.{IsLeastCongruent, BeginFrom, IsFileLayout, IsGrouping}
 use Rattle.ldmodel.specs.Layout.{PlacedSection}
 use Rattle.ldmodel.specs.Segments.{Group, Segment, groups, segments, begun, begun_from, congruent, file_end}
-use Rattle.ldmodel.specs.Segments.{headers_end, nonempty, start_of}
+use Rattle.ldmodel.specs.Segments.{headers_end, nonempty, segment_start}
 use Rattle.ldmodel_laws.proofs.Grouped.{is_grouping, one_grouping}
 
 least : (end at : ℕ) → IsLeastCongruent end at (congruent end at)
@@ -50,8 +50,8 @@ segment_at offset g = record { offset = offset; group = g }
 one_begun : (end : ℕ) (gs : List Segment) → BeginFrom end gs → gs ≡ begun_from end (map group_in gs)
 one_begun end [] h = refl
 one_begun end (g ∷ gs) h =
-    let offset : g.offset ≡ congruent end (start_of g) =
-    one_least end (start_of g) g.offset (congruent end (start_of g)) (h.0) (least end (start_of g)) in
+    let offset : g.offset ≡ congruent end (segment_start g) =
+    one_least end (segment_start g) g.offset (congruent end (segment_start g)) (h.0) (least end (segment_start g)) in
     let same : g ≡ begun end g.group = ap (λ n. segment_at n g.group) offset in
     let rest : gs ≡ begun_from (file_end end g) (map group_in gs) = one_begun (file_end end g) gs (h.1) in
     ap (λ l. g ∷ l) rest ∙ ap (λ x. x ∷ begun_from (file_end end x) (map group_in gs)) same

@@ -11,14 +11,14 @@ use Rattle.std.proofs.lemmas.Slice.Eq.{bytes_eq-Decides}
 use Rattle.elfobj.specs.Sections.{LinkedSection}
 use Rattle.elfobj.specs.declared.section.SectionIndex.{SectionIndex}
 use Rattle.ldmodel.specs.Edits.{AreNamesDistinct}
-use Rattle.ldmodel.specs.FileLayout.{Each}
+use Rattle.ldmodel.specs.Each.{Each}
 use Rattle.ldmodel.specs.Image.{object_named, section_numbered}
 use Rattle.ldmodel.specs.Layout.{Layout, PlacedPiece, PlacedSection}
 use Rattle.ldmodel.specs.Project.{NamedObject, Project}
 use Rattle.ldmodel.specs.Relocations.{Site, sites, sites_at, sites_of_section}
 use Rattle.ldmodel.specs.Sections.{is_same_part}
 use Rattle.ldmodel.specs.Segments.{segments}
-use Rattle.ldmodel.specs.Stayed.{GoodLink, LinkedPiece, has_stayed, linked_piece, linked_pieces, pieces_in, sites_in}
+use Rattle.ldmodel.specs.Stayed.{GoodLink, LinkedPiece, has_stayed, linked_piece, linked_pieces, link_pieces, sites_in}
 use Rattle.ldmodel.specs.Stayed.{stayed}
 use Rattle.ldmodel.specs.SymbolValues.{is_part, placed_part, placed_pieces}
 use Rattle.ldmodel.specs.WorkBound.{sites_outside}
@@ -275,7 +275,7 @@ once_if_faultless l h = record {
 
 -- the sites in input sections that stayed, and the others
 pub parted_sites : (old new : GoodLink)
-    → IsPermutation (flat_map (sites_in new.project) (pieces_in new))
+    → IsPermutation (flat_map (sites_in new.project) (link_pieces new))
     (flat_map (sites_in new.project) (stayed old new) ++ sites_outside old new)
 unfolding stayed
-parted_sites old new = parted (sites_in new.project) (has_stayed old) (pieces_in new)
+parted_sites old new = parted (sites_in new.project) (has_stayed old) (link_pieces new)

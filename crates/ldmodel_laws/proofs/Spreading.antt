@@ -7,13 +7,13 @@ use Rattle.ldscript.specs.statements.declared.statement.Command.TheVariants as t
 use Rattle.ldscript.specs.statements.declared.statement.ItemCommand.{ItemCommand}
 use Rattle.ldscript.specs.statements.declared.statement.ItemCommand.TheVariants as item
 use Rattle.ldscript.specs.statements.declared.statement.Statement.{Statement}
-use Rattle.ldmodel.specs.Body.{Body, body_step}
-use Rattle.ldmodel.specs.FileLayout.{Each}
+use Rattle.ldmodel.specs.Placement.{Body, body_step}
+use Rattle.ldmodel.specs.Each.{Each}
 use Rattle.ldmodel.specs.Layout.{Layout, PlacedSection, PlacedPiece, PlacedData, noted, nothing_placed}
 use Rattle.ldmodel.specs.Placement.{command_step, item_command_step, item_step, next_row, opened, placement}
 use Rattle.ldmodel.specs.Placement.{region_step, statement_step}
 use Rattle.ldmodel.specs.Rows.{Piece}
-use Rattle.ldmodel.specs.SectionEnd.{placed_section}
+use Rattle.ldmodel.specs.Placement.{placed_section}
 use Rattle.ldmodel_laws.specs.Placed.{PieceTo, past_inputs}
 use Rattle.ldmodel_laws.specs.Spread.{AreApart, AreSpread, EachLater, IsSpread, piece_end, data_end}
 use Rattle.ldmodel_laws.proofs.Effects.{run_by, Kept, kept_same, Named, unchanged, named, Quiet, still, renamed, onward}

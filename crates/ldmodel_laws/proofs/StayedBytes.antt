@@ -6,13 +6,13 @@ use Rattle.std.specs.Prelude.{sum_by}
 use Rattle.std.specs.List.{Contains}
 use Rattle.std.proofs.lemmas.Bool.Decides.{nat_tests}
 use Rattle.std.proofs.lemmas.List.Sums.{sum_by-append, sum_by-cons}
-use Rattle.ldmodel.specs.FileLayout.{Each}
+use Rattle.ldmodel.specs.Each.{Each}
 use Rattle.ldmodel.specs.Layout.{PlacedPiece, PlacedSection}
 use Rattle.ldmodel.specs.SectionHeaders.{image_length}
-use Rattle.ldmodel.specs.Segments.{SectionInFile, Segment, file_offset, has_file_bytes, headers_end, in_file}
+use Rattle.ldmodel.specs.Segments.{SectionInFile, Segment, file_offset, headers_end, in_file}
 use Rattle.ldmodel.specs.Segments.{loaded_end}
 use Rattle.ldmodel.specs.Segments.{nonempty, segments}
-use Rattle.ldmodel.specs.Stayed.{FileRange, GoodLink, LinkedPiece, has_stayed, linked_piece, linked_pieces, pieces_in}
+use Rattle.ldmodel.specs.Stayed.{FileRange, GoodLink, LinkedPiece, has_stayed, linked_piece, linked_pieces, link_pieces}
 use Rattle.ldmodel.specs.Stayed.{range_in, stayed}
 use Rattle.ldmodel.specs.WorkBound.{bytes_stayed}
 use Rattle.ldmodel_laws.specs.FileOrder.{AreInFileOrder, end_in_file, with_file_bytes}
@@ -86,11 +86,11 @@ module _ {X : Type 0} (start size : X → ℕ) (high : ℕ) where
 
 -- of a section: what it has in the file
 abbrev file_size_of : PlacedSection → ℕ
-file_size_of q = cond (has_file_bytes q) q.size 0
+file_size_of q = cond q.has_file_bytes q.size 0
 
 range_below : (gs : List Segment) (q : PlacedSection) (u : PlacedPiece) → (range_in gs q u).length
-    ≤ cond (has_file_bytes q) u.piece.size 0
-range_below gs q u = go (has_file_bytes q) (not (u.piece.size == 0))
+    ≤ cond q.has_file_bytes u.piece.size 0
+range_below gs q u = go q.has_file_bytes (not (u.piece.size == 0))
   where
     own : FileRange
     own = record { offset = file_offset gs q + (u.start - q.start); length = u.piece.size }
@@ -111,7 +111,7 @@ module _ (gs : List Segment) (q : PlacedSection) (spread : IsSpread q) where
       omega (arith, all)
 
   ranges_below : sum_by (λ (u : PlacedPiece). (range_in gs q u).length) q.pieces ≤ file_size_of q
-  ranges_below = go (has_file_bytes q) refl
+  ranges_below = go q.has_file_bytes refl
     where
       nothing : PlacedPiece → ℕ
       nothing u = 0
@@ -126,10 +126,10 @@ module _ (gs : List Segment) (q : PlacedSection) (spread : IsSpread q) where
       own : PlacedPiece → ℕ
       own u = (range_in gs q u).length
 
-      low : (b : Bool) → has_file_bytes q ≡ b → (u : PlacedPiece) → own u ≤ cond b u.piece.size 0
+      low : (b : Bool) → q.has_file_bytes ≡ b → (u : PlacedPiece) → own u ≤ cond b u.piece.size 0
       low b e u = subst (λ c. own u ≤ cond c u.piece.size 0) e (range_below gs q u)
 
-      go : (b : Bool) → has_file_bytes q ≡ b → sum_by own q.pieces ≤ cond b q.size 0
+      go : (b : Bool) → q.has_file_bytes ≡ b → sum_by own q.pieces ≤ cond b q.size 0
       go true e =
           let few = sum_below own (λ (u : PlacedPiece). u.piece.size) q.pieces (λ u c. low true e u) in
           let all = sizes_below in
@@ -151,7 +151,7 @@ files_below sections =
     let with_bytes : sum_by (λ (x : SectionInFile). file_size_of x.section) fs
     ≡ sum_by (λ (x : SectionInFile). x.section.size) (with_file_bytes gs) =
     sum_passing (λ (x : SectionInFile). file_size_of x.section) (λ (x : SectionInFile). x.section.size)
-    (λ (x : SectionInFile). has_file_bytes x.section) fs
+    (λ (x : SectionInFile). x.section.has_file_bytes) fs
     (λ x e. ap (λ b. cond b x.section.size 0) e) (λ x e. ap (λ b. cond b x.section.size 0) e) in
     let order : AreInFileOrder gs = files_in_order sections in
     let all = ascending_sum (λ (x : SectionInFile). x.offset) (λ (x : SectionInFile). x.section.size) (loaded_end gs)
@@ -167,7 +167,7 @@ files_below sections =
     empty : (q : PlacedSection) → not (q.size == 0) ≡ false → file_size_of q ≡ 0
     empty q e =
         let zero : q.size ≡ 0 = grind (arith, nat_tests) in
-        ap (λ n. cond (has_file_bytes q) n 0) zero ∙ both (has_file_bytes q)
+        ap (λ n. cond q.has_file_bytes n 0) zero ∙ both q.has_file_bytes
       where
         both : (b : Bool) → cond b (let n : ℕ = 0 in n) 0 ≡ 0
         both true = refl
@@ -185,7 +185,7 @@ module _ (l : GoodLink) (good : IsGood l) where
   abbrev range_length : LinkedPiece → ℕ
   range_length x = x.range.length
 
-  all_ranges : sum_by range_length (pieces_in l)
+  all_ranges : sum_by range_length (link_pieces l)
       ≡ sum_by (λ (q : PlacedSection). sum_by (λ (u : PlacedPiece).
       (range_in (segments l.layout.sections) q u).length) q.pieces) l.layout.sections
   unfolding linked_pieces
@@ -208,7 +208,7 @@ module _ (l : GoodLink) (good : IsGood l) where
           ∙ sym (sum_by-cons (λ (r : PlacedSection). sum_by (λ (u : PlacedPiece).
           (range_in (segments l.layout.sections) r u).length) r.pieces) q qs)
 
-  pub bytes_in_image : sum_by range_length (pieces_in l) ≤ image_length l.project l.layout
+  pub bytes_in_image : sum_by range_length (link_pieces l) ≤ image_length l.project l.layout
   bytes_in_image =
       let all = all_ranges in
       let sections = sum_below (λ (q : PlacedSection). sum_by (λ (u : PlacedPiece).
@@ -221,6 +221,6 @@ module _ (l : GoodLink) (good : IsGood l) where
 pub stayed_in_image : (old new : GoodLink) → IsGood new → bytes_stayed old new ≤ image_length new.project new.layout
 unfolding stayed
 stayed_in_image old new good =
-    let kept = sum_kept (λ (x : LinkedPiece). x.range.length) (has_stayed old) (pieces_in new) in
+    let kept = sum_kept (λ (x : LinkedPiece). x.range.length) (has_stayed old) (link_pieces new) in
     let all = bytes_in_image new good in
     omega (arith, kept, all)

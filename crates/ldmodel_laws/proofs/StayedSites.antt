@@ -14,10 +14,10 @@ use Rattle.elfobj.specs.declared.relocation.Relocation.{Relocation}
 use Rattle.ldmodel.specs.Image.{object_named, section_numbered}
 use Rattle.ldmodel.specs.Layout.{Layout, PlacedPiece, PlacedSection}
 use Rattle.ldmodel.specs.Project.{NamedObject, Project}
-use Rattle.ldmodel.specs.Relocations.{Site, field_with, is_evaluated, site_field, site_symbol, site_value, sites}
+use Rattle.ldmodel.specs.Relocations.{Site, site_field_with, is_evaluated, site_field, site_symbol, site_value, sites}
 use Rattle.ldmodel.specs.Sections.{is_same_part}
 use Rattle.ldmodel.specs.Segments.{segments}
-use Rattle.ldmodel.specs.Stayed.{GoodLink, LinkedPiece, has_stayed, is_moved, linked_piece, linked_pieces, pieces_in}
+use Rattle.ldmodel.specs.Stayed.{GoodLink, LinkedPiece, has_stayed, is_moved, linked_piece, linked_pieces, link_pieces}
 use Rattle.ldmodel.specs.Stayed.{retargeted, sites_in, stayed}
 use Rattle.ldmodel.specs.SymbolValues.{NotDefined, placed_pieces}
 use Rattle.ldmodel.specs.Targets.{Target, referenced_value, target_of}
@@ -110,7 +110,7 @@ is_of p x t c = is_of_part p x.start x.object x.part (object_named p x.object) r
 -- ---- which sites lie in input sections that stayed
 
 module _ (old new : GoodLink) (h : IsPlacedOnce new.project new.layout) where
-  pub part_stays : (x : LinkedPiece) → Contains (pieces_in new) x
+  pub part_stays : (x : LinkedPiece) → Contains (link_pieces new) x
       → has_part_stayed old new x.object x.part ≡ has_stayed old x
   part_stays x c = go (has_stayed old x) (has_part_stayed old new x.object x.part) refl refl
     where
@@ -125,7 +125,7 @@ module _ (old new : GoodLink) (h : IsPlacedOnce new.project new.layout) where
           let found = in_any (is_linked_part x.object x.part) (stayed old new) e in
           let both = (stayed_both old new found.member).0 found.among in
           let one : found.member ≡ x =
-          unique (λ (y z : LinkedPiece). AreOther (linked_key y) (linked_key z)) (pieces_in new) found.member x
+          unique (λ (y z : LinkedPiece). AreOther (linked_key y) (linked_key z)) (link_pieces new) found.member x
           (linked_once new.project new.layout h) both.0 c (λ k. true≢false (sym found.passes ∙ k))
           (λ k. true≢false (sym found.passes ∙ turned x.object found.member.object x.part found.member.part k)) in
           ap (has_stayed old) (sym one) ∙ both.1
@@ -136,7 +136,7 @@ module _ (old new : GoodLink) (h : IsPlacedOnce new.project new.layout) where
       go false true e f = absurd (true≢false (sym (only f) ∙ e))
       go false false e f = f ∙ sym e
 
-  site_stays : (x : LinkedPiece) (t : Site) → Contains (pieces_in new) x → Contains (sites_in new.project x) t
+  site_stays : (x : LinkedPiece) (t : Site) → Contains (link_pieces new) x → Contains (sites_in new.project x) t
       → lies_in_stayed old new t ≡ has_stayed old x
   site_stays x t c d =
       let k = is_of new.project x t d in
@@ -147,8 +147,8 @@ module _ (old new : GoodLink) (h : IsPlacedOnce new.project new.layout) where
       → (x : LinkedPiece) × Contains (stayed old new) x × Contains (sites_in new.project x) t
   site_in t c e =
       let among = Contains-permutation (sites new.project new.layout)
-      (flat_map (sites_in new.project) (pieces_in new)) t (of_layout new.project new.layout h) c in
-      let k = in_flat_map (sites_in new.project) (pieces_in new) t among in
+      (flat_map (sites_in new.project) (link_pieces new)) t (of_layout new.project new.layout h) c in
+      let k = in_flat_map (sites_in new.project) (link_pieces new) t among in
       let stays : has_stayed old k.origin ≡ true = sym (site_stays k.origin t k.among k.gives) ∙ e in
       (k.origin, (stayed_both old new k.origin).1 (k.among, stays), k.gives)
 
@@ -157,12 +157,12 @@ module _ (old new : GoodLink) (h : IsPlacedOnce new.project new.layout) where
       (retargeted old new)
   unfolding retargeted stayed
   retargeted_in_order =
-      let all = flat_map (sites_in new.project) (pieces_in new) in
+      let all = flat_map (sites_in new.project) (link_pieces new) in
       subst (IsPermutation
       (filter (λ t. lies_in_stayed old new t && is_moved old new t) (sites new.project new.layout)))
       (filter_both (lies_in_stayed old new) (is_moved old new) all
       ∙ ap (filter (is_moved old new)) (filter_parts (lies_in_stayed old new) (has_stayed old) (sites_in new.project)
-      (pieces_in new) site_stays))
+      (link_pieces new) site_stays))
       (kept_of_layout new.project new.layout (λ t. lies_in_stayed old new t && is_moved old new t) h)
 
   -- by a test of the values
@@ -190,7 +190,7 @@ module _ (old new : GoodLink) (h : IsPlacedOnce new.project new.layout) where
   outside_in_order =
       subst (IsPermutation (filter (λ t. not (lies_in_stayed old new t)) (sites new.project new.layout)))
       (filter_parts (λ t. not (lies_in_stayed old new t)) (λ x. not (has_stayed old x)) (sites_in new.project)
-      (pieces_in new) (λ x t c d. ap not (site_stays x t c d)))
+      (link_pieces new) (λ x t c d. ap not (site_stays x t c d)))
       (kept_of_layout new.project new.layout (λ t. not (lies_in_stayed old new t)) h)
 
 -- ---- an index
@@ -201,7 +201,7 @@ unfolding site_field
 has_symbol l t field e =
     let value : site_value l.project l.layout t ≡ NotDefined =
     ap (λ m. option_map_or (referenced_value l.project l.layout t.object) m NotDefined) e in
-    let same : field_with t NotDefined ≡ Ok field.0 = ap (field_with t) (sym value) ∙ field.1 in
+    let same : site_field_with t NotDefined ≡ Ok field.0 = ap (site_field_with t) (sym value) ∙ field.1 in
     let none : ⊥ = cc in none
 
 pub retargeted_in_index : (old new : GoodLink) → IsGood old → IsGood new → IsPlacedOnce new.project new.layout
@@ -219,10 +219,10 @@ retargeted_in_index old new g h once index has t c = go (site_symbol t) refl
 
     among : Contains (sites new.project new.layout) t
     among =
-        Contains-permutation (flat_map (sites_in new.project) (pieces_in new)) (sites new.project new.layout) t
-        (IsPermutation-sym (sites new.project new.layout) (flat_map (sites_in new.project) (pieces_in new))
+        Contains-permutation (flat_map (sites_in new.project) (link_pieces new)) (sites new.project new.layout) t
+        (IsPermutation-sym (sites new.project new.layout) (flat_map (sites_in new.project) (link_pieces new))
         (of_layout new.project new.layout once))
-        (flat_map_in (sites_in new.project) (pieces_in new) comes.origin t
+        (flat_map_in (sites_in new.project) (link_pieces new) comes.origin t
         ((stayed_both old new comes.origin).0 comes.among).0 comes.gives)
 
     go : (m : Option NamedSymbol) → site_symbol t ≡ m → IsFound old new index t

@@ -13,14 +13,15 @@ use Rattle.ldscript.specs.tokens.Limits.{IsTokens}
 use Rattle.ldscript.specs.statements.Dots.{has_misplaced_dot}
 use Rattle.ldscript.specs.statements.Mentions.{HasClash}
 use Rattle.ldscript.specs.statements.declared.statement.Statement.{Statement}
-use Rattle.ldscript.specs.RefusalNumber as scripts
+use Rattle.ldscript.specs.RefusalNumber.{script_refusal_number}
 use Rattle.ldscript.specs.Script.{IsTree, IsScript, IsRefusal}
 use Rattle.ldscript.specs.declared.refusal.ScriptRefusal.{ScriptRefusal}
 use Rattle.ldscript.specs.declared.refusal.ScriptRefusal.TheVariants as reader
 use Rattle.ldmodel.specs.Project.{Project}
 use Rattle.ldmodel.specs.Edits.{Change, Add, Replace, Move, Remove, SetScript, Refusal, InUse, Unknown, PastEnd}
 use Rattle.ldmodel.specs.Edits.{NotAnObject, NotAScript, Limit, NoMemory, early_refusal, Accepts, Refuses}
-use Rattle.ldmodel.specs.Edits.{RefusesObject, After, refusal_number, is_in_use, is_object_name, is_too_long, is_full}
+use Rattle.ldmodel.specs.Edits.{RefusesObject, After, edit_refusal_number, is_in_use, is_object_name, is_too_long}
+use Rattle.ldmodel.specs.Edits.{is_full}
 use Rattle.ldmodel_laws.specs.Outcomes.{HasOutcome, IsNoScript}
 
 outcome_early : (p : Project) (c : Change) (r : Refusal) → early_refusal p c ≡ Some r → HasOutcome p c
@@ -146,7 +147,7 @@ is_early p (Move name to) =
 is_early p (Remove name) = one_of (not (is_in_use p.objects name)) (Some Unknown) None tt tt
 is_early p (SetScript text) = one_of (is_too_long text) (Some Limit) None tt tt
 
-early_number : (r : Refusal) → IsEarly (Some r) → refusal_number r ≤ 6
+early_number : (r : Refusal) → IsEarly (Some r) → edit_refusal_number r ≤ 6
 early_number InUse h = omega arith
 early_number Unknown h = omega arith
 early_number PastEnd h = omega arith
@@ -155,17 +156,17 @@ early_number (NotAnObject w) h = absurd h
 early_number (NotAScript w) h = absurd h
 early_number NoMemory h = absurd h
 
-object_number : (bytes : List ℕ) (r : Refusal) → RefusesObject bytes r → refusal_number r ≤ 6
-object_number bytes r h = subst (λ x. refusal_number x ≤ 6) (sym h.2) (omega arith)
+object_number : (bytes : List ℕ) (r : Refusal) → RefusesObject bytes r → edit_refusal_number r ≤ 6
+object_number bytes r h = subst (λ x. edit_refusal_number x ≤ 6) (sym h.2) (omega arith)
 
-late_number : (p : Project) (c : Change) (r : Refusal) → Refuses p c r → refusal_number r ≤ 6
+late_number : (p : Project) (c : Change) (r : Refusal) → Refuses p c r → edit_refusal_number r ≤ 6
 late_number p (Add name at bytes) r h = object_number bytes r h
 late_number p (Replace name bytes) r h = object_number bytes r h
 late_number p (Move name to) r h = absurd h
 late_number p (Remove name) r h = absurd h
-late_number p (SetScript text) r h = subst (λ x. refusal_number x ≤ 6) (sym h.3) (omega arith)
+late_number p (SetScript text) r h = subst (λ x. edit_refusal_number x ≤ 6) (sym h.3) (omega arith)
 
-pub outer_number : (p : Project) (c : Change) (r : Refusal) → After p c (Err r) → refusal_number r ≤ 6
+pub outer_number : (p : Project) (c : Change) (r : Refusal) → After p c (Err r) → edit_refusal_number r ≤ 6
 outer_number p c r (inl e) = early_number r (subst IsEarly e (is_early p c))
 outer_number p c r (inr h) = late_number p c r h.1
 
@@ -198,7 +199,7 @@ small_object bytes why.FieldBounds e = omega arith
 small_object bytes why.FieldOverlap e = omega arith
 small_object bytes why.NoMemory e = absurd (never_memory bytes e)
 
-small_script : (w : ScriptRefusal) → w ≢ reader.NoMemory → scripts.refusal_number w ≤ 5
+small_script : (w : ScriptRefusal) → w ≢ reader.NoMemory → script_refusal_number w ≤ 5
 small_script reader.NotTokens n = omega arith
 small_script reader.NotAScript n = omega arith
 small_script reader.Repeated n = omega arith
@@ -224,7 +225,8 @@ pub inner_of_object : (p : Project) (c : Change) (w : ObjectRefusal) → After p
 inner_of_object p c w (inl e) = absurd (subst IsEarly e (is_early p c))
 inner_of_object p c w (inr h) = late_object p c w h.1
 
-late_script : (p : Project) (c : Change) (w : ScriptRefusal) → Refuses p c (NotAScript w) → scripts.refusal_number w ≤ 5
+late_script : (p : Project) (c : Change) (w : ScriptRefusal) → Refuses p c (NotAScript w)
+    → script_refusal_number w ≤ 5
 late_script p (Add name at bytes) w h = absurd (let e = h.2 in let none : ⊥ = cc in none)
 late_script p (Replace name bytes) w h = absurd (let e = h.2 in let none : ⊥ = cc in none)
 late_script p (Move name to) w h = absurd h
@@ -233,6 +235,6 @@ late_script p (SetScript text) w h = let same : w ≡ h.0 = (let e = h.3 in cc) 
     small_script w (λ e. h.1 (sym same ∙ e))
 
 pub inner_of_script : (p : Project) (c : Change) (w : ScriptRefusal) → After p c (Err (NotAScript w))
-    → scripts.refusal_number w ≤ 5
+    → script_refusal_number w ≤ 5
 inner_of_script p c w (inl e) = absurd (subst IsEarly e (is_early p c))
 inner_of_script p c w (inr h) = late_script p c w h.1

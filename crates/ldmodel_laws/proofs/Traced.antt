@@ -7,7 +7,7 @@ use Rattle.ldscript.specs.terms.DotForms.{DotForm, Advance, Align, Offset, dot_f
 use Rattle.ldscript.specs.terms.Expressions as expression
 use Rattle.ldscript.specs.terms.Expressions.{Expr}
 use Rattle.ldscript.specs.statements.Numbering.{OutputSectionAt, items, items_of, output_sections, regions, regions_in}
-use Rattle.ldscript.specs.statements.Numbering.{sections_in, sections_of}
+use Rattle.ldscript.specs.statements.Numbering.{sections_in, item_sections}
 use Rattle.ldscript.specs.statements.Widths.{byte_count}
 use Rattle.ldscript.specs.statements.declared.common.Common.{Common}
 use Rattle.ldscript.specs.statements.declared.common.DotCommand.{DotCommand}
@@ -25,9 +25,8 @@ use Rattle.ldscript.specs.statements.declared.statement.ItemCommand.{ItemCommand
 use Rattle.ldscript.specs.statements.declared.statement.ItemCommand.TheVariants as item
 use Rattle.ldscript.specs.statements.declared.statement.Region.{Region}
 use Rattle.ldscript.specs.statements.declared.statement.Statement.{Statement}
-use Rattle.ldmodel.specs.Assigning.{common_step}
-use Rattle.ldmodel.specs.Body.{Body, advanced, body_command_step, body_step, data_step, dot_step, moved, piece_placed}
-use Rattle.ldmodel.specs.Body.{pieces_placed, set_to, with_data, with_dot}
+use Rattle.ldmodel.specs.Placement.{common_step, Body, advanced, body_command_step, body_step, data_step, dot_step}
+use Rattle.ldmodel.specs.Placement.{moved_on, piece_placed, pieces_placed, set_to, with_data, with_dot}
 use Rattle.ldmodel.specs.Chain.{and_then, run}
 use Rattle.ldmodel.specs.Fault.{Fault, MovedBack, PastAddressSpace}
 use Rattle.ldmodel.specs.Layout.{Layout, address, noted, nothing_placed, number}
@@ -68,7 +67,7 @@ none_to : (b c : Body) → ◌≡◌ {A = Result Body Fault} (Ok b) (Ok c) → B
 none_to b c e = subst (BodyEffects b) (given_is b c e) no_effect
 
 -- ---- the statements of a body
-moved_does : (line : ℕ) (b : Body) (to : ℕ) (c : Body) → moved line b to ≡ Ok c → BodyEffects b c
+moved_does : (line : ℕ) (b : Body) (to : ℕ) (c : Body) → moved_on line b to ≡ Ok c → BodyEffects b c
 moved_does line b to c e = go (nat_lt to b.layout.dot) refl e
   where
     go : (t : Bool) → nat_lt to b.layout.dot ≡ t
@@ -82,16 +81,16 @@ moved_does line b to c e = go (nat_lt to b.layout.dot) refl e
 
 advanced_does : (line : ℕ) (b : Body) (e : Expr) (c : Body) → advanced line b e ≡ Ok c → BodyEffects b c
 advanced_does line b e c h =
-    let k = came (number b.layout line e) (λ x. moved line b (b.layout.dot + x)) c h in
+    let k = came (number b.layout line e) (λ x. moved_on line b (b.layout.dot + x)) c h in
     moved_does line b (b.layout.dot + k.value) c k.gives
 
 set_does : (line : ℕ) (b : Body) (f : Option DotForm) (c : Body) → set_to line b f ≡ Ok c → BodyEffects b c
 set_does line b (Some (Advance e)) c h = advanced_does line b e c h
 set_does line b (Some (Align e)) c h =
-    let k = came (number b.layout line (expression.AlignDot e)) (λ x. moved line b x) c h in
+    let k = came (number b.layout line (expression.AlignDot e)) (λ x. moved_on line b x) c h in
     moved_does line b k.value c k.gives
 set_does line b (Some (Offset e)) c h =
-    let k = came (number b.layout line e) (λ x. moved line b (b.start + x)) c h in
+    let k = came (number b.layout line e) (λ x. moved_on line b (b.start + x)) c h in
     moved_does line b (b.start + k.value) c k.gives
 set_does line b None c h = none_to b c h
 
@@ -240,12 +239,12 @@ regions_traced (r ∷ ms) s t u rs os e k =
 sections_append : (xs ys : List Item) → sections_in (xs ++ ys) ≡ sections_in xs ++ sections_in ys
 sections_append [] ys = refl
 sections_append (x ∷ xs) ys =
-    ap (λ l. sections_of x.line x.command ++ l) (sections_append xs ys)
-    ∙ sym (append_assoc (sections_of x.line x.command) (sections_in xs) (sections_in ys))
+    ap (λ l. item_sections x.line x.command ++ l) (sections_append xs ys)
+    ∙ sym (append_assoc (item_sections x.line x.command) (sections_in xs) (sections_in ys))
 
 module _ (rows : List (List Piece)) (provided : List (List ℕ)) where
   item_traced : (line : ℕ) (s : Layout) (c : ItemCommand) (t u : Layout) (rs : List Region) (os : List OutputSectionAt)
-      → item_command_step rows provided line s c ≡ Ok t → Trace t rs os u → Trace s rs (sections_of line c ++ os) u
+      → item_command_step rows provided line s c ≡ Ok t → Trace t rs os u → Trace s rs (item_sections line c ++ os) u
   unfolding item_command_step
   item_traced line s (item.Dot c) t u rs os e k = nothing_added (free_dot_adds s line c t e) k
   item_traced line s (item.Common c) t u rs os e k =
@@ -263,7 +262,7 @@ module _ (rows : List (List Piece)) (provided : List (List ℕ)) where
   items_traced [] s t u rs os e k = subst (λ (v : Layout). Trace v rs os u) (sym (given_is s t e)) k
   items_traced (i ∷ is) s t u rs os e k =
       let one = came (item_step rows provided s i) (λ v. run (item_step rows provided) v is) t e in
-      subst (λ l. Trace s rs l u) (sym (append_assoc (sections_of i.line i.command) (sections_in is) os))
+      subst (λ l. Trace s rs l u) (sym (append_assoc (item_sections i.line i.command) (sections_in is) os))
       (nothing_added {t = noted s} (record { sections = refl; regions = refl })
       (item_traced i.line (noted s) i.command one.value u rs (sections_in is ++ os) one.is
       (items_traced is one.value t u rs os one.gives k)))

@@ -3,8 +3,8 @@ use Rattle.std.proofs.Common.{◌≡◌, ◌↔◌, Bool, true, false, cond, not
 use Rattle.std.proofs.Common.{sym, ap, ◌∙◌}
 use Rattle.std.specs.List.{Contains}
 use Rattle.std.proofs.lemmas.Bool.{eq-eqb}
-use Rattle.ldmodel.specs.Relocations.{Site, field_with, site_field, site_value}
-use Rattle.ldmodel.specs.Stayed.{GoodLink, LinkedPiece, is_moved, retargeted, sites_in, stayed, value_in}
+use Rattle.ldmodel.specs.Relocations.{Site, site_field_with, site_field, site_value}
+use Rattle.ldmodel.specs.Stayed.{GoodLink, LinkedPiece, is_moved, retargeted, sites_in, stayed, site_value_in}
 use Rattle.ldmodel.specs.SymbolValues.{Number, number_or_0}
 use Rattle.ldmodel_laws.specs.Untouched.{AreRead, HasField, HasSameValue, IsGood}
 use Rattle.ldmodel_laws.proofs.Finding.{in_flat_map}
@@ -15,7 +15,7 @@ use Rattle.ldmodel_laws.proofs.Untouched.{in_new, in_old, number_of, unmoved}
 pub same_field : (old new : GoodLink) (t : Site) → HasSameValue old new t
     → site_field new.project new.layout t ≡ site_field old.project old.layout t
 unfolding site_field
-same_field old new t e = ap (field_with t) (sym e)
+same_field old new t e = ap (site_field_with t) (sym e)
 
 pub field_stays : (old new : GoodLink) → IsGood old → AreRead new.project → (x : LinkedPiece) (t : Site)
     → Contains (stayed old new) x → Contains (sites_in new.project x) t → HasSameValue old new t → HasField new t
@@ -30,11 +30,11 @@ pub by_value : (old new : GoodLink) → IsGood old → IsGood new → (x : Linke
     → HasSameValue old new t ↔ (is_moved old new t ≡ false)
 unfolding site_field
 by_value old new g h x t stays c = (
-  λ e. ap not (eq-eqb (value_in old t) (value_in new t) (ap number_or_0 e)),
+  λ e. ap not (eq-eqb (site_value_in old t) (site_value_in new t) (ap number_or_0 e)),
   λ e. let first : HasField old t = in_old old new g h.read x stays t c in
       let second : HasField new t = in_new old new g h.read x stays h t c in
       number_of t (site_value old.project old.layout t) first.0 first.1
-      ∙ ap Number (unmoved (value_in old t) (value_in new t) e)
+      ∙ ap Number (unmoved (site_value_in old t) (site_value_in new t) e)
       ∙ sym (number_of t (site_value new.project new.layout t) second.0 second.1),
 )
 

@@ -16,17 +16,18 @@ use Rattle.elfobj.specs.declared.section.SectionIndex.{SectionIndex}
 use Rattle.emit_fields.specs.Patches as patches
 use Rattle.emit_fields.specs.Patches.{patched_byte, patch_end}
 use Rattle.emit_fields.specs.declared.patch.Patch.{Patch}
-use Rattle.ldmodel.specs.FileLayout.{Each}
-use Rattle.ldmodel.specs.Image.{byte_at, object_byte, object_named, part_byte, section_byte, section_numbered}
+use Rattle.ldmodel.specs.Each.{Each}
+use Rattle.ldmodel.specs.Image.{byte_at, object_named, section_numbered}
+use Rattle.ldmodel_laws.specs.ByteCases.{object_byte, part_byte, section_byte}
 use Rattle.ldmodel.specs.Layout.{Layout, PlacedPiece, PlacedSection}
 use Rattle.ldmodel.specs.Project.{NamedObject, Project}
-use Rattle.ldmodel.specs.Relocations.{Site, field_with, is_evaluated, patch_of, site_field, site_symbol, site_value}
-use Rattle.ldmodel.specs.Relocations.{sites_at}
+use Rattle.ldmodel.specs.Relocations.{Site, site_field_with, is_evaluated, patch_of, site_field, site_symbol}
+use Rattle.ldmodel.specs.Relocations.{site_value, sites_at}
 use Rattle.ldmodel.specs.Sections.{is_same_part}
-use Rattle.ldmodel.specs.Segments.{Segment, file_offset, has_file_bytes, segments}
+use Rattle.ldmodel.specs.Segments.{Segment, file_offset, segments}
 use Rattle.ldmodel.specs.Stayed.{FileRange, GoodLink, LinkedPiece, has_stayed, is_moved, linked_piece, linked_pieces}
-use Rattle.ldmodel.specs.Stayed.{pieces_in, range_in, retargeted, same_piece, sites_in, sites_in_part, sites_in_section}
-use Rattle.ldmodel.specs.Stayed.{stayed, text_of, value_in}
+use Rattle.ldmodel.specs.Stayed.{link_pieces, range_in, retargeted, same_piece, sites_in, sites_in_part}
+use Rattle.ldmodel.specs.Stayed.{sites_in_section, stayed, text_of, site_value_in}
 use Rattle.ldmodel.specs.SymbolValues.{SymbolValue, Number, NotDefined, NotInOutput, number_or_0}
 use Rattle.ldmodel.specs.Targets.{referenced_value, target_number, target_of}
 use Rattle.ldmodel.specs.declared.sections.Part.{Part}
@@ -48,7 +49,7 @@ module _ (l : GoodLink) (good : IsGood l) where
       → i < (range_in gs q z).length
       → byte_at l.project l.layout ((range_in gs q z).offset + i)
       ≡ part_byte l.project l.layout z.piece.object z.piece.part z.start i
-  piece_byte_in q z i there among low = go (has_file_bytes q && not (z.piece.size == 0)) refl low
+  piece_byte_in q z i there among low = go (q.has_file_bytes && not (z.piece.size == 0)) refl low
     where
       here : FileRange
       here = record { offset = file_offset gs q + (z.start - q.start); length = z.piece.size }
@@ -56,11 +57,11 @@ module _ (l : GoodLink) (good : IsGood l) where
       none : FileRange
       none = record { offset = 0; length = 0 }
 
-      go : (b : Bool) → (has_file_bytes q && not (z.piece.size == 0)) ≡ b → i < (cond b here none).length
+      go : (b : Bool) → (q.has_file_bytes && not (z.piece.size == 0)) ≡ b → i < (cond b here none).length
           → byte_at l.project l.layout ((cond b here none).offset + i)
           ≡ part_byte l.project l.layout z.piece.object z.piece.part z.start i
       go true e k = byte_of_piece l.project l.layout q z i good.spread good.named there
-          (both_of (has_file_bytes q) (not (z.piece.size == 0)) e).0 among k
+          (both_of q.has_file_bytes (not (z.piece.size == 0)) e).0 among k
       go false e k = absurd (omega (arith, k))
 
   -- what is known of a linked piece
@@ -68,7 +69,7 @@ module _ (l : GoodLink) (good : IsGood l) where
     pub byte : (i : ℕ) → i < x.range.length → byte_at l.project l.layout (x.range.offset + i)
         ≡ part_byte l.project l.layout x.object x.part x.start i
 
-  pub known : (x : LinkedPiece) → Contains (pieces_in l) x → Known x
+  pub known : (x : LinkedPiece) → Contains (link_pieces l) x → Known x
   unfolding linked_pieces
   known x c =
       let k = in_flat_map (λ (q : PlacedSection). map (linked_piece l.project gs q) q.pieces) l.layout.sections x c in
@@ -76,7 +77,7 @@ module _ (l : GoodLink) (good : IsGood l) where
       let m = in_map (linked_piece l.project gs q) q.pieces x k.gives in
       subst Known m.gives (record { byte = λ i low. piece_byte_in q m.origin i k.among m.among low })
 
-pub linked_text : (l : GoodLink) (x : LinkedPiece) → Contains (pieces_in l) x → x.text ≡ text_of l.project x.object
+pub linked_text : (l : GoodLink) (x : LinkedPiece) → Contains (link_pieces l) x → x.text ≡ text_of l.project x.object
 unfolding linked_pieces
 linked_text l x c =
     let k = in_flat_map (λ (q : PlacedSection). map (linked_piece l.project (segments l.layout.sections) q) q.pieces)
@@ -120,16 +121,16 @@ same x y e =
 -- ---- fields
 
 -- the number of a site with a field
-pub number_of : (t : Site) (v : SymbolValue) (f : List ℕ) → field_with t v ≡ Ok f → v ≡ Number (number_or_0 v)
+pub number_of : (t : Site) (v : SymbolValue) (f : List ℕ) → site_field_with t v ≡ Ok f → v ≡ Number (number_or_0 v)
 number_of t (Number x) f e = refl
 number_of t NotDefined f e = absurd (let none : ⊥ = cc in none)
 number_of t NotInOutput f e = absurd (let none : ⊥ = cc in none)
 
-one_field : (t : Site) (v w : SymbolValue) (f g : List ℕ) → field_with t v ≡ Ok f → field_with t w ≡ Ok g
+one_field : (t : Site) (v w : SymbolValue) (f g : List ℕ) → site_field_with t v ≡ Ok f → site_field_with t w ≡ Ok g
     → number_or_0 v ≡ number_or_0 w → f ≡ g
 one_field t v w f g e h n =
     let values : v ≡ w = number_of t v f e ∙ ap Number n ∙ sym (number_of t w g h) in
-    let both : Ok f ≡ Ok g = sym e ∙ ap (field_with t) values ∙ h in
+    let both : Ok f ≡ Ok g = sym e ∙ ap (site_field_with t) values ∙ h in
     cc
 
 -- what two links have of a site: one field, or two where byte i is in neither
@@ -145,7 +146,7 @@ abbrev fields : Project → Layout → List Site → List Patch
 fields p s ts = filter_map (λ t. patch_of t (site_field p s t)) ts
 
 outside : (i : ℕ) (t : Site) (field : List ℕ) → IsOutside i t → length field ≡ width t.relocation.kind
-    → patches.covers (record { offset = t.relocation.offset; field = field }) i ≡ false
+    → patches.patch_covers (record { offset = t.relocation.offset; field = field }) i ≡ false
 outside i t field h l = go (nat_le t.relocation.offset i) (nat_lt i (t.relocation.offset + length field)) refl refl h
   where
     go : (a b : Bool) → nat_le t.relocation.offset i ≡ a → nat_lt i (t.relocation.offset + length field) ≡ b
@@ -156,7 +157,8 @@ outside i t field h l = go (nat_le t.relocation.offset i) (nat_lt i (t.relocatio
     go true true e f (inr k) = absurd (omega (arith, k, l, ltb-true i (t.relocation.offset + length field) f))
 
 abbrev byte_of : List ℕ → ℕ → Patch → List Patch → ℕ
-byte_of bytes i a others = cond (patches.covers a i) (slice_index a.field (i - a.offset)) (patched_byte bytes others i)
+byte_of bytes i a others = cond (patches.patch_covers a i) (slice_index a.field (i - a.offset))
+    (patched_byte bytes others i)
 
 same_bytes : (p r : Project) (s u : Layout) (i : ℕ) (bytes : List ℕ) (ts : List Site) → Each (Agree p r s u i) ts
     → patched_byte bytes (fields p s ts) i ≡ patched_byte bytes (fields r u ts) i
@@ -177,7 +179,7 @@ same_bytes p r s u i bytes (t ∷ ts) h = go h.0.either (same_bytes p r s u i by
         → patched_byte bytes (fields p s ts) i ≡ patched_byte bytes (fields r u ts) i
         → patched_byte bytes (fields p s (t ∷ ts)) i ≡ patched_byte bytes (fields r u (t ∷ ts)) i
     go (inl e) rest =
-        left ∙ ap (λ n. cond (patches.covers (with_field h.0.first) i)
+        left ∙ ap (λ n. cond (patches.patch_covers (with_field h.0.first) i)
         (slice_index h.0.first (i - t.relocation.offset)) n) rest
         ∙ ap (λ f. byte_of bytes i (with_field f) (fields r u ts)) e ∙ sym right
     go (inr k) rest =
@@ -324,12 +326,12 @@ none p s start i (InTable k) (Some o) e =
 
 module _ (old new : GoodLink) (g : IsGood old) (read : AreRead new.project) (x : LinkedPiece)
     (stays : Contains (stayed old new) x) where
-  in_both : Contains (pieces_in new) x × (has_stayed old x ≡ true)
+  in_both : Contains (link_pieces new) x × (has_stayed old x ≡ true)
   unfolding stayed
-  in_both = in_filter (has_stayed old) (pieces_in new) x stays
+  in_both = in_filter (has_stayed old) (link_pieces new) x stays
 
-  found : Passes (same_piece x) (pieces_in old)
-  found = in_any (same_piece x) (pieces_in old) in_both.1
+  found : Passes (same_piece x) (link_pieces old)
+  found = in_any (same_piece x) (link_pieces old) in_both.1
 
   abbrev y : LinkedPiece
   y = found.member
@@ -427,7 +429,7 @@ module _ (old new : GoodLink) (g : IsGood old) (read : AreRead new.project) (x :
               in_first = first.1;
               in_second = second.1;
               either = inl (one_field t (site_value old.project old.layout t) (site_value new.project new.layout t)
-                  first.0 second.0 first.1 second.1 (unmoved (value_in old t) (value_in new t) e));
+                  first.0 second.0 first.1 second.1 (unmoved (site_value_in old t) (site_value_in new t) e));
             }
 
         section_same : section_byte old.project old.layout o x.start i z
@@ -483,7 +485,7 @@ untouched old new g h x stays i clear = untouched_byte old new g h.read x stays 
 -- ---- retargeted sites
 
 -- a value that gives a field is a number
-is_number : (t : Site) (v : SymbolValue) (f : List ℕ) → field_with t v ≡ Ok f → v ≢ NotInOutput
+is_number : (t : Site) (v : SymbolValue) (f : List ℕ) → site_field_with t v ≡ Ok f → v ≢ NotInOutput
 is_number t (Number n) f e k = absurd (let none : ⊥ = cc in none)
 is_number t NotDefined f e k = absurd (let none : ⊥ = cc in none)
 is_number t NotInOutput f e k = absurd (let none : ⊥ = cc in none)
@@ -510,5 +512,5 @@ other_target old new g h t a c e same_number =
     let values = same_value old.project new.project old.layout new.layout t.object a
     (λ n. is_number t (site_value old.project old.layout t) first.0 first.1 (left ∙ n)) (λ n.
     is_number t (site_value new.project new.layout t) second.0 second.1 (right ∙ n)) same_number in
-    let equal : value_in old t ≡ value_in new t = ap number_or_0 left ∙ values ∙ ap number_or_0 (sym right) in
-    false≢true (sym (ap not (eq-eqb (value_in old t) (value_in new t) equal)) ∙ both.1)
+    let equal : site_value_in old t ≡ site_value_in new t = ap number_or_0 left ∙ values ∙ ap number_or_0 (sym right) in
+    false≢true (sym (ap not (eq-eqb (site_value_in old t) (site_value_in new t) equal)) ∙ both.1)

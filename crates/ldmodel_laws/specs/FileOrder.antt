@@ -1,11 +1,11 @@
 -- How the output sections with file bytes lie in the image.
 use Rattle.std.specs.Prelude.{ℕ, ◌+◌, ◌≤◌, List, length, filter}
-use Rattle.ldmodel.specs.FileLayout.{Each}
-use Rattle.ldmodel.specs.Segments.{Segment, SectionInFile, in_file, has_file_bytes, headers_end, loaded_end}
+use Rattle.ldmodel.specs.Each.{Each}
+use Rattle.ldmodel.specs.Segments.{Segment, SectionInFile, in_file, headers_end, loaded_end}
 use Rattle.ldmodel_laws.specs.Spread.{EachLater}
 
 abbrev pub with_file_bytes : List Segment → List SectionInFile
-with_file_bytes gs = filter (λ (x : SectionInFile). has_file_bytes x.section) (in_file gs)
+with_file_bytes gs = filter (λ (x : SectionInFile). x.section.has_file_bytes) (in_file gs)
 
 abbrev pub end_in_file : SectionInFile → ℕ
 end_in_file x = x.offset + x.section.size

@@ -1,3 +1,5 @@
+pub mod FileLayout
+pub mod Gaps
 pub mod FirstMatches
 pub mod Placed
 pub mod Renumbering
@@ -9,6 +11,7 @@ pub mod Spread
 pub mod FileOrder
 pub mod Outcomes
 pub mod LayoutExamples
+pub mod ByteCases
 pub mod ImageBytes
 pub mod Traces
 pub mod Untouched

@@ -13,13 +13,12 @@ use Rattle.ldscript.specs.statements.declared.statement.ItemCommand.{ItemCommand
 use Rattle.ldscript.specs.statements.declared.statement.ItemCommand.TheVariants as item
 use Rattle.ldscript.specs.statements.declared.statement.Region.{Region}
 use Rattle.ldscript.specs.statements.declared.statement.Statement.{Statement}
-use Rattle.ldmodel.specs.Body.{Body, body_command_step, with_dot}
+use Rattle.ldmodel.specs.Placement.{Body, body_command_step, with_dot}
 use Rattle.ldmodel.specs.Fault.{Fault, PastAddressSpace}
 use Rattle.ldmodel.specs.Layout.{Layout, noted, nothing_placed}
 use Rattle.ldmodel.specs.Placement.{command_step, item_command_step, next_row, opened, region_step}
 use Rattle.ldmodel.specs.Rows.{Piece, piece_alignment}
-use Rattle.ldmodel.specs.SectionEnd.{section_end}
-use Rattle.ldmodel.specs.SectionHead.{Head, head_of}
+use Rattle.ldmodel.specs.Placement.{section_end, Head, head_of}
 
 -- statements lead from one state to another, where `To s x t` says that x leads from s to t
 pub data Leads {S X : Type 0} (To : S → X → S → Type 0) : S → List X → S → Type 0 where

@@ -2,7 +2,7 @@
 use Rattle.std.specs.Prelude.{◌≡◌, false, ◌&&◌, ◌==◌, bytes_eq, Ok}
 use Rattle.elfobj.specs.Sections.{LinkedSection}
 use Rattle.ldmodel.specs.Edits.{AreNamesDistinct}
-use Rattle.ldmodel.specs.FileLayout.{Each}
+use Rattle.ldmodel.specs.Each.{Each}
 use Rattle.ldmodel.specs.Layout.{Layout}
 use Rattle.ldmodel.specs.Names.{provided}
 use Rattle.ldmodel.specs.Placement.{placement}

@@ -4,12 +4,11 @@ use Rattle.std.specs.Prelude.{◌≡◌, ℕ, ◌+◌, ◌^◌, ◌<◌, ◌≤�
 use Rattle.ldscript.specs.statements.Numbering.{OutputSectionAt}
 use Rattle.ldscript.specs.statements.declared.section.OutputSection.{OutputSection}
 use Rattle.ldscript.specs.statements.declared.statement.Region.{Region}
-use Rattle.ldmodel.specs.Body.{Body, with_data, with_dot}
+use Rattle.ldmodel.specs.Placement.{Body, with_data, with_dot}
 use Rattle.ldmodel.specs.Layout.{Layout, noted, with_symbol}
 use Rattle.ldmodel.specs.Placement.{opened, with_region}
 use Rattle.ldmodel.specs.Rows.{Piece, piece_alignment}
-use Rattle.ldmodel.specs.SectionEnd.{placed_section, with_section}
-use Rattle.ldmodel.specs.SectionHead.{Head}
+use Rattle.ldmodel.specs.Placement.{placed_section, with_section, Head}
 use Rattle.ldmodel_laws.specs.Placed.{IsLeastMultiple, with_piece}
 
 -- what a statement of a body does: `.` before it is kept, an input statement is counted, a symbol is given a value, `.`

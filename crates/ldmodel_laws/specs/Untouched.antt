@@ -3,11 +3,11 @@ use Rattle.std.specs.Prelude.{◌≡◌, ℕ, ◌+◌, ◌<◌, ◌≤◌, ◌�
 use Rattle.elfobj.specs.Object.{object_of}
 use Rattle.elfobj.specs.RelocationKinds.{width}
 use Rattle.ldmodel.specs.Edits.{AreNamesDistinct}
-use Rattle.ldmodel.specs.FileLayout.{Each}
+use Rattle.ldmodel.specs.Each.{Each}
 use Rattle.ldmodel.specs.Link.{layout}
 use Rattle.ldmodel.specs.Project.{NamedObject, Project}
 use Rattle.ldmodel.specs.Relocations.{Site, relocation_faults, site_field, site_value}
-use Rattle.ldmodel.specs.Stayed.{GoodLink, LinkedPiece, pieces_in, sites_in}
+use Rattle.ldmodel.specs.Stayed.{GoodLink, LinkedPiece, link_pieces, sites_in}
 use Rattle.ldmodel_laws.specs.ImageBytes.{AreNamed}
 use Rattle.ldmodel_laws.specs.PlacedOnce.{AreNumbered}
 use Rattle.ldmodel_laws.specs.Spread.{IsSpread}
@@ -30,7 +30,7 @@ pub record IsGood (l : GoodLink) : Type 0 where
   pub spread : Each IsSpread l.layout.sections
   pub named : AreNamed l.layout.sections
   pub read : AreRead l.project
-  pub fields : (x : LinkedPiece) → Contains (pieces_in l) x → Each (HasField l) (sites_in l.project x)
+  pub fields : (x : LinkedPiece) → Contains (link_pieces l) x → Each (HasField l) (sites_in l.project x)
 
 -- a link without faults of layout and relocation, of a project whose objects and script were read and whose objects
 -- have different names

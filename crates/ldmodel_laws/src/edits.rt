@@ -3,10 +3,10 @@
 ghost use Rattle.std.specs.Prelude.{◌≡◌, ◌≤◌, Err, Ok, Result};
 ghost use Rattle.elfobj.specs.RefusalNumber as object;
 ghost use Rattle.elfobj.specs.declared.refusal.ObjectRefusal.{ObjectRefusal};
-ghost use Rattle.ldscript.specs.RefusalNumber as script;
+ghost use Rattle.ldscript.specs.RefusalNumber.{script_refusal_number};
 ghost use Rattle.ldscript.specs.declared.refusal.ScriptRefusal.{ScriptRefusal};
 ghost use Rattle.ldmodel.specs.Edits.{After, AreNamesDistinct, Change, NotAScript, NotAnObject, Refusal};
-ghost use Rattle.ldmodel.specs.Edits.{refusal_number};
+ghost use Rattle.ldmodel.specs.Edits.{edit_refusal_number};
 ghost use Rattle.ldmodel.specs.Options.{LinkOptions};
 ghost use Rattle.ldmodel.specs.Project.{Project, empty_project};
 ghost use Rattle.ldmodel_laws.specs.Outcomes.{HasOutcome, IsNoScript};
@@ -39,9 +39,9 @@ pub fn some_outcome()
 /// No edit comes to 'out of memory': the definitions refuse an edit with numbers 1 to 6, an object with inner numbers 1
 /// to 13 and a script with 1 to 5.
 pub fn memory_is_no_outcome()
-    ensures outer { (p : Project) (c : Change) (r : Refusal) → After p c (Err r) → refusal_number r ≤ 6 }
+    ensures outer { (p : Project) (c : Change) (r : Refusal) → After p c (Err r) → edit_refusal_number r ≤ 6 }
     ensures object { (p : Project) (c : Change) (w : ObjectRefusal) → After p c (Err (NotAnObject w))
         → object.refusal_number w ≤ 13 }
     ensures script { (p : Project) (c : Change) (w : ScriptRefusal) → After p c (Err (NotAScript w))
-        → script.refusal_number w ≤ 5 }
+        → script_refusal_number w ≤ 5 }
 {}

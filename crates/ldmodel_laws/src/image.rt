@@ -7,13 +7,14 @@ ghost use Rattle.elfobj.specs.Sections.{LinkedSection};
 ghost use Rattle.elfobj.specs.declared.relocation.Relocation.{Relocation};
 ghost use Rattle.emit_fields.specs.Patches as patches;
 ghost use Rattle.emit_fields.specs.Patches.{IsWithin};
-ghost use Rattle.ldmodel.specs.FileLayout.{Each};
-ghost use Rattle.ldmodel.specs.Gaps.{IsBare, IsGapStart};
-ghost use Rattle.ldmodel.specs.Image.{byte_at, gap_start, part_byte};
+ghost use Rattle.ldmodel.specs.Each.{Each};
+ghost use Rattle.ldmodel_laws.specs.Gaps.{IsBare, IsGapStart};
+ghost use Rattle.ldmodel.specs.Image.{byte_at, gap_start};
+ghost use Rattle.ldmodel_laws.specs.ByteCases.{part_byte};
 ghost use Rattle.ldmodel.specs.Layout.{Layout, PlacedPiece, PlacedSection};
 ghost use Rattle.ldmodel.specs.Project.{NamedObject, Project};
 ghost use Rattle.ldmodel.specs.Relocations.{fields_of};
-ghost use Rattle.ldmodel.specs.Segments.{has_file_bytes, segments};
+ghost use Rattle.ldmodel.specs.Segments.{segments};
 ghost use Rattle.ldmodel_laws.specs.ImageBytes.{AreNamed, offset_in_file};
 ghost use Rattle.ldmodel_laws.specs.Spread.{IsSpread};
 
@@ -40,7 +41,7 @@ pub fn fields_are_apart()
 pub fn byte_of_piece()
     ensures { (p : Project) (s : Layout) (q : PlacedSection) (x : PlacedPiece) (i : ℕ)
         → Each IsSpread s.sections → AreNamed s.sections
-        → Contains s.sections q → has_file_bytes q ≡ true → Contains q.pieces x → i < x.piece.size
+        → Contains s.sections q → q.has_file_bytes ≡ true → Contains q.pieces x → i < x.piece.size
         → byte_at p s (offset_in_file (segments s.sections) q x + i)
         ≡ part_byte p s x.piece.object x.piece.part x.start i }
 {}

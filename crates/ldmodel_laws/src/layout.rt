@@ -1,16 +1,17 @@
 //! Laws of layout: a placement by equations between neighbours.
 
-ghost use Rattle.std.specs.Prelude.{◌≡◌, ◌↔◌, ◌≤◌, ℕ, List, [], ◌∷◌, ◌++◌, length, Ok, Err, map};
+ghost use Rattle.std.specs.Prelude.{◌≡◌, ◌↔◌, ◌≤◌, ◌==◌, ℕ, List, [], ◌∷◌, ◌++◌, length, Ok, Err, map, not};
 ghost use Rattle.ldscript.specs.Script.{IsSound};
 ghost use Rattle.ldscript.specs.statements.Numbering.{common_commands, output_sections, regions};
 ghost use Rattle.ldscript.specs.statements.declared.section.BodyStatement.{BodyStatement};
+ghost use Rattle.ldscript.specs.statements.declared.section.OutputSection.{OutputSection};
 ghost use Rattle.ldscript.specs.statements.declared.statement.Item.{Item};
 ghost use Rattle.ldscript.specs.statements.declared.statement.Statement.{Statement};
-ghost use Rattle.ldmodel.specs.Body.{Body, body_step};
+ghost use Rattle.ldmodel.specs.Placement.{Body, body_step};
 ghost use Rattle.ldmodel.specs.Fault.{Fault};
-ghost use Rattle.ldmodel.specs.FileLayout.{Each};
+ghost use Rattle.ldmodel.specs.Each.{Each};
 ghost use Rattle.ldmodel.specs.Layout.{Layout, nothing_placed};
-ghost use Rattle.ldmodel.specs.Placement.{item_step, placement};
+ghost use Rattle.ldmodel.specs.Placement.{Head, item_step, placed_section, placement};
 ghost use Rattle.ldmodel.specs.Project.{Project};
 ghost use Rattle.ldmodel.specs.Rows.{Piece, rows};
 ghost use Rattle.ldmodel_laws.specs.Alike.{AreAlike, AreSameBefore, BodiesStayAlike, HeadsAgree, IsPartedAt};
@@ -57,6 +58,12 @@ pub fn dots_by_statement()
         → item_step rows provided s i ≡ Ok t → Notes (dots_of i) s t }
     ensures of_body { (provided : List (List ℕ)) (b : Body) (x : BodyStatement) (c : Body)
         → body_step provided b x ≡ Ok c → c.layout.dots ≡ b.layout.dots ++ b.layout.dot ∷ [] }
+{}
+
+/// An output section has file bytes exactly where it is loaded: one of size 0 has none.
+pub fn loaded_with_file_bytes()
+    ensures { (o : OutputSection) (h : Head) (b : Body)
+        → (placed_section o h b).has_file_bytes ≡ not ((placed_section o h b).load_size == 0) }
 {}
 
 /// In an output section of a placement nothing meets: its input sections and its data commands lie from its start up to

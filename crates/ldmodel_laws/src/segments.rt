@@ -1,7 +1,7 @@
 //! Laws of segments.
 
 ghost use Rattle.std.specs.Prelude.{◌≡◌, Contains, List, map};
-ghost use Rattle.ldmodel.specs.FileLayout.{IsFileLayout};
+ghost use Rattle.ldmodel_laws.specs.FileLayout.{IsFileLayout};
 ghost use Rattle.ldmodel.specs.Layout.{PlacedSection};
 ghost use Rattle.ldmodel.specs.Segments.{SectionInFile, Segment, file_offset, in_file, nonempty, segments};
 ghost use Rattle.ldmodel_laws.specs.FileOrder.{AreInFileOrder};

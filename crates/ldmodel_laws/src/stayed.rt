@@ -13,7 +13,7 @@ ghost use Rattle.ldmodel.specs.Relocations.{Site, site_field, site_symbol, sites
 ghost use Rattle.ldmodel.specs.SectionHeaders.{image_length};
 ghost use Rattle.ldmodel.specs.Segments.{segments};
 ghost use Rattle.ldmodel.specs.Stayed.{GoodLink, LinkedPiece, has_stayed, is_moved, linked_piece, linked_pieces};
-ghost use Rattle.ldmodel.specs.Stayed.{pieces_in, retargeted, sites_in, stayed};
+ghost use Rattle.ldmodel.specs.Stayed.{link_pieces, retargeted, sites_in, stayed};
 ghost use Rattle.ldmodel.specs.Targets.{Target, target_number, target_of};
 ghost use Rattle.ldmodel.specs.WorkBound.{bytes_stayed, sites_outside};
 ghost use Rattle.ldmodel_laws.specs.PlacedOnce.{IsPlacedOnce};
@@ -48,14 +48,14 @@ pub fn faultless_is_good()
 pub fn stayed_in_both()
     ensures linked { (l : GoodLink) (q : PlacedSection) (z : PlacedPiece) → Contains l.layout.sections q
         → Contains q.pieces z
-        → Contains (pieces_in l) (linked_piece l.project (segments l.layout.sections) q z) }
+        → Contains (link_pieces l) (linked_piece l.project (segments l.layout.sections) q z) }
     ensures stayed { (old new : GoodLink) (x : LinkedPiece)
-        → Contains (stayed old new) x ↔ (Contains (pieces_in new) x × (has_stayed old x ≡ true)) }
+        → Contains (stayed old new) x ↔ (Contains (link_pieces new) x × (has_stayed old x ≡ true)) }
 {}
 
 /// The bytes of an input section lie in the image; those of one that stayed lie in the old image too.
 pub fn pieces_in_image()
-    ensures own { (l : GoodLink) → IsGood l → (x : LinkedPiece) → Contains (pieces_in l) x → (i : ℕ)
+    ensures own { (l : GoodLink) → IsGood l → (x : LinkedPiece) → Contains (link_pieces l) x → (i : ℕ)
         → i < x.range.length → x.range.offset + i < image_length l.project l.layout }
     ensures old { (old new : GoodLink) → IsGood old → (x : LinkedPiece) → Contains (stayed old new) x → (i : ℕ)
         → i < x.range.length → x.range.offset + i < image_length old.project old.layout }
@@ -64,13 +64,13 @@ pub fn pieces_in_image()
 /// Each site of an input section has a field, which is as wide as its relocation says; and the image has the field in
 /// its place, where the relocations of the section share no byte, as the object reader has found.
 pub fn fields_in_image()
-    ensures found { (l : GoodLink) → IsGood l → (x : LinkedPiece) → Contains (pieces_in l) x → (t : Site)
+    ensures found { (l : GoodLink) → IsGood l → (x : LinkedPiece) → Contains (link_pieces l) x → (t : Site)
         → Contains (sites_in l.project x) t → HasField l t }
     ensures some { (l : GoodLink) (x : LinkedPiece) (t : Site) → Contains (sites_in l.project x) t
         → 0 < width t.relocation.kind }
     ensures wide { (l : GoodLink) (x : LinkedPiece) (t : Site) (field : List ℕ) → Contains (sites_in l.project x) t
         → site_field l.project l.layout t ≡ Ok field → length field ≡ width t.relocation.kind }
-    ensures byte { (l : GoodLink) → IsGood l → (x : LinkedPiece) → Contains (pieces_in l) x → (t : Site)
+    ensures byte { (l : GoodLink) → IsGood l → (x : LinkedPiece) → Contains (link_pieces l) x → (t : Site)
         → Contains (sites_in l.project x) t → AreApart t.section.relocations → (field : List ℕ)
         → site_field l.project l.layout t ≡ Ok field → (i : ℕ) → i < length field
         → t.relocation.offset + i < x.range.length
@@ -108,7 +108,7 @@ pub fn sites_by_piece()
         → IsPermutation (sites p s) (flat_map (sites_in p) (linked_pieces p s)) }
     ensures kept { (p : Project) (s : Layout) (test : Site → Bool) → IsPlacedOnce p s
         → IsPermutation (filter test (sites p s)) (filter test (flat_map (sites_in p) (linked_pieces p s))) }
-    ensures parted { (old new : GoodLink) → IsPermutation (flat_map (sites_in new.project) (pieces_in new))
+    ensures parted { (old new : GoodLink) → IsPermutation (flat_map (sites_in new.project) (link_pieces new))
         (flat_map (sites_in new.project) (stayed old new) ++ sites_outside old new) }
     ensures faultless { (l : GoodLink) → IsFaultless l → IsPlacedOnce l.project l.layout }
 {}
@@ -118,7 +118,7 @@ pub fn sites_by_piece()
 /// of the objects finds those that are retargeted, by a test of values too, and those outside of what stayed.
 pub fn stayed_by_part()
     ensures piece { (old new : GoodLink) → IsPlacedOnce new.project new.layout → (x : LinkedPiece)
-        → Contains (pieces_in new) x → has_part_stayed old new x.object x.part ≡ has_stayed old x }
+        → Contains (link_pieces new) x → has_part_stayed old new x.object x.part ≡ has_stayed old x }
     ensures site { (old new : GoodLink) → IsPlacedOnce new.project new.layout → (t : Site)
         → Contains (sites new.project new.layout) t → lies_in_stayed old new t ≡ true
         → (x : LinkedPiece) × Contains (stayed old new) x × Contains (sites_in new.project x) t }

@@ -1,7 +1,7 @@
 -- Objects that were read.
 use Rattle.std.specs.Prelude.{◌≡◌, List}
 use Rattle.elfobj.specs.Object.{object_of}
-use Rattle.ldmodel.specs.FileLayout.{Each}
+use Rattle.ldmodel.specs.Each.{Each}
 use Rattle.ldmodel.specs.Project.{NamedObject}
 
 -- each is what its bytes spell

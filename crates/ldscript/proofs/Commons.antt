@@ -6,8 +6,8 @@ use Rattle.ldscript_tokens.specs.declared.token.Mark.TheVariants.{AddAssign}
 use Rattle.ldscript_tokens.specs.declared.token.Mode.{Mode}
 use Rattle.ldscript_terms.specs.Expressions.{Expr}
 use Rattle.ldscript.specs.Steps.{◌▸◌, mark, name_in, string}
-use Rattle.ldscript.specs.Grammar.{ended, set_to, dot_change, assign, provided_name, provided, provide, asserted}
-use Rattle.ldscript.specs.Grammar.{assertion, common}
+use Rattle.ldscript.specs.Grammar.{ended, dot_set_to, dot_change, assign, provided_name, provided_assignment, provide}
+use Rattle.ldscript.specs.Grammar.{asserted, assertion, common}
 use Rattle.ldscript.specs.Readings.{NoneAt}
 use Rattle.ldscript_statements.specs.declared.common.Common.TheVariants as commons
 use Rattle.ldscript_statements.specs.declared.common.DotCommand.TheVariants.{Set, Add}
@@ -19,19 +19,19 @@ add_none ts us h n (Set e) more d = marks_differ AddAssign Assign ts us d.0 (λ 
 add_none ts us h n (Add e) more d =
     n e more (behind (mark AddAssign) (ended Semicolon e) (mark_fixed AddAssign) ts us more h d)
 
-pub set_none : (ts : List Lexeme) → ((us : List Lexeme) → mark AddAssign ts us → ⊥) → NoneAt set_to ts
+pub set_none : (ts : List Lexeme) → ((us : List Lexeme) → mark AddAssign ts us → ⊥) → NoneAt dot_set_to ts
     → NoneAt dot_change ts
 set_none ts no_add n (Set e) more d = n e more d
 set_none ts no_add n (Add e) more d = no_add d.0 d.1
 
-pub assign_none : (mode : Mode) (ts us : List Lexeme) (n : List ℕ) → name_in mode n ts us → NoneAt set_to us
+pub assign_none : (mode : Mode) (ts us : List Lexeme) (n : List ℕ) → name_in mode n ts us → NoneAt dot_set_to us
     → NoneAt (assign mode) ts
 assign_none mode ts us n h none y more d =
-    let e = behind_tree (name_in mode) (set_to y.value) (name_single mode) ts us more n y.name h d in
+    let e = behind_tree (name_in mode) (dot_set_to y.value) (name_single mode) ts us more n y.name h d in
     none y.value more e.1
 
 pub provided_none : (ts us : List Lexeme) (n : List ℕ) → provided_name n ts us → NoneAt (ended CloseParenthesis) us
-    → NoneAt provided ts
+    → NoneAt provided_assignment ts
 provided_none ts us n h none y more d =
     let e = behind_tree provided_name (ended CloseParenthesis y.value) provided_name_single ts us more n y.name h d in
     none y.value more e.1

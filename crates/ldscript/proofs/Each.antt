@@ -2,19 +2,19 @@
 use Rattle.std.proofs.Common.{◌≡◌, ◌∙◌, refl, sym, ap, subst, List, [], ◌∷◌, ◌++◌, length, ◌<◌, ◌≤◌, arith}
 use Rattle.std.proofs.Common.{append_assoc}
 use Rattle.ldscript_tokens.specs.Tokens.{Lexeme}
-use Rattle.ldscript.specs.Steps.{Part, ◌▸◌, each, some}
+use Rattle.ldscript.specs.Steps.{Rule, ◌▸◌, each, some}
 use Rattle.ldscript.specs.Readings.{Takes, NoneAt}
 use Rattle.ldscript.proofs.Singles.{Fixed, Single, SingleUntil}
 
 -- what tells the members of a list and what closes it apart
-pub record EachListed {A : Type 0} (Stop : List Lexeme → Type 0) (c : Part) (p : A → Part) : Type 0 where
+pub record EachListed {A : Type 0} (Stop : List Lexeme → Type 0) (c : Rule) (p : A → Rule) : Type 0 where
   pub single : SingleUntil Stop p
   pub closes : Fixed c
   pub no_close : (x : A) (ts r s : List Lexeme) → p x ts r → c ts s → ⊥
   pub at_close : (ts r : List Lexeme) → c ts r → Stop ts
   pub at_start : (x : A) (ts r : List Lexeme) → p x ts r → Stop ts
 
-module _ {A : Type 0} {Stop : List Lexeme → Type 0} {c : Part} {p : A → Part} where
+module _ {A : Type 0} {Stop : List Lexeme → Type 0} {c : Rule} {p : A → Rule} where
   pub each_stops : EachListed Stop c p → (ys : List A) (ts r : List Lexeme) → (each p ys ▸ c) ts r → Stop ts
   each_stops l [] ts r d = subst Stop (sym d.1) (l.at_close d.0 r d.2)
   each_stops l (y ∷ ys) ts r d = l.at_start y ts d.1.0 d.1.1
@@ -53,12 +53,12 @@ module _ {A : Type 0} {Stop : List Lexeme → Type 0} {c : Part} {p : A → Part
   empty_none l xs ts us e h [] more d = d.1
   empty_none l xs ts us e h (y ∷ ys) more d = let q = (each_single l xs (y ∷ ys) ts us more h d).0 in cc
 
-pub some_of_each : {A : Type 0} (c : Part) (p : A → Part) (xs : List A) (ts us : List Lexeme) → (xs ≡ [] → ⊥)
+pub some_of_each : {A : Type 0} (c : Rule) (p : A → Rule) (xs : List A) (ts us : List Lexeme) → (xs ≡ [] → ⊥)
     → (each p xs ▸ c) ts us → (some p xs ▸ c) ts us
 some_of_each c p [] ts us n d = absurd (n refl)
 some_of_each c p (x ∷ xs) ts us n d = d
 
-pub some_none : {A : Type 0} (c : Part) (p : A → Part) (ts : List Lexeme) → NoneAt (λ xs. each p xs ▸ c) ts
+pub some_none : {A : Type 0} (c : Rule) (p : A → Rule) (ts : List Lexeme) → NoneAt (λ xs. each p xs ▸ c) ts
     → NoneAt (λ xs. some p xs ▸ c) ts
 some_none c p ts n [] more d = d.1
 some_none c p ts n (x ∷ xs) more d = n (x ∷ xs) more d
@@ -68,16 +68,16 @@ append_nil [] = refl
 append_nil (x ∷ xs) = ap (λ ys. x ∷ ys) (append_nil xs)
 
 -- the members read so far: what completes the rest completes the whole, and the other way round
-pub record EachSoFar {A : Type 0} (c : Part) (p : A → Part) (ts : List Lexeme) (xs : List A)
+pub record EachSoFar {A : Type 0} (c : Rule) (p : A → Rule) (ts : List Lexeme) (xs : List A)
     (rest : List Lexeme) : Type 0 where
   pub forth : (ys : List A) (r : List Lexeme) → each p ys rest r → each p (xs ++ ys) ts r
   pub back : (ys : List A) (r : List Lexeme) → (each p ys ▸ c) ts r → (zs : List A) × (each p zs ▸ c) rest r
   pub shorter : length rest ≤ length ts
 
-pub each_so_far_none : {A : Type 0} (c : Part) (p : A → Part) (ts : List Lexeme) → EachSoFar c p ts [] ts
+pub each_so_far_none : {A : Type 0} (c : Rule) (p : A → Rule) (ts : List Lexeme) → EachSoFar c p ts [] ts
 each_so_far_none c p ts = record { forth = λ ys r d. d; back = λ ys r d. (ys, d); shorter = omega arith }
 
-pub each_so_far_member : {A : Type 0} (Stop : List Lexeme → Type 0) (c : Part) (p : A → Part) → EachListed Stop c p
+pub each_so_far_member : {A : Type 0} (Stop : List Lexeme → Type 0) (c : Rule) (p : A → Rule) → EachListed Stop c p
     → (ts : List Lexeme) (xs : List A) (x : A) (rest us : List Lexeme)
     → EachSoFar c p ts xs rest → p x rest us
     → ((y : A) (more : List Lexeme) → p y rest more → Stop more → (y ≡ x) × (more ≡ us)) → length us < length rest
@@ -88,7 +88,7 @@ each_so_far_member Stop c p l ts xs x rest us s m only h = record {
   shorter = omega (arith, s.shorter);
 }
 
-pub each_so_far_closed : {A : Type 0} (c : Part) (p : A → Part) (ts : List Lexeme) (xs : List A) (rest us : List Lexeme)
+pub each_so_far_closed : {A : Type 0} (c : Rule) (p : A → Rule) (ts : List Lexeme) (xs : List A) (rest us : List Lexeme)
     → EachSoFar c p ts xs rest → c rest us → length us < length rest
     → Takes (λ ys. each p ys ▸ c) ts xs us
 each_so_far_closed c p ts xs rest us s m h = record {
@@ -96,7 +96,7 @@ each_so_far_closed c p ts xs rest us s m h = record {
   shorter = omega (arith, s.shorter);
 }
 
-pub each_so_far_stuck : {A : Type 0} (Stop : List Lexeme → Type 0) (c : Part) (p : A → Part) → EachListed Stop c p
+pub each_so_far_stuck : {A : Type 0} (Stop : List Lexeme → Type 0) (c : Rule) (p : A → Rule) → EachListed Stop c p
     → (ts : List Lexeme) (xs : List A) (rest : List Lexeme)
     → EachSoFar c p ts xs rest → ((us : List Lexeme) → c rest us → ⊥)
     → ((y : A) (more : List Lexeme) → p y rest more → Stop more → ⊥) → NoneAt (λ ys. each p ys ▸ c) ts

@@ -9,9 +9,9 @@ use Rattle.ldscript_tokens.specs.declared.token.Mark.{Mark}
 use Rattle.ldscript_tokens.specs.declared.token.Mark.TheVariants.{OpenParenthesis, CloseParenthesis, CloseBrace, Semicolon}
 use Rattle.ldscript_tokens.specs.declared.token.Mode.TheVariants.{Pattern}
 use Rattle.ldscript_terms.specs.Parts as patterns
-use Rattle.ldscript_terms.specs.Spelling.{Spells}
+use Rattle.ldscript_terms.specs.Spelling.{SpellsPattern}
 use Rattle.ldscript_terms.proofs.Reading.{one_pattern}
-use Rattle.ldscript.specs.Steps.{Part, ◌▸◌, mark, token, key, pattern, some, statements}
+use Rattle.ldscript.specs.Steps.{Rule, ◌▸◌, mark, token, key, pattern, some, statements}
 use Rattle.ldscript.specs.Grammar.{sort, excluded, exclusion, one, bare, selection, plain, kept, input, input_statement}
 use Rattle.ldscript.specs.Readings.{NoneAt, Reads, excluded_files, word_part, selected}
 use Rattle.ldscript_statements.specs.declared.input.Sort.{Sort}
@@ -31,7 +31,7 @@ pub pattern_single : Single pattern
 pattern_single ts r s a b x y =
     let e = tokens_same (Word x.0) (Word y.0) ts r s x.3 y.3 in
     let w = same_words x.0 y.0 e.0 in
-    (one_pattern a b x.0 x.2 (subst (λ v. Spells b v) (sym w) y.2), e.1)
+    (one_pattern a b x.0 x.2 (subst (λ v. SpellsPattern b v) (sym w) y.2), e.1)
 
 -- a word of the language is no pattern
 pub pattern_no_key : (w : List ℕ) → is_free_word w ≡ false → (p : List patterns.Part) (ts r s : List Lexeme)
@@ -184,7 +184,7 @@ sort_no_words a [] ts r s x y = y
 sort_no_words a (w ∷ ws) ts r s x y = sort_no_word a w.excluded w.pattern ts r y.0 x y.1
 
 -- what the parentheses of an input statement hold, with the `)`
-abbrev Selected : Option Sort → List SectionWord → Part
+abbrev Selected : Option Sort → List SectionWord → Rule
 Selected o ws = selection o ws ▸ mark CloseParenthesis
 
 pub selected_single : (a b : Option Sort) (ps qs : List SectionWord) (ts r s : List Lexeme) → Selected a ps ts r

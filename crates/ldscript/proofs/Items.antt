@@ -11,7 +11,7 @@ use Rattle.ldscript_tokens.specs.declared.token.Mode.TheVariants.{Expression}
 use Rattle.ldscript_terms.specs.Expressions.{Expr}
 use Rattle.ldscript_terms.specs.Grammar.{Whole}
 use Rattle.ldscript.specs.Steps.{◌▸◌, mark, token, key, name, optional, expression, statements}
-use Rattle.ldscript.specs.Grammar.{ended, in_parentheses, dot_command, common, address, at_address, load_in_head}
+use Rattle.ldscript.specs.Grammar.{ended, in_parentheses, dot_command, common, stated_address, at_address, load_in_head}
 use Rattle.ldscript.specs.Grammar.{load_in_tail, alignment, section, body_statement, input_statement, discarded}
 use Rattle.ldscript.specs.Grammar.{discard, item_command, item_statement}
 use Rattle.ldscript.specs.Readings.{Takes, TakesOnly, NoneAt, NoneUntil, Reads, EndsSection, TakesTail, tail_part}
@@ -42,14 +42,14 @@ use Rattle.ldscript.proofs.Lists.{Listed, closing_single}
 no_colon_first : (e : Expr) (ts us r s : List Lexeme) → expression e ts us → mark Colon ts s → ⊥
 no_colon_first e ts us r s x y = starts Colon (λ q. cc) refl Whole e ts us s x y
 
-pub address_single : Single address
+pub address_single : Single stated_address
 address_single ts r s None None x y = (refl, mark_fixed Colon ts r s x y)
 address_single ts r s None (Some e) x y = absurd (starts Colon (λ q. cc) refl Whole e ts y.0 r y.1 x)
 address_single ts r s (Some e) None x y = absurd (starts Colon (λ q. cc) refl Whole e ts x.0 s x.1 y)
 address_single ts r s (Some e) (Some f) x y = let h = ended_single Colon tt ts r s e f x y in (ap Some h.0, h.1)
 
 pub address_none : (ts : List Lexeme) → ((us : List Lexeme) → mark Colon ts us → ⊥) → NoneAt (ended Colon) ts
-    → NoneAt address ts
+    → NoneAt stated_address ts
 address_none ts c n None more d = c more d
 address_none ts c n (Some e) more d = n e more d
 
@@ -160,7 +160,7 @@ pub record SectionParts (s : OutputSection) (ts more : List Lexeme) : Type 0 whe
   pub behind_head : List Lexeme
   pub behind_body : List Lexeme
   pub named : name s.name ts behind_name
-  pub addressed : address s.address behind_name behind_address
+  pub addressed : stated_address s.address behind_name behind_address
   pub headed : head_part (head_of s) behind_address behind_head
   pub bodied : (statements body_statement s.body ▸ mark CloseBrace) behind_head behind_body
   pub tailed : tail_part (tail_of s) behind_body more
@@ -219,7 +219,7 @@ section_only a b ts r more p only d e =
     let q = section_parts b ts more d in
     let n = name_single Expression ts q.behind_name p.behind_name b.name a.name q.named p.named in
     let x = address_single p.behind_name q.behind_address p.behind_address b.address a.address
-    (subst (λ l. address b.address l q.behind_address) n.1 q.addressed) p.addressed in
+    (subst (λ l. stated_address b.address l q.behind_address) n.1 q.addressed) p.addressed in
     let h = head_single p.behind_address q.behind_head p.behind_head (head_of b) (head_of a)
     (subst (λ l. head_part (head_of b) l q.behind_head) x.1 q.headed) p.headed in
     let s = closed_body_single p.behind_head q.behind_body p.behind_body b.body a.body
@@ -230,27 +230,28 @@ section_only a b ts r more p only d e =
 -- what stands behind the parts of a section that were read, in any section of the same tokens
 module _ (ts b1 : List Lexeme) (n : List ℕ) (named : name n ts b1) (y : OutputSection) (more : List Lexeme)
     (d : section y ts more) where
-  address_at : address y.address b1 (section_parts y ts more d).behind_address
+  address_at : stated_address y.address b1 (section_parts y ts more d).behind_address
   address_at =
       let q = section_parts y ts more d in
-      subst (λ l. address y.address l q.behind_address)
+      subst (λ l. stated_address y.address l q.behind_address)
       (name_single Expression ts q.behind_name b1 y.name n q.named named).1 q.addressed
 
-  head_at : (b2 : List Lexeme) (a : Option Expr) → address a b1 b2
+  head_at : (b2 : List Lexeme) (a : Option Expr) → stated_address a b1 b2
       → head_part (head_of y) b2 (section_parts y ts more d).behind_head
   head_at b2 a addressed =
       let q = section_parts y ts more d in
       subst (λ l. head_part (head_of y) l q.behind_head)
       (address_single b1 q.behind_address b2 y.address a address_at addressed).1 q.headed
 
-  body_at : (b2 b3 : List Lexeme) (a : Option Expr) (h : SectionHead) → address a b1 b2 → head_part h b2 b3
+  body_at : (b2 b3 : List Lexeme) (a : Option Expr) (h : SectionHead) → stated_address a b1 b2 → head_part h b2 b3
       → (statements body_statement y.body ▸ mark CloseBrace) b3 (section_parts y ts more d).behind_body
   body_at b2 b3 a h addressed headed =
       let q = section_parts y ts more d in
       subst (λ l. (statements body_statement y.body ▸ mark CloseBrace) l q.behind_body)
       (head_single b2 q.behind_head b3 (head_of y) h (head_at b2 a addressed) headed).1 q.bodied
 
-  tail_at : (b2 b3 b4 : List Lexeme) (a : Option Expr) (h : SectionHead) (s : List BodyStatement) → address a b1 b2
+  tail_at : (b2 b3 b4 : List Lexeme) (a : Option Expr) (h : SectionHead) (s : List BodyStatement)
+      → stated_address a b1 b2
       → head_part h b2 b3 → (statements body_statement s ▸ mark CloseBrace) b3 b4 → tail_part (tail_of y) b4 more
   tail_at b2 b3 b4 a h s addressed headed bodied =
       let q = section_parts y ts more d in
@@ -260,31 +261,31 @@ module _ (ts b1 : List Lexeme) (n : List ℕ) (named : name n ts b1) (y : Output
 pub section_name_none : (ts : List Lexeme) → NoneAt name ts → NoneUntil EndsSection section ts
 section_name_none ts n y more d e = n y.name d.1.0 d.1.1
 
-pub section_address_none : (ts b1 : List Lexeme) (n : List ℕ) → name n ts b1 → NoneAt address b1
+pub section_address_none : (ts b1 : List Lexeme) (n : List ℕ) → name n ts b1 → NoneAt stated_address b1
     → NoneUntil EndsSection section ts
 section_address_none ts b1 n named none y more d e =
     none y.address (section_parts y ts more d).behind_address (address_at ts b1 n named y more d)
 
-pub section_head_none : (ts b1 b2 : List Lexeme) (n : List ℕ) (a : Option Expr) → name n ts b1 → address a b1 b2
+pub section_head_none : (ts b1 b2 : List Lexeme) (n : List ℕ) (a : Option Expr) → name n ts b1 → stated_address a b1 b2
     → NoneAt head_part b2 → NoneUntil EndsSection section ts
 section_head_none ts b1 b2 n a named addressed none y more d e =
     none (head_of y) (section_parts y ts more d).behind_head (head_at ts b1 n named y more d b2 a addressed)
 
 pub section_body_none : (ts b1 b2 b3 : List Lexeme) (n : List ℕ) (a : Option Expr) (h : SectionHead) → name n ts b1
-    → address a b1 b2 → head_part h b2 b3
+    → stated_address a b1 b2 → head_part h b2 b3
     → NoneAt (λ ss. statements body_statement ss ▸ mark CloseBrace) b3 → NoneUntil EndsSection section ts
 section_body_none ts b1 b2 b3 n a h named addressed headed none y more d e =
     none y.body (section_parts y ts more d).behind_body (body_at ts b1 n named y more d b2 b3 a h addressed headed)
 
 pub section_tail_none : (ts b1 b2 b3 b4 : List Lexeme) (n : List ℕ) (a : Option Expr) (h : SectionHead)
-    (s : List BodyStatement) → name n ts b1 → address a b1 b2 → head_part h b2 b3
+    (s : List BodyStatement) → name n ts b1 → stated_address a b1 b2 → head_part h b2 b3
     → (statements body_statement s ▸ mark CloseBrace) b3 b4 → NoTail b4 → NoneUntil EndsSection section ts
 section_tail_none ts b1 b2 b3 b4 n a h s named addressed headed bodied none y more d e =
     none (tail_of y) more (tail_at ts b1 n named y more d b2 b3 b4 a h s addressed headed bodied) e
 
 -- a load address in the head and another in the tail
 pub section_load_none : (ts b1 b2 b3 b4 rest : List Lexeme) (n : List ℕ) (a : Option Expr) (h : SectionHead)
-    (s : List BodyStatement) (t : SectionTail) → name n ts b1 → address a b1 b2 → head_part h b2 b3
+    (s : List BodyStatement) (t : SectionTail) → name n ts b1 → stated_address a b1 b2 → head_part h b2 b3
     → (statements body_statement s ▸ mark CloseBrace) b3 b4 → TakesTail b4 t rest
     → ((l : Load) → load_in_head l ≡ h.load → load_in_tail l ≡ t.load → ⊥) → NoneUntil EndsSection section ts
 section_load_none ts b1 b2 b3 b4 rest n a h s t named addressed headed bodied tailed none y more d e =
@@ -294,7 +295,7 @@ section_load_none ts b1 b2 b3 b4 rest n a h s t named addressed headed bodied ta
     none y.load (ap (λ (x : SectionHead). x.load) k.0) (ap (λ (x : SectionTail). x.load) m.0)
 
 pub takes_section : (s : OutputSection) (h : SectionHead) (t : SectionTail) (ts b1 b2 b3 b4 rest : List Lexeme)
-    → Takes name ts s.name b1 → Takes address b1 s.address b2 → Takes head_part b2 h b3
+    → Takes name ts s.name b1 → Takes stated_address b1 s.address b2 → Takes head_part b2 h b3
     → Takes (λ ss. statements body_statement ss ▸ mark CloseBrace) b3 s.body b4 → TakesTail b4 t rest
     → load_in_head s.load ≡ h.load → s.alignment ≡ h.alignment → s.region ≡ t.region → load_in_tail s.load ≡ t.load
     → s.fill ≡ t.fill → TakesOnly EndsSection section ts s rest
@@ -356,7 +357,7 @@ dot_no_section : (a : DotCommand) (b : OutputSection) (ts r s : List Lexeme) →
     → section b ts s → ⊥
 dot_no_section a b ts r s x y = name_no_key Expression b.name (codes ".") dot_no_name ts y.1.0 x.0 y.1.1 x.1
 
-address_no_assign : (o : Option Expr) (ts r s : List Lexeme) → address o ts r → mark Assign ts s → ⊥
+address_no_assign : (o : Option Expr) (ts r s : List Lexeme) → stated_address o ts r → mark Assign ts s → ⊥
 address_no_assign None ts r s x y = marks_differ Colon Assign ts r s (λ q. cc) x y
 address_no_assign (Some e) ts r s x y = starts Assign (λ q. cc) refl Whole e ts x.0 s x.1 y
 
@@ -364,7 +365,7 @@ common_no_section : (a : Common) (b : OutputSection) (ts r s : List Lexeme) → 
     → section b ts s → ⊥
 common_no_section (commons.Assign a) b ts r s x y =
     let e = name_single Expression ts y.1.0 x.0 b.name a.name y.1.1 x.1 in
-    address_no_assign b.address x.0 y.1.2.0 x.2.0 (subst (λ l. address b.address l y.1.2.0) e.1 y.1.2.1) x.2.1
+    address_no_assign b.address x.0 y.1.2.0 x.2.0 (subst (λ l. stated_address b.address l y.1.2.0) e.1 y.1.2.1) x.2.1
 common_no_section (commons.Provide a) b ts r s x y =
     name_no_key Expression b.name (codes "PROVIDE") provide_no_name ts y.1.0 x.0 y.1.1 x.1
 common_no_section (commons.Assert a) b ts r s x y =

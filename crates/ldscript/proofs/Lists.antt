@@ -3,12 +3,12 @@ use Rattle.std.proofs.Common.{◌≡◌, ◌∙◌, refl, sym, ap, subst, List, 
 use Rattle.std.proofs.Common.{arith, append_assoc}
 use Rattle.ldscript_tokens.specs.Tokens.{Lexeme}
 use Rattle.ldscript_tokens.specs.declared.token.Mark.TheVariants.{Semicolon}
-use Rattle.ldscript.specs.Steps.{Part, ◌▸◌, mark, Semicolons, none, one, statements}
+use Rattle.ldscript.specs.Steps.{Rule, ◌▸◌, mark, Semicolons, none, one, statements}
 use Rattle.ldscript.specs.Readings.{Takes, NoneAt}
 use Rattle.ldscript.proofs.Singles.{Fixed, SingleUntil, mark_fixed}
 
 -- what tells the statements of a list, the `;` between them and what closes the list apart
-pub record Listed {A : Type 0} (Stop : List Lexeme → Type 0) (c : Part) (p : A → Part) : Type 0 where
+pub record Listed {A : Type 0} (Stop : List Lexeme → Type 0) (c : Rule) (p : A → Rule) : Type 0 where
   pub single : SingleUntil Stop p
   pub closes : Fixed c
   pub no_close : (x : A) (ts r s : List Lexeme) → p x ts r → c ts s → ⊥
@@ -23,7 +23,7 @@ split_semicolons : (ts r : List Lexeme) → Semicolons ts r
 split_semicolons ts r none = inl refl
 split_semicolons ts r (one {us = us} m d) = inr (us, m, d)
 
-module _ {A : Type 0} {Stop : List Lexeme → Type 0} {c : Part} {p : A → Part} where
+module _ {A : Type 0} {Stop : List Lexeme → Type 0} {c : Rule} {p : A → Rule} where
   -- one `;` less
   pub behind_semicolon : Listed Stop c p → (ts us : List Lexeme) → mark Semicolon ts us
       → (ys : List A) (r : List Lexeme) → (statements p ys ▸ c) ts r → (statements p ys ▸ c) us r
@@ -97,7 +97,7 @@ module _ {A : Type 0} {Stop : List Lexeme → Type 0} {c : Part} {p : A → Part
       let e = closing_single l xs h.0 d.1.2.0 r s (d.0, d.1.2.2, d.2) h.2 in
       (ap (λ zs. x ∷ zs) e.0 ∙ sym h.1, e.1)
 
-pub with_semicolon : {A : Type 0} (p : A → Part) (ts us : List Lexeme) → mark Semicolon ts us
+pub with_semicolon : {A : Type 0} (p : A → Rule) (ts us : List Lexeme) → mark Semicolon ts us
     → (ys : List A) (r : List Lexeme) → statements p ys us r → statements p ys ts r
 with_semicolon p ts us m [] r d = one m d
 with_semicolon p ts us m (y ∷ ys) r d = (d.0, one m d.1, d.2)
@@ -107,16 +107,16 @@ append_nil [] = refl
 append_nil (x ∷ xs) = ap (λ ys. x ∷ ys) (append_nil xs)
 
 -- the statements read so far: what completes the rest completes the whole, and the other way round
-pub record SoFar {A : Type 0} (c : Part) (p : A → Part) (ts : List Lexeme) (xs : List A)
+pub record SoFar {A : Type 0} (c : Rule) (p : A → Rule) (ts : List Lexeme) (xs : List A)
     (rest : List Lexeme) : Type 0 where
   pub forth : (ys : List A) (r : List Lexeme) → statements p ys rest r → statements p (xs ++ ys) ts r
   pub back : (ys : List A) (r : List Lexeme) → (statements p ys ▸ c) ts r → (zs : List A) × (statements p zs ▸ c) rest r
   pub shorter : length rest ≤ length ts
 
-pub so_far_none : {A : Type 0} (c : Part) (p : A → Part) (ts : List Lexeme) → SoFar c p ts [] ts
+pub so_far_none : {A : Type 0} (c : Rule) (p : A → Rule) (ts : List Lexeme) → SoFar c p ts [] ts
 so_far_none c p ts = record { forth = λ ys r d. d; back = λ ys r d. (ys, d); shorter = omega arith }
 
-pub so_far_semicolon : {A : Type 0} (Stop : List Lexeme → Type 0) (c : Part) (p : A → Part) → Listed Stop c p
+pub so_far_semicolon : {A : Type 0} (Stop : List Lexeme → Type 0) (c : Rule) (p : A → Rule) → Listed Stop c p
     → (ts : List Lexeme) (xs : List A) (rest us : List Lexeme)
     → SoFar c p ts xs rest → mark Semicolon rest us → length us < length rest → SoFar c p ts xs us
 so_far_semicolon Stop c p l ts xs rest us s m h = record {
@@ -125,7 +125,7 @@ so_far_semicolon Stop c p l ts xs rest us s m h = record {
   shorter = omega (arith, s.shorter);
 }
 
-pub so_far_statement : {A : Type 0} (Stop : List Lexeme → Type 0) (c : Part) (p : A → Part) → Listed Stop c p
+pub so_far_statement : {A : Type 0} (Stop : List Lexeme → Type 0) (c : Rule) (p : A → Rule) → Listed Stop c p
     → (ts : List Lexeme) (xs : List A) (x : A) (rest us : List Lexeme)
     → SoFar c p ts xs rest → p x rest us
     → ((y : A) (more : List Lexeme) → p y rest more → Stop more → (y ≡ x) × (more ≡ us)) → length us < length rest
@@ -137,7 +137,7 @@ so_far_statement Stop c p l ts xs x rest us s m only h = record {
   shorter = omega (arith, s.shorter);
 }
 
-pub so_far_closed : {A : Type 0} (c : Part) (p : A → Part) (ts : List Lexeme) (xs : List A) (rest us : List Lexeme)
+pub so_far_closed : {A : Type 0} (c : Rule) (p : A → Rule) (ts : List Lexeme) (xs : List A) (rest us : List Lexeme)
     → SoFar c p ts xs rest → c rest us → length us < length rest
     → Takes (λ ys. statements p ys ▸ c) ts xs us
 so_far_closed c p ts xs rest us s m h = record {
@@ -145,7 +145,7 @@ so_far_closed c p ts xs rest us s m h = record {
   shorter = omega (arith, s.shorter);
 }
 
-pub so_far_stuck : {A : Type 0} (Stop : List Lexeme → Type 0) (c : Part) (p : A → Part) → Listed Stop c p
+pub so_far_stuck : {A : Type 0} (Stop : List Lexeme → Type 0) (c : Rule) (p : A → Rule) → Listed Stop c p
     → (ts : List Lexeme) (xs : List A) (rest : List Lexeme)
     → SoFar c p ts xs rest → ((us : List Lexeme) → c rest us → ⊥) → ((us : List Lexeme) → mark Semicolon rest us → ⊥)
     → ((y : A) (more : List Lexeme) → p y rest more → Stop more → ⊥) → NoneAt (λ ys. statements p ys ▸ c) ts

@@ -6,7 +6,8 @@ use Rattle.ldscript_tokens.specs.declared.token.Mark.{Mark}
 use Rattle.ldscript_tokens.specs.declared.token.Mark.TheVariants.{CloseBrace, Colon, Comma, Assign}
 use Rattle.ldscript_tokens.specs.declared.token.Mode.TheVariants.{Expression}
 use Rattle.ldscript_terms.specs.Expressions.{Expr}
-use Rattle.ldscript_terms.specs.Grammar.{Stops, Whole}
+use Rattle.ldscript_terms.specs.Reading.{Stops}
+use Rattle.ldscript_terms.specs.Grammar.{Whole}
 use Rattle.ldscript.specs.Steps.{◌▸◌, mark, token, key, name, each, expression}
 use Rattle.ldscript.specs.Grammar.{ended, region_head, region_middle, region}
 use Rattle.ldscript_statements.specs.declared.statement.Region.{Region}

@@ -10,11 +10,12 @@ use Rattle.ldscript_tokens.specs.declared.token.Mark.TheVariants.{AddAssign}
 use Rattle.ldscript_tokens.specs.declared.token.Mode.{Mode}
 use Rattle.ldscript_tokens.specs.declared.token.Mode.TheVariants.{Expression, Pattern}
 use Rattle.ldscript_terms.specs.Expressions.{Expr}
-use Rattle.ldscript_terms.specs.Grammar.{Whole, Stops, StopsAt, Sign}
-use Rattle.ldscript.specs.Steps.{Part, ◌▸◌, token, mark, word_in, key, is_name_spelling, is_name_in, name_in, name}
+use Rattle.ldscript_terms.specs.Grammar.{Whole, Sign}
+use Rattle.ldscript_terms.specs.Reading.{Stops, StopsAt}
+use Rattle.ldscript.specs.Steps.{Rule, ◌▸◌, token, mark, word_in, key, is_name_spelling, is_name_in, name_in, name}
 use Rattle.ldscript.specs.Steps.{string, expression}
-use Rattle.ldscript.specs.Grammar.{ended, set_to, add_to, dot_change, dot_command, assign, provided_name, provided}
-use Rattle.ldscript.specs.Grammar.{provide, asserted, assertion, common, in_parentheses}
+use Rattle.ldscript.specs.Grammar.{ended, dot_set_to, add_to, dot_change, dot_command, assign, provided_name}
+use Rattle.ldscript.specs.Grammar.{provided_assignment, provide, asserted, assertion, common, in_parentheses}
 use Rattle.ldscript_statements.specs.declared.common.Assignment.{Assignment}
 use Rattle.ldscript_statements.specs.declared.common.Assertion.{Assertion}
 use Rattle.ldscript_statements.specs.declared.common.Common.TheVariants as commons
@@ -22,15 +23,15 @@ use Rattle.ldscript_statements.specs.declared.common.DotCommand.TheVariants.{Set
 use Rattle.ldscript.proofs.Expressions.{one_expression}
 
 -- a part without a tree leads to one place
-abbrev pub Fixed : Part → Type 0
+abbrev pub Fixed : Rule → Type 0
 Fixed p = (ts r s : List Lexeme) → p ts r → p ts s → r ≡ s
 
 -- a part with a tree gives one tree and leads to one place
-abbrev pub Single : {A : Type 0} → (A → Part) → Type 0
+abbrev pub Single : {A : Type 0} → (A → Rule) → Type 0
 Single {A} p = (ts r s : List Lexeme) (a b : A) → p a ts r → p b ts s → (a ≡ b) × (r ≡ s)
 
 -- the same of readings that stop
-abbrev pub SingleUntil : {A : Type 0} → (List Lexeme → Type 0) → (A → Part) → Type 0
+abbrev pub SingleUntil : {A : Type 0} → (List Lexeme → Type 0) → (A → Rule) → Type 0
 SingleUntil {A} Stop p = (ts r s : List Lexeme) (a b : A) → p a ts r → p b ts s → Stop r → Stop s → (a ≡ b) × (r ≡ s)
 
 same_lexemes : (t u : Token) (k l : ℕ) (r s : List Lexeme) → lexeme t k ∷ r ≡ lexeme u l ∷ s → (t ≡ u) × (r ≡ s)
@@ -50,29 +51,29 @@ mark_fixed m = token_fixed (Punctuation m)
 pub key_fixed : (mode : Mode) (w : List ℕ) → Fixed (key mode w)
 key_fixed mode w = token_fixed (word_in mode w)
 
-pub then_fixed : (p q : Part) → Fixed p → Fixed q → Fixed (p ▸ q)
+pub then_fixed : (p q : Rule) → Fixed p → Fixed q → Fixed (p ▸ q)
 then_fixed p q f g ts r s a b = g b.0 r s (subst (λ l. q l r) (f ts a.0 b.0 a.1 b.1) a.2) b.2
 
 -- what follows a part that leads to one place
-pub behind : (p q : Part) → Fixed p → (ts us more : List Lexeme) → p ts us → (p ▸ q) ts more → q us more
+pub behind : (p q : Rule) → Fixed p → (ts us more : List Lexeme) → p ts us → (p ▸ q) ts more → q us more
 behind p q f ts us more h d = subst (λ l. q l more) (f ts d.0 us d.1 h) d.2
 
 -- the same behind a part with a tree
-pub behind_tree : {A : Type 0} (p : A → Part) (q : Part) → Single p → (ts us more : List Lexeme) (a b : A) → p a ts us
+pub behind_tree : {A : Type 0} (p : A → Rule) (q : Rule) → Single p → (ts us more : List Lexeme) (a b : A) → p a ts us
     → (p b ▸ q) ts more → (b ≡ a) × q us more
 behind_tree p q f ts us more a b h d =
     let e = f ts d.0 us b a d.1 h in
     (e.0, subst (λ l. q l more) e.1 d.2)
 
-pub skip_single : {A : Type 0} (p : Part) (q : A → Part) → Fixed p → Single q → Single (λ a. p ▸ q a)
+pub skip_single : {A : Type 0} (p : Rule) (q : A → Rule) → Fixed p → Single q → Single (λ a. p ▸ q a)
 skip_single {A} p q f g ts r s a b x y = g y.0 r s a b (subst (λ l. q a l r) (f ts x.0 y.0 x.1 y.1) x.2) y.2
 
-pub end_single : {A : Type 0} (p : A → Part) (q : Part) → Single p → Fixed q → Single (λ a. p a ▸ q)
+pub end_single : {A : Type 0} (p : A → Rule) (q : Rule) → Single p → Fixed q → Single (λ a. p a ▸ q)
 end_single {A} p q f g ts r s a b x y =
     let e = f ts x.0 y.0 a b x.1 y.1 in
     (e.0, g y.0 r s (subst (λ l. q l r) e.1 x.2) y.2)
 
-pub pair_single : {A B : Type 0} (p : A → Part) (q : B → Part) → Single p → Single q
+pub pair_single : {A B : Type 0} (p : A → Rule) (q : B → Rule) → Single p → Single q
     → (ts r s : List Lexeme) (a a' : A) (b b' : B) → (p a ▸ q b) ts r → (p a' ▸ q b') ts s
     → (a ≡ a') × (b ≡ b') × (r ≡ s)
 pair_single {A} {B} p q f g ts r s a a' b b' x y =
@@ -135,7 +136,7 @@ ended_single m h ts r s a b x y =
     let e = expression_single ts x.0 y.0 a b x.1 y.1 (stops_at m h x.0 r x.2) (stops_at m h y.0 s y.2) in
     (e.0, mark_fixed m y.0 r s (subst (λ l. mark m l r) e.1 x.2) y.2)
 
-pub set_to_single : Single set_to
+pub set_to_single : Single dot_set_to
 set_to_single = skip_single (mark Assign) (ended Semicolon) (mark_fixed Assign) (ended_single Semicolon tt)
 
 pub add_to_single : Single add_to
@@ -171,7 +172,7 @@ assertions_same a b e f =
 
 pub assign_single : (mode : Mode) → Single (assign mode)
 assign_single mode ts r s a b x y =
-    let e = pair_single (name_in mode) set_to
+    let e = pair_single (name_in mode) dot_set_to
     (name_single mode) set_to_single ts r s a.name b.name a.value b.value x y in
     (assignments_same a b e.0 e.1, e.2)
 
@@ -179,14 +180,14 @@ pub provided_name_single : Single provided_name
 provided_name_single = skip_single (mark OpenParenthesis) (λ n. name n ▸ mark Assign) (mark_fixed OpenParenthesis)
     (end_single name (mark Assign) (name_single Expression) (mark_fixed Assign))
 
-pub provided_single : Single provided
+pub provided_single : Single provided_assignment
 provided_single ts r s a b x y =
     let e = pair_single provided_name (ended CloseParenthesis) provided_name_single
     (ended_single CloseParenthesis tt) ts r s a.name b.name a.value b.value x y in
     (assignments_same a b e.0 e.1, e.2)
 
 pub provide_single : (mode : Mode) → Single (provide mode)
-provide_single mode = skip_single (key mode (codes "PROVIDE")) provided
+provide_single mode = skip_single (key mode (codes "PROVIDE")) provided_assignment
     (key_fixed mode (codes "PROVIDE")) provided_single
 
 pub message_single : Single (λ m. string m ▸ mark CloseParenthesis)

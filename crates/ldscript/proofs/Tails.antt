@@ -5,7 +5,7 @@ use Rattle.ldscript_tokens.specs.Tokens.{Lexeme, Name, Number, Punctuation}
 use Rattle.ldscript_tokens.specs.declared.token.Mark.{Mark}
 use Rattle.ldscript_tokens.specs.declared.token.Mark.TheVariants.{Greater, Assign}
 use Rattle.ldscript_tokens.specs.declared.token.Mode.TheVariants.{Expression}
-use Rattle.ldscript.specs.Steps.{Part, ◌▸◌, mark, key, name, optional}
+use Rattle.ldscript.specs.Steps.{Rule, ◌▸◌, mark, key, name, optional}
 use Rattle.ldscript_statements.specs.Fill.{fill_of}
 use Rattle.ldscript.specs.Grammar.{fill, in_region, at_region, filled}
 use Rattle.ldscript.specs.Readings.{NoneAt, NoneUntil, EndsSection, Maybe, TakesTail, tail_part}
@@ -34,14 +34,14 @@ pub filled_single : Single filled
 filled_single = skip_single (mark Assign) fill (mark_fixed Assign) fill_single
 
 -- an optional part that was read, and what follows it: nothing else stands here
-abbrev pub OnlyUntil : {B : Type 0} → (B → Part) → List Lexeme → B → List Lexeme → Type 0
+abbrev pub OnlyUntil : {B : Type 0} → (B → Rule) → List Lexeme → B → List Lexeme → Type 0
 OnlyUntil {B} q us b rest = (c : B) (more : List Lexeme) → q c us more → EndsSection more → (c ≡ b) × (more ≡ rest)
 
 -- where what follows stands at once, the optional part can't begin
-abbrev pub NotSkipped : {B : Type 0} → Part → (B → Part) → Type 0
+abbrev pub NotSkipped : {B : Type 0} → Rule → (B → Rule) → Type 0
 NotSkipped {B} f q = (c : B) (ts more us : List Lexeme) → q c ts more → EndsSection more → f ts us → ⊥
 
-module _ {A B : Type 0} (f : Part) (p : A → Part) (q : B → Part) where
+module _ {A B : Type 0} (f : Rule) (p : A → Rule) (q : B → Rule) where
   pub optional_only : ((x : A) (ts r : List Lexeme) → p x ts r → (us : List Lexeme) × f ts us) → Single p
       → NotSkipped f q
       → (ts us rest : List Lexeme) (a : Option A) (b : B) → Maybe f p ts a us → OnlyUntil q us b rest
@@ -95,14 +95,14 @@ fill_first : (x : List ℕ) (ts r : List Lexeme) → filled x ts r → (us : Lis
 fill_first x ts r d = (d.0, d.1)
 
 -- the fill, which is the last
-abbrev FillPart : Option (List ℕ) → Part
+abbrev FillPart : Option (List ℕ) → Rule
 FillPart o = optional filled o
 
 load_not_skipped : NotSkipped (key Expression (codes "AT")) FillPart
 load_not_skipped None ts more us d e k = e.no_load us (subst (λ l. key Expression (codes "AT") l us) d k)
 load_not_skipped (Some x) ts more us d e k = key_no_mark (codes "AT") Assign ts us d.0 k d.1
 
-abbrev LoadPart : (Option (List ℕ) × Option (List ℕ)) → Part
+abbrev LoadPart : (Option (List ℕ) × Option (List ℕ)) → Rule
 LoadPart o = optional at_region o.0 ▸ optional filled o.1
 
 region_not_skipped : NotSkipped (mark Greater) LoadPart
@@ -138,12 +138,12 @@ tails_same a b e f g =
     → SectionTail = λ r l f. record { region = r; load = l; fill = f } in
     ap (λ r. mk r a.load a.fill) e ∙ ap (λ l. mk b.region l a.fill) f ∙ ap (λ x. mk b.region b.load x) g
 
-maybe_spells : {A : Type 0} (f : Part) (p : A → Part) (ts : List Lexeme) (a : Option A) (us : List Lexeme)
+maybe_spells : {A : Type 0} (f : Rule) (p : A → Rule) (ts : List Lexeme) (a : Option A) (us : List Lexeme)
     → Maybe f p ts a us → optional p a ts us
 maybe_spells f p ts None us m = m.0
 maybe_spells f p ts (Some a) us m = m.0
 
-maybe_within : {A : Type 0} (f : Part) (p : A → Part) (ts : List Lexeme) (a : Option A) (us : List Lexeme)
+maybe_within : {A : Type 0} (f : Rule) (p : A → Rule) (ts : List Lexeme) (a : Option A) (us : List Lexeme)
     → Maybe f p ts a us → length us ≤ length ts
 maybe_within f p ts None us m = let e = ap length m.0 in omega arith
 maybe_within f p ts (Some a) us m = omega (arith, m.1)
@@ -195,7 +195,7 @@ tail_fill_stuck ts us vs ws r l m k h n u more d e =
     (λ y more d e. optional_none (key Expression (codes "AT")) at_region FillPart load_first at_region_single
     load_not_skipped us vs l k (fill_stuck vs ws h n) y.0 y.1 more d e) u.region (u.load, u.fill) more d e
 
-module _ {A B : Type 0} (f : Part) (p : A → Part) (q : B → Part) where
+module _ {A B : Type 0} (f : Rule) (p : A → Rule) (q : B → Rule) where
   optional_single : ((x : A) (ts r : List Lexeme) → p x ts r → (us : List Lexeme) × f ts us) → Single p → NotSkipped f q
       → ((ts r s : List Lexeme) (a b : B) → q a ts r → q b ts s → EndsSection r → EndsSection s → (a ≡ b) × (r ≡ s))
       → (ts r s : List Lexeme) (a b : Option A) (c d : B) → (optional p a ▸ q c) ts r → (optional p b ▸ q d) ts s

@@ -7,7 +7,7 @@ use Rattle.ldscript_tokens.specs.Modes.{IsCut}
 use Rattle.ldscript_tokens.specs.declared.token.Mark.TheVariants.{OpenParenthesis, CloseParenthesis, OpenBrace, CloseBrace}
 use Rattle.ldscript_tokens.specs.declared.token.Mark.TheVariants.{Semicolon}
 use Rattle.ldscript_tokens.specs.declared.token.Mode.TheVariants.{Expression}
-use Rattle.ldscript.specs.Steps.{Part, ◌▸◌, mark, token, key, name, each, statements, Semicolons, none}
+use Rattle.ldscript.specs.Steps.{Rule, ◌▸◌, mark, token, key, name, each, statements, Semicolons, none}
 use Rattle.ldscript.specs.Grammar.{common, region, item_statement, entry, memory, sections, top_command, top_statement}
 use Rattle.ldscript.specs.Grammar.{script}
 use Rattle.ldscript.specs.Readings.{NoneAt}
@@ -120,7 +120,7 @@ nil_cons : (x : Lexeme) (xs : List Lexeme) → [] ≡ x ∷ xs → ⊥
 nil_cons x xs e = cc
 
 -- the end of the tokens
-abbrev pub at_end : Part
+abbrev pub at_end : Rule
 at_end ts rest = (ts ≡ []) × (rest ≡ [])
 
 pub tops_listed : Listed (λ ts. Unit {0}) at_end top_statement

@@ -3,11 +3,13 @@ pub use Rattle.ldscript_terms.specs as terms
 pub use Rattle.ldscript_tokens.specs as tokens
 pub use Rattle.ldscript_tokens.specs.Limits
 pub use Rattle.ldscript_tokens.specs.Tokens
+pub use Rattle.ldscript_tokens.specs.CodeTokens
 pub use Rattle.ldscript_terms.specs.Operators
 pub use Rattle.ldscript_terms.specs.Expressions
 pub use Rattle.ldscript_terms.specs.DotForms
 pub use Rattle.ldscript_terms.specs.Parts
 pub use Rattle.ldscript_terms.specs.Matching
+pub use Rattle.ldscript_terms.specs.CodeTerms
 pub use Rattle.ldscript_statements.specs.Dots
 pub use Rattle.ldscript_statements.specs.Fill
 pub use Rattle.ldscript_statements.specs.Given

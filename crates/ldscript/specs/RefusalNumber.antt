@@ -4,10 +4,10 @@ use Rattle.ldscript.specs.declared.refusal.ScriptRefusal.{ScriptRefusal}
 use Rattle.ldscript.specs.declared.refusal.ScriptRefusal.TheVariants.{NotTokens, NotAScript, Repeated, MisplacedDot}
 use Rattle.ldscript.specs.declared.refusal.ScriptRefusal.TheVariants.{Limit, NoMemory}
 
-abbrev pub refusal_number : ScriptRefusal → ℕ
-refusal_number NotTokens = 1
-refusal_number NotAScript = 2
-refusal_number Repeated = 3
-refusal_number MisplacedDot = 4
-refusal_number Limit = 5
-refusal_number NoMemory = 6
+abbrev pub script_refusal_number : ScriptRefusal → ℕ
+script_refusal_number NotTokens = 1
+script_refusal_number NotAScript = 2
+script_refusal_number Repeated = 3
+script_refusal_number MisplacedDot = 4
+script_refusal_number Limit = 5
+script_refusal_number NoMemory = 6

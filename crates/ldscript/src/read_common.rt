@@ -6,8 +6,8 @@ ghost use Rattle.ldscript.specs.Steps.{◌▸◌, mark, string};
 ghost use Rattle.ldscript.specs.Grammar.{assign as assign_part, asserted as asserted_part, assertion as assertion_part};
 ghost use Rattle.ldscript.specs.Grammar.{common as common_part, dot_change as dot_change_part};
 ghost use Rattle.ldscript.specs.Grammar.{dot_command as dot_command_part, provide as provide_part};
-ghost use Rattle.ldscript.specs.Grammar.{provided as provided_part, provided_name as provided_name_part};
-ghost use Rattle.ldscript.specs.Grammar.{set_to as set_to_part};
+ghost use Rattle.ldscript.specs.Grammar.{provided_assignment as provided_part, provided_name as provided_name_part};
+ghost use Rattle.ldscript.specs.Grammar.{dot_set_to as set_to_part};
 ghost use Rattle.ldscript.specs.Readings.{Reads, Finds};
 
 use crate::steps::{after, after_key, ended, front_name, plain_name};

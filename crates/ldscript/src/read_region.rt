@@ -5,7 +5,8 @@ ghost use Rattle.ldscript.specs.Steps.{◌▸◌, each, expression, mark};
 ghost use Rattle.ldscript.specs.Grammar.{region as region_part, region_head as region_head_part};
 ghost use Rattle.ldscript.specs.Grammar.{region_middle as region_middle_part};
 ghost use Rattle.ldscript.specs.Readings.{Reads, ReadsOnly, Finds, Follows};
-ghost use Rattle.ldscript_terms.specs.Grammar.{Stops, Whole};
+ghost use Rattle.ldscript_terms.specs.Reading.{Stops};
+ghost use Rattle.ldscript_terms.specs.Grammar.{Whole};
 
 use crate::steps::{after, after_key, ended, plain_name};
 use ldscript_statements::formula::Formula;

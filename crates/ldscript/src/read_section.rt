@@ -2,7 +2,7 @@
 
 ghost use Rattle.std.specs.Prelude.{◌≡◌, ◌<◌, ℕ, List, IsTrue, MatchOption, codes, length};
 ghost use Rattle.ldscript.specs.Steps.{◌▸◌, key, mark, statements};
-ghost use Rattle.ldscript.specs.Grammar.{address as address_part, at_region, filled as filled_part, in_region};
+ghost use Rattle.ldscript.specs.Grammar.{stated_address as address_part, at_region, filled as filled_part, in_region};
 ghost use Rattle.ldscript.specs.Grammar.{load_in_head, load_in_tail, section as section_part};
 ghost use Rattle.ldscript.specs.Readings.{EndsSection, Reads, ReadsMaybe, ReadsOnly, ReadsTail, opened_part, head_part};
 ghost use Rattle.ldscript_statements.specs.declared.section.Load.{Load};

@@ -22,11 +22,11 @@ pub enum ScriptRefusal {
 
 impl ScriptRefusal {
     ghost use Rattle.std.specs.Prelude.{◌≡◌};
-    ghost use Rattle.ldscript.specs.RefusalNumber.{refusal_number};
+    ghost use Rattle.ldscript.specs.RefusalNumber.{script_refusal_number};
 
     /// The number under which the refusal is reported, from 1 to 6.
     pub fn number(self) -> u8
-        ensures { result ≡ refusal_number self }
+        ensures { result ≡ script_refusal_number self }
     {
         match self {
             ScriptRefusal::NotTokens => 1,

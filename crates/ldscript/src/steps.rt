@@ -4,7 +4,8 @@ ghost use Rattle.std.specs.Prelude.{◌≡◌, ◌<◌, ◌∷◌, ◌==◌, ◌
 ghost use Rattle.std.specs.List.{list_all};
 ghost use Rattle.ldscript_tokens.specs.Bytes.{is_name_byte};
 ghost use Rattle.ldscript_tokens.specs.Tokens.{Lexeme};
-ghost use Rattle.ldscript_terms.specs.Grammar.{StopsAt, Whole, Sign};
+ghost use Rattle.ldscript_terms.specs.Reading.{StopsAt};
+ghost use Rattle.ldscript_terms.specs.Grammar.{Whole, Sign};
 ghost use Rattle.ldscript.specs.Steps.{◌▸◌, key, mark as mark_part, token, word_in, is_name_in, is_name_spelling};
 ghost use Rattle.ldscript.specs.Steps.{name_in, name as name_part, string, expression};
 ghost use Rattle.ldscript.specs.Grammar.{ended as ended_part, in_parentheses as parenthesized};

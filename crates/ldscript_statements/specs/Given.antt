@@ -57,14 +57,14 @@ abbrev pub region_number : List Statement → List ℕ → Option ℕ
 region_number s name = region_from 0 (regions s) name
 
 -- the symbols that an expression names, from left to right
-abbrev pub symbols_of : Expr → List (List ℕ)
-symbols_of (Number n) = []
-symbols_of Dot = []
-symbols_of (Name n) = n ∷ []
-symbols_of (Unary o a) = symbols_of a
-symbols_of (Binary o a b) = symbols_of a ++ symbols_of b
-symbols_of (Choice t a b) = symbols_of t ++ symbols_of a ++ symbols_of b
-symbols_of (OfRegion q n) = []
-symbols_of (OfSection q n) = []
-symbols_of (AlignDot a) = symbols_of a
-symbols_of (Align a b) = symbols_of a ++ symbols_of b
+abbrev pub expression_symbols : Expr → List (List ℕ)
+expression_symbols (Number n) = []
+expression_symbols Dot = []
+expression_symbols (Name n) = n ∷ []
+expression_symbols (Unary o a) = expression_symbols a
+expression_symbols (Binary o a b) = expression_symbols a ++ expression_symbols b
+expression_symbols (Choice t a b) = expression_symbols t ++ expression_symbols a ++ expression_symbols b
+expression_symbols (OfRegion q n) = []
+expression_symbols (OfSection q n) = []
+expression_symbols (AlignDot a) = expression_symbols a
+expression_symbols (Align a b) = expression_symbols a ++ expression_symbols b

@@ -36,13 +36,13 @@ pub record OutputSectionAt : Type 0 where
   pub line : ℕ
   pub section : OutputSection
 
-abbrev pub sections_of : ℕ → ItemCommand → List OutputSectionAt
-sections_of line (item.Section s) = (record { line = line; section = s }) ∷ []
-sections_of line _ = []
+abbrev pub item_sections : ℕ → ItemCommand → List OutputSectionAt
+item_sections line (item.Section s) = (record { line = line; section = s }) ∷ []
+item_sections line _ = []
 
 abbrev pub sections_in : List Item → List OutputSectionAt
 sections_in [] = []
-sections_in (i ∷ is) = sections_of i.line i.command ++ sections_in is
+sections_in (i ∷ is) = item_sections i.line i.command ++ sections_in is
 
 -- the output sections
 abbrev pub output_sections : List Statement → List OutputSectionAt
@@ -76,7 +76,7 @@ item_inputs number _ = []
 abbrev pub inputs_from : ℕ → List Item → List InputStatementAt
 inputs_from number [] = []
 inputs_from number (i ∷ is) = item_inputs number i.command ++ inputs_from
-    (number + length (sections_of i.line i.command)) is
+    (number + length (item_sections i.line i.command)) is
 
 -- the input statements
 abbrev pub input_statements : List Statement → List InputStatementAt

@@ -1,7 +1,7 @@
 //! Expressions as parts of a tree.
 
 ghost use Rattle.std.specs.Prelude.{◌≡◌};
-ghost use Rattle.ldscript_terms.specs.Expressions.{expr_of};
+ghost use Rattle.ldscript_terms.specs.CodeTerms.{expr_of};
 
 use ldscript_terms::expression::Expr;
 use std::fmt;
@@ -14,7 +14,8 @@ pub struct Formula {
 }
 
 impl Model for Formula {
-    ghost use Rattle.ldscript_terms.specs.Expressions.{Expr, expr_of};
+    ghost use Rattle.ldscript_terms.specs.Expressions.{Expr};
+    ghost use Rattle.ldscript_terms.specs.CodeTerms.{expr_of};
     ghost use Rattle.std.specs.Prelude.{List};
     ghost use Rattle.std.specs.Coded.{codes, code_by};
     ghost use Rattle.ldscript_statements.specs.FormulaCode.{Instruction, to_instructions, from_instructions, from_to};

@@ -1,7 +1,7 @@
 //! What a script does with names, as a list in the order of the text.
 
 ghost use Rattle.std.specs.Prelude.{[], ◌∷◌, OnOk};
-ghost use Rattle.ldscript_terms.specs.Expressions.{expr_of};
+ghost use Rattle.ldscript_terms.specs.CodeTerms.{expr_of};
 ghost use Rattle.ldscript_statements.specs.Mentions.{in_assignment, in_body, in_body_command, in_common, in_dot_command};
 ghost use Rattle.ldscript_statements.specs.Mentions.{in_expression, in_item_command, in_items, in_load_head, in_load_tail};
 ghost use Rattle.ldscript_statements.specs.Mentions.{in_optional, in_region_name, in_regions, in_section, in_top_command, mentions};

@@ -2,10 +2,11 @@
 
 ghost use Rattle.std.specs.Prelude.{◌≡◌, ◌≤◌, [], ◌∷◌, OnOk, IfOk, length};
 ghost use Rattle.std.specs.Option.{option_copied};
-ghost use Rattle.ldscript_statements.specs.Numbering.{items, items_of, sections_of, sections_in, output_sections, inputs_of};
-ghost use Rattle.ldscript_statements.specs.Numbering.{inputs_in, discarded_inputs, item_inputs, inputs_from, input_statements};
-ghost use Rattle.ldscript_statements.specs.Numbering.{commons_of, commons_in, item_commons, items_commons, top_commons};
-ghost use Rattle.ldscript_statements.specs.Numbering.{common_commands, regions, regions_in, entry_of};
+ghost use Rattle.ldscript_statements.specs.Numbering.{items, items_of, item_sections, sections_in, output_sections};
+ghost use Rattle.ldscript_statements.specs.Numbering.{inputs_of, inputs_in, discarded_inputs, item_inputs, inputs_from};
+ghost use Rattle.ldscript_statements.specs.Numbering.{input_statements, commons_of, commons_in, item_commons};
+ghost use Rattle.ldscript_statements.specs.Numbering.{items_commons, top_commons, common_commands, regions, regions_in};
+ghost use Rattle.ldscript_statements.specs.Numbering.{entry_of};
 ghost use Rattle.ldscript_statements.specs.Numbered.{AddsItems, AddsSections, AddsInputs, AddsCommons, AddsRegions, shown_items};
 ghost use Rattle.ldscript_statements.specs.Numbered.{shown_sections, shown_inputs, shown_commons, shown_regions};
 
@@ -75,7 +76,7 @@ fn items<'a>(alloc: Global, statements: &'a [Statement]) -> Result<Vec<&'a Item>
 }
 
 fn add_section<'a>(list: &mut Vec<OutputSectionAt<'a>>, item: &'a Item) -> Result<(), AllocError>
-    ensures { OnOk result (AddsSections list.old.items list.new.items (sections_of item.now.line item.now.command)) }
+    ensures { OnOk result (AddsSections list.old.items list.new.items (item_sections item.now.line item.now.command)) }
 {
     match &item.command {
         ItemCommand::Section(section) => {
@@ -179,7 +180,7 @@ fn add_item_inputs<'a>(
 
 /// The number of output sections that a statement of `SECTIONS` is.
 fn section_count(item: &Item) -> usize
-    ensures count { result ≡ length (sections_of item.now.line item.now.command) }
+    ensures count { result ≡ length (item_sections item.now.line item.now.command) }
     ensures small { result ≤ 1 }
 {
     match &item.command {

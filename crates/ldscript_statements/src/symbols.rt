@@ -1,8 +1,8 @@
 //! The symbols that an expression names.
 
 ghost use Rattle.std.specs.Prelude.{OnOk};
-ghost use Rattle.ldscript_terms.specs.Expressions.{expr_of};
-ghost use Rattle.ldscript_statements.specs.Given.{symbols_of};
+ghost use Rattle.ldscript_terms.specs.CodeTerms.{expr_of};
+ghost use Rattle.ldscript_statements.specs.Given.{expression_symbols};
 ghost use Rattle.ldscript_statements.specs.Tables.{AddsNames};
 
 use ldscript_terms::expression::Expr;
@@ -10,7 +10,7 @@ use std::alloc::AllocError;
 
 /// Adds the symbols that an expression names to a list, from left to right, each as often as it is named.
 pub fn add_symbols<'a>(list: &mut Vec<&'a [u8]>, expr: &'a Expr) -> Result<(), AllocError>
-    ensures { OnOk result (AddsNames list.old.items list.new.items (symbols_of (expr_of expr.now))) }
+    ensures { OnOk result (AddsNames list.old.items list.new.items (expression_symbols (expr_of expr.now))) }
 {
     match expr {
         Expr::Number(_) | Expr::Dot | Expr::OfRegion(_, _) | Expr::OfSection(_, _) => Ok(()),

@@ -3,9 +3,11 @@ use Rattle.std.proofs.Common.{◌≡◌, ℕ, ◌↔◌, List, [], ◌∷◌, �
 use Rattle.std.proofs.Common.{◌∙◌, ap, subst, append-nil, append_assoc}
 use Rattle.std.specs.Borrow.{Bor}
 use Rattle.std.specs.Option.{option_map}
-use Rattle.ldscript_terms.specs.Parts.{Part, AnyRun, AnyByte, Byte, OneOf, part_of, code_byte}
-use Rattle.ldscript_terms.specs.Matching.{Matches, nothing, part, exact_name}
-use Rattle.ldscript_terms.specs.Spelling.{Spells}
+use Rattle.ldscript_terms.specs.Parts.{Part, AnyRun, AnyByte, Byte, OneOf}
+use Rattle.ldscript_terms.specs.CodeTerms.{part_of, code_byte}
+use Rattle.ldscript_terms.specs.Matching.{Matches, nothing, part}
+use Rattle.ldscript_terms.specs.CodeTerms.{exact_name}
+use Rattle.ldscript_terms.specs.Spelling.{SpellsPattern}
 use Rattle.ldscript_terms.specs.Trying.{BeginsWith, EndsHere}
 use Rattle.ldscript_terms.specs.declared.part.CodePart.{CodePart}
 use Rattle.ldscript_terms.specs.declared.part.CodePart.TheVariants as code
@@ -67,8 +69,8 @@ no_star (b ∷ bytes) e = absurd (cc)
 -- a reader with the bytes so far
 abbrev pub IsExactTo : List ℕ → List ℕ → List ℕ → Type 0
 IsExactTo word bytes rest =
-    (ps : List Part) → Spells ps word
-    → (qs : List Part) × Spells qs rest × (option_map (λ v. bytes ++ v) (exact_name qs) ≡ exact_name ps)
+    (ps : List Part) → SpellsPattern ps word
+    → (qs : List Part) × SpellsPattern qs rest × (option_map (λ v. bytes ++ v) (exact_name qs) ≡ exact_name ps)
 
 map_none : (o : Option (List ℕ)) → option_map (λ v. [] ++ v) o ≡ o
 map_none None = refl
@@ -110,21 +112,21 @@ exact_step word bytes rest p more b x begins e ps s =
 
 pub exact_stop : (word bytes rest : List ℕ) (p : CodePart) (more : List ℕ) → IsExactTo word bytes rest
     → BeginsWith rest (part_of rest p) more
-    → code_byte p ≡ None → (ps : List Part) → Spells ps word → None ≡ exact_name ps
+    → code_byte p ≡ None → (ps : List Part) → SpellsPattern ps word → None ≡ exact_name ps
 exact_stop word bytes rest p more x begins e ps s =
     let h = x ps s in
     let o = begins.only h.0 h.1 in
     sym (ap (option_map (λ v. bytes ++ v)) (ap exact_name o.1 ∙ no_byte_of_code rest p o.0 e)) ∙ h.2
 
 pub exact_end : (word bytes rest : List ℕ) → IsExactTo word bytes rest → EndsHere rest → (ps : List Part)
-    → Spells ps word → Some bytes ≡ exact_name ps
+    → SpellsPattern ps word → Some bytes ≡ exact_name ps
 exact_end word bytes rest x ends ps s =
     let h = x ps s in
     ap Some (sym (append-nil bytes)) ∙ sym (ap (λ v. option_map (λ w. bytes ++ w) (exact_name v)) (ends h.0 h.1)) ∙ h.2
 
 -- what is kept of a word of bytes alone
-pub exact_spells : (ps : List Part) (word bytes kept : List ℕ) → Spells ps word → exact_name ps ≡ Some bytes
+pub exact_spells : (ps : List Part) (word bytes kept : List ℕ) → SpellsPattern ps word → exact_name ps ≡ Some bytes
     → kept ≡ bytes
-    → Spells (map (λ b. Byte b) kept) word
+    → SpellsPattern (map (λ b. Byte b) kept) word
 exact_spells ps word bytes kept s e k =
-    subst (λ v. Spells v word) (bytes_of_exact ps bytes e ∙ ap (map (λ b. Byte b)) (sym k)) s
+    subst (λ v. SpellsPattern v word) (bytes_of_exact ps bytes e ∙ ap (map (λ b. Byte b)) (sym k)) s

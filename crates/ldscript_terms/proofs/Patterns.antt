@@ -1,24 +1,26 @@
 -- What is answered of a pattern, from what is kept of it.
 use Rattle.std.proofs.Common.{◌≡◌, ℕ, ◌↔◌, Bool, IsTrue, List, [], ◌∷◌, map, sym, ◌∙◌, subst}
 use Rattle.ldscript_terms.specs.Parts.{Part, AnyRun, Byte}
-use Rattle.ldscript_terms.specs.Spelling.{Spells}
+use Rattle.ldscript_terms.specs.Spelling.{SpellsPattern}
 use Rattle.ldscript_terms.specs.Matching.{Matches}
 use Rattle.ldscript_terms.specs.Forms.{spelled}
 use Rattle.ldscript_terms.proofs.Exact.{matches_bytes}
 use Rattle.ldscript_terms.proofs.Reading.{any_is_star}
 
-pub star_is : (word bytes : List ℕ) (now : List Part) (b : Bool) → Spells (spelled word) word → bytes ≡ word
+pub star_is : (word bytes : List ℕ) (now : List Part) (b : Bool) → SpellsPattern (spelled word) word → bytes ≡ word
     → spelled word ≡ now
     → IsTrue b ↔ bytes ≡ 42 ∷ [] → IsTrue b ↔ now ≡ AnyRun ∷ []
 star_is word bytes now b s e v star =
     let any = any_is_star word s in
     (λ t. sym v ∙ any.0 (sym e ∙ star.0 t), λ m. star.1 (e ∙ any.1 (v ∙ m)))
 
-pub matches_wild : (word bytes : List ℕ) (now : List Part) (name : List ℕ) (b : Bool) → Spells (spelled word) word
+pub matches_wild : (word bytes : List ℕ) (now : List Part) (name : List ℕ) (b : Bool)
+    → SpellsPattern (spelled word) word
     → bytes ≡ word → spelled word ≡ now
-    → ((ps : List Part) → Spells ps bytes → IsTrue b ↔ Matches ps name) → IsTrue b ↔ Matches now name
+    → ((ps : List Part) → SpellsPattern ps bytes → IsTrue b ↔ Matches ps name) → IsTrue b ↔ Matches now name
 matches_wild word bytes now name b s e v m =
-    subst (λ ps. IsTrue b ↔ Matches ps name) v (m (spelled word) (subst (λ w. Spells (spelled word) w) (sym e) s))
+    subst (λ ps. IsTrue b ↔ Matches ps name) v (m (spelled word) (subst (λ w. SpellsPattern (spelled word) w)
+    (sym e) s))
 
 pub matches_exact : (exact bytes : List ℕ) (now : List Part) (name : List ℕ) (b : Bool) → bytes ≡ exact
     → map (λ k. Byte k) exact ≡ now

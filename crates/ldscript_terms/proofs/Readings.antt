@@ -11,11 +11,12 @@ use Rattle.ldscript_terms.specs.declared.expression.SectionQuery.{SectionQuery}
 use Rattle.ldscript_terms.specs.Operators.{unary_of, binary_of, level_of}
 use Rattle.ldscript_terms.specs.Expressions.{Expr, Number, Dot, Name, Unary, Binary, Choice, OfRegion, OfSection, AlignDot}
 use Rattle.ldscript_terms.specs.Expressions.{Align}
-use Rattle.ldscript_terms.specs.Grammar.{Point, AsksRegion, AsksSection, Aligns, Free, Reserved, Terminal, Numeral, Worded}
-use Rattle.ldscript_terms.specs.Grammar.{Sign, Other, terminal_of, Begins, BeginsUnary, BeginsBinary, BeginsNamed, Primary}
-use Rattle.ldscript_terms.specs.Grammar.{Arguments, Within, Whole, Spells, number, dot, name, group, of_region, of_section}
-use Rattle.ldscript_terms.specs.Grammar.{align, one_argument, two_arguments, primary, unary, operand, binary, operators}
-use Rattle.ldscript_terms.specs.Grammar.{choice, IsLooser, IsNoOperator, StopsAt, Stops, Reading}
+use Rattle.ldscript_terms.specs.Grammar.{Point, AsksRegion, AsksSection, Aligns, Free, Reserved, Terminal, Numeral}
+use Rattle.ldscript_terms.specs.Grammar.{Worded, Sign, Other, terminal_of, Begins, BeginsUnary, BeginsBinary}
+use Rattle.ldscript_terms.specs.Grammar.{BeginsNamed, Primary, Arguments, Within, Whole, Spells, number, dot, name}
+use Rattle.ldscript_terms.specs.Grammar.{group, of_region, of_section, align, one_argument, two_arguments, primary}
+use Rattle.ldscript_terms.specs.Grammar.{unary, operand, binary, operators, choice}
+use Rattle.ldscript_terms.specs.Reading.{IsLooser, IsNoOperator, StopsAt, Stops, Reading}
 
 -- the tokens don't begin with this terminal
 abbrev pub Lacks : List Lexeme → Terminal → Type 0

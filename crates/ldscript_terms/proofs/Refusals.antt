@@ -1,7 +1,8 @@
 -- Where there is no expression.
 use Rattle.std.proofs.Common.{◌≡◌, ℕ, suc, List, [], ◌∷◌, Option, Some, None, Result, Ok, Err, refl, subst}
 use Rattle.ldscript_tokens.specs.Tokens as token
-use Rattle.ldscript_tokens.specs.Tokens.{Token, Lexeme, lexeme, spelled_token}
+use Rattle.ldscript_tokens.specs.Tokens.{Token, Lexeme, lexeme}
+use Rattle.ldscript_tokens.specs.CodeTokens.{spelled_token}
 use Rattle.ldscript_tokens.specs.declared.token.Mark.{Mark}
 use Rattle.ldscript_tokens.specs.declared.token.Mark.TheVariants.{OpenParenthesis, CloseParenthesis, Comma, Question, Colon}
 use Rattle.ldscript_terms.specs.declared.operator.UnaryOperator.{UnaryOperator}
@@ -9,10 +10,11 @@ use Rattle.ldscript_terms.specs.declared.operator.BinaryOperator.{BinaryOperator
 use Rattle.ldscript_terms.specs.declared.expression.RegionQuery.{RegionQuery}
 use Rattle.ldscript_terms.specs.declared.expression.SectionQuery.{SectionQuery}
 use Rattle.ldscript_terms.specs.Expressions.{Expr}
-use Rattle.ldscript_terms.specs.Grammar.{AsksRegion, AsksSection, Aligns, Free, Reserved, Worded, Sign, terminal_of, Begins}
-use Rattle.ldscript_terms.specs.Grammar.{BeginsUnary, BeginsBinary, BeginsNamed, Primary, Arguments, Within, Whole, Spells}
-use Rattle.ldscript_terms.specs.Grammar.{number, dot, name, group, of_region, of_section, align, one_argument, two_arguments}
-use Rattle.ldscript_terms.specs.Grammar.{primary, unary, operators, choice, Stops, Reading, NoReading, Reads}
+use Rattle.ldscript_terms.specs.Grammar.{AsksRegion, AsksSection, Aligns, Free, Reserved, Worded, Sign, terminal_of}
+use Rattle.ldscript_terms.specs.Grammar.{Begins, BeginsUnary, BeginsBinary, BeginsNamed, Primary, Arguments, Within}
+use Rattle.ldscript_terms.specs.Grammar.{Whole, Spells, number, dot, name, group, of_region, of_section, align}
+use Rattle.ldscript_terms.specs.Grammar.{one_argument, two_arguments, primary, unary, operators, choice}
+use Rattle.ldscript_terms.specs.Reading.{Stops, Reading, NoReading, Reads}
 use Rattle.ldscript_terms.proofs.Readings.{Lacks, begins_same, Shape, primary_shape, primary_begins_no_unary, primary_reading}
 use Rattle.ldscript_terms.proofs.Readings.{align_reading, unary_same, binary_same, level_tail, tail_stops, Tail, done, longer}
 use Rattle.ldscript_terms.proofs.Readings.{SoFar, operator_goes_on, whole_stops, whole_stops_before, within_stops_at}

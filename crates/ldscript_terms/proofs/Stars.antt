@@ -3,8 +3,9 @@ use Rattle.std.proofs.Common.{◌≡◌, ℕ, ◌+◌, ◌↔◌, List, [], ◌�
 use Rattle.std.proofs.Common.{subst, append_assoc, arith}
 use Rattle.std.proofs.Math.Seq.{drop-append_seam}
 use Rattle.std.proofs.lemmas.List.{drop-drop, take-append-drop}
-use Rattle.ldscript_terms.specs.Spelling.{Spells}
-use Rattle.ldscript_terms.specs.Parts.{Part, AnyRun, part_of, IsSingle}
+use Rattle.ldscript_terms.specs.Spelling.{SpellsPattern}
+use Rattle.ldscript_terms.specs.Parts.{Part, AnyRun}
+use Rattle.ldscript_terms.specs.CodeTerms.{part_of, IsSingle}
 use Rattle.ldscript_terms.specs.Matching.{Meets, Matches, nothing, part}
 use Rattle.ldscript_terms.specs.Trying.{Passed}
 use Rattle.ldscript_terms.specs.declared.part.CodePart.{CodePart}
@@ -134,7 +135,7 @@ star_ends ps none (part bytes rest m e others) = none (subst (λ v. Matches ps v
 
 -- steps of the search behind a star, of which A is what is asked
 abbrev pub Searches : Type 0 → List ℕ → List ℕ → Type 0
-Searches A word left = (qs : List Part) × Spells qs word × (Matches (AnyRun ∷ qs) left ↔ A)
+Searches A word left = (qs : List Part) × SpellsPattern qs word × (Matches (AnyRun ∷ qs) left ↔ A)
 
 pub star_step : {A : Type 0} (qs rs : List Part) (name left : List ℕ) → Passed qs (AnyRun ∷ rs) name left
     → Matches (AnyRun ∷ qs) name ↔ A → Matches (AnyRun ∷ rs) left ↔ A

@@ -3,9 +3,10 @@ use Rattle.std.proofs.Common.{ℕ, zero, suc, List, sym}
 use Rattle.ldscript_tokens.specs.Tokens.{Lexeme}
 use Rattle.ldscript_tokens.specs.declared.token.Mark.TheVariants.{Question}
 use Rattle.ldscript_terms.specs.Expressions.{Expr}
-use Rattle.ldscript_terms.specs.Grammar.{Sign, Level, Primary, Arguments, Within, Whole, Spells, number, dot, name, group}
-use Rattle.ldscript_terms.specs.Grammar.{of_region, of_section, align, one_argument, two_arguments, primary, unary, operand}
-use Rattle.ldscript_terms.specs.Grammar.{binary, operators, choice, Stops, Reading, OneTree, OneReading}
+use Rattle.ldscript_terms.specs.Grammar.{Sign, Level, Primary, Arguments, Within, Whole, Spells, number, dot, name}
+use Rattle.ldscript_terms.specs.Grammar.{group, of_region, of_section, align, one_argument, two_arguments, primary}
+use Rattle.ldscript_terms.specs.Grammar.{unary, operand, binary, operators, choice}
+use Rattle.ldscript_terms.specs.Reading.{Stops, Reading, OneTree, OneReading}
 use Rattle.ldscript_terms.proofs.Readings.{SoFar, Lacks, primary_begins_no_unary, number_reading, dot_reading, name_reading}
 use Rattle.ldscript_terms.proofs.Readings.{group_reading, of_region_reading, of_section_reading, align_reading, one_reading}
 use Rattle.ldscript_terms.proofs.Readings.{two_reading, unary_reading, primary_reading, lower_stops, operator_stops}

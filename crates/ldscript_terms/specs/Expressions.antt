@@ -4,7 +4,6 @@ use Rattle.ldscript_terms.specs.declared.operator.UnaryOperator.{UnaryOperator}
 use Rattle.ldscript_terms.specs.declared.operator.BinaryOperator.{BinaryOperator}
 use Rattle.ldscript_terms.specs.declared.expression.RegionQuery.{RegionQuery}
 use Rattle.ldscript_terms.specs.declared.expression.SectionQuery.{SectionQuery}
-use Rattle.ldscript_terms.specs.declared.expression.Expr as code
 
 -- a number, `.`, a name, operators on expressions, ORIGIN(r) and LENGTH(r) of a memory region, ADDR(s), LOADADDR(s) and
 -- SIZEOF(s) of an output section, ALIGN(a), ALIGN(a, b)
@@ -19,18 +18,6 @@ pub data Expr : Type 0 where
   OfSection : (query : SectionQuery) → (name : List ℕ) → Expr
   AlignDot : (a : Expr) → Expr
   Align : (a b : Expr) → Expr
-
-abbrev pub expr_of : code.Expr → Expr
-expr_of (code.Number n) = Number n
-expr_of code.Dot = Dot
-expr_of (code.Name n) = Name n
-expr_of (code.Unary' o p a) = Unary o (expr_of a)
-expr_of (code.Binary' o p a q b) = Binary o (expr_of a) (expr_of b)
-expr_of (code.Choice' p t a b) = Choice (expr_of t) (expr_of a) (expr_of b)
-expr_of (code.OfRegion q n) = OfRegion q n
-expr_of (code.OfSection q n) = OfSection q n
-expr_of (code.AlignDot' p a) = AlignDot (expr_of a)
-expr_of (code.Align' p a q b) = Align (expr_of a) (expr_of b)
 
 -- the token `.` is in it
 abbrev pub has_dot : Expr → Bool

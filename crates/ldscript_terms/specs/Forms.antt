@@ -1,9 +1,9 @@
 -- What a pattern keeps of the word that spells it.
 use Rattle.std.specs.Prelude.{◌≡◌, ℕ, zero, suc, List, [], ◌∷◌, length, map, drop, Option, Some, None}
 use Rattle.ldscript_terms.specs.Parts.{Part, Byte}
-use Rattle.ldscript_terms.specs.Spelling.{Spells}
+use Rattle.ldscript_terms.specs.Spelling.{SpellsPattern}
 use Rattle.ldscript_terms.specs.Front.{Front, front}
-use Rattle.ldscript_terms.specs.Matching.{exact_name}
+use Rattle.ldscript_terms.specs.CodeTerms.{exact_name}
 use Rattle.ldscript_terms.specs.declared.pattern.Form.{Form}
 use Rattle.ldscript_terms.specs.declared.pattern.Form.TheVariants.{Exact, Wild}
 
@@ -28,4 +28,4 @@ parts_in (Wild word) = spelled word
 -- a word is kept where it spells a pattern that has not bytes alone
 abbrev pub IsForm : Form → Type 0
 IsForm (Exact name) = Unit {0}
-IsForm (Wild word) = Spells (spelled word) word × (exact_name (spelled word) ≡ None)
+IsForm (Wild word) = SpellsPattern (spelled word) word × (exact_name (spelled word) ≡ None)

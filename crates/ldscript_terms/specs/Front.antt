@@ -1,8 +1,10 @@
 -- The part that a word begins with, computed from its first bytes.
 use Rattle.std.specs.Prelude.{ℕ, ◌+◌, ◌≤◌, ◌<◌, ◌&&◌, ◌==◌, nat_lt, List, length, drop, take_while, slice_index}
 use Rattle.std.specs.Prelude.{slice_range, Option, Some, None, if◌then◌else◌}
-use Rattle.ldscript_terms.specs.Parts.{Part, AnyRun, AnyByte, Byte, OneOf, ranges_of, part_of, IsPlace}
-use Rattle.ldscript_terms.specs.Spelling.{is_plain, is_set_byte, is_graphic}
+use Rattle.ldscript_terms.specs.Parts.{Part, AnyRun, AnyByte, Byte, OneOf, ranges_of}
+use Rattle.ldscript_terms.specs.CodeTerms.{part_of, IsPlace}
+use Rattle.ldscript_terms.specs.Spelling.{is_plain, is_set_byte}
+use Rattle.ldscript_tokens.specs.Bytes.{is_escapable}
 use Rattle.ldscript_terms.specs.declared.front.Spelled.{Spelled}
 
 -- a part, and how many bytes spell it
@@ -15,7 +17,7 @@ front_part p n = Some (record { part = p; count = n })
 
 -- `\` and the byte behind it
 unfoldable pub escape_front : List ℕ → Option Front
-escape_front word = if is_graphic (slice_index word 1) then front_part (Byte (slice_index word 1)) 2 else None
+escape_front word = if is_escapable (slice_index word 1) then front_part (Byte (slice_index word 1)) 2 else None
 
 -- how many bytes of a set stand behind `[`
 abbrev pub set_length : List ℕ → ℕ

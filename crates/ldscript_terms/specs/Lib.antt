@@ -7,5 +7,7 @@ pub mod Parts
 pub mod Spelling
 pub mod Front
 pub mod Matching
+pub mod Reading
+pub mod CodeTerms
 pub mod Trying
 pub mod Forms

@@ -1,7 +1,6 @@
 -- Which names a pattern matches (GNU ld manual, "Input Section Wildcard Patterns"; that `*` and `?` match `/` in
 -- names of files too is this project's choice).
-use Rattle.std.specs.Prelude.{◌≡◌, ℕ, Bool, true, false, ◌&&◌, ◌||◌, ◌==◌, List, [], ◌∷◌, ◌++◌, Option, Some, None}
-use Rattle.std.specs.Option.{option_map}
+use Rattle.std.specs.Prelude.{◌≡◌, ℕ, Bool, true, false, ◌&&◌, ◌||◌, ◌==◌, List, [], ◌∷◌, ◌++◌}
 use Rattle.ldscript_terms.specs.Parts.{Part, AnyRun, AnyByte, Byte, OneOf, is_in_any}
 
 -- what a part is met by
@@ -39,9 +38,3 @@ unfoldable pub is_match : List Part → List ℕ → Bool
 is_match [] [] = true
 is_match [] (b ∷ bs) = false
 is_match (p ∷ ps) name = passes_after p (is_match ps) name
-
--- the bytes of a pattern that has nothing else
-abbrev pub exact_name : List Part → Option (List ℕ)
-exact_name [] = Some []
-exact_name (Byte b ∷ ps) = option_map (λ bytes. b ∷ bytes) (exact_name ps)
-exact_name (_ ∷ ps) = None

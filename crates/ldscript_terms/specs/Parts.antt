@@ -1,10 +1,7 @@
 -- The parts of a name pattern of a linker script (GNU ld manual, "Input Section Wildcard Patterns").
-use Rattle.std.specs.Prelude.{ℕ, ◌≤◌, Bool, ◌&&◌, ◌==◌, nat_le, List, [], ◌∷◌, Option, Some, None, if◌then◌else◌}
-use Rattle.std.specs.Prelude.{slice_range}
+use Rattle.std.specs.Prelude.{ℕ, Bool, ◌&&◌, ◌==◌, nat_le, List, [], ◌∷◌, if◌then◌else◌}
 use Rattle.std.specs.List.{list_any}
 use Rattle.ldscript_terms.specs.declared.set.ByteRange.{ByteRange}
-use Rattle.ldscript_terms.specs.declared.part.CodePart.{CodePart}
-use Rattle.ldscript_terms.specs.declared.part.CodePart.TheVariants as code
 
 -- any run of bytes, also an empty one; any one byte; this byte; one byte of a set
 pub data Part : Type 0 where
@@ -29,30 +26,3 @@ ranges_of [] = []
 ranges_of (x ∷ []) = range x x ∷ []
 ranges_of (x ∷ m ∷ []) = range x x ∷ range m m ∷ []
 ranges_of (x ∷ m ∷ y ∷ bytes) = if m == 45 then range x y ∷ ranges_of bytes else range x x ∷ ranges_of (m ∷ y ∷ bytes)
-
--- the part at a place of a word
-abbrev pub part_of : List ℕ → CodePart → Part
-part_of word code.AnyRun = AnyRun
-part_of word code.AnyByte = AnyByte
-part_of word (code.Byte b) = Byte b
-part_of word (code.OneOf start end) = OneOf (ranges_of (slice_range word start end))
-
--- its bytes lie inside a word of this length
-abbrev pub IsPlace : ℕ → CodePart → Type 0
-IsPlace len code.AnyRun = Unit {0}
-IsPlace len code.AnyByte = Unit {0}
-IsPlace len (code.Byte b) = Unit {0}
-IsPlace len (code.OneOf start end) = (start ≤ end) × (end ≤ len)
-
--- it takes one byte
-abbrev pub IsSingle : CodePart → Type 0
-IsSingle code.AnyRun = ⊥
-IsSingle code.AnyByte = Unit {0}
-IsSingle (code.Byte b) = Unit {0}
-IsSingle (code.OneOf start end) = Unit {0}
-
-abbrev pub code_byte : CodePart → Option ℕ
-code_byte code.AnyRun = None
-code_byte code.AnyByte = None
-code_byte (code.Byte b) = Some b
-code_byte (code.OneOf start end) = None

@@ -2,6 +2,7 @@
 -- which begins or ends a set is itself, that an empty set and a `\` in a set spell nothing, is this project's choice).
 use Rattle.std.specs.Prelude.{◌≡◌, ◌≢◌, ℕ, Bool, true, ◌&&◌, ◌||◌, ◌==◌, nat_le, List, [], ◌∷◌, ◌++◌, ◌⊎◌}
 use Rattle.std.specs.List.{list_all}
+use Rattle.ldscript_tokens.specs.Bytes.{is_escapable}
 use Rattle.ldscript_terms.specs.Parts.{Part, AnyRun, AnyByte, Byte, OneOf, ranges_of}
 
 -- A-Z a-z 0-9 _ . $ / -
@@ -14,10 +15,6 @@ is_plain b =
 abbrev pub is_set_byte : ℕ → Bool
 is_set_byte b = is_plain b || (b == 42) || (b == 63)
 
--- ! to ~
-abbrev pub is_graphic : ℕ → Bool
-is_graphic b = nat_le 33 b && nat_le b 126
-
 -- what stands between `[` and `]`: one or more bytes of a set
 abbrev pub IsSetBody : List ℕ → Type 0
 IsSetBody body = (body ≢ []) × (list_all is_set_byte body ≡ true)
@@ -26,17 +23,17 @@ IsSetBody body = (body ≢ []) × (list_all is_set_byte body ≡ true)
 abbrev pub SpellsPart : Part → List ℕ → Type 0
 SpellsPart AnyRun bytes = bytes ≡ 42 ∷ []
 SpellsPart AnyByte bytes = bytes ≡ 63 ∷ []
-SpellsPart (Byte b) bytes = ((is_plain b ≡ true) × (bytes ≡ b ∷ [])) ⊎ ((is_graphic b ≡ true) × (bytes ≡ 92 ∷ b ∷ []))
+SpellsPart (Byte b) bytes = ((is_plain b ≡ true) × (bytes ≡ b ∷ [])) ⊎ ((is_escapable b ≡ true) × (bytes ≡ 92 ∷ b ∷ []))
 SpellsPart (OneOf ranges) bytes =
     (body : List ℕ) × IsSetBody body × (ranges ≡ ranges_of body) × (bytes ≡ 91 ∷ (body ++ 93 ∷ []))
 
 -- part by part, and nothing else
-pub data Spells : List Part → List ℕ → Type 0 where
-  nothing : Spells [] []
+pub data SpellsPattern : List Part → List ℕ → Type 0 where
+  nothing : SpellsPattern [] []
   part : {p : Part} {ps : List Part} {word : List ℕ} (bytes rest : List ℕ) → SpellsPart p bytes → word ≡ bytes ++ rest
-      → Spells ps rest → Spells (p ∷ ps) word
+      → SpellsPattern ps rest → SpellsPattern (p ∷ ps) word
 
 -- a word spells this pattern and no other
 pub record IsPatternOf (word : List ℕ) (ps : List Part) : Type 0 where
-  pub spelled : Spells ps word
-  pub only : (qs : List Part) → Spells qs word → qs ≡ ps
+  pub spelled : SpellsPattern ps word
+  pub only : (qs : List Part) → SpellsPattern qs word → qs ≡ ps

@@ -2,22 +2,22 @@
 -- the parts of a word follow one another.
 use Rattle.std.specs.Prelude.{◌≡◌, ℕ, ◌≤◌, ◌<◌, List, [], ◌∷◌, drop, length}
 use Rattle.ldscript_terms.specs.Parts.{Part, AnyRun}
-use Rattle.ldscript_terms.specs.Spelling.{Spells}
+use Rattle.ldscript_terms.specs.Spelling.{SpellsPattern}
 use Rattle.ldscript_terms.specs.Matching.{Matches}
 use Rattle.ldscript_terms.specs.declared.matching.Tried.{Tried}
 use Rattle.ldscript_terms.specs.declared.matching.Tried.TheVariants.{Whole, Star, Missed}
 
 abbrev pub IsSpelled : List ℕ → Type 0
-IsSpelled word = (ps : List Part) × Spells ps word
+IsSpelled word = (ps : List Part) × SpellsPattern ps word
 
 -- the word has ended, or spells no pattern
 abbrev pub EndsHere : List ℕ → Type 0
-EndsHere word = (ps : List Part) → Spells ps word → ps ≡ []
+EndsHere word = (ps : List Part) → SpellsPattern ps word → ps ≡ []
 
 -- the word spells this part and then what the rest of it spells
 pub record BeginsWith (word : List ℕ) (p : Part) (rest : List ℕ) : Type 0 where
-  pub on : (qs : List Part) → Spells qs rest → Spells (p ∷ qs) word
-  pub only : (ps : List Part) → Spells ps word → (qs : List Part) × (ps ≡ p ∷ qs) × Spells qs rest
+  pub on : (qs : List Part) → SpellsPattern qs rest → SpellsPattern (p ∷ qs) word
+  pub only : (ps : List Part) → SpellsPattern ps word → (qs : List Part) × (ps ≡ p ∷ qs) × SpellsPattern qs rest
 
 -- the parts before some of a pattern's take a byte each of every name that the pattern matches, and did so of this name
 pub record Passed (ps qs : List Part) (name left : List ℕ) : Type 0 where
@@ -28,7 +28,7 @@ pub record Passed (ps qs : List Part) (name left : List ℕ) : Type 0 where
 
 abbrev pub TriedAs : List Part → List ℕ → Tried → Type 0
 TriedAs ps name Whole = Matches ps name
-TriedAs ps name (Star rest left) = (qs : List Part) × Spells qs rest.now × Passed ps (AnyRun ∷ qs) name left.now
+TriedAs ps name (Star rest left) = (qs : List Part) × SpellsPattern qs rest.now × Passed ps (AnyRun ∷ qs) name left.now
 TriedAs ps name Missed = Matches ps name → ⊥
 
 -- after a `*` less of the word is left, and no more of the name

@@ -1,7 +1,8 @@
 //! Kinds of bytes in a pattern's word, in ASCII.
 
 ghost use Rattle.std.specs.Prelude.{◌≡◌, ◌<◌, length, slice_index};
-ghost use Rattle.ldscript_terms.specs.Spelling.{is_plain, is_set_byte, is_graphic};
+ghost use Rattle.ldscript_terms.specs.Spelling.{is_plain, is_set_byte};
+ghost use Rattle.ldscript_tokens.specs.Bytes.{is_escapable};
 
 /// Whether a byte spells itself: `A-Z a-z 0-9 _ . $ / -`
 pub fn is_plain(b: u8) -> bool
@@ -19,7 +20,7 @@ pub fn is_set_byte(b: u8) -> bool
 
 /// Whether a byte may stand after `\`: one of `!` to `~`
 pub fn is_graphic(b: u8) -> bool
-    ensures { result ≡ is_graphic b }
+    ensures { result ≡ is_escapable b }
 {
     matches!(b, b'!'..=b'~')
 }

@@ -1,8 +1,8 @@
 //! What `.` may be set to in an output section.
 
 ghost use Rattle.std.specs.Prelude.{◌≡◌};
-ghost use Rattle.ldscript_terms.specs.DotForms.{dot_form, maybe_form_of};
-ghost use Rattle.ldscript_terms.specs.Expressions.{expr_of};
+ghost use Rattle.ldscript_terms.specs.DotForms.{dot_form};
+ghost use Rattle.ldscript_terms.specs.CodeTerms.{maybe_form_of, expr_of};
 
 use crate::expression::Expr;
 use crate::operator::BinaryOperator;

@@ -5,7 +5,8 @@ ghost use Rattle.ldscript_tokens.specs.Tokens.{Lexeme, Name, Number, Text, Disca
 ghost use Rattle.ldscript_tokens.specs.declared.token.Mark.TheVariants.{OpenParenthesis, CloseParenthesis, OpenBrace};
 ghost use Rattle.ldscript_tokens.specs.declared.token.Mark.TheVariants.{CloseBrace, Semicolon, Colon, Comma, Assign};
 ghost use Rattle.ldscript_tokens.specs.declared.token.Mark.TheVariants.{AddAssign};
-ghost use Rattle.ldscript_terms.specs.Grammar.{OneTree, OneReading, Stops, Whole, EndsAt};
+ghost use Rattle.ldscript_terms.specs.Reading.{OneTree, OneReading, Stops, EndsAt};
+ghost use Rattle.ldscript_terms.specs.Grammar.{Whole};
 
 /// No tokens are two expressions: a tree whose rest can't go on it is the only one, and so is that rest.
 pub fn one_tree()

@@ -1,7 +1,8 @@
 //! Trees of expressions.
 
 ghost use Rattle.std.specs.Prelude.{◌≡◌};
-ghost use Rattle.ldscript_terms.specs.Expressions.{expr_of, has_dot, has_align_dot, has_align};
+ghost use Rattle.ldscript_terms.specs.CodeTerms.{expr_of};
+ghost use Rattle.ldscript_terms.specs.Expressions.{has_dot, has_align_dot, has_align};
 
 use crate::operator::{BinaryOperator, UnaryOperator};
 use ldscript_tokens::name::ScriptName;

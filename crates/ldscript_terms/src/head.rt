@@ -2,8 +2,9 @@
 
 ghost use Rattle.std.specs.Prelude.{◌≡◌, ◌<◌, ℕ, suc, List, MatchOption};
 ghost use Rattle.ldscript_tokens.specs.Tokens.{Lexeme};
-ghost use Rattle.ldscript_terms.specs.Grammar.{Begins, BeginsUnary, BeginsBinary, BeginsNamed, Sign, Worded, Free, word_of};
-ghost use Rattle.ldscript_terms.specs.Grammar.{Reserved, NoReading, Primary};
+ghost use Rattle.ldscript_terms.specs.Grammar.{Begins, BeginsUnary, BeginsBinary, BeginsNamed, Sign, Worded, Free};
+ghost use Rattle.ldscript_terms.specs.Grammar.{word_of, Reserved, Primary};
+ghost use Rattle.ldscript_terms.specs.Reading.{NoReading};
 ghost use Rattle.ldscript_terms.specs.Heads.{IsWord, HasHead};
 
 use crate::expression::{RegionQuery, SectionQuery};

@@ -1,7 +1,7 @@
 //! The parts of a pattern.
 
 ghost use Rattle.std.specs.Prelude.{◌≡◌, ◌↔◌, ◌∷◌, [], IsTrue, MatchBool, length};
-ghost use Rattle.ldscript_terms.specs.Parts.{IsPlace, IsSingle, code_byte, part_of};
+ghost use Rattle.ldscript_terms.specs.CodeTerms.{IsPlace, IsSingle, code_byte, part_of};
 ghost use Rattle.ldscript_terms.specs.Matching.{Meets};
 
 use crate::set::set_has;

@@ -3,8 +3,9 @@
 ghost use Rattle.std.specs.Prelude.{◌≡◌, ◌↔◌, ◌∷◌, [], ℕ, IsTrue, IfOk, IfSome, List, MatchOption, None, Some};
 ghost use Rattle.ldscript_terms.specs.Parts.{Part, AnyRun};
 ghost use Rattle.ldscript_terms.specs.Forms.{IsForm, parts_in};
-ghost use Rattle.ldscript_terms.specs.Spelling.{Spells, IsPatternOf};
-ghost use Rattle.ldscript_terms.specs.Matching.{Matches, exact_name, is_match};
+ghost use Rattle.ldscript_terms.specs.Spelling.{SpellsPattern, IsPatternOf};
+ghost use Rattle.ldscript_terms.specs.Matching.{Matches, is_match};
+ghost use Rattle.ldscript_terms.specs.CodeTerms.{exact_name};
 ghost use Rattle.ldscript_terms.specs.Trying.{IsSpelled};
 
 use crate::matching::matches_word;
@@ -46,7 +47,7 @@ impl Model for Pattern {
 fn form_of(alloc: Global, word: &[u8]) -> Result<Form, AllocError>
     requires { IsSpelled word.now }
     ensures form { IfOk result (λ f. IsForm f) }
-    ensures spelled { IfOk result (λ f. Spells (parts_in f) word.now) }
+    ensures spelled { IfOk result (λ f. SpellsPattern (parts_in f) word.now) }
 {
     match exact_bytes(alloc, word)? {
         Some(name) => Ok(Form::Exact(ScriptName::new(alloc, &name)?)),
@@ -62,7 +63,7 @@ impl Pattern {
     ///
     /// Where memory runs out.
     pub fn read(alloc: Global, word: &[u8]) -> Result<Option<Pattern>, AllocError>
-        ensures { IfOk result (λ r. MatchOption r ((ps : List Part) → Spells ps word.now → ⊥)
+        ensures { IfOk result (λ r. MatchOption r ((ps : List Part) → SpellsPattern ps word.now → ⊥)
             (λ p. IsPatternOf word.now p)) }
     {
         if !is_spelled(word) {

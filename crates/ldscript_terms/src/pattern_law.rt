@@ -2,7 +2,7 @@
 
 ghost use Rattle.std.specs.Prelude.{◌≡◌, ◌↔◌, ℕ, List, true};
 ghost use Rattle.ldscript_terms.specs.Parts.{Part};
-ghost use Rattle.ldscript_terms.specs.Spelling.{Spells};
+ghost use Rattle.ldscript_terms.specs.Spelling.{SpellsPattern};
 ghost use Rattle.ldscript_terms.specs.Matching.{Matches, is_match};
 
 /// A pattern matches a name, by a way to split the name among its parts, exactly where the test of the name says so.
@@ -14,5 +14,6 @@ pub fn match_by_splitting()
 /// No word spells two patterns.
 #[tactic(auto, using(crate::proofs::Reading::one_pattern))]
 pub fn one_pattern()
-    ensures { (pattern other : List Part) (word : List ℕ) → Spells pattern word → Spells other word → pattern ≡ other }
+    ensures { (pattern other : List Part) (word : List ℕ) → SpellsPattern pattern word → SpellsPattern other word
+        → pattern ≡ other }
 {}

@@ -2,8 +2,9 @@
 //! operators between operands.
 
 ghost use Rattle.std.specs.Prelude.{suc, ◌<◌, ◌≤◌};
-ghost use Rattle.ldscript_terms.specs.Expressions.{expr_of};
-ghost use Rattle.ldscript_terms.specs.Grammar.{Reads, Primary, Arguments, Within, Whole};
+ghost use Rattle.ldscript_terms.specs.CodeTerms.{expr_of};
+ghost use Rattle.ldscript_terms.specs.Reading.{Reads};
+ghost use Rattle.ldscript_terms.specs.Grammar.{Primary, Arguments, Within, Whole};
 
 use crate::expression::{Branches, Expr};
 use crate::head::{Head, after, binary_ahead, name_in_parentheses, read_head, unary_ahead};

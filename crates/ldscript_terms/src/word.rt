@@ -2,9 +2,9 @@
 
 ghost use Rattle.std.specs.Prelude.{◌≡◌, ◌↔◌, ◌<◌, ◌≤◌, ◌∷◌, [], IfOk, IfSome, IsTrue, List, MatchOption, drop, length};
 ghost use Rattle.std.specs.Option.{option_map};
-ghost use Rattle.ldscript_terms.specs.Matching.{exact_name};
-ghost use Rattle.ldscript_terms.specs.Parts.{IsPlace, Part, part_of};
-ghost use Rattle.ldscript_terms.specs.Spelling.{Spells};
+ghost use Rattle.ldscript_terms.specs.CodeTerms.{exact_name, IsPlace, part_of};
+ghost use Rattle.ldscript_terms.specs.Parts.{Part};
+ghost use Rattle.ldscript_terms.specs.Spelling.{SpellsPattern};
 ghost use Rattle.ldscript_terms.specs.Trying.{BeginsWith, EndsHere, IsSpelled};
 
 use crate::front::front;
@@ -60,7 +60,8 @@ pub fn is_spelled(word: &[u8]) -> bool
 
 /// The bytes of the pattern that a word spells, if it has bytes alone.
 pub fn exact_bytes(alloc: Global, word: &[u8]) -> Result<Option<Vec<u8>>, AllocError>
-    ensures { IfOk result (λ r. (ps : List Part) → Spells ps word.now → option_map (λ v. v.items) r ≡ exact_name ps) }
+    ensures { IfOk result (λ r. (ps : List Part) → SpellsPattern ps word.now
+        → option_map (λ v. v.items) r ≡ exact_name ps) }
 {
     let mut bytes = Vec::new(alloc);
     let mut rest = word;

@@ -5,10 +5,11 @@ use Rattle.std.specs.List.{slice_range}
 use Rattle.std.proofs.lemmas.List.{drop-drop, map-append}
 use Rattle.std.proofs.lemmas.List.Sums.{sum_by-append}
 use Rattle.std.proofs.Math.Seq.{take-add}
-use Rattle.ldscript_tokens.specs.Tokens.{Token, Lexeme, lexeme, End, Blank, Begins, Nothing, front, token_of, piece_of}
-use Rattle.ldscript_tokens.specs.Tokens.{lexeme_of, spelled_token, front_of}
-use Rattle.ldscript_tokens.specs.Modes.{IsCutFrom, IsCut, ended, blank, token, line_feeds, line_at, mode_of, state_after}
-use Rattle.ldscript_tokens.specs.Modes.{at_start, IsShallow, IsShortStretch}
+use Rattle.ldscript_tokens.specs.Tokens.{Token, Lexeme, lexeme, End, Blank, Begins, Nothing, front}
+use Rattle.ldscript_tokens.specs.CodeTokens.{token_of, piece_of, lexeme_of, spelled_token, front_of}
+use Rattle.ldscript_tokens.specs.Modes.{IsCutFrom, IsCut, ended, blank, token, line_feeds, line_at, mode_of}
+use Rattle.ldscript_tokens.specs.Modes.{state_after, at_start}
+use Rattle.ldscript_tokens.specs.CodeTokens.{IsShallow, IsShortStretch}
 use Rattle.ldscript_tokens.specs.declared.token.LexState.{LexState}
 use Rattle.ldscript_tokens.specs.declared.token.CodeToken.{CodeToken}
 use Rattle.ldscript_tokens.specs.declared.front.FrontToken.{FrontToken}

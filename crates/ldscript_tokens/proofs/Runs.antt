@@ -5,7 +5,8 @@ use Rattle.std.proofs.Common.{rules}
 use Rattle.std.specs.List.{list_any, count_by}
 use Rattle.std.proofs.lemmas.List.Sums.{sum_by-cons}
 use Rattle.std.proofs.lemmas.List.{drop_all}
-use Rattle.ldscript_tokens.specs.Tokens.{Token, token_of}
+use Rattle.ldscript_tokens.specs.Tokens.{Token}
+use Rattle.ldscript_tokens.specs.CodeTokens.{token_of}
 use Rattle.ldscript_tokens.specs.Modes.{state_after}
 use Rattle.ldscript_tokens.specs.Limits.{ModedToken, is_break, is_sign, HasShortRuns, counted_mode, moded}
 use Rattle.ldscript_tokens.specs.declared.token.Mode.{Mode}

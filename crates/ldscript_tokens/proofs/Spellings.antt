@@ -2,7 +2,7 @@
 use Rattle.std.proofs.Common.{◌≡◌, ℕ, ◌<◌, ◌≤◌, ◌^◌, List, [], ◌∷◌, length, map, get_or, refl, sym, ap, subst}
 use Rattle.std.specs.List.{All}
 use Rattle.std.proofs.lemmas.List.{get_or-map, length-map}
-use Rattle.ldscript_tokens.specs.Tokens.{token_of, lexeme_of}
+use Rattle.ldscript_tokens.specs.CodeTokens.{token_of, lexeme_of}
 use Rattle.ldscript_tokens.specs.Modes.{IsCut}
 use Rattle.ldscript_tokens.specs.Limits.{IsWithinLimits, IsTokens, IsPastLimits, tokens_of}
 use Rattle.ldscript_tokens.specs.declared.token.CodeToken.{CodeToken}

@@ -29,9 +29,9 @@ is_name_byte b = is_name_start b || is_decimal_digit b || (b == 36) || (b == 45)
 abbrev pub is_word_byte : ℕ → Bool
 is_word_byte b = is_name_byte b || (b == 47) || (b == 42) || (b == 63) || (b == 91) || (b == 93)
 
--- ! to ~
-abbrev pub is_graphic : ℕ → Bool
-is_graphic b = nat_le 33 b && nat_le b 126
+-- what may stand after a `\`: ! to ~
+abbrev pub is_escapable : ℕ → Bool
+is_escapable b = nat_le 33 b && nat_le b 126
 
 -- space to ~, but not the double quote
 abbrev pub is_text_byte : ℕ → Bool

@@ -5,4 +5,5 @@ pub mod Modes
 pub mod Numbers
 pub mod Words
 pub mod Limits
+pub mod CodeTokens
 pub mod Names

@@ -116,8 +116,3 @@ abbrev pub IsTokenRefusal : List ℕ → TokenRefusal → Type 0
 IsTokenRefusal text Limit = (2 ^ 20 < length text) ⊎ IsPastLimits text
 IsTokenRefusal text NotAToken = (length text ≤ 2 ^ 20) × ((ls : List Lexeme) → IsCut text ls → ⊥)
 IsTokenRefusal text NoMemory = Unit {0}
-
-abbrev pub token_refusal_number : TokenRefusal → ℕ
-token_refusal_number NotAToken = 1
-token_refusal_number Limit = 5
-token_refusal_number NoMemory = 6

@@ -17,41 +17,41 @@ pub record MarkRow : Type 0 where
   pub spelled : List ℕ
   pub mark : Mark
 
-abbrev pub row : List ℕ → Mark → MarkRow
-row bytes m = record { spelled = bytes; mark = m }
+abbrev pub mark_row : List ℕ → Mark → MarkRow
+mark_row bytes m = record { spelled = bytes; mark = m }
 
 -- the marks of the language
 abbrev pub marks : List MarkRow
 marks =
-    row (codes "(") OpenParenthesis
-    ∷ row (codes ")") CloseParenthesis
-    ∷ row (codes "{") OpenBrace
-    ∷ row (codes "}") CloseBrace
-    ∷ row (codes ";") Semicolon
-    ∷ row (codes ":") Colon
-    ∷ row (codes ",") Comma
-    ∷ row (codes "=") Assign
-    ∷ row (codes "+=") AddAssign
-    ∷ row (codes "!") Not
-    ∷ row (codes "-") Minus
-    ∷ row (codes "~") Complement
-    ∷ row (codes "*") Star
-    ∷ row (codes "/") Slash
-    ∷ row (codes "%") Percent
-    ∷ row (codes "+") Plus
-    ∷ row (codes "<<") ShiftLeft
-    ∷ row (codes ">>") ShiftRight
-    ∷ row (codes "<") Less
-    ∷ row (codes "<=") LessOrEqual
-    ∷ row (codes ">") Greater
-    ∷ row (codes ">=") GreaterOrEqual
-    ∷ row (codes "==") Equal
-    ∷ row (codes "!=") NotEqual
-    ∷ row (codes "&") And
-    ∷ row (codes "&&") AndAnd
-    ∷ row (codes "|") Or
-    ∷ row (codes "||") OrOr
-    ∷ row (codes "?") Question
+    mark_row (codes "(") OpenParenthesis
+    ∷ mark_row (codes ")") CloseParenthesis
+    ∷ mark_row (codes "{") OpenBrace
+    ∷ mark_row (codes "}") CloseBrace
+    ∷ mark_row (codes ";") Semicolon
+    ∷ mark_row (codes ":") Colon
+    ∷ mark_row (codes ",") Comma
+    ∷ mark_row (codes "=") Assign
+    ∷ mark_row (codes "+=") AddAssign
+    ∷ mark_row (codes "!") Not
+    ∷ mark_row (codes "-") Minus
+    ∷ mark_row (codes "~") Complement
+    ∷ mark_row (codes "*") Star
+    ∷ mark_row (codes "/") Slash
+    ∷ mark_row (codes "%") Percent
+    ∷ mark_row (codes "+") Plus
+    ∷ mark_row (codes "<<") ShiftLeft
+    ∷ mark_row (codes ">>") ShiftRight
+    ∷ mark_row (codes "<") Less
+    ∷ mark_row (codes "<=") LessOrEqual
+    ∷ mark_row (codes ">") Greater
+    ∷ mark_row (codes ">=") GreaterOrEqual
+    ∷ mark_row (codes "==") Equal
+    ∷ mark_row (codes "!=") NotEqual
+    ∷ mark_row (codes "&") And
+    ∷ mark_row (codes "&&") AndAnd
+    ∷ mark_row (codes "|") Or
+    ∷ mark_row (codes "||") OrOr
+    ∷ mark_row (codes "?") Question
     ∷ []
 
 -- those of pattern mode: ( ) { } ; = +=

@@ -1,6 +1,6 @@
 -- In which mode each token of a script is read, and the cut of a whole text.
-use Rattle.std.specs.Prelude.{◌≡◌, ℕ, ◌+◌, ◌-◌, ◌≤◌, List, [], ◌∷◌, take, drop, count_by, Bool, ◌==◌, if◌then◌else◌}
-use Rattle.std.specs.Prelude.{codes, bytes_eq}
+use Rattle.std.specs.Prelude.{◌≡◌, ℕ, ◌+◌, ◌-◌, List, [], ◌∷◌, take, drop, count_by, Bool, ◌==◌, if◌then◌else◌, codes}
+use Rattle.std.specs.Prelude.{bytes_eq}
 use Rattle.std.specs.List.{list_any}
 use Rattle.ldscript_tokens.specs.Tokens.{Token, Lexeme, lexeme, Word, Punctuation, End, Blank, Begins, front}
 use Rattle.ldscript_tokens.specs.declared.token.Mode.{Mode}
@@ -10,7 +10,6 @@ use Rattle.ldscript_tokens.specs.declared.token.Mark.TheVariants.{Semicolon, Ass
 use Rattle.ldscript_tokens.specs.declared.token.ExpressionStretch.{ExpressionStretch}
 use Rattle.ldscript_tokens.specs.declared.token.ExpressionStretch.TheVariants.{Closed, Awaited, ToSemicolon, ToParenthesis}
 use Rattle.ldscript_tokens.specs.declared.token.LexState.{LexState}
-use Rattle.ldscript_tokens.specs.declared.token.CodeToken.{CodeToken}
 
 -- pattern mode holds at depth 2 outside stretches
 abbrev pub mode_at : ℕ → ExpressionStretch → Mode
@@ -38,26 +37,26 @@ is_stretch_word word = list_any (λ w. bytes_eq w word) stretch_words
 -- after a token read in pattern mode (a `(` that begins a stretch belongs to it, and is the same token in both
 -- modes): `=` and `+=` begin a stretch to the next `;`, and so does a `(` right after
 -- a word of those to the `)` that matches it
-abbrev pub opened : ExpressionStretch → Token → ExpressionStretch
-opened s (Punctuation Assign) = ToSemicolon
-opened s (Punctuation AddAssign) = ToSemicolon
-opened Awaited (Punctuation OpenParenthesis) = ToParenthesis 1
-opened s (Word w) = if is_stretch_word w then Awaited else Closed
-opened s _ = Closed
+abbrev pub stretch_opened : ExpressionStretch → Token → ExpressionStretch
+stretch_opened s (Punctuation Assign) = ToSemicolon
+stretch_opened s (Punctuation AddAssign) = ToSemicolon
+stretch_opened Awaited (Punctuation OpenParenthesis) = ToParenthesis 1
+stretch_opened s (Word w) = if is_stretch_word w then Awaited else Closed
+stretch_opened s _ = Closed
 
 -- after a token read in expression mode
-abbrev pub closed : ExpressionStretch → Token → ExpressionStretch
-closed ToSemicolon (Punctuation Semicolon) = Closed
-closed ToSemicolon _ = ToSemicolon
-closed (ToParenthesis n) (Punctuation OpenParenthesis) = ToParenthesis (n + 1)
-closed (ToParenthesis n) (Punctuation CloseParenthesis) = if n == 1 then Closed else ToParenthesis (n - 1)
-closed (ToParenthesis n) _ = ToParenthesis n
-closed Closed _ = Closed
-closed Awaited _ = Closed
+abbrev pub stretch_closed : ExpressionStretch → Token → ExpressionStretch
+stretch_closed ToSemicolon (Punctuation Semicolon) = Closed
+stretch_closed ToSemicolon _ = ToSemicolon
+stretch_closed (ToParenthesis n) (Punctuation OpenParenthesis) = ToParenthesis (n + 1)
+stretch_closed (ToParenthesis n) (Punctuation CloseParenthesis) = if n == 1 then Closed else ToParenthesis (n - 1)
+stretch_closed (ToParenthesis n) _ = ToParenthesis n
+stretch_closed Closed _ = Closed
+stretch_closed Awaited _ = Closed
 
 abbrev pub stretch_after : Mode → ExpressionStretch → Token → ExpressionStretch
-stretch_after Expression s t = closed s t
-stretch_after Pattern s t = opened s t
+stretch_after Expression s t = stretch_closed s t
+stretch_after Pattern s t = stretch_opened s t
 
 -- where the text stands after a token
 unfoldable pub state_after : LexState → Token → LexState
@@ -65,17 +64,6 @@ state_after p t = record { depth = depth_after p.depth t; stretch = stretch_afte
 
 abbrev pub at_start : LexState
 at_start = record { depth = 0; stretch = Closed }
-
--- so many parentheses at most are open in a stretch
-abbrev pub IsShortStretch : ℕ → ExpressionStretch → Type 0
-IsShortStretch n Closed = Unit {0}
-IsShortStretch n Awaited = Unit {0}
-IsShortStretch n ToSemicolon = Unit {0}
-IsShortStretch n (ToParenthesis k) = k ≤ n
-
--- so many braces at most are open, and parentheses in a stretch
-abbrev pub IsShallow : ℕ → LexState → Type 0
-IsShallow n p = (p.depth ≤ n) × IsShortStretch n p.stretch
 
 abbrev pub line_feeds : List ℕ → ℕ
 line_feeds bytes = count_by (λ b. b == 10) bytes
@@ -95,7 +83,3 @@ pub data IsCutFrom (text : List ℕ) : ℕ → LexState → List Lexeme → Type
 -- these are the tokens of a text, with their lines
 abbrev pub IsCut : List ℕ → List Lexeme → Type 0
 IsCut text ls = IsCutFrom text 0 at_start ls
-
--- a token that lies within so many bytes
-abbrev pub IsPlace : ℕ → CodeToken → Type 0
-IsPlace n t = (t.start ≤ t.end) × (t.end ≤ n)

@@ -2,20 +2,14 @@
 -- White space and comments part tokens. A comment begins only where a token could begin, goes before any token
 -- there, and runs from `/*` to the next `*/` behind it.
 use Rattle.std.specs.Prelude.{ℕ, ◌+◌, List, [], ◌∷◌, take, drop, length, slice_index, Option, Some, None, Bool, not}
-use Rattle.std.specs.Prelude.{◌&&◌, ◌||◌, ◌==◌, if◌then◌else◌, codes, bytes_eq, slice_range, ◌<◌, ◌≤◌}
+use Rattle.std.specs.Prelude.{◌&&◌, ◌||◌, ◌==◌, if◌then◌else◌, codes, bytes_eq}
 use Rattle.std.specs.Option.{option_map}
-use Rattle.ldscript_tokens.specs.Bytes.{is_space, is_name_start, is_name_byte, is_decimal_digit, is_octal_digit, is_hex_digit}
-use Rattle.ldscript_tokens.specs.Bytes.{is_word_byte, is_graphic, is_text_byte, run_length}
+use Rattle.ldscript_tokens.specs.Bytes.{is_space, is_name_start, is_name_byte, is_decimal_digit, is_octal_digit}
+use Rattle.ldscript_tokens.specs.Bytes.{is_hex_digit, is_word_byte, is_escapable, is_text_byte, run_length}
 use Rattle.ldscript_tokens.specs.Marks.{MarkRow, longest_mark}
 use Rattle.ldscript_tokens.specs.declared.token.Mode.{Mode}
 use Rattle.ldscript_tokens.specs.declared.token.Mode.TheVariants.{Expression, Pattern}
 use Rattle.ldscript_tokens.specs.declared.token.Mark.{Mark}
-use Rattle.ldscript_tokens.specs.declared.token.TokenKind.{TokenKind}
-use Rattle.ldscript_tokens.specs.declared.token.TokenKind.TheVariants as kind
-use Rattle.ldscript_tokens.specs.declared.token.CodeToken.{CodeToken}
-use Rattle.ldscript_tokens.specs.declared.front.FrontToken.{FrontToken}
-use Rattle.ldscript_tokens.specs.declared.front.Ahead.{Ahead}
-use Rattle.ldscript_tokens.specs.declared.front.Ahead.TheVariants.{Finished, Space, Found, Unknown}
 
 -- a token with its bytes; a text without its quotes
 pub data Token : Type 0 where
@@ -46,38 +40,6 @@ pub data Front : Type 0 where
   Blank : (n : ℕ) → Front
   Begins : (token : Token) → (n : ℕ) → Front
   Nothing : Front
-
--- the token of a kind with these bytes
-abbrev pub spelled_token : TokenKind → List ℕ → Token
-spelled_token kind.Name bytes = Name bytes
-spelled_token kind.Number bytes = Number bytes
-spelled_token kind.Text bytes = Text bytes
-spelled_token kind.Discard bytes = Discard
-spelled_token kind.Word bytes = Word bytes
-spelled_token (kind.Punctuation m) bytes = Punctuation m
-
--- the token that stands at a place of a text
-abbrev pub token_of : List ℕ → CodeToken → Token
-token_of text t = spelled_token t.kind (slice_range text t.start t.end)
-
-abbrev pub lexeme_of : List ℕ → CodeToken → Lexeme
-lexeme_of text t = lexeme (token_of text t) t.line
-
-abbrev pub piece_of : List ℕ → FrontToken → Token
-piece_of text t = spelled_token t.kind (slice_range text t.start t.end)
-
-abbrev pub front_of : List ℕ → Ahead → Front
-front_of text Finished = End
-front_of text (Space n) = Blank n
-front_of text (Found t n) = Begins (piece_of text t) n
-front_of text Unknown = Nothing
-
--- it takes a byte or more, and no more than so many
-abbrev pub IsAdvance : ℕ → Ahead → Type 0
-IsAdvance room Finished = Unit {0}
-IsAdvance room (Space n) = (0 < n) × (n ≤ room)
-IsAdvance room (Found t n) = (0 < n) × (n ≤ room) × (t.start ≤ t.end) × (t.end ≤ n)
-IsAdvance room Unknown = Unit {0}
 
 -- `/*`, and how far the next `*/` behind it reaches
 abbrev pub is_comment : List ℕ → Bool
@@ -144,8 +106,8 @@ mark_or other (Some r) = Begins (Punctuation r.mark) (length r.spelled)
 unfoldable pub mark_front : List ℕ → Front
 mark_front text = mark_or Nothing (longest_mark Expression text)
 
-abbrev pub discard : List ℕ
-discard = codes "/DISCARD/"
+abbrev pub discard_spelling : List ℕ
+discard_spelling = codes "/DISCARD/"
 
 -- expression mode
 unfoldable pub expression_front : List ℕ → Front
@@ -154,7 +116,7 @@ expression_front text =
     if is_name_start b then name_front text
     else (if is_decimal_digit b then number_front text
     else (if b == 34 then text_front text
-    else (if bytes_eq discard (take 9 text) then Begins Discard 9
+    else (if bytes_eq discard_spelling (take 9 text) then Begins Discard 9
     else mark_front text)))
 
 -- WORD: a longest run of word bytes and of pairs of `\` with a byte from `!` to `~`
@@ -163,7 +125,7 @@ word_length [] = 0
 word_length (b ∷ []) = if is_word_byte b then 1 else 0
 word_length (b ∷ c ∷ cs) =
     if is_word_byte b then 1 + word_length (c ∷ cs)
-    else (if (b == 92) && is_graphic c then 2 + word_length cs else 0)
+    else (if (b == 92) && is_escapable c then 2 + word_length cs else 0)
 
 unfoldable pub word_front : List ℕ → Front
 word_front text = let n = word_length text in if n == 0 then Nothing else Begins (Word (take n text)) n

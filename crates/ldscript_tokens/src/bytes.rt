@@ -2,7 +2,7 @@
 
 ghost use Rattle.std.specs.Prelude.{◌≡◌, ◌<◌, length, slice_index};
 ghost use Rattle.ldscript_tokens.specs.Bytes.{is_letter, is_decimal_digit, is_octal_digit, is_hex_digit, is_space};
-ghost use Rattle.ldscript_tokens.specs.Bytes.{is_name_start, is_name_byte, is_word_byte, is_graphic, is_text_byte};
+ghost use Rattle.ldscript_tokens.specs.Bytes.{is_name_start, is_name_byte, is_word_byte, is_escapable, is_text_byte};
 
 /// Whether a byte is one of `A-Z a-z`.
 pub fn is_letter(b: u8) -> bool
@@ -62,7 +62,7 @@ pub fn is_word_byte(b: u8) -> bool
 
 /// Whether a byte is one of `!` to `~`.
 pub fn is_graphic(b: u8) -> bool
-    ensures { result ≡ is_graphic b }
+    ensures { result ≡ is_escapable b }
 {
     matches!(b, b'!'..=b'~')
 }

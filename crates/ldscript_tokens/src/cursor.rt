@@ -2,8 +2,7 @@
 
 ghost use Rattle.std.specs.Prelude.{◌≡◌, ◌∷◌, ◌↔◌, [], ℕ, IsTrue, List, length, map, All, MatchOption};
 ghost use Rattle.ldscript_tokens.specs.Tokens.{Lexeme, lexeme, first_line, Name, Number, Text, Word, Punctuation};
-ghost use Rattle.ldscript_tokens.specs.Tokens.{spelled_token, lexeme_of};
-ghost use Rattle.ldscript_tokens.specs.Modes.{IsPlace};
+ghost use Rattle.ldscript_tokens.specs.CodeTokens.{spelled_token, lexeme_of, IsPlace};
 
 use super::token::{CodeToken, Mark, TokenKind};
 use std::marker::Model;
@@ -25,8 +24,8 @@ pub struct Cursor<'a> {
 
 impl<'a> Model for Cursor<'a> {
     ghost use Rattle.std.specs.Prelude.{List, length, map, All};
-    ghost use Rattle.ldscript_tokens.specs.Tokens.{Lexeme, lexeme_of};
-    ghost use Rattle.ldscript_tokens.specs.Modes.{IsPlace};
+    ghost use Rattle.ldscript_tokens.specs.Tokens.{Lexeme};
+    ghost use Rattle.ldscript_tokens.specs.CodeTokens.{lexeme_of, IsPlace};
 
     ghost Value = { List Lexeme };
 

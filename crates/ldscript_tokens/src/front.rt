@@ -3,8 +3,9 @@
 ghost use Rattle.std.specs.Prelude.{◌≡◌, ◌<◌, ◌≤◌, ◌+◌, true, length, drop, slice_index, IfSome, ◌==◌};
 ghost use Rattle.ldscript_tokens.specs.Bytes.{is_name_start, is_name_byte, is_octal_digit, is_decimal_digit, is_hex_digit};
 ghost use Rattle.ldscript_tokens.specs.Bytes.{is_text_byte, run_length};
-ghost use Rattle.ldscript_tokens.specs.Tokens.{front_of, IsAdvance, is_hex, digits_length, number_length, name_length};
-ghost use Rattle.ldscript_tokens.specs.Tokens.{name_front, number_front, text_front, star_slash, comment_front, mark_front};
+ghost use Rattle.ldscript_tokens.specs.CodeTokens.{front_of, IsAdvance};
+ghost use Rattle.ldscript_tokens.specs.Tokens.{is_hex, digits_length, number_length, name_length, name_front};
+ghost use Rattle.ldscript_tokens.specs.Tokens.{number_front, text_front, star_slash, comment_front, mark_front};
 ghost use Rattle.ldscript_tokens.specs.Tokens.{expression_front, word_length, word_front, pattern_front, front};
 
 use super::bytes::{

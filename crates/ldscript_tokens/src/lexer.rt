@@ -1,8 +1,10 @@
 //! The cut of a text into tokens.
 
 ghost use Rattle.std.specs.Prelude.{◌≡◌, ◌≤◌, ◌^◌, ◌+◌, ◌-◌, length, drop, map, All, IfOk, IfErr};
-ghost use Rattle.ldscript_tokens.specs.Tokens.{lexeme_of, front_of, front, IsAdvance};
-ghost use Rattle.ldscript_tokens.specs.Modes.{mode_of, line_feeds, IsCut, IsPlace};
+ghost use Rattle.ldscript_tokens.specs.CodeTokens.{lexeme_of, front_of, IsAdvance};
+ghost use Rattle.ldscript_tokens.specs.Tokens.{front};
+ghost use Rattle.ldscript_tokens.specs.Modes.{mode_of, line_feeds, IsCut};
+ghost use Rattle.ldscript_tokens.specs.CodeTokens.{IsPlace};
 ghost use Rattle.ldscript_tokens.specs.Limits.{IsTokens, IsTokenRefusal};
 
 use super::front::{Ahead, FrontToken, front};

@@ -1,8 +1,8 @@
 //! The limits on the tokens of a text.
 
 ghost use Rattle.std.specs.Prelude.{◌≡◌, ◌+◌, ◌≤◌, ◌^◌, ◌↔◌, IsTrue, length, map, All, count_by, cond, if◌then◌else◌};
-ghost use Rattle.ldscript_tokens.specs.Tokens.{spelled_token, token_of};
-ghost use Rattle.ldscript_tokens.specs.Modes.{IsPlace, at_start};
+ghost use Rattle.ldscript_tokens.specs.CodeTokens.{spelled_token, token_of, IsPlace};
+ghost use Rattle.ldscript_tokens.specs.Modes.{at_start};
 ghost use Rattle.ldscript_tokens.specs.Limits.{HasShortSpelling, is_open_brace, counted_mode, moded, is_break, is_sign};
 ghost use Rattle.ldscript_tokens.specs.Limits.{is_sign_mark, HasShortRuns, IsWithinLimits};
 

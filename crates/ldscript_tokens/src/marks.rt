@@ -2,7 +2,7 @@
 
 ghost use Rattle.std.specs.Prelude.{◌≡◌, ◌<◌, ◌≤◌, ◌∷◌, [], length, take, IfSome};
 ghost use Rattle.std.specs.Option.{option_map};
-ghost use Rattle.ldscript_tokens.specs.Marks.{row, spelled_row, is_mark_in, longest_mark};
+ghost use Rattle.ldscript_tokens.specs.Marks.{mark_row, spelled_row, is_mark_in, longest_mark};
 
 use super::bytes::byte_at;
 use super::token::{Mark, Mode};
@@ -19,7 +19,7 @@ pub struct MarkAhead {
 /// The mark that is spelled by these two bytes.
 #[tactic(auto, unfolding(crate::specs::Marks::spelled_row))]
 fn mark_of_two(first: u8, second: u8) -> Option<Mark>
-    ensures value { spelled_row (first ∷ second ∷ []) ≡ option_map (row (first ∷ second ∷ [])) result }
+    ensures value { spelled_row (first ∷ second ∷ []) ≡ option_map (mark_row (first ∷ second ∷ [])) result }
     ensures within { IfSome result (λ m. 0 < second) }
 {
     match (first, second) {
@@ -39,7 +39,7 @@ fn mark_of_two(first: u8, second: u8) -> Option<Mark>
 /// The mark that is spelled by this byte.
 #[tactic(auto, unfolding(crate::specs::Marks::spelled_row))]
 fn mark_of_one(byte: u8) -> Option<Mark>
-    ensures { spelled_row (byte ∷ []) ≡ option_map (row (byte ∷ [])) result }
+    ensures { spelled_row (byte ∷ []) ≡ option_map (mark_row (byte ∷ [])) result }
 {
     match byte {
         b'(' => Some(Mark::OpenParenthesis),
@@ -89,7 +89,7 @@ fn is_mark_in(mode: Mode, mark: Mark) -> bool
 #[tactic(auto, using(crate::proofs::Longest::longest_by_bytes))]
 pub fn longest_mark(mode: Mode, text: &[u8]) -> Option<MarkAhead>
     requires { 0 < length text.now }
-    ensures value { longest_mark mode text.now ≡ option_map (λ m. row (take m.length text.now) m.mark) result }
+    ensures value { longest_mark mode text.now ≡ option_map (λ m. mark_row (take m.length text.now) m.mark) result }
     ensures within { IfSome result (λ m. (0 < m.length) × (m.length ≤ length text.now)) }
 {
     let first = byte_at(text, 0);

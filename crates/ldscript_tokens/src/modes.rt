@@ -1,9 +1,10 @@
 //! In which mode each token is read.
 
 ghost use Rattle.std.specs.Prelude.{◌≡◌, ◌<◌, ◌≤◌, ◌^◌, ℕ};
-ghost use Rattle.ldscript_tokens.specs.Tokens.{spelled_token};
-ghost use Rattle.ldscript_tokens.specs.Modes.{mode_of, is_stretch_word, depth_after, opened, closed, state_after, at_start};
-ghost use Rattle.ldscript_tokens.specs.Modes.{IsShallow, IsShortStretch};
+ghost use Rattle.ldscript_tokens.specs.CodeTokens.{spelled_token};
+ghost use Rattle.ldscript_tokens.specs.Modes.{mode_of, is_stretch_word, depth_after, stretch_opened, stretch_closed};
+ghost use Rattle.ldscript_tokens.specs.Modes.{state_after, at_start};
+ghost use Rattle.ldscript_tokens.specs.CodeTokens.{IsShallow, IsShortStretch};
 
 use super::token::{ExpressionStretch, LexState, Mark, Mode, TokenKind};
 use super::words::is_one_of;
@@ -21,7 +22,7 @@ fn is_stretch_word(word: &[u8]) -> bool
 
 /// The stretch after a token that was read in pattern mode.
 fn opened(stretch: ExpressionStretch, kind: TokenKind, spelled: &[u8]) -> ExpressionStretch
-    ensures value { result ≡ opened stretch (spelled_token kind spelled.now) }
+    ensures value { result ≡ stretch_opened stretch (spelled_token kind spelled.now) }
     ensures short { (m : ℕ) → 0 < m → IsShortStretch m result }
 {
     match kind {
@@ -45,7 +46,7 @@ fn opened(stretch: ExpressionStretch, kind: TokenKind, spelled: &[u8]) -> Expres
 /// The stretch after a token that was read in expression mode.
 fn closed(stretch: ExpressionStretch, kind: TokenKind, spelled: &[u8]) -> ExpressionStretch
     requires { IsShortStretch (2 ^ 32) stretch }
-    ensures value { result ≡ closed stretch (spelled_token kind spelled.now) }
+    ensures value { result ≡ stretch_closed stretch (spelled_token kind spelled.now) }
     ensures short { (n m : ℕ) → IsShortStretch n stretch → n < m → IsShortStretch m result }
 {
     match (stretch, kind) {

@@ -13,7 +13,7 @@ pub enum TokenRefusal {
 
 impl TokenRefusal {
     ghost use Rattle.std.specs.Prelude.{◌≡◌};
-    ghost use Rattle.ldscript_tokens.specs.Limits.{token_refusal_number};
+    ghost use Rattle.ldscript_tokens.specs.CodeTokens.{token_refusal_number};
 
     /// The number under which the refusal is reported: 1, 5 or 6.
     pub fn number(self) -> u8

@@ -1,7 +1,7 @@
 //! Tokens of a script, as they lie in its text.
 
 ghost use Rattle.std.specs.Prelude.{◌≡◌, length, slice_range};
-ghost use Rattle.ldscript_tokens.specs.Modes.{IsPlace};
+ghost use Rattle.ldscript_tokens.specs.CodeTokens.{IsPlace};
 
 /// How the text is read where a token begins: as an expression, or as patterns of names.
 #[derive(Clone, Copy, Debug, PartialEq, Eq)]

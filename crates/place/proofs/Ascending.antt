@@ -7,7 +7,7 @@ use Rattle.std.proofs.lemmas.List.Elements.{All-head, All-tail}
 use Rattle.elfobj.specs.Sections.{LinkedSection, section_of}
 use Rattle.elfobj.specs.declared.section.Section.{Section}
 use Rattle.ldmodel_laws.specs.Spread.{EachLater}
-use Rattle.ldmodel.specs.FileLayout.{Each}
+use Rattle.ldmodel.specs.Each.{Each}
 
 -- the first of ascending numbers is below the others
 above : (n : ℕ) (xs : List LinkedSection) → All (λ (s : Section). n < s.number.0) (map section_of xs)

@@ -2,7 +2,7 @@
 use Rattle.std.proofs.Common.{◌≡◌, ◌∙◌, sym, refl, ap, List, [], ◌∷◌, ◌++◌, append_assoc}
 use Rattle.std.proofs.Common.{None, Bool, true, false, if◌then◌else◌}
 use Rattle.ldmodel.specs.Layout.{PlacedSection}
-use Rattle.ldmodel.specs.Segments.{Group, groups, sections_in, shares_segment, with_front}
+use Rattle.ldmodel.specs.Segments.{Group, groups, group_sections, shares_segment, with_front}
 use Rattle.place.specs.Grouping.{Current, single, extended, groups_after, groups_from}
 
 -- a group that may go on, before the groups of those after it
@@ -12,12 +12,12 @@ continue c (g ∷ gs) =
     if shares_segment c.last g.first then record {
       first = c.group.first;
       others = c.group.others
-          ++ sections_in g;
+          ++ group_sections g;
     } ∷ gs
     else (c.group ∷ g ∷ gs)
 
 abbrev joint : PlacedSection → Group → Group
-joint q g = record { first = q; others = sections_in g }
+joint q g = record { first = q; others = group_sections g }
 
 -- the same with one more section before those groups
 over_front : (c : Current) (q : PlacedSection) (gs : List Group)
@@ -28,7 +28,11 @@ over_front c q [] = refl
 over_front c q (g ∷ gs) = by_case (shares_segment q g.first) where
   by_case : (b : Bool) → continue c (if b then joint q g ∷ gs else (single q ∷ g ∷ gs))
       ≡ (if shares_segment c.last q
-      then (if b then record { first = c.group.first; others = (c.group.others ++ q ∷ []) ++ sections_in g } ∷ gs else
+      then (if b then record {
+        first = c.group.first;
+        others = (c.group.others ++ q ∷ [])
+            ++ group_sections g;
+      } ∷ gs else
       (extended c.group q ∷ g ∷ gs))
       else (c.group ∷ (if b then joint q g ∷ gs else (single q ∷ g ∷ gs))))
   by_case true =
@@ -38,7 +42,7 @@ over_front c q (g ∷ gs) = by_case (shares_segment q g.first) where
         others =
             o;
       } ∷ gs else (c.group ∷ joint q g ∷ gs))
-      (sym (append_assoc c.group.others (q ∷ []) (sections_in g)))
+      (sym (append_assoc c.group.others (q ∷ []) (group_sections g)))
   by_case false = refl
 
 pub after_is : (c : Current) (qs : List PlacedSection) → groups_after c qs ≡ continue c (groups qs)

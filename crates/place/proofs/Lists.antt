@@ -4,7 +4,7 @@ use Rattle.std.proofs.Common.{None}
 use Rattle.std.proofs.Common.{Bool, true, false, cond, slice_get}
 use Rattle.std.proofs.lemmas.Option.{same_Some}
 use Rattle.ldmodel_laws.specs.Spread.{EachLater}
-use Rattle.ldmodel.specs.FileLayout.{Each}
+use Rattle.ldmodel.specs.Each.{Each}
 
 pub each_at : {X : Type 0} (P : X → Type 0) (xs : List X) (k : ℕ) (x : X) → Each P xs → slice_get xs k ≡ Some x → P x
 each_at P [] k x h e = absurd (let none : ⊥ = cc in none)

@@ -6,13 +6,14 @@ use Rattle.std.proofs.lemmas.List.{map-append, get_or_append_left, length-append
 use Rattle.std.proofs.lemmas.Slice.Eq.{bytes_eq-Decides}
 use Rattle.ldmodel_laws.specs.ImageBytes.{AreNamed}
 use Rattle.ldmodel_laws.specs.Spread.{EachLater}
-use Rattle.ldmodel.specs.FileLayout.{Each}
+use Rattle.ldmodel.specs.Each.{Each}
 use Rattle.ldmodel.specs.Layout.{PlacedSection}
 use Rattle.place_sections.specs.Meetings.{AreOutputs}
 use Rattle.ldscript.specs.Script.{IsSound}
 use Rattle.ldscript.specs.statements.Mentions.{Clashes, Mention, SectionNamed, in_item_command, in_items}
 use Rattle.ldscript.specs.statements.Mentions.{in_top_command, mentions}
-use Rattle.ldscript.specs.statements.Numbering.{OutputSectionAt, items, items_of, output_sections, sections_in, sections_of}
+use Rattle.ldscript.specs.statements.Numbering.{OutputSectionAt, items, items_of, output_sections, sections_in}
+use Rattle.ldscript.specs.statements.Numbering.{item_sections}
 use Rattle.ldscript.specs.statements.declared.statement.Command.{Command}
 use Rattle.ldscript.specs.statements.declared.statement.Command.TheVariants as top
 use Rattle.ldscript.specs.statements.declared.statement.Item.{Item}
@@ -40,7 +41,7 @@ both (mentioned h) k = mentioned (both h k)
 abbrev names_of : List OutputSectionAt → List (List ℕ)
 names_of os = map (λ (o : OutputSectionAt). o.section.name) os
 
-in_command : (line : ℕ) (c : ItemCommand) → Among (names_of (sections_of line c)) (in_item_command c)
+in_command : (line : ℕ) (c : ItemCommand) → Among (names_of (item_sections line c)) (in_item_command c)
 in_command line (item.Section o) = mentioned no_more
 in_command line (item.Dot c) = no_more
 in_command line (item.Common c) = no_more
@@ -50,7 +51,7 @@ in_all : (is : List Item) → Among (names_of (sections_in is)) (in_items is)
 in_all [] = no_more
 in_all (i ∷ is) =
     subst (λ ns. Among ns (in_item_command i.command ++ in_items is))
-    (sym (map-append (λ (o : OutputSectionAt). o.section.name) (sections_of i.line i.command) (sections_in is)))
+    (sym (map-append (λ (o : OutputSectionAt). o.section.name) (item_sections i.line i.command) (sections_in is)))
     (both (in_command i.line i.command) (in_all is))
 
 in_top : (c : Command) → Among (names_of (sections_in (items_of c))) (in_top_command c)
@@ -62,8 +63,8 @@ in_top (top.Sections is) = passed (in_all is)
 sections_append : (xs ys : List Item) → sections_in (xs ++ ys) ≡ sections_in xs ++ sections_in ys
 sections_append [] ys = refl
 sections_append (x ∷ xs) ys =
-    ap (λ l. sections_of x.line x.command ++ l) (sections_append xs ys)
-    ∙ sym (append_assoc (sections_of x.line x.command) (sections_in xs) (sections_in ys))
+    ap (λ l. item_sections x.line x.command ++ l) (sections_append xs ys)
+    ∙ sym (append_assoc (item_sections x.line x.command) (sections_in xs) (sections_in ys))
 
 in_script : (ss : List Statement) → Among (names_of (output_sections ss)) (mentions ss)
 in_script [] = no_more

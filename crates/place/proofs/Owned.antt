@@ -4,7 +4,7 @@ use Rattle.std.proofs.Common.{List, [], ◌∷◌, length, filter, flat_map}
 use Rattle.std.specs.List.{Contains, enumerate_from, list_any, range_with_len}
 use Rattle.std.proofs.lemmas.Bool.{eqb-false, true≢false}
 use Rattle.ldscript.specs.statements.Numbering.{InputStatementAt, input_statements, output_sections}
-use Rattle.ldmodel.specs.FileLayout.{Each}
+use Rattle.ldmodel.specs.Each.{Each}
 use Rattle.ldmodel.specs.Gathering.{candidates, is_out}
 use Rattle.ldmodel.specs.InputSections.{input_sections}
 use Rattle.ldmodel.specs.Live.{live}

@@ -10,7 +10,7 @@ use Rattle.std.proofs.lemmas.List.{append-nil, drop_all, length-map}
 use Rattle.std.specs.List.{AllZip, last_or}
 use Rattle.ldmodel.specs.Layout.{PlacedSection}
 use Rattle.ldmodel.specs.Lent.{placed_of}
-use Rattle.ldmodel.specs.Segments.{Group, file_size, groups, has_file_bytes, nonempty, reach, shares_segment}
+use Rattle.ldmodel.specs.Segments.{Group, file_size, groups, nonempty, reach, shares_segment}
 use Rattle.ldmodel.specs.declared.laid.OutputIndex.{OutputIndex}
 use Rattle.ldmodel.specs.declared.laid.Placed.{Placed}
 use Rattle.place.specs.declared.group.Group as code
@@ -36,20 +36,20 @@ pub begun_is : (s : List PlacedSection) (q : PlacedSection) (number : OutputInde
 begun_is s q number at = record {
   start = refl;
   load = refl;
-  in_file = in_file (q.load_size == 0);
+  in_file = in_file q.has_file_bytes;
   in_memory = omega arith;
   writable = refl;
   executable = refl;
   first = at;
   last = at;
 } where
-  in_file : (b : Bool) → (if b then 0 else q.size) ≡ (if not b then ((q.start + q.size) - q.start) else 0)
-  in_file true = refl
-  in_file false = omega arith
+  in_file : (b : Bool) → (if b then q.size else 0) ≡ (if b then ((q.start + q.size) - q.start) else 0)
+  in_file true = omega arith
+  in_file false = refl
 
 -- the reach of a section with file bytes, else as before
 abbrev farther : Group → ℕ → PlacedSection → ℕ
-farther g n q = if has_file_bytes q then reach g q else n
+farther g n q = if q.has_file_bytes then reach g q else n
 
 -- a group and one more
 pub joined_is : (s : List PlacedSection) (g : Group) (x : code.Group) (q : PlacedSection) (number : OutputIndex)
@@ -57,7 +57,7 @@ pub joined_is : (s : List PlacedSection) (g : Group) (x : code.Group) (q : Place
 joined_is s g x q number at is = record {
   start = is.start;
   load = is.load;
-  in_file = in_file (q.load_size == 0) ∙ sym (fold-append (farther g) (farther g 0 g.first) g.others (q ∷ []));
+  in_file = in_file q.has_file_bytes ∙ sym (fold-append (farther g) (farther g 0 g.first) g.others (q ∷ []));
   in_memory =
       ap (λ n. (q.start + q.size) - n) is.start
       ∙ sym (fold-append (λ n (r : PlacedSection). reach g r) (reach g g.first) g.others (q ∷ []));
@@ -67,9 +67,9 @@ joined_is s g x q number at is = record {
   last = at ∙ sym (last_more (Some g.first) g.others q);
 } where
   in_file : (b : Bool)
-      → (if b then x.file_size else ((q.start + q.size) - x.start)) ≡ (if not b then reach g q else file_size g)
-  in_file true = is.in_file
-  in_file false = ap (λ n. (q.start + q.size) - n) is.start
+      → (if b then ((q.start + q.size) - x.start) else x.file_size) ≡ (if b then reach g q else file_size g)
+  in_file true = ap (λ n. (q.start + q.size) - n) is.start
+  in_file false = is.in_file
 
 pub starts : (s : List PlacedSection) → Grouped s s [] None
 starts s = record { complete = []; current = None; are = tt; is = tt; same = from_none (nonempty s) }

@@ -11,7 +11,8 @@ use Rattle.ldmodel.specs.SectionHeaders.{SectionHeader, header_bytes, header_nam
 use Rattle.ldmodel.specs.SectionHeaders.{image_length, output_header, section_headers, table_headers, tables}
 use Rattle.ldmodel.specs.Segments.{begun_from, file_end, headers_end, loaded_end, segments, Group, Segment, begun}
 use Rattle.ldmodel.specs.Segments.{groups, nonempty}
-use Rattle.ldmodel.specs.Tail.{SymbolEntry, symbol_bytes, symbol_entry, symbol_name_table, symbol_table, table_symbols}
+use Rattle.ldmodel.specs.Tail.{SymbolEntry, symbol_bytes, symbol_entry, symbol_name_table, output_symbol_table}
+use Rattle.ldmodel.specs.Tail.{table_symbols}
 use Rattle.ldmodel.specs.declared.segment.Segment as code
 use Rattle.place.specs.Placing.{Follow, past}
 use Rattle.place.proofs.FileOffsets.{ends_are, follow_are, zip_long}
@@ -27,8 +28,9 @@ header_length h = refl
 entry_length : (x : SymbolEntry) → length (symbol_bytes x) ≡ 24
 entry_length x = refl
 
-pub symbol_table_length : (p : Project) (s : Layout) → length (symbol_table p s) ≡ 24 * (length (table_symbols p s) + 1)
-unfolding symbol_table
+pub symbol_table_length : (p : Project) (s : Layout) → length (output_symbol_table p s)
+    ≡ 24 * (length (table_symbols p s) + 1)
+unfolding output_symbol_table
 symbol_table_length p s =
     let entries : length (flat_map (λ x. symbol_bytes (symbol_entry p s x)) (enumerate_from 0 (table_symbols p s)))
     ≡ length (enumerate_from 0 (table_symbols p s)) * 24 =
@@ -96,7 +98,7 @@ pub sum_is : (p : Project) (s : Layout) (loaded symbols count names header_names
 unfolding image_length header_part tables
 sum_is p s loaded symbols count names header_names sections headers l a n1 n2 n3 n4 h =
     let tables_end : ((symbols + 24 * (count + 1)) + names) + header_names
-    ≡ ((next_multiple_of (loaded_end (segments s.sections)) 8 + length (symbol_table p s)) + length
+    ≡ ((next_multiple_of (loaded_end (segments s.sections)) 8 + length (output_symbol_table p s)) + length
     (symbol_name_table p s))
     + length (header_name_table s) =
     tables_add _ _ _ _ _ _ _ _ _ (a ∙ ap (λ n. next_multiple_of n 8) l) n1 (symbol_table_length p s) n2 n3 in

@@ -11,13 +11,13 @@ use Rattle.std.proofs.lemmas.List.{drop_all, map-append}
 use Rattle.std.proofs.lemmas.Slice.Eq.{bytes_eq-Decides}
 use Rattle.ldmodel_laws.specs.ImageBytes.{AreNamed}
 use Rattle.ldmodel_laws.specs.Spread.{EachLater}
-use Rattle.ldmodel.specs.FileLayout.{Each, IsFileLayout, IsTogether, Neighbours, Shares, last_from}
+use Rattle.ldmodel.specs.Each.{Each}
+use Rattle.ldmodel_laws.specs.FileLayout.{IsFileLayout, IsTogether, Neighbours, Shares, last_from}
 use Rattle.ldmodel.specs.Layout.{Layout, PlacedSection}
 use Rattle.ldmodel.specs.Lent.{AreSegments, IsSegment, placed_of}
-use Rattle.ldmodel.specs.SectionHead.{difference_of}
-use Rattle.ldmodel.specs.Segments.{Group, SectionInFile, Segment, end_of, file_offset, has_file_bytes, in_file}
-use Rattle.ldmodel.specs.Segments.{in_segment}
-use Rattle.ldmodel.specs.Segments.{nonempty, page_size, reach, sections_in, segments, start_of}
+use Rattle.ldmodel.specs.Placement.{difference_of}
+use Rattle.ldmodel.specs.Segments.{Group, SectionInFile, Segment, end_of, file_offset, in_file}
+use Rattle.ldmodel.specs.Segments.{in_segment, nonempty, page_size, reach, group_sections, segments, segment_start}
 use Rattle.ldmodel.specs.declared.laid.Placed.{Placed}
 use Rattle.ldmodel.specs.declared.segment.Segment as code
 use Rattle.place.proofs.Lists.{each_append, each_at, each_filter, each_of_map, find_at, find_none}
@@ -113,7 +113,7 @@ follows : (p q : PlacedSection) → Shares p q → end_of p ≤ q.start
 follows p q h =
     let flags : Bool = beq p.writable q.writable && beq p.executable q.executable in
     let one = both (flags && (difference_of p == difference_of q) && nat_le (end_of p) q.start
-    && nat_lt q.start (end_of p + page_size)) (not (has_file_bytes q && not (has_file_bytes p))) h in
+    && nat_lt q.start (end_of p + page_size)) (not (q.has_file_bytes && not p.has_file_bytes)) h in
     let two = both (flags && (difference_of p == difference_of q) && nat_le (end_of p) q.start)
     (nat_lt q.start (end_of p + page_size)) one.0 in
     let three = both (flags && (difference_of p == difference_of q)) (nat_le (end_of p) q.start) two.0 in
@@ -134,12 +134,12 @@ other_number : (m n : ℕ) → m < n → (m == n) ≡ false
 other_number m n l = false_from_ne_true (m == n) (λ t. absurd (omega (arith, l, eqb-true m n t)))
 
 module _ (g : Segment) (x : code.Segment) (xs : List code.Segment) (ns : List PlacedSection) (os : List ℕ)
-    (offset : x.offset ≡ g.offset) (start : x.start ≡ start_of g) (rest : Ahead xs ns os) where
-  offset_is : (p : PlacedSection) → offset_at x (placed_of p) ≡ g.offset + (p.start - start_of g)
+    (offset : x.offset ≡ g.offset) (start : x.start ≡ segment_start g) (rest : Ahead xs ns os) where
+  offset_is : (p : PlacedSection) → offset_at x (placed_of p) ≡ g.offset + (p.start - segment_start g)
   offset_is p = ap (λ n. n + (p.start - x.start)) offset ∙ ap (λ n. g.offset + (p.start - n)) start
 
   ahead_group : (p : PlacedSection) (ps : List PlacedSection) → x.memory_size ≡ reach g.group (last_from p ps)
-      → start_of g ≤ p.start → Neighbours Shares (p ∷ ps) → Each Sized (p ∷ ps)
+      → segment_start g ≤ p.start → Neighbours Shares (p ∷ ps) → Each Sized (p ∷ ps)
       → Ahead (x ∷ xs) ((p ∷ ps) ++ ns) (map (λ y. y.offset) (map (in_segment g) (p ∷ ps)) ++ os)
   ahead_group p [] size from together sized =
       last
@@ -161,7 +161,7 @@ fold_last g n p [] = refl
 fold_last g n p (q ∷ qs) = fold_last g (reach g p) q qs
 
 abbrev parts_of : List Segment → List PlacedSection
-parts_of gs = flat_map sections_in (map (λ (g : Segment). g.group) gs)
+parts_of gs = flat_map group_sections (map (λ (g : Segment). g.group) gs)
 
 ahead_all : (sections : List PlacedSection) (gs : List Segment) (xs : List code.Segment)
     → AllZip (IsSegment sections) gs xs → Each IsTogether (map (λ (g : Segment). g.group) gs)
@@ -170,10 +170,10 @@ ahead_all sections [] [] z t h = over
 ahead_all sections [] (x ∷ xs) z t h = absurd z
 ahead_all sections (g ∷ gs) [] z t h = absurd z
 ahead_all sections (g ∷ gs) (x ∷ xs) z t h =
-    let sized = each_append Sized (sections_in g.group) (parts_of gs) h in
+    let sized = each_append Sized (group_sections g.group) (parts_of gs) h in
     let here = z.0 in
-    subst (λ os. Ahead (x ∷ xs) (sections_in g.group ++ parts_of gs) os)
-    (sym (map-append (λ (y : SectionInFile). y.offset) (map (in_segment g) (sections_in g.group)) (in_file gs)))
+    subst (λ os. Ahead (x ∷ xs) (group_sections g.group ++ parts_of gs) os)
+    (sym (map-append (λ (y : SectionInFile). y.offset) (map (in_segment g) (group_sections g.group)) (in_file gs)))
     (ahead_group g x xs (parts_of gs) (map (λ y. y.offset) (in_file gs)) here.offset here.start
     (ahead_all sections gs xs z.1 t.1 sized.1) g.group.first g.group.others
     (here.in_memory ∙ fold_last g.group 0 g.group.first g.group.others) (omega arith) t.0 sized.0)
@@ -188,9 +188,9 @@ map_sections g (q ∷ qs) = ap (λ l. q ∷ l) (map_sections g qs)
 pub sections_in_file : (gs : List Segment) → map (λ (y : SectionInFile). y.section) (in_file gs) ≡ parts_of gs
 sections_in_file [] = refl
 sections_in_file (g ∷ gs) =
-    map-append (λ (y : SectionInFile). y.section) (map (in_segment g) (sections_in g.group)) (in_file gs)
-    ∙ ap (λ l. l ++ map (λ (y : SectionInFile). y.section) (in_file gs)) (map_sections g (sections_in g.group))
-    ∙ ap (λ l. sections_in g.group ++ l) (sections_in_file gs)
+    map-append (λ (y : SectionInFile). y.section) (map (in_segment g) (group_sections g.group)) (in_file gs)
+    ∙ ap (λ l. l ++ map (λ (y : SectionInFile). y.section) (in_file gs)) (map_sections g (group_sections g.group))
+    ∙ ap (λ l. group_sections g.group ++ l) (sections_in_file gs)
 
 map_at : {X Y : Type 0} (f g : X → Y) (xs : List X) → ((k : ℕ) (x : X) → slice_get xs k ≡ Some x → f x ≡ g x)
     → map f xs ≡ map g xs

@@ -23,6 +23,7 @@ bare q = record {
   start = q.start;
   size = q.size;
   load = q.load;
+  has_file_bytes = q.has_file_bytes;
   load_size = q.load_size;
   writable = q.writable;
   executable = q.executable;
@@ -52,7 +53,7 @@ abbrev pub begun : OutputIndex → Placed → code.Group
 begun number q = record {
   start = q.start;
   load = q.load;
-  file_size = if q.load_size == 0 then 0 else q.size;
+  file_size = if q.has_file_bytes then q.size else 0;
   memory_size = q.size;
   writable = q.writable;
   executable = q.executable;
@@ -64,7 +65,7 @@ begun number q = record {
 abbrev pub joined : code.Group → OutputIndex → Placed → code.Group
 joined g number q =
     let reach : ℕ = (q.start + q.size) - g.start in
-    record g { file_size = if q.load_size == 0 then g.file_size else reach; memory_size = reach; last = number }
+    record g { file_size = if q.has_file_bytes then reach else g.file_size; memory_size = reach; last = number }
 
 -- a group alone
 abbrev pub single : PlacedSection → Group

@@ -1,6 +1,6 @@
 -- Layouts in which each input section stands once.
 use Rattle.std.specs.Prelude.{Bool, ◌≡◌, ◌<◌, ◌==◌, ℕ, List, Contains, flat_map, map, length}
-use Rattle.ldmodel.specs.FileLayout.{Each}
+use Rattle.ldmodel.specs.Each.{Each}
 use Rattle.ldmodel.specs.Layout.{Layout}
 use Rattle.ldmodel.specs.Project.{NamedObject, Project}
 use Rattle.ldmodel.specs.Rows.{Piece}

@@ -45,7 +45,7 @@ fn is_shared(before: &Placed, section: &Placed) -> bool
         && before.start.wrapping_sub(before.load) == section.start.wrapping_sub(section.load)
         && end <= start
         && start < end + u128::from(PAGE_SIZE)
-        && !(section.load_size != 0 && before.load_size == 0)
+        && !(section.has_file_bytes && !before.has_file_bytes)
 }
 
 /// The group of an output section alone.
@@ -66,12 +66,12 @@ fn begin(number: OutputIndex, section: &Placed) -> Group
 
 /// The size in the file up to this section: `reach` where it has bytes in the file, else as before.
 fn size_in_file(section: &Placed, reach: u64, before: u64) -> u64
-    ensures { result ≡ cond (section.now.load_size == 0) before reach }
+    ensures { result ≡ cond section.now.has_file_bytes reach before }
 {
-    if section.load_size == 0 {
-        before
-    } else {
+    if section.has_file_bytes {
         reach
+    } else {
+        before
     }
 }
 

@@ -3,14 +3,13 @@ use Rattle.std.proofs.Common.{◌≡◌, ℕ, List, [], ◌∷◌, ◌++◌, len
 use Rattle.std.proofs.Common.{arith, map, subst, ◌+◌}
 use Rattle.std.specs.List.{enumerate_from}
 use Rattle.ldscript.specs.statements.declared.section.OutputSection.{OutputSection}
-use Rattle.ldmodel.specs.Body.{Body, body_step}
+use Rattle.ldmodel.specs.Placement.{Body, body_step}
 use Rattle.ldmodel.specs.Chain.{run}
 use Rattle.ldmodel.specs.Layout.{Layout, PlacedSection, address}
 use Rattle.ldmodel.specs.Placement.{opened, section_step}
 use Rattle.ldmodel.specs.Rows.{Piece}
-use Rattle.ldmodel.specs.SectionEnd.{find_region, freed_from, load_region, placed_section, section_end, with_room}
-use Rattle.ldmodel.specs.SectionEnd.{with_section}
-use Rattle.ldmodel.specs.SectionHead.{Head, head_of}
+use Rattle.ldmodel.specs.Placement.{find_region, freed_from, load_region, placed_section, section_end, with_room}
+use Rattle.ldmodel.specs.Placement.{with_section, Head, head_of}
 use Rattle.place_sections.proofs.Ending.{chained}
 use Rattle.place_sections.proofs.Grows.{Grown, body_grows, given_is, the_piece}
 use Rattle.place_sections.specs.Leads.{Begins}

@@ -9,15 +9,14 @@ use Rattle.ldscript.specs.statements.declared.section.BodyCommand.{BodyCommand}
 use Rattle.ldscript.specs.statements.declared.section.BodyCommand.TheVariants as body
 use Rattle.ldscript.specs.statements.declared.section.BodyStatement.{BodyStatement}
 use Rattle.ldscript.specs.statements.declared.section.OutputSection.{OutputSection}
-use Rattle.ldmodel.specs.Body.{Body, body_command_step, body_step, input_step, piece_placed, piece_start, pieces_placed}
-use Rattle.ldmodel.specs.Body.{with_dot}
+use Rattle.ldmodel.specs.Placement.{Body, body_command_step, body_step, input_step, piece_placed, piece_start}
+use Rattle.ldmodel.specs.Placement.{pieces_placed, with_dot}
 use Rattle.ldmodel.specs.Chain.{and_then, run}
 use Rattle.ldmodel.specs.Layout.{Layout, PlacedPiece, PlacedSection, address, noted}
 use Rattle.ldmodel.specs.Lent.{starts_of}
 use Rattle.ldmodel.specs.Placement.{opened, section_step}
 use Rattle.ldmodel.specs.Rows.{Piece}
-use Rattle.ldmodel.specs.SectionEnd.{placed_section, section_end, with_section}
-use Rattle.ldmodel.specs.SectionHead.{Head, head_of}
+use Rattle.ldmodel.specs.Placement.{placed_section, section_end, with_section, Head, head_of}
 use Rattle.ldmodel.specs.declared.rows.Piece as rows
 use Rattle.place_terms.specs.Keyed.{piece_at}
 use Rattle.place_terms.specs.Naming.{Naming, piece_named, row_named}

@@ -3,7 +3,7 @@ use Rattle.std.proofs.Common.{◌≡◌, ℕ, List, [], ◌∷◌, map, filter, 
 use Rattle.std.specs.List.{last_or}
 use Rattle.std.specs.Option.{option_map_or}
 use Rattle.ldmodel.specs.Layout.{PlacedSection}
-use Rattle.ldmodel.specs.SectionHead.{difference_in, difference_of, same_region}
+use Rattle.ldmodel.specs.Placement.{difference_in, difference_of, same_region}
 use Rattle.place_terms.specs.Keyed.{KeyedSection, section_of}
 use Rattle.place_terms.specs.Naming.{Naming}
 use Rattle.place_terms.specs.SectionTable.{nameless, difference_by}

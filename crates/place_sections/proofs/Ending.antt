@@ -8,15 +8,14 @@ use Rattle.ldmodel.specs.Fault.{Fault}
 use Rattle.ldmodel.specs.Arithmetic.{is_address}
 use Rattle.ldmodel.specs.Fault.{PastAddressSpace}
 use Rattle.ldmodel.specs.Layout.{PlacedSection, address, region_named}
-use Rattle.ldmodel.specs.SectionEnd.{placed_section, section_end, with_section, with_room, load_region}
-use Rattle.ldmodel.specs.SectionHead.{Head}
+use Rattle.ldmodel.specs.Placement.{placed_section, section_end, with_section, with_room, load_region, Head}
 use Rattle.place_terms.specs.Keyed.{KeyedSection, section_of}
 use Rattle.place_terms.specs.Naming.{Naming}
 use Rattle.place_terms.specs.Outputs.{Outputs}
 use Rattle.place_sections.specs.Ends.{body_alone, ended_body, load_end}
 use Rattle.std.proofs.lemmas.List.{map-append}
 use Rattle.ldmodel.specs.Layout.{MemoryRegion}
-use Rattle.ldmodel.specs.SectionEnd.{freed_from}
+use Rattle.ldmodel.specs.Placement.{freed_from}
 use Rattle.ldmodel.specs.declared.rows.Piece as rows
 use Rattle.place_sections.specs.State.{body_from, layout_of}
 use Rattle.place_sections.specs.declared.state.Done.{Done}

@@ -3,7 +3,8 @@ use Rattle.std.proofs.Common.{◌≡◌, ℕ, suc, List, [], ◌∷◌, ◌++◌
 use Rattle.std.proofs.Common.{append_assoc, arith, length-append, map, ◌+◌}
 use Rattle.std.specs.Prelude.{slice_get}
 use Rattle.std.proofs.lemmas.List.{length-map, take-append-drop}
-use Rattle.ldscript.specs.statements.Numbering.{OutputSectionAt, items, items_of, output_sections, sections_in, sections_of}
+use Rattle.ldscript.specs.statements.Numbering.{OutputSectionAt, items, items_of, output_sections, sections_in}
+use Rattle.ldscript.specs.statements.Numbering.{item_sections}
 use Rattle.ldscript.specs.statements.declared.statement.Command.{Command}
 use Rattle.ldscript.specs.statements.declared.statement.Command.TheVariants as top
 use Rattle.ldscript.specs.statements.declared.statement.Item.{Item}
@@ -38,7 +39,7 @@ are_first (s ∷ ss) =
     record { later = m.0; all = m.1 }
 
 is_next : (script : List Statement) (k line : ℕ) (c : ItemCommand) (before more : List OutputSectionAt)
-    → output_sections script ≡ before ++ (sections_of line c ++ more) → k ≡ length before → IsNext script k c
+    → output_sections script ≡ before ++ (item_sections line c ++ more) → k ≡ length before → IsNext script k c
 is_next script k line (item.Section o) before more e l = record {
   line = line;
   is = ap (slice_get (output_sections script)) l
@@ -52,14 +53,14 @@ is_next script k line (item.Discard inputs) before more e l = tt
 -- as many output sections are placed by a statement as it is
 pub grown_by : (rows : List (List Piece)) (provided : List (List ℕ)) (s t : Layout) (x : Item)
     → item_step rows provided s x ≡ Ok t
-    → length t.sections ≡ length (s.sections) + length (sections_of x.line x.command)
+    → length t.sections ≡ length (s.sections) + length (item_sections x.line x.command)
 grown_by rows provided s t x e =
     let names = ap length (item_names rows provided x.line (noted s) x.command t e) in
     let a = length-map t.sections (λ (q : PlacedSection). q.name) in
     let b = length-map s.sections (λ (q : PlacedSection). q.name) in
     let c = length-append (map (λ (q : PlacedSection). q.name) s.sections)
-    (map (λ (y : OutputSectionAt). y.section.name) (sections_of x.line x.command)) in
-    let d = length-map (sections_of x.line x.command) (λ (y : OutputSectionAt). y.section.name) in
+    (map (λ (y : OutputSectionAt). y.section.name) (item_sections x.line x.command)) in
+    let d = length-map (item_sections x.line x.command) (λ (y : OutputSectionAt). y.section.name) in
     omega (arith, names, a, b, c, d)
 
 module _ (rows : List (List Piece)) (provided : List (List ℕ)) (script : List Statement) (items : List Item)
@@ -85,6 +86,6 @@ module _ (rows : List (List Piece)) (provided : List (List ℕ)) (script : List 
       (first.all
       ∙ (ap (λ l. sections_in l ++ first.later) parted
       ∙ (ap (λ l. l ++ first.later) (sections_of_both (take k items) (x ∷ drop (suc k) items))
-      ∙ (append_assoc (sections_in (take k items)) (sections_of x.line x.command ++ after) first.later
-      ∙ ap (λ l. sections_in (take k items) ++ l) (append_assoc (sections_of x.line x.command) after first.later)))))
+      ∙ (append_assoc (sections_in (take k items)) (item_sections x.line x.command ++ after) first.later
+      ∙ ap (λ l. sections_in (take k items) ++ l) (append_assoc (item_sections x.line x.command) after first.later)))))
       many

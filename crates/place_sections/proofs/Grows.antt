@@ -17,9 +17,8 @@ use Rattle.ldscript.specs.statements.declared.common.DotCommand.TheVariants.{Set
 use Rattle.ldscript.specs.statements.declared.section.BodyCommand.{BodyCommand}
 use Rattle.ldscript.specs.statements.declared.section.BodyCommand.TheVariants as body
 use Rattle.ldscript.specs.statements.declared.section.BodyStatement.{BodyStatement}
-use Rattle.ldmodel.specs.Assigning.{assigned, common_step}
-use Rattle.ldmodel.specs.Body.{Body, advanced, body_command_step, body_step, input_step, moved}
-use Rattle.ldmodel.specs.Body.{piece_placed, piece_start, pieces_placed, set_to, with_data, with_dot}
+use Rattle.ldmodel.specs.Placement.{assigned, common_step, Body, advanced, body_command_step, body_step, input_step}
+use Rattle.ldmodel.specs.Placement.{moved_on, piece_placed, piece_start, pieces_placed, set_to, with_data, with_dot}
 use Rattle.ldmodel.specs.Chain.{and_then, run}
 use Rattle.ldmodel.specs.Fault.{Fault, MovedBack}
 use Rattle.ldmodel.specs.Layout.{Layout, address, PlacedPiece, number, noted, with_symbol}
@@ -180,7 +179,7 @@ input_grows line b c e =
       symbols_are = g.symbols_are;
     })
 
-moved_grows : (line to : ℕ) (b c : Body) → moved line b to ≡ Ok c → Grown b c
+moved_grows : (line to : ℕ) (b c : Body) → moved_on line b to ≡ Ok c → Grown b c
 moved_grows line to b c e = go (nat_lt to b.layout.dot) refl e
   where
     go : (t : Bool) → nat_lt to b.layout.dot ≡ t
@@ -194,16 +193,16 @@ moved_grows line to b c e = go (nat_lt to b.layout.dot) refl e
         subst (Grown b) d (grown_dot b h.value (grind (arith, end, l)))
 
 advanced_grows : (line : ℕ) (x : Expr) (b c : Body) → advanced line b x ≡ Ok c → Grown b c
-advanced_grows line x b c e = let h = chained (number b.layout line x) (λ y. moved line b (b.layout.dot + y)) c e in
+advanced_grows line x b c e = let h = chained (number b.layout line x) (λ y. moved_on line b (b.layout.dot + y)) c e in
     moved_grows line (b.layout.dot + h.value) b c h.second
 
 set_grows : (line : ℕ) (f : Option DotForm) (b c : Body) → set_to line b f ≡ Ok c → Grown b c
 set_grows line (Some (Advance x)) b c e = advanced_grows line x b c e
 set_grows line (Some (Align x)) b c e = let h =
-    chained (number b.layout line (expression.AlignDot x)) (λ y. moved line b y) c e in
+    chained (number b.layout line (expression.AlignDot x)) (λ y. moved_on line b y) c e in
     moved_grows line h.value b c h.second
 set_grows line (Some (Offset x)) b c e = let h =
-    chained (number b.layout line x) (λ y. moved line b (b.start + y)) c e in
+    chained (number b.layout line x) (λ y. moved_on line b (b.start + y)) c e in
     moved_grows line (b.start + h.value) b c h.second
 set_grows line None b c e = grown_given b c e
 

@@ -7,7 +7,7 @@ use Rattle.ldscript.specs.statements.declared.statement.Region.{Region}
 use Rattle.ldmodel_laws.specs.Traces.{AddsSection, Trace, all_added, nothing_added, region_added, section_added}
 use Rattle.ldmodel.specs.Layout.{Layout, PlacedSection, nothing_placed}
 use Rattle.ldmodel.specs.Project.{Project}
-use Rattle.ldmodel.specs.SectionEnd.{placed_section}
+use Rattle.ldmodel.specs.Placement.{placed_section}
 use Rattle.place_sections.specs.Meetings.{AreOutputs}
 
 -- the names of the output sections so far

@@ -5,7 +5,7 @@ use Rattle.std.specs.Option.{option_map_or}
 use Rattle.std.specs.Prelude.{slice_get}
 use Rattle.std.proofs.lemmas.List.{length-map, take_all}
 use Rattle.std.proofs.lemmas.Option.{slice_get_read}
-use Rattle.ldscript.specs.statements.Numbering.{sections_of}
+use Rattle.ldscript.specs.statements.Numbering.{item_sections}
 use Rattle.ldscript.specs.statements.declared.statement.Item.{Item}
 use Rattle.ldscript.specs.statements.declared.statement.Statement.{Statement}
 use Rattle.ldmodel.specs.Chain.{run}
@@ -60,7 +60,7 @@ module _ (n : Naming) (rows : List (List Piece)) (provided : List (List ℕ)) (s
         ∙ run_more (item_step rows provided) items k x start (layout_of n h d) (layout_of n h' d') comes there step
 
     -- as many output sections are placed as the statement is
-    pub more_by : length d'.sections.list ≡ length d.sections.list + length (sections_of x.line x.command)
+    pub more_by : length d'.sections.list ≡ length d.sections.list + length (item_sections x.line x.command)
     more_by =
         let g = grown_by rows provided (layout_of n h d) (layout_of n h' d') x step in
         let b = length-map d.sections.list (section_of n) in
@@ -75,8 +75,8 @@ module _ (n : Naming) (rows : List (List Piece)) (provided : List (List ℕ)) (s
       (next_at rows provided script items start none first k (layout_of n h d) comes x there)
 
   -- where it stands
-  pub stands_at : sections_at items k ≡ sections_of x.line x.command
-  stands_at = ap (λ o. option_map_or (λ (y : Item). sections_of y.line y.command) o []) there
+  pub stands_at : sections_at items k ≡ item_sections x.line x.command
+  stands_at = ap (λ o. option_map_or (λ (y : Item). item_sections y.line y.command) o []) there
 
 -- where all statements have come to
 pub all_there : (n : Naming) (rows : List (List Piece)) (provided : List (List ℕ)) (start : Layout) (items : List Item)

@@ -1,7 +1,8 @@
 -- The output sections of a whole layout are those of the script, in their order.
 use Rattle.std.proofs.Common.{◌≡◌, ℕ, ◌+◌, List, [], ◌∷◌, ◌++◌, map, Ok, refl, sym, ap, ◌∙◌, append_assoc}
 use Rattle.std.proofs.lemmas.List.{append-nil, map-append}
-use Rattle.ldscript.specs.statements.Numbering.{OutputSectionAt, items, items_of, sections_in, sections_of, output_sections}
+use Rattle.ldscript.specs.statements.Numbering.{OutputSectionAt, items, items_of, sections_in, item_sections}
+use Rattle.ldscript.specs.statements.Numbering.{output_sections}
 use Rattle.ldscript.specs.statements.declared.common.DotCommand.{DotCommand}
 use Rattle.ldscript.specs.statements.declared.common.DotCommand.TheVariants.{Set, Add}
 use Rattle.ldscript.specs.statements.declared.section.OutputSection.{OutputSection}
@@ -13,17 +14,17 @@ use Rattle.ldscript.specs.statements.declared.statement.ItemCommand.TheVariants 
 use Rattle.ldscript.specs.statements.declared.statement.Region.{Region}
 use Rattle.ldscript.specs.statements.declared.statement.Statement.{Statement}
 use Rattle.ldmodel.specs.Arithmetic.{plus_modulo}
-use Rattle.ldmodel.specs.Body.{Body, body_step}
+use Rattle.ldmodel.specs.Placement.{Body, body_step}
 use Rattle.ldmodel.specs.Chain.{run}
 use Rattle.ldmodel.specs.Layout.{Layout, PlacedSection, address, nothing_placed, noted, number}
 use Rattle.ldmodel.specs.Placement.{command_step, free_dot_step, item_command_step, item_step, next_row, opened}
 use Rattle.ldmodel.specs.Placement.{placement, region_step, section_step, statement_step, with_region}
 use Rattle.ldmodel.specs.Rows.{Piece}
-use Rattle.ldmodel.specs.SectionEnd.{find_region, load_region, placed_section, section_end, with_room, with_section}
-use Rattle.ldmodel.specs.SectionHead.{Head, head_of}
+use Rattle.ldmodel.specs.Placement.{find_region, load_region, placed_section, section_end, with_room, with_section}
+use Rattle.ldmodel.specs.Placement.{Head, head_of}
 use Rattle.place_sections.proofs.Ending.{chained}
 use Rattle.place_sections.proofs.Grows.{body_grows, common_keeps, given_is}
-use Rattle.ldmodel.specs.Body.{Body}
+use Rattle.ldmodel.specs.Placement.{Body}
 
 abbrev names_of : List PlacedSection → List (List ℕ)
 names_of sections = map (λ (q : PlacedSection). q.name) sections
@@ -72,7 +73,7 @@ unnamed xs ys e = ap names_of e ∙ sym (append-nil (names_of ys))
 
 pub item_names : (rows : List (List Piece)) (provided : List (List ℕ)) (line : ℕ) (s : Layout) (c : ItemCommand)
     (t : Layout) → item_command_step rows provided line s c ≡ Ok t → names_of t.sections ≡ names_of s.sections
-    ++ names_in (sections_of line c)
+    ++ names_in (item_sections line c)
 unfolding item_command_step
 item_names rows provided line s (item.Dot c) t e = unnamed t.sections s.sections (free_dot_keeps s line c t e)
 item_names rows provided line s (item.Common c) t e = unnamed t.sections s.sections (common_keeps provided s line c t e)
@@ -89,9 +90,9 @@ items_names rows provided (x ∷ xs) s t e =
     let h = chained (item_step rows provided s x) (λ u. run (item_step rows provided) u xs) t e in
     items_names rows provided xs h.value t h.second
     ∙ (ap (λ l. l ++ names_in (sections_in xs)) (item_names rows provided x.line (noted s) x.command h.value h.first)
-    ∙ (append_assoc (names_of s.sections) (names_in (sections_of x.line x.command)) (names_in (sections_in xs))
+    ∙ (append_assoc (names_of s.sections) (names_in (item_sections x.line x.command)) (names_in (sections_in xs))
     ∙ ap (λ l. names_of s.sections
-    ++ l) (sym (map-append (λ (y : OutputSectionAt). y.section.name) (sections_of x.line x.command)
+    ++ l) (sym (map-append (λ (y : OutputSectionAt). y.section.name) (item_sections x.line x.command)
     (sections_in xs)))))
 
 pub region_keeps : (s : Layout) (r : Region) (t : Layout) → region_step s r ≡ Ok t → t.sections ≡ s.sections
@@ -121,8 +122,8 @@ command_names rows provided line s (top.Common c) t e =
 
 pub sections_of_both : (xs ys : List Item) → sections_in (xs ++ ys) ≡ sections_in xs ++ sections_in ys
 sections_of_both [] ys = refl
-sections_of_both (x ∷ xs) ys = ap (λ l. sections_of x.line x.command ++ l) (sections_of_both xs ys)
-    ∙ sym (append_assoc (sections_of x.line x.command) (sections_in xs) (sections_in ys))
+sections_of_both (x ∷ xs) ys = ap (λ l. item_sections x.line x.command ++ l) (sections_of_both xs ys)
+    ∙ sym (append_assoc (item_sections x.line x.command) (sections_in xs) (sections_in ys))
 
 pub statements_names : (rows : List (List Piece)) (provided : List (List ℕ)) (xs : List Statement) (s t : Layout)
     → run (statement_step rows provided) s xs ≡ Ok t → names_of t.sections ≡ names_of s.sections

@@ -15,7 +15,7 @@ use Rattle.ldmodel.specs.Layout.{Layout, noted}
 use Rattle.ldmodel.specs.Lent.{symbol_of}
 use Rattle.ldmodel.specs.Placement.{item_command_step, item_step, next_row, section_step}
 use Rattle.ldmodel.specs.Rows.{Piece}
-use Rattle.ldmodel.specs.SectionEnd.{freed_from, load_region}
+use Rattle.ldmodel.specs.Placement.{freed_from, load_region}
 use Rattle.ldmodel.specs.declared.laid.Placed.{Placed}
 use Rattle.ldmodel.specs.declared.rows.Piece as rows
 use Rattle.place_terms.specs.Keyed.{section_of}

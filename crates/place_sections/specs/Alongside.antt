@@ -11,7 +11,7 @@ use Rattle.ldscript.specs.statements.declared.statement.Item.{Item}
 use Rattle.ldscript.specs.statements.declared.statement.ItemCommand.{ItemCommand}
 use Rattle.ldscript.specs.statements.declared.statement.ItemCommand.TheVariants as item
 use Rattle.ldscript.specs.statements.declared.statement.Statement.{Statement}
-use Rattle.ldmodel.specs.Body.{Body, body_step, piece_start}
+use Rattle.ldmodel.specs.Placement.{Body, body_step, piece_start}
 use Rattle.ldmodel.specs.Chain.{run}
 use Rattle.ldmodel.specs.Layout.{Layout, PlacedPiece, PlacedSection}
 use Rattle.ldmodel.specs.Lent.{starts_of}

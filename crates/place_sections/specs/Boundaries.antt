@@ -2,7 +2,7 @@
 use Rattle.std.specs.Prelude.{◌≡◌, ℕ, List, [], length, take, Ok, slice_get, Some, flat_map, ◌⊎◌}
 use Rattle.std.specs.List.{enumerate_from}
 use Rattle.std.specs.Option.{option_map_or}
-use Rattle.ldscript.specs.statements.Numbering.{OutputSectionAt, sections_of}
+use Rattle.ldscript.specs.statements.Numbering.{OutputSectionAt, item_sections}
 use Rattle.ldscript.specs.statements.declared.statement.Item.{Item}
 use Rattle.ldscript.specs.statements.declared.statement.Statement.{Statement}
 use Rattle.ldmodel.specs.Chain.{run}
@@ -27,7 +27,7 @@ pub record IsAt (b : Boundary) (s : Layout) : Type 0 where
 
 -- the statement at a place, as far as it is that of an output section
 abbrev pub sections_at : List Item → ℕ → List OutputSectionAt
-sections_at items place = option_map_or (λ (x : Item). sections_of x.line x.command) (slice_get items place) []
+sections_at items place = option_map_or (λ (x : Item). item_sections x.line x.command) (slice_get items place) []
 
 -- the one before the output section of this number, or after all statements, where the statements of SECTIONS begin
 -- with a layout

@@ -2,11 +2,11 @@
 use Rattle.std.specs.Prelude.{ℕ, ◌+◌, List, [], map, Result}
 use Rattle.std.specs.Option.{option_and_then}
 use Rattle.ldscript.specs.statements.declared.section.OutputSection.{OutputSection}
-use Rattle.ldmodel.specs.Body.{Body}
+use Rattle.ldmodel.specs.Placement.{Body}
 use Rattle.ldmodel.specs.Chain.{and_then}
 use Rattle.ldmodel.specs.Fault.{Fault}
 use Rattle.ldmodel.specs.Layout.{Layout, MemoryRegion, PlacedSection, address, nothing_placed, region_named}
-use Rattle.ldmodel.specs.SectionEnd.{load_region, with_room}
+use Rattle.ldmodel.specs.Placement.{load_region, with_room}
 use Rattle.place_terms.specs.Keyed.{piece_at, data_at}
 use Rattle.place_terms.specs.Naming.{Naming}
 use Rattle.place_terms.specs.SectionTable.{keyed_piece}

@@ -1,7 +1,7 @@
 -- Heads of output sections, as the code holds them.
 use Rattle.std.specs.Prelude.{◌≡◌, Result, Ok, Err, ◌⊎◌}
 use Rattle.ldmodel.specs.Fault.{Fault}
-use Rattle.ldmodel.specs.SectionHead.{Given, Head}
+use Rattle.ldmodel.specs.Placement.{Given, Head}
 use Rattle.place_sections.specs.State.{fault_of}
 use Rattle.place_sections.specs.declared.head.GivenHead as code_given
 use Rattle.place_sections.specs.declared.head.Head as code_head

@@ -1,6 +1,6 @@
 -- The layout that the code's state stands for, and what a step of it is to give.
 use Rattle.std.specs.Prelude.{◌≡◌, ℕ, List, length, map, drop, Result, Ok, Err, ◌⊎◌}
-use Rattle.ldmodel.specs.Body.{Body}
+use Rattle.ldmodel.specs.Placement.{Body}
 use Rattle.ldmodel.specs.Fault.{Fault}
 use Rattle.ldmodel.specs.Fault as fault
 use Rattle.ldmodel.specs.Layout.{Layout}

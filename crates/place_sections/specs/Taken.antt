@@ -3,7 +3,7 @@ use Rattle.std.specs.Prelude.{◌≡◌, ℕ, ◌+◌, List, [], ◌∷◌, ◌+
 use Rattle.ldscript.specs.statements.declared.section.OutputSection.{OutputSection}
 use Rattle.ldscript.specs.statements.declared.statement.Item.{Item}
 use Rattle.ldscript.specs.statements.declared.statement.ItemCommand.TheVariants.{Section}
-use Rattle.ldmodel.specs.SectionEnd.{freed_from, load_region}
+use Rattle.ldmodel.specs.Placement.{freed_from, load_region}
 use Rattle.place_terms.specs.Earlier.{IsTaken, earlier_of}
 use Rattle.place_terms.specs.Keyed.{KeyedSection}
 use Rattle.place_sections.specs.declared.boundary.Boundary.{Boundary}

@@ -1,7 +1,7 @@
 //! Assignments of symbols.
 
 ghost use Rattle.std.specs.Prelude.{◌≡◌};
-ghost use Rattle.ldmodel.specs.Assigning.{assigned, common_step};
+ghost use Rattle.ldmodel.specs.Placement.{assigned, common_step};
 ghost use Rattle.place_terms.specs.Naming.{Naming};
 ghost use Rattle.place_sections.specs.State.{layout_of, Gives};
 
@@ -27,7 +27,7 @@ impl<'a> Here<'a> {
     }
 
     /// An assignment of a symbol, a PROVIDE or an ASSERT.
-    #[tactic(auto, unfolding(ldmodel::specs::Assigning::common_step))]
+    #[tactic(auto, unfolding(ldmodel::specs::Placement::common_step))]
     pub fn common(
         &mut self,
         done: &Done<'a>,

@@ -2,9 +2,9 @@
 
 ghost use Rattle.std.specs.Prelude.{◌≤◌, ◌≡◌, ◌+◌, length, drop, OnErr, OnOk, IfSome};
 ghost use Rattle.ldscript.specs.terms.DotForms.{dot_form};
-ghost use Rattle.ldscript.specs.terms.Expressions.{expr_of};
-ghost use Rattle.ldmodel.specs.Body.{advanced, body_command_step, body_step, data_step, input_step, moved};
-ghost use Rattle.ldmodel.specs.Body.{piece_placed, piece_start, pieces_placed, set_to};
+ghost use Rattle.ldscript.specs.terms.CodeTerms.{expr_of};
+ghost use Rattle.ldmodel.specs.Placement.{advanced, body_command_step, body_step, data_step, input_step, moved_on};
+ghost use Rattle.ldmodel.specs.Placement.{piece_placed, piece_start, pieces_placed, set_to};
 ghost use Rattle.ldmodel.specs.Chain.{run};
 ghost use Rattle.place_terms.specs.Naming.{Naming, piece_named, row_named};
 ghost use Rattle.place_sections.specs.Alongside.{BodyAlongside, IfInput, StartAt, StartsThere};
@@ -20,7 +20,7 @@ use place_terms::sections::{DataAt, PieceAt};
 
 impl<'d, 'a> Frame<'d, 'a> {
     /// The next entry of the row takes its place, which starts there.
-    #[tactic(auto, unfolding(ldmodel::specs::Body::piece_placed))]
+    #[tactic(auto, unfolding(ldmodel::specs::Placement::piece_placed))]
     fn put_piece(
         &self,
         here: &mut Here<'a>,
@@ -52,7 +52,7 @@ impl<'d, 'a> Frame<'d, 'a> {
     }
 
     /// The next entry of the row is placed anew.
-    #[tactic(auto, unfolding(ldmodel::specs::Body::piece_placed))]
+    #[tactic(auto, unfolding(ldmodel::specs::Placement::piece_placed))]
     fn place_piece(&self, here: &mut Here<'a>, line: u32, piece: &'a Piece) -> Result<(), Stop<'a>>
         ghost naming: { Naming }
         ensures gives { Gives
@@ -74,7 +74,7 @@ impl<'d, 'a> Frame<'d, 'a> {
     }
 
     /// The entries of an input statement are placed anew.
-    #[tactic(auto, unfolding(ldmodel::specs::Body::pieces_placed))]
+    #[tactic(auto, unfolding(ldmodel::specs::Placement::pieces_placed))]
     fn place_pieces(&self, here: &mut Here<'a>, line: u32, number: u64) -> Result<(), Stop<'a>>
         ghost naming: { Naming }
         ensures gives { Gives
@@ -94,7 +94,7 @@ impl<'d, 'a> Frame<'d, 'a> {
     }
 
     /// The entries of an input statement stay where they were: the entries of the row start at these addresses.
-    #[tactic(auto, unfolding(ldmodel::specs::Body::pieces_placed))]
+    #[tactic(auto, unfolding(ldmodel::specs::Placement::pieces_placed))]
     fn keep_pieces(
         &self,
         here: &mut Here<'a>,
@@ -179,7 +179,7 @@ impl<'d, 'a> Frame<'d, 'a> {
     /// `.` goes on to a number and some more.
     fn go_to(&self, here: &mut Here<'a>, line: u32, from: u64, more: u64) -> Result<(), Stop<'a>>
         ghost naming: { Naming }
-        ensures gives { Gives (moved line (body_of naming here.old self.now) (from + more))
+        ensures gives { Gives (moved_on line (body_of naming here.old self.now) (from + more))
             (body_of naming here.new self.now) result }
         ensures counted { Counted here.old here.new self.now }
     {
@@ -228,7 +228,7 @@ impl<'d, 'a> Frame<'d, 'a> {
         }
     }
 
-    #[tactic(auto, unfolding(ldmodel::specs::Body::body_command_step))]
+    #[tactic(auto, unfolding(ldmodel::specs::Placement::body_command_step))]
     fn place_command(
         &self,
         here: &mut Here<'a>,

@@ -3,8 +3,8 @@
 ghost use Rattle.std.specs.Prelude.{◌+◌, ◌++◌, [], ◌∷◌, length, OnOk, ◌≡◌, ◌==◌, ◌&&◌, ◌||◌, if◌then◌else◌, not};
 ghost use Rattle.std.specs.Option.{option_copied, option_and_then};
 ghost use Rattle.ldmodel.specs.Layout.{region_named};
-ghost use Rattle.ldmodel.specs.SectionEnd.{freed_from, has_file_bytes, has_flag, is_within};
-ghost use Rattle.ldmodel.specs.SectionEnd.{load_region, placed_section, section_end, with_room};
+ghost use Rattle.ldmodel.specs.Placement.{freed_from, has_contents, has_flag, is_within, load_region};
+ghost use Rattle.ldmodel.specs.Placement.{placed_section, section_end, with_room};
 ghost use Rattle.place_terms.specs.Keyed.{KeyedSection, section_of};
 ghost use Rattle.place_terms.specs.Naming.{Naming};
 ghost use Rattle.place_terms.specs.Outputs.{IsOutput};
@@ -124,11 +124,12 @@ fn size_if(condition: bool, size: u64) -> u64
 }
 
 impl<'a> Here<'a> {
-    fn has_file_bytes(&self) -> bool
+    /// Whether an output section of this size has bytes in the file.
+    fn has_file_bytes(&self, size: u64) -> bool
         ghost naming: { Naming }
-        ensures { result ≡ has_file_bytes (body_alone naming self.now) }
+        ensures { result ≡ (not (size == 0) && has_contents (body_alone naming self.now)) }
     {
-        !self.data_commands.is_empty() || any_in_file(&self.pieces)
+        size != 0 && (!self.data_commands.is_empty() || any_in_file(&self.pieces))
     }
 
     /// Whether an output section of this size, with file bytes or not, may be written.
@@ -141,7 +142,7 @@ impl<'a> Here<'a> {
     }
 
     /// An output section after its body, with what has been placed in it.
-    #[tactic(auto, unfolding(ldmodel::specs::SectionEnd::placed_section))]
+    #[tactic(auto, unfolding(ldmodel::specs::Placement::placed_section))]
     fn close(&mut self, alloc: Global, output: &'a OutputSection, head: Head) -> Closed<'a>
         ghost naming: { Naming }
         ensures value { section_of naming (keyed result)
@@ -156,11 +157,12 @@ impl<'a> Here<'a> {
         ensures anew { self.new.anew ≡ self.old.anew }
     {
         let size = self.dot.saturating_sub(head.start);
-        let has_file_bytes = self.has_file_bytes();
+        let has_file_bytes = self.has_file_bytes(size);
         let placed = Placed {
             start: head.start,
             size,
             load: head.load,
+            has_file_bytes,
             load_size: size_if(has_file_bytes, size),
             alignment: head.alignment,
             writable: self.is_writable(size, has_file_bytes),

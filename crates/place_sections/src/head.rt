@@ -4,8 +4,8 @@ ghost use Rattle.std.specs.Prelude.{◌≡◌, ◌<◌, IfOk, Ok};
 ghost use Rattle.std.specs.Int.{next_multiple_of};
 ghost use Rattle.std.specs.Option.{option_copied, option_map_or};
 ghost use Rattle.ldmodel.specs.Layout.{MemoryRegion, address, region_named};
-ghost use Rattle.ldmodel.specs.SectionHead.{first_free, given, given_alignment, given_load, head_of, load_address};
-ghost use Rattle.ldmodel.specs.SectionHead.{next_free, number_if_given, start_of, unstated_load, widest};
+ghost use Rattle.ldmodel.specs.Placement.{first_free, given, given_alignment, given_load, head_of, load_address};
+ghost use Rattle.ldmodel.specs.Placement.{next_free, number_if_given, section_start, unstated_load, widest};
 ghost use Rattle.place_terms.specs.Naming.{Naming, row_named};
 ghost use Rattle.place_sections.specs.Heads.{given_of, head_from, Yields};
 ghost use Rattle.place_sections.specs.State.{layout_of, outcome};
@@ -127,7 +127,7 @@ impl<'a> Here<'a> {
     }
 
     /// The expressions of a head, in the order of the text.
-    #[tactic(auto, unfolding(ldmodel::specs::SectionHead::given))]
+    #[tactic(auto, unfolding(ldmodel::specs::Placement::given))]
     fn given(
         &self,
         done: &Done<'a>,
@@ -150,7 +150,7 @@ impl<'a> Here<'a> {
     }
 
     /// Where a section starts.
-    #[tactic(auto, unfolding(ldmodel::specs::SectionHead::start_of))]
+    #[tactic(auto, unfolding(ldmodel::specs::Placement::section_start))]
     fn start(
         &self,
         done: &Done<'a>,
@@ -162,7 +162,7 @@ impl<'a> Here<'a> {
         ghost naming: { Naming }
         requires { 0 < alignment }
         ensures { outcome result
-            ≡ start_of (layout_of naming self.now done.now) line section.now.region given alignment }
+            ≡ section_start (layout_of naming self.now done.now) line section.now.region given alignment }
     {
         match given {
             Some(start) => Ok(start),
@@ -197,7 +197,7 @@ impl<'a> Here<'a> {
     }
 
     /// Where a section is loaded.
-    #[tactic(auto, unfolding(ldmodel::specs::SectionHead::load_address))]
+    #[tactic(auto, unfolding(ldmodel::specs::Placement::load_address))]
     fn load(
         &self,
         done: &Done<'a>,
@@ -223,7 +223,7 @@ impl<'a> Here<'a> {
     }
 
     /// The head of an output section.
-    #[tactic(auto, unfolding(ldmodel::specs::SectionHead::head_of))]
+    #[tactic(auto, unfolding(ldmodel::specs::Placement::head_of))]
     pub fn head(
         &self,
         done: &Done<'a>,

@@ -3,7 +3,7 @@
 ghost use Rattle.std.specs.Prelude.{◌≡◌, ◌≤◌, ◌<◌, ◌+◌, [], map, slice_index_or, length, IfErr, IfOk, OnOk};
 ghost use Rattle.std.specs.Prelude.{IfNone, IfSome, false, true};
 ghost use Rattle.std.specs.Prelude.{if◌then◌else◌};
-ghost use Rattle.ldscript.specs.statements.Numbering.{sections_of};
+ghost use Rattle.ldscript.specs.statements.Numbering.{item_sections};
 ghost use Rattle.ldmodel.specs.Chain.{run};
 ghost use Rattle.ldmodel.specs.Layout.{noted};
 ghost use Rattle.ldmodel.specs.Placement.{free_dot_step, item_command_step, item_step};
@@ -39,7 +39,7 @@ pub(crate) fn row_at(rows: &[Vec<Piece>], section: usize) -> &[Piece]
 
 /// Whether a statement of SECTIONS is an output section.
 fn is_output(item: &Item) -> bool
-    ensures { length (sections_of item.now.line item.now.command) ≡ (if result then 1 else 0) }
+    ensures { length (item_sections item.now.line item.now.command) ≡ (if result then 1 else 0) }
 {
     matches!(&item.command, ItemCommand::Section(_))
 }

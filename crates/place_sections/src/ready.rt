@@ -1,7 +1,7 @@
 //! Expressions where they stand.
 
 ghost use Rattle.std.specs.Prelude.{◌≡◌};
-ghost use Rattle.ldscript.specs.terms.Expressions.{expr_of};
+ghost use Rattle.ldscript.specs.terms.CodeTerms.{expr_of};
 ghost use Rattle.ldmodel.specs.Layout.{number};
 ghost use Rattle.place_terms.specs.Naming.{Naming};
 ghost use Rattle.place_sections.specs.State.{layout_of, outcome};

@@ -1,7 +1,7 @@
 //! An output section.
 
 ghost use Rattle.std.specs.Prelude.{◌≡◌, ◌≤◌, ◌+◌, [], length, OnOk, IfErr, IfNone, IfSome};
-ghost use Rattle.ldmodel.specs.Body.{body_step};
+ghost use Rattle.ldmodel.specs.Placement.{body_step};
 ghost use Rattle.ldmodel.specs.Chain.{run};
 ghost use Rattle.ldmodel.specs.Placement.{opened, section_step};
 ghost use Rattle.place_terms.specs.Naming.{Naming, row_named};

@@ -8,7 +8,7 @@ use Rattle.std.proofs.lemmas.Option.{slice_get-map, slice_get-get_or, slice_get_
 use Rattle.ldscript.specs.statements.Given.{region_number}
 use Rattle.ldscript.specs.statements.declared.statement.Statement.{Statement}
 use Rattle.ldmodel.specs.Layout.{MemoryRegion, region_named}
-use Rattle.ldmodel.specs.SectionEnd.{freed_from}
+use Rattle.ldmodel.specs.Placement.{freed_from}
 use Rattle.place_terms.proofs.Numbers.{regions_told}
 use Rattle.place_terms.proofs.Tabled.{found_under, freed_at, unfreed}
 use Rattle.place_terms.specs.RegionTable.{region_of, region_names}

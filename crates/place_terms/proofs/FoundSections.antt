@@ -17,7 +17,7 @@ use Rattle.ldscript.specs.statements.Given.{section_number, region_number}
 use Rattle.ldscript.specs.statements.declared.section.OutputSection.{OutputSection}
 use Rattle.ldscript.specs.statements.declared.statement.Statement.{Statement}
 use Rattle.ldmodel.specs.Layout.{PlacedSection}
-use Rattle.ldmodel.specs.SectionHead.{difference_in, difference_of, same_region}
+use Rattle.ldmodel.specs.Placement.{difference_in, difference_of, same_region}
 use Rattle.ldmodel.specs.declared.laid.Placed.{Placed}
 use Rattle.place_terms.proofs.Lists.{same_name, is_same_name}
 use Rattle.place_terms.proofs.Numbers.{sections_told, regions_told}

@@ -6,7 +6,8 @@ use Rattle.std.specs.Prelude.{⊤, slice_get}
 use Rattle.ldscript.specs.Script.{IsSound}
 use Rattle.ldscript.specs.statements.Given.{section_from, section_number}
 use Rattle.ldscript.specs.statements.Mentions.{Mention, SectionNamed, in_item_command, in_items, in_top_command, mentions}
-use Rattle.ldscript.specs.statements.Numbering.{OutputSectionAt, items, items_of, output_sections, sections_in, sections_of}
+use Rattle.ldscript.specs.statements.Numbering.{OutputSectionAt, items, items_of, output_sections, sections_in}
+use Rattle.ldscript.specs.statements.Numbering.{item_sections}
 use Rattle.ldscript.specs.statements.declared.section.OutputSection.{OutputSection}
 use Rattle.ldscript.specs.statements.declared.statement.Command.{Command}
 use Rattle.ldscript.specs.statements.declared.statement.Command.TheVariants as top
@@ -34,7 +35,7 @@ both {ms = ms} no_more k = past ms k
 both (passed h) k = passed (both h k)
 both (named h) k = named (both h k)
 
-in_item : (line : ℕ) (c : ItemCommand) → Named (sections_of line c) (in_item_command c)
+in_item : (line : ℕ) (c : ItemCommand) → Named (item_sections line c) (in_item_command c)
 in_item line (item.Section s) = named no_more
 in_item line (item.Common c) = no_more
 in_item line (item.Dot c) = no_more
@@ -53,8 +54,8 @@ in_top (top.Memory rs) = no_more
 sections_append : (xs ys : List Item) → sections_in (xs ++ ys) ≡ sections_in xs ++ sections_in ys
 sections_append [] ys = refl
 sections_append (x ∷ xs) ys =
-    ap (λ l. sections_of x.line x.command ++ l) (sections_append xs ys)
-    ∙ sym (append_assoc (sections_of x.line x.command) (sections_in xs) (sections_in ys))
+    ap (λ l. item_sections x.line x.command ++ l) (sections_append xs ys)
+    ∙ sym (append_assoc (item_sections x.line x.command) (sections_in xs) (sections_in ys))
 
 in_script : (ss : List Statement) → Named (output_sections ss) (mentions ss)
 in_script [] = no_more

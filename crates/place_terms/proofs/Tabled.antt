@@ -8,7 +8,7 @@ use Rattle.std.proofs.lemmas.List.{get_or-set_other}
 use Rattle.std.proofs.lemmas.Grind.{get_or-set_at}
 use Rattle.ldscript.specs.statements.declared.statement.Statement.{Statement}
 use Rattle.ldmodel.specs.Layout.{ScriptSymbol, MemoryRegion}
-use Rattle.ldmodel.specs.SectionEnd.{freed_from}
+use Rattle.ldmodel.specs.Placement.{freed_from}
 use Rattle.place_terms.proofs.Lists.{find-append, or_else, same_name, is_same_name, other_name}
 use Rattle.place_terms.proofs.Numbers.{Tells, symbols_told}
 use Rattle.place_terms.specs.RegionTable.{region_names}

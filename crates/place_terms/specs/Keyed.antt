@@ -41,6 +41,7 @@ section_of n x = record {
   start = x.placed.start;
   size = x.placed.size;
   load = x.placed.load;
+  has_file_bytes = x.placed.has_file_bytes;
   load_size = x.placed.load_size;
   writable = x.placed.writable;
   executable = x.placed.executable;

@@ -6,7 +6,7 @@ use Rattle.ldscript.specs.statements.declared.section.Load.{Load}
 use Rattle.ldscript.specs.statements.declared.statement.Item.{Item}
 use Rattle.ldscript.specs.statements.declared.statement.Region.{Region}
 use Rattle.ldmodel.specs.Mentioned.{in_body_command, in_expression, in_item, in_optional}
-use Rattle.ldmodel.specs.SectionHead.{given_load}
+use Rattle.ldmodel.specs.Placement.{given_load}
 
 -- names that the code lends
 abbrev pub shown_names : List (Bor (List ℕ)) → List (List ℕ)

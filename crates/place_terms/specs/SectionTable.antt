@@ -4,7 +4,7 @@ use Rattle.std.specs.Prelude.{⊤, slice_index}
 use Rattle.std.specs.List.{All}
 use Rattle.ldscript.specs.statements.Given.{section_number, region_number}
 use Rattle.ldscript.specs.statements.declared.statement.Statement.{Statement}
-use Rattle.ldmodel.specs.SectionHead.{difference_in}
+use Rattle.ldmodel.specs.Placement.{difference_in}
 use Rattle.place_terms.specs.Keyed.{KeyedPiece, KeyedSection, data_at_of, section_of}
 use Rattle.place_terms.specs.Naming.{Naming}
 use Rattle.place_terms.specs.Tables.{AreInOrder}

@@ -1,7 +1,7 @@
 //! The names that the expressions of a script mention, in the order of the text.
 
 ghost use Rattle.std.specs.Prelude.{◌≡◌, [], ◌∷◌, ◌++◌, OnOk, IfOk, IfSome, IfNone, ℕ, ◌≤◌, ◌^◌, Some, slice_get};
-ghost use Rattle.ldscript.specs.terms.Expressions.{expr_of};
+ghost use Rattle.ldscript.specs.terms.CodeTerms.{expr_of};
 ghost use Rattle.ldmodel.specs.Mentioned.{in_expression, in_optional, in_common, in_dot_command, in_body_command};
 ghost use Rattle.ldmodel.specs.Mentioned.{in_section, in_item, in_command, mentioned_names};
 ghost use Rattle.place_terms.specs.Mentions.{Adds, in_load, in_body, in_items, in_regions, shown_names};

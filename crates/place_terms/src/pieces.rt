@@ -3,7 +3,7 @@
 ghost use Rattle.std.specs.Prelude.{◌≡◌, ◌==◌, ◌&&◌, map, not, bit_and};
 ghost use Rattle.std.specs.List.{list_any};
 ghost use Rattle.ldmodel.specs.Layout.{PlacedPiece};
-ghost use Rattle.ldmodel.specs.SectionEnd.{is_empty, is_in_file};
+ghost use Rattle.ldmodel.specs.Placement.{is_empty, is_in_file};
 ghost use Rattle.place_terms.specs.Keyed.{piece_at};
 ghost use Rattle.place_terms.specs.Naming.{Naming};
 ghost use Rattle.place_terms.specs.SectionTable.{keyed_piece};

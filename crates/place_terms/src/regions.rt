@@ -2,7 +2,7 @@
 
 ghost use Rattle.std.specs.Prelude.{◌≡◌, [], ◌∷◌, ◌++◌, length, map, OnOk, Some, find, bytes_eq, option_map};
 ghost use Rattle.ldmodel.specs.Layout.{MemoryRegion, region_named};
-ghost use Rattle.ldmodel.specs.SectionEnd.{freed_from};
+ghost use Rattle.ldmodel.specs.Placement.{freed_from};
 ghost use Rattle.place_terms.specs.RegionTable.{region_of};
 
 use ldmodel::impossible::impossible;

@@ -2,7 +2,7 @@
 
 ghost use Rattle.std.specs.Prelude.{◌≡◌};
 ghost use Rattle.std.specs.Option.{option_map};
-ghost use Rattle.ldscript.specs.terms.Expressions.{expr_of};
+ghost use Rattle.ldscript.specs.terms.CodeTerms.{expr_of};
 ghost use Rattle.ldmodel.specs.Value.{asked_of_region, asked_of_section, named, value};
 ghost use Rattle.place_terms.specs.Outcomes.{outcome_of, value_if_any};
 ghost use Rattle.place_terms.specs.Scopes.{section_numbers, region_numbers};

@@ -14,7 +14,7 @@ use Rattle.elfobj.specs.Counts.{Counts, capped}
 use Rattle.elfobj.specs.Raised.{raised}
 use Rattle.elfobj.specs.declared.meter.Count.TheVariants as counts
 use Rattle.ldmodel.specs.Edits.{Add, After, Change, InUse, Move, PastEnd, Refusal, Remove, Replace, SetScript}
-use Rattle.ldmodel.specs.Edits.{early_refusal, has_name, is_in_use, named, place_of}
+use Rattle.ldmodel.specs.Edits.{early_refusal, has_name, is_in_use, new_object, place_of}
 use Rattle.ldmodel.specs.Names.{distinct, names_in_objects, symbol_tables}
 use Rattle.ldmodel.specs.Project.{NamedObject, Project}
 use Rattle.ldmodel.specs.SessionWork.{Rises, names_by_script, objects_read, touched_names}
@@ -185,7 +185,7 @@ pub few_added : One → Few → (h : Holding) (s : Staged) (key at : ℕ) (name 
     → s.objects.places.before ≡ None → s.objects.places.after ≡ Some at
     → is_in_use (objects_of h.contents.entries) name ≡ false → at ≤ length (objects_of h.contents.entries)
     → objects_of (next_entries h.contents.entries s.objects)
-    ≡ insert (objects_of h.contents.entries) at (named name bytes)
+    ≡ insert (objects_of h.contents.entries) at (new_object name bytes)
     → length (distinct (names_of_step h.contents.entries s.objects (Some key)))
     ≤ length (distinct (names_found (find (has_name name) (objects_of h.contents.entries))
     ++ names_found (find (has_name name) (objects_of (next_entries h.contents.entries s.objects)))))
@@ -195,8 +195,8 @@ few_added one few h s key at name bytes d before after unused within made =
     let among : IsAmong (Some key) (Some at) new =
     subst (λ (q : Option ℕ). IsAmong (Some key) q new) after (among_after h s key d) in
     let rest : List NamedObject = objects_of (untouched (Some key) new) in
-    let here : named_under new key ≡ named name bytes =
-    same_inserted rest (objects_of old) at (named_under new key) (named name bytes)
+    let here : named_under new key ≡ new_object name bytes =
+    same_inserted rest (objects_of old) at (named_under new key) (new_object name bytes)
     (below at (untouched (Some key) new) among.0) within (sym (here_at key at new among) ∙ made) in
     let none : names_found (find (has_name name) (objects_of old)) ≡ [] =
     ap names_found (any_none (has_name name) (objects_of old) unused) in

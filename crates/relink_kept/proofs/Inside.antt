@@ -4,12 +4,12 @@ use Rattle.std.proofs.Common.{length, map, refl, sym, ap, ◌∙◌, subst, arit
 use Rattle.std.specs.Int.{next_multiple_of}
 use Rattle.std.specs.List.{Contains}
 use Rattle.std.proofs.lemmas.Bool.{eqb-false, ne_eqb}
-use Rattle.ldmodel.specs.FileLayout.{Each}
+use Rattle.ldmodel.specs.Each.{Each}
 use Rattle.ldmodel.specs.Layout.{Layout, PlacedPiece, PlacedSection}
 use Rattle.ldmodel.specs.Link.{max_image_length}
 use Rattle.ldmodel.specs.Project.{Project}
 use Rattle.ldmodel.specs.SectionHeaders.{Tables, header_part, image_length, tables}
-use Rattle.ldmodel.specs.Segments.{SectionInFile, file_offset, has_file_bytes, headers_end, in_file}
+use Rattle.ldmodel.specs.Segments.{SectionInFile, file_offset, headers_end, in_file}
 use Rattle.ldmodel.specs.Segments.{loaded_end, nonempty, segments}
 use Rattle.ldmodel.specs.Stayed.{FileRange, range_in}
 use Rattle.ldmodel_laws.specs.FileOrder.{AreInFileOrder, end_in_file, with_file_bytes}
@@ -52,17 +52,17 @@ module _ (p : Project) (s : Layout) (spread : Each IsSpread s.sections) (named :
       filter_in (λ (r : PlacedSection). not (r.size == 0)) s.sections q (got s.sections k q at)
       (ap not (ne_eqb q.size 0 (λ e. absurd (omega (arith, e, some, within.0, within.1)))))
 
-  begins_inside : has_file_bytes q ≡ true → 0 < z.piece.size
+  begins_inside : q.has_file_bytes ≡ true → 0 < z.piece.size
       → file_offset (segments s.sections) q + (z.start - q.start) < image_length p s
   begins_inside in_it some =
       let c = in_map (λ (x : SectionInFile). x.section) (in_file (segments s.sections)) q
       (subst (λ l. Contains l q) (sym all) (is_nonempty some)) in
       let x : SectionInFile = c.origin in
-      let has : has_file_bytes x.section ≡ true = ap has_file_bytes c.gives ∙ in_it in
+      let has : x.section.has_file_bytes ≡ true = ap (λ (r : PlacedSection). r.has_file_bytes) c.gives ∙ in_it in
       let inside = member_of (λ (y : SectionInFile).
       (headers_end (length (segments s.sections)) ≤ y.offset) × (end_in_file y ≤ loaded_end (segments s.sections)))
       (with_file_bytes (segments s.sections)) x order.inside
-      (filter_in (λ (y : SectionInFile). has_file_bytes y.section) (in_file (segments s.sections)) x c.among has) in
+      (filter_in (λ (y : SectionInFile). y.section.has_file_bytes) (in_file (segments s.sections)) x c.among has) in
       let starts : file_offset (segments s.sections) q ≡ x.offset =
       ap (file_offset (segments s.sections)) (sym c.gives) ∙ offset_is x c.among in
       let size : x.section.size ≡ q.size = ap (λ (r : PlacedSection). r.size) c.gives in
@@ -73,15 +73,15 @@ module _ (p : Project) (s : Layout) (spread : Each IsSpread s.sections) (named :
   short_64 n h = omega (arith, h)
 
   pub below_64 : image_length p s ≤ max_image_length → (range_in (segments s.sections) q z).offset < 2 ^ 64
-  below_64 short = go (has_file_bytes q && not (z.piece.size == 0)) refl
+  below_64 short = go (q.has_file_bytes && not (z.piece.size == 0)) refl
     where
-      go : (b : Bool) → (has_file_bytes q && not (z.piece.size == 0)) ≡ b
+      go : (b : Bool) → (q.has_file_bytes && not (z.piece.size == 0)) ≡ b
           → (let r : FileRange = cond b (record {
             offset = file_offset (segments s.sections) q + (z.start - q.start);
             length = z.piece.size;
           }) (record { offset = 0; length = 0 }) in r.offset) < 2 ^ 64
       go true e =
-          let both = both_of (has_file_bytes q) (not (z.piece.size == 0)) e in
+          let both = both_of q.has_file_bytes (not (z.piece.size == 0)) e in
           short_64 (file_offset (segments s.sections) q + (z.start - q.start))
           (omega (arith, begins_inside both.0 (not_zero z.piece.size both.1), short))
       go false e = short_64 0 (omega arith)

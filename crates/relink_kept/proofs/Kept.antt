@@ -13,8 +13,7 @@ use Rattle.ldmodel.specs.NameFaults.{object_name}
 use Rattle.ldmodel.specs.Project.{NamedObject, Project}
 use Rattle.ldmodel.specs.Sections.{is_same_part}
 use Rattle.ldmodel.specs.Stayed as model
-use Rattle.ldmodel.specs.Stayed.{GoodLink, LinkedPiece, has_stayed, pieces_in, same_piece, same_range}
-use Rattle.ldmodel.specs.Stayed.{text_of}
+use Rattle.ldmodel.specs.Stayed.{GoodLink, LinkedPiece, has_stayed, link_pieces, same_piece, same_range, text_of}
 use Rattle.ldmodel.specs.declared.sections.Part.{Part}
 use Rattle.ldmodel.specs.declared.sections.Part.TheVariants.{InTable, InCommon}
 use Rattle.emit.specs.relocate.Earlier.{range_of}
@@ -171,7 +170,7 @@ module _ (old : GoodLink) (p : Project) (from : List (Option ℕ)) (origins : Ar
 
   module _ (y : LinkedPiece) (y_text : y.text ≡ text_of old.project y.object) where
     -- one that stands as it stood is one of the earlier link
-    pub sound : (j : ℕ) → slice_index_or from i None ≡ Some j → Contains (pieces_in old) y
+    pub sound : (j : ℕ) → slice_index_or from i None ≡ Some j → Contains (link_pieces old) y
         → y.object ≡ object_name old.project j → y.part ≡ x.part → (b a : Standing) → IsAt y b → IsAt x a
         → same_standing b a ≡ true → has_stayed old x ≡ true
     sound j e c y_name y_part b a was is same =
@@ -185,7 +184,7 @@ module _ (old : GoodLink) (p : Project) (from : List (Option ℕ)) (origins : Ar
         let s = both_of (b.start == a.start) _ same in
         let t = both_of (b.size == a.size) _ s.1 in
         let u = both_of (b.range.offset == a.range.offset) (b.range.length == a.range.length) t.1 in
-        any_in (same_piece x) (pieces_in old) y c (of_same x y (record {
+        any_in (same_piece x) (link_pieces old) y c (of_same x y (record {
           object = o.name ∙ sym name;
           text = o.text ∙ sym text;
           part = sym y_part;

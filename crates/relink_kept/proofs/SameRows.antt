@@ -18,7 +18,7 @@ use Rattle.elfobj.specs.declared.section.SectionKind.TheVariants.{Progbits, Nobi
 use Rattle.elfobj.specs.declared.section.SectionKind.TheVariants.{PreinitArray, Unwind}
 use Rattle.ldmodel.specs.Edits.{AreNamesDistinct, has_name}
 use Rattle.ldmodel.specs.FaultCode.{name_of_part}
-use Rattle.ldmodel.specs.FileLayout.{Each}
+use Rattle.ldmodel.specs.Each.{Each}
 use Rattle.ldmodel.specs.Image.{section_numbered}
 use Rattle.ldmodel.specs.NameFaults.{object_name}
 use Rattle.ldmodel.specs.Project.{NamedObject, Project}

@@ -13,7 +13,7 @@ use Rattle.ldmodel.specs.Lent.{placed_of}
 use Rattle.ldmodel.specs.NameFaults.{object_name}
 use Rattle.ldmodel.specs.Project.{Project}
 use Rattle.ldmodel.specs.Sections.{is_same_part}
-use Rattle.ldmodel.specs.Segments.{file_offset, has_file_bytes, segments}
+use Rattle.ldmodel.specs.Segments.{file_offset, segments}
 use Rattle.ldmodel.specs.Stayed as model
 use Rattle.ldmodel.specs.Stayed.{LinkedPiece, linked_piece, linked_pieces, range_in}
 use Rattle.ldmodel.specs.SymbolValues.{is_part, placed_part}
@@ -126,7 +126,7 @@ fits_none = record {
 fits : (s : Layout) (q : PlacedSection) (z : PlacedPiece) (offset : ℕ) → IsOffset s q offset
     → Fits (range_in (segments s.sections) q z) (range_from (placed_of q) offset z.start z.piece.size)
 unfolding range_from
-fits s q z offset is = go (has_file_bytes q && not (z.piece.size == 0))
+fits s q z offset is = go (q.has_file_bytes && not (z.piece.size == 0))
   where
     go : (b : Bool)
         → Fits (cond b (model_range (file_offset (segments s.sections) q + (z.start - q.start)) z.piece.size)

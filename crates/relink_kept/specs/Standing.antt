@@ -19,7 +19,7 @@ bytes_from offset size = if nat_lt offset (2 ^ 64) then Some (record { offset = 
 -- where the output section has none in the file
 unfoldable pub range_from : Placed → ℕ → ℕ → ℕ → Option FileRange
 range_from q offset start size =
-    if not (q.load_size == 0) && not (size == 0) then bytes_from (offset + (start - q.start)) size
+    if q.has_file_bytes && not (size == 0) then bytes_from (offset + (start - q.start)) size
     else Some (record { offset = 0; length = 0 })
 
 -- by the tables of a link

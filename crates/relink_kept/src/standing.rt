@@ -26,7 +26,7 @@ pub(crate) struct Standing {
 fn range_from(section: &Placed, offset: u128, start: u64, size: u64) -> Option<FileRange>
     ensures { result ≡ range_from section.now offset start size }
 {
-    if section.load_size == 0 || size == 0 {
+    if !section.has_file_bytes || size == 0 {
         return Some(FileRange {
             offset: 0,
             length: 0,

@@ -26,8 +26,8 @@ use Rattle.ldmodel.specs.FaultCode.{definer_of, fault_of, name_of_symbol}
 use Rattle.ldmodel.specs.HandedOver.{decision_of}
 use Rattle.ldmodel.specs.InputSections.{is_same_entry}
 use Rattle.ldmodel.specs.Link.{duplicate_fault}
-use Rattle.ldmodel.specs.NameFaults.{ByObject, ByScript, Definer, duplicate, first_definer, first_of}
-use Rattle.ldmodel.specs.NameFaults.{duplicates, is_duplicate, is_first_of, object_name, strong_definitions}
+use Rattle.ldmodel.specs.NameFaults.{ByObject, ByScript, Definer, duplicate, first_definer, first_among, duplicates}
+use Rattle.ldmodel.specs.NameFaults.{is_duplicate, is_first_of, object_name, strong_definitions}
 use Rattle.ldmodel.specs.Names.{Declaration, Decision, Duplicate, Entry, decided, decision, declaration, declarations}
 use Rattle.ldmodel.specs.Names.{all_entries, declarations_in, declarations_of, entries, is_global, is_local}
 use Rattle.ldmodel.specs.Names.{is_of_name, is_placed, is_strong, symbol_tables}
@@ -196,7 +196,7 @@ is_first : (xs : List Declaration) (d : Declaration) (x : Entry) → first_entry
 is_first [] d x h = absurd (cc)
 is_first (y ∷ ys) d x h = let e : y.entry ≡ x = cc in ap (λ (z : Entry). is_same_entry z d.entry) e
 
-object_of_first : (p : Project) (xs : List Declaration) (x : Entry) → first_entry xs ≡ Some x → first_of p xs
+object_of_first : (p : Project) (xs : List Declaration) (x : Entry) → first_entry xs ≡ Some x → first_among p xs
     ≡ ByObject (object_name p x.object)
 object_of_first p [] x h = absurd (cc)
 object_of_first p (y ∷ ys) x h = let e : y.entry ≡ x = cc in ap (λ (z : Entry). ByObject (object_name p z.object)) e
@@ -254,11 +254,11 @@ told_one p ds d e x h =
         ≡ shown p (cond (a || not s) (d ∷ []) [])
     go true s is same =
         fault_is p ds d e x definer.Script h
-        (sym (ap (λ (b : Bool). cond b ByScript (first_of p (strong_definitions p d.name))) is))
+        (sym (ap (λ (b : Bool). cond b ByScript (first_among p (strong_definitions p d.name))) is))
     go false true is same = refl
     go false false is same =
         fault_is p ds d e x (definer.Object (record { 0 = x.key })) h
-        (sym (ap (λ (b : Bool). cond b ByScript (first_of p (strong_definitions p d.name))) is
+        (sym (ap (λ (b : Bool). cond b ByScript (first_among p (strong_definitions p d.name))) is
         ∙ object_of_first p (strong_definitions p d.name) (by_place x) (first_defined p ds d e x h)))
 
 -- the two conditions again

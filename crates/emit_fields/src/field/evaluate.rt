@@ -4,7 +4,7 @@ ghost use Rattle.std.specs.Prelude.{◌≡◌, ◌≢◌, ◌≤◌, ◌&&◌, I
 ghost use Rattle.byteorder.specs.Endian.{little_bytes};
 ghost use Rattle.elfobj.specs.Raised.{raised};
 ghost use Rattle.elfobj.specs.RelocationKinds.{width};
-ghost use Rattle.emit_fields.specs.Fields.{value, fits, field_of};
+ghost use Rattle.emit_fields.specs.Fields.{relocation_value, fits, field_of};
 
 use super::{Field, Overflow};
 use byteorder::{ByteOrder, LittleEndian};
@@ -13,7 +13,7 @@ use elfobj::{Count, Meter};
 
 /// The value modulo 2^64: S + A, or S + A - P for the kinds that count from their place.
 fn value(relocation: &Relocation, s: u64, p: u64) -> u64
-    ensures { result ≡ value relocation.now s p }
+    ensures { result ≡ relocation_value relocation.now s p }
 {
     let absolute = s.wrapping_add(relocation.addend.cast_unsigned());
     match relocation.kind {

@@ -1,7 +1,7 @@
 use Rattle.std.proofs.Common.{◌≡◌, ◌+◌, ◌*◌, ◌∙◌, ap, arith, false, nat_lt, sym}
 use Rattle.elfobj_file.specs.SectionHeaders.{file_bytes}
 use Rattle.elfobj_file.specs.SymbolEntries.{symbol_entry_at}
-use Rattle.elfobj_file.specs.Tables.{is_local, is_wrong_symbol}
+use Rattle.elfobj_file.specs.Tables.{is_local_entry, is_wrong_symbol}
 use Rattle.elfobj.proofs.PassingSymbols.{each_more, placed_all, right_all, same_by, symbols_more}
 use Rattle.elfobj.proofs.symbols.read_passing.Goals as goal
 
@@ -27,8 +27,9 @@ loop-number-preserved c =
           c.read_symbol_entry-entry.ensures
           c.symbol.ensures c.in-Some.ensures.within c.in-Some.ensures.name c.in_ok-push.ensures.symbols
           c.in_ok-push.ensures.names c.loop-number.invariant.named;
-      sides = each_more (λ j. is_local (symbol_entry_at bytes (start + 24 * j)) ≡ nat_lt j c.args.table.now.sh_info) k
-          (ap is_local (sym c.read_symbol_entry-entry.ensures) ∙ sym c.is_local.ensures
+      sides = each_more (λ j. is_local_entry (symbol_entry_at bytes (start + 24 * j))
+          ≡ nat_lt j c.args.table.now.sh_info) k
+          (ap is_local_entry (sym c.read_symbol_entry-entry.ensures) ∙ sym c.is_local.ensures
           ∙ same_by _ _ c.if-is_local-number.false) c.loop-number.invariant.sides;
       right =
           each_more (λ j. is_wrong_symbol c.args.sections strings (symbol_entry_at bytes (start + 24 * j)) ≡ false) k

@@ -2,7 +2,7 @@ use Rattle.std.proofs.Common.{◌≡◌, ℕ, ◌+◌, ◌*◌, ◌<◌, ◌≤�
 use Rattle.elfobj_file.specs.SectionHeaders.{file_bytes}
 use Rattle.elfobj_file.specs.SymbolEntries.{symbol_entries_below, symbol_entry_at}
 use Rattle.elfobj_file.specs.Symbols.{symbols_from}
-use Rattle.elfobj_file.specs.Tables.{is_local, is_wrong_symbol}
+use Rattle.elfobj_file.specs.Tables.{is_local_entry, is_wrong_symbol}
 use Rattle.elfobj.specs.Places.{AreNamed}
 use Rattle.elfobj.proofs.symbols.read_passing.Given as goal
 
@@ -11,7 +11,8 @@ invariant-loop-number l = record {
   low : 1 ≤ l.number;
   named : AreNamed l.bytes (symbols_from (file_bytes l.bytes l.strings) (symbol_entries_below l.bytes l.start l.number))
       l.symbols.symbols.items l.symbols.names.items;
-  sides : (j : ℕ) → 1 ≤ j → j < l.number → is_local (symbol_entry_at l.bytes (l.start + 24 * j)) ≡ nat_lt j l.first;
+  sides : (j : ℕ) → 1 ≤ j → j < l.number → is_local_entry (symbol_entry_at l.bytes (l.start + 24 * j))
+      ≡ nat_lt j l.first;
   right : (j : ℕ) → 1 ≤ j → j < l.number
       → is_wrong_symbol l.sections (file_bytes l.bytes l.strings) (symbol_entry_at l.bytes (l.start + 24 * j)) ≡ false;
 }

@@ -1,5 +1,5 @@
 -- An output section with bytes in the file is drawn, any other is not.
-use Rattle.std.proofs.Common.{◌∙◌, ap}
+use Rattle.std.proofs.Common.{◌∙◌, ap, sym}
 use Rattle.ldmodel.specs.declared.laid.Placed.{Placed}
 use Rattle.emit.proofs.Joining.{drawn_more, not_zero}
 use Rattle.emit.proofs.parts.add_section.Goals as goal
@@ -8,5 +8,5 @@ pub returns : goal.returns
 returns c p s stays q qs is drawn =
     drawn_more p s stays qs q c.args.sections.now.items _ c.in_ok-section.section
     (not_zero q.size (λ e. c.if-output-eq0.false (ap (λ (x : Placed). x.size) is.placed ∙ e)))
-    (not_zero q.load_size (λ e. c.if-output-eq0-2.false (ap (λ (x : Placed). x.load_size) is.placed ∙ e)))
+    (sym (ap (λ (x : Placed). x.has_file_bytes) is.placed) ∙ c.if-not-output.false)
     (c.in_ok-section.ensures p s stays q is) c.in_ok-push.ensures.items drawn

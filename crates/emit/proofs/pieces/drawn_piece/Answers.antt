@@ -1,7 +1,7 @@
 -- By the object of the key and its section.
 use Rattle.std.proofs.Common.{◌≡◌, ◌∙◌, sym, refl, ap, subst, Some, slice_get}
 use Rattle.elfobj.specs.Object.{ObjectData}
-use Rattle.ldmodel.specs.Image.{section_byte}
+use Rattle.ldmodel_laws.specs.ByteCases.{section_byte}
 use Rattle.ldmodel_project.specs.ByPlace.{piece_in}
 use Rattle.emit.proofs.Lists.{if_ok}
 use Rattle.emit.proofs.Numbering.{numbers_differ}

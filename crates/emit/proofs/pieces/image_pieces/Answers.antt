@@ -1,7 +1,7 @@
 -- The rows are those of the layout.
 use Rattle.std.proofs.Common.{◌∙◌, sym, refl, ap, subst, length}
 use Rattle.std.proofs.lemmas.List.{length-map}
-use Rattle.ldmodel.specs.FileLayout.{Each}
+use Rattle.ldmodel.specs.Each.{Each}
 use Rattle.ldmodel.specs.Names.{provided}
 use Rattle.ldmodel_project.specs.Inputs.{shown_input}
 use Rattle.emit_values.specs.LinkView.{known_link}

@@ -3,8 +3,7 @@ use Rattle.std.proofs.Common.{refl}
 use Rattle.ldscript.specs.terms.Grammar.{word_of}
 use Rattle.emit_fields.specs.Fields.{field_of}
 use Rattle.ldmodel.specs.Assertions.{assertion_faults}
-use Rattle.ldmodel.specs.Assigning.{common_step}
-use Rattle.ldmodel.specs.Body.{body_command_step, piece_placed, pieces_placed}
+use Rattle.ldmodel.specs.Placement.{common_step, body_command_step, piece_placed, pieces_placed}
 use Rattle.ldmodel.specs.Chain.{run}
 use Rattle.ldmodel.specs.Commands.{line}
 use Rattle.ldmodel.specs.FaultCode.{fault_of}
@@ -12,7 +11,7 @@ use Rattle.ldmodel.specs.FaultText.{fault_text}
 use Rattle.ldmodel.specs.FirstMatch.{first_match}
 use Rattle.ldmodel.specs.Gathering.{is_out}
 use Rattle.ldmodel.specs.Headers.{elf_header, program_header}
-use Rattle.ldmodel.specs.Image.{byte_at, headers, image}
+use Rattle.ldmodel.specs.Image.{byte_at, file_headers, image}
 use Rattle.ldmodel.specs.InputSections.{input_sections}
 use Rattle.ldmodel.specs.Layout.{number}
 use Rattle.ldmodel.specs.Lines.{hex, line_of}
@@ -29,14 +28,14 @@ use Rattle.ldmodel.specs.Reach.{reached}
 use Rattle.ldmodel.specs.Relocations.{relocation_faults, site_field, sites}
 use Rattle.ldmodel.specs.Rows.{rows}
 use Rattle.ldmodel.specs.ScriptNames.{assigned_names, provided_names}
-use Rattle.ldmodel.specs.SectionEnd.{placed_section, section_end}
-use Rattle.ldmodel.specs.SectionHead.{difference_in, given, head_of, load_address, start_of}
+use Rattle.ldmodel.specs.Placement.{placed_section, section_end, difference_in, given, head_of, load_address}
+use Rattle.ldmodel.specs.Placement.{section_start}
 use Rattle.ldmodel.specs.SectionHeaders.{header_name_table, header_part, image_length, section_headers, tables}
 use Rattle.ldmodel.specs.Segments.{groups, segments}
 use Rattle.ldmodel.specs.Sorting.{sort_by}
 use Rattle.ldmodel.specs.Stayed.{linked_pieces}
 use Rattle.ldmodel.specs.SymbolValues.{entry_point, name_value}
-use Rattle.ldmodel.specs.Tail.{symbol_name_table, symbol_table}
+use Rattle.ldmodel.specs.Tail.{symbol_name_table, output_symbol_table}
 use Rattle.ldmodel.specs.Targets.{referenced_value, target_number}
 use Rattle.ldmodel.specs.Value.{value}
 use Rattle.ldscript.specs.terms.Matching.{is_match}
@@ -45,120 +44,120 @@ use Rattle.ldmodel_laws.proofs.layouts.layout_by_example.Goals as goal
 pub returns-clause-regions : goal.returns-clause-regions
 unfolding assertion_faults assigned_names body_command_step byte_at command_step common_step decided decision
     declarations_of declared_names difference_in duplicates elf_header entry_point entry_section entry_symbol fault_of
-    fault_text field_of first_match gathering_faults given groups head_of header_name_table header_part headers hex
+    fault_text field_of first_match gathering_faults given groups head_of header_name_table header_part file_headers hex
     image image_length input_sections is_match is_out item_command_step layout line line_of link linked_pieces live
     load_address map_text mentioned_names name_faults name_value number orphans output_symbols overlaps piece_placed
     pieces_placed placed_section placement program_header provided provided_names reached referenced_value region_step
-    relocation_faults rows run section_end section_headers section_step segments site_field sites sort_by start_of
-    symbol_name_table symbol_table tables target_number target_section undefined_entry value word_of
+    relocation_faults rows run section_end section_headers section_step segments site_field sites sort_by section_start
+    symbol_name_table output_symbol_table tables target_number target_section undefined_entry value word_of
 returns-clause-regions c = refl
 
 pub returns-clause-has_room : goal.returns-clause-has_room
 unfolding assertion_faults assigned_names body_command_step byte_at command_step common_step decided decision
     declarations_of declared_names difference_in duplicates elf_header entry_point entry_section entry_symbol fault_of
-    fault_text field_of first_match gathering_faults given groups head_of header_name_table header_part headers hex
+    fault_text field_of first_match gathering_faults given groups head_of header_name_table header_part file_headers hex
     image image_length input_sections is_match is_out item_command_step layout line line_of link linked_pieces live
     load_address map_text mentioned_names name_faults name_value number orphans output_symbols overlaps piece_placed
     pieces_placed placed_section placement program_header provided provided_names reached referenced_value region_step
-    relocation_faults rows run section_end section_headers section_step segments site_field sites sort_by start_of
-    symbol_name_table symbol_table tables target_number target_section undefined_entry value word_of
+    relocation_faults rows run section_end section_headers section_step segments site_field sites sort_by section_start
+    symbol_name_table output_symbol_table tables target_number target_section undefined_entry value word_of
 returns-clause-has_room c = refl
 
 pub returns-clause-full : goal.returns-clause-full
 unfolding assertion_faults assigned_names body_command_step byte_at command_step common_step decided decision
     declarations_of declared_names difference_in duplicates elf_header entry_point entry_section entry_symbol fault_of
-    fault_text field_of first_match gathering_faults given groups head_of header_name_table header_part headers hex
+    fault_text field_of first_match gathering_faults given groups head_of header_name_table header_part file_headers hex
     image image_length input_sections is_match is_out item_command_step layout line line_of link linked_pieces live
     load_address map_text mentioned_names name_faults name_value number orphans output_symbols overlaps piece_placed
     pieces_placed placed_section placement program_header provided provided_names reached referenced_value region_step
-    relocation_faults rows run section_end section_headers section_step segments site_field sites sort_by start_of
-    symbol_name_table symbol_table tables target_number target_section undefined_entry value word_of
+    relocation_faults rows run section_end section_headers section_step segments site_field sites sort_by section_start
+    symbol_name_table output_symbol_table tables target_number target_section undefined_entry value word_of
 returns-clause-full c = refl
 
 pub returns-clause-from_start : goal.returns-clause-from_start
 unfolding assertion_faults assigned_names body_command_step byte_at command_step common_step decided decision
     declarations_of declared_names difference_in duplicates elf_header entry_point entry_section entry_symbol fault_of
-    fault_text field_of first_match gathering_faults given groups head_of header_name_table header_part headers hex
+    fault_text field_of first_match gathering_faults given groups head_of header_name_table header_part file_headers hex
     image image_length input_sections is_match is_out item_command_step layout line line_of link linked_pieces live
     load_address map_text mentioned_names name_faults name_value number orphans output_symbols overlaps piece_placed
     pieces_placed placed_section placement program_header provided provided_names reached referenced_value region_step
-    relocation_faults rows run section_end section_headers section_step segments site_field sites sort_by start_of
-    symbol_name_table symbol_table tables target_number target_section undefined_entry value word_of
+    relocation_faults rows run section_end section_headers section_step segments site_field sites sort_by section_start
+    symbol_name_table output_symbol_table tables target_number target_section undefined_entry value word_of
 returns-clause-from_start c = refl
 
 pub returns-clause-moved_back : goal.returns-clause-moved_back
 unfolding assertion_faults assigned_names body_command_step byte_at command_step common_step decided decision
     declarations_of declared_names difference_in duplicates elf_header entry_point entry_section entry_symbol fault_of
-    fault_text field_of first_match gathering_faults given groups head_of header_name_table header_part headers hex
+    fault_text field_of first_match gathering_faults given groups head_of header_name_table header_part file_headers hex
     image image_length input_sections is_match is_out item_command_step layout line line_of link linked_pieces live
     load_address map_text mentioned_names name_faults name_value number orphans output_symbols overlaps piece_placed
     pieces_placed placed_section placement program_header provided provided_names reached referenced_value region_step
-    relocation_faults rows run section_end section_headers section_step segments site_field sites sort_by start_of
-    symbol_name_table symbol_table tables target_number target_section undefined_entry value word_of
+    relocation_faults rows run section_end section_headers section_step segments site_field sites sort_by section_start
+    symbol_name_table output_symbol_table tables target_number target_section undefined_entry value word_of
 returns-clause-moved_back c = refl
 
 pub returns-clause-past : goal.returns-clause-past
 unfolding assertion_faults assigned_names body_command_step byte_at command_step common_step decided decision
     declarations_of declared_names difference_in duplicates elf_header entry_point entry_section entry_symbol fault_of
-    fault_text field_of first_match gathering_faults given groups head_of header_name_table header_part headers hex
+    fault_text field_of first_match gathering_faults given groups head_of header_name_table header_part file_headers hex
     image image_length input_sections is_match is_out item_command_step layout line line_of link linked_pieces live
     load_address map_text mentioned_names name_faults name_value number orphans output_symbols overlaps piece_placed
     pieces_placed placed_section placement program_header provided provided_names reached referenced_value region_step
-    relocation_faults rows run section_end section_headers section_step segments site_field sites sort_by start_of
-    symbol_name_table symbol_table tables target_number target_section undefined_entry value word_of
+    relocation_faults rows run section_end section_headers section_step segments site_field sites sort_by section_start
+    symbol_name_table output_symbol_table tables target_number target_section undefined_entry value word_of
 returns-clause-past c = refl
 
 pub returns-clause-wrapped : goal.returns-clause-wrapped
 unfolding assertion_faults assigned_names body_command_step byte_at command_step common_step decided decision
     declarations_of declared_names difference_in duplicates elf_header entry_point entry_section entry_symbol fault_of
-    fault_text field_of first_match gathering_faults given groups head_of header_name_table header_part headers hex
+    fault_text field_of first_match gathering_faults given groups head_of header_name_table header_part file_headers hex
     image image_length input_sections is_match is_out item_command_step layout line line_of link linked_pieces live
     load_address map_text mentioned_names name_faults name_value number orphans output_symbols overlaps piece_placed
     pieces_placed placed_section placement program_header provided provided_names reached referenced_value region_step
-    relocation_faults rows run section_end section_headers section_step segments site_field sites sort_by start_of
-    symbol_name_table symbol_table tables target_number target_section undefined_entry value word_of
+    relocation_faults rows run section_end section_headers section_step segments site_field sites sort_by section_start
+    symbol_name_table output_symbol_table tables target_number target_section undefined_entry value word_of
 returns-clause-wrapped c = refl
 
 pub returns-clause-aligned : goal.returns-clause-aligned
 unfolding assertion_faults assigned_names body_command_step byte_at command_step common_step decided decision
     declarations_of declared_names difference_in duplicates elf_header entry_point entry_section entry_symbol fault_of
-    fault_text field_of first_match gathering_faults given groups head_of header_name_table header_part headers hex
+    fault_text field_of first_match gathering_faults given groups head_of header_name_table header_part file_headers hex
     image image_length input_sections is_match is_out item_command_step layout line line_of link linked_pieces live
     load_address map_text mentioned_names name_faults name_value number orphans output_symbols overlaps piece_placed
     pieces_placed placed_section placement program_header provided provided_names reached referenced_value region_step
-    relocation_faults rows run section_end section_headers section_step segments site_field sites sort_by start_of
-    symbol_name_table symbol_table tables target_number target_section undefined_entry value word_of
+    relocation_faults rows run section_end section_headers section_step segments site_field sites sort_by section_start
+    symbol_name_table output_symbol_table tables target_number target_section undefined_entry value word_of
 returns-clause-aligned c = refl
 
 pub returns-clause-backwards : goal.returns-clause-backwards
 unfolding assertion_faults assigned_names body_command_step byte_at command_step common_step decided decision
     declarations_of declared_names difference_in duplicates elf_header entry_point entry_section entry_symbol fault_of
-    fault_text field_of first_match gathering_faults given groups head_of header_name_table header_part headers hex
+    fault_text field_of first_match gathering_faults given groups head_of header_name_table header_part file_headers hex
     image image_length input_sections is_match is_out item_command_step layout line line_of link linked_pieces live
     load_address map_text mentioned_names name_faults name_value number orphans output_symbols overlaps piece_placed
     pieces_placed placed_section placement program_header provided provided_names reached referenced_value region_step
-    relocation_faults rows run section_end section_headers section_step segments site_field sites sort_by start_of
-    symbol_name_table symbol_table tables target_number target_section undefined_entry value word_of
+    relocation_faults rows run section_end section_headers section_step segments site_field sites sort_by section_start
+    symbol_name_table output_symbol_table tables target_number target_section undefined_entry value word_of
 returns-clause-backwards c = refl
 
 pub returns-clause-meeting : goal.returns-clause-meeting
 unfolding assertion_faults assigned_names body_command_step byte_at command_step common_step decided decision
     declarations_of declared_names difference_in duplicates elf_header entry_point entry_section entry_symbol fault_of
-    fault_text field_of first_match gathering_faults given groups head_of header_name_table header_part headers hex
+    fault_text field_of first_match gathering_faults given groups head_of header_name_table header_part file_headers hex
     image image_length input_sections is_match is_out item_command_step layout line line_of link linked_pieces live
     load_address map_text mentioned_names name_faults name_value number orphans output_symbols overlaps piece_placed
     pieces_placed placed_section placement program_header provided provided_names reached referenced_value region_step
-    relocation_faults rows run section_end section_headers section_step segments site_field sites sort_by start_of
-    symbol_name_table symbol_table tables target_number target_section undefined_entry value word_of
+    relocation_faults rows run section_end section_headers section_step segments site_field sites sort_by section_start
+    symbol_name_table output_symbol_table tables target_number target_section undefined_entry value word_of
 returns-clause-meeting c = refl
 
 pub returns-clause-filled : goal.returns-clause-filled
 unfolding assertion_faults assigned_names body_command_step byte_at command_step common_step decided decision
     declarations_of declared_names difference_in duplicates elf_header entry_point entry_section entry_symbol fault_of
-    fault_text field_of first_match gathering_faults given groups head_of header_name_table header_part headers hex
+    fault_text field_of first_match gathering_faults given groups head_of header_name_table header_part file_headers hex
     image image_length input_sections is_match is_out item_command_step layout line line_of link linked_pieces live
     load_address map_text mentioned_names name_faults name_value number orphans output_symbols overlaps piece_placed
     pieces_placed placed_section placement program_header provided provided_names reached referenced_value region_step
-    relocation_faults rows run section_end section_headers section_step segments site_field sites sort_by start_of
-    symbol_name_table symbol_table tables target_number target_section undefined_entry value word_of
+    relocation_faults rows run section_end section_headers section_step segments site_field sites sort_by section_start
+    symbol_name_table output_symbol_table tables target_number target_section undefined_entry value word_of
 returns-clause-filled c = refl

@@ -1,5 +1,6 @@
 use Rattle.ldscript_tokens.specs.declared.token.Mark.TheVariants.{CloseBrace}
-use Rattle.ldscript_terms.specs.Grammar.{Stops, Whole}
+use Rattle.ldscript_terms.specs.Reading.{Stops}
+use Rattle.ldscript_terms.specs.Grammar.{Whole}
 use Rattle.ldscript.specs.Steps.{mark}
 use Rattle.ldscript.specs.Grammar.{region}
 use Rattle.ldscript.proofs.Each.{each_so_far_closed, each_so_far_member, each_so_far_stuck}

@@ -1,5 +1,5 @@
 use Rattle.std.proofs.Common.{◌++◌, ◌≡◌, ap, inl, inr}
-use Rattle.ldscript_terms.specs.Expressions.{expr_of}
+use Rattle.ldscript_terms.specs.CodeTerms.{expr_of}
 use Rattle.ldscript_statements.specs.Mentions.{regions_of}
 use Rattle.ldscript_statements.specs.Listed.{shown}
 use Rattle.ldscript_statements.proofs.Listing.{listed_two, listed_three}

@@ -1,6 +1,6 @@
 use Rattle.std.proofs.Common.{◌≤◌, List, length}
 use Rattle.ldscript_terms.specs.Parts.{Part}
-use Rattle.ldscript_terms.specs.Spelling.{Spells}
+use Rattle.ldscript_terms.specs.Spelling.{SpellsPattern}
 use Rattle.ldscript_terms.specs.Trying.{Passed}
 use Rattle.ldscript_terms.proofs.matching.try_front.Given as goal
 
@@ -8,7 +8,8 @@ abbrev pub invariant-loop-part : goal.invariant-loop-part
 invariant-loop-part l = record {
   in_word : length l.rest ≤ length l.word;
   in_name : length l.left ≤ length l.name;
-  passed : (ps : List Part) → Spells ps l.word → (qs : List Part) × Spells qs l.rest × Passed ps qs l.name l.left;
+  passed : (ps : List Part) → SpellsPattern ps l.word →
+      (qs : List Part) × SpellsPattern qs l.rest × Passed ps qs l.name l.left;
 }
 
 abbrev pub decreases-loop-part : goal.decreases-loop-part

@@ -1,6 +1,7 @@
 use Rattle.std.proofs.Common.{◌≡◌, suc, ◌-◌, subst, arith}
-use Rattle.ldscript_terms.specs.Expressions.{expr_of}
-use Rattle.ldscript_terms.specs.Grammar.{Reads, Within}
+use Rattle.ldscript_terms.specs.CodeTerms.{expr_of}
+use Rattle.ldscript_terms.specs.Reading.{Reads}
+use Rattle.ldscript_terms.specs.Grammar.{Within}
 use Rattle.ldscript_terms.proofs.Readings.{number_reading, dot_reading, name_reading, of_region_reading, of_section_reading}
 use Rattle.ldscript_terms.proofs.Readings.{group_reading, one_reading, two_reading, unary_reading, level_start, level_end}
 use Rattle.ldscript_terms.proofs.Readings.{level_step, operators_reading, choice_reading}

@@ -1,5 +1,5 @@
 use Rattle.std.proofs.Common.{length, ◌+◌, ◌*◌}
-use Rattle.ldscript_terms.specs.Expressions.{expr_of}
+use Rattle.ldscript_terms.specs.CodeTerms.{expr_of}
 use Rattle.ldscript_terms.proofs.Readings.{SoFar}
 use Rattle.ldscript_terms.proofs.reader.+reader.Given as goal
 

@@ -1,5 +1,5 @@
 use Rattle.std.proofs.Common.{◌≡◌, ◌+◌, ◌++◌, ◌∷◌, [], sym, arith, rules}
-use Rattle.ldscript_tokens.specs.Tokens.{token_of}
+use Rattle.ldscript_tokens.specs.CodeTokens.{token_of}
 use Rattle.ldscript_tokens.specs.Modes.{state_after}
 use Rattle.ldscript_tokens.proofs.Cut.{cut_to_end, cut_to_nothing, cut_to_blank, cut_to_found, still_shallow, behind}
 use Rattle.ldscript_tokens.proofs.Cut.{line_ahead}

@@ -1,7 +1,8 @@
 use Rattle.std.proofs.Common.{◌≡◌, ◌+◌, ◌-◌, ◌≤◌, length, map}
 use Rattle.std.specs.List.{All}
-use Rattle.ldscript_tokens.specs.Tokens.{lexeme_of}
-use Rattle.ldscript_tokens.specs.Modes.{line_at, IsPlace, IsShallow}
+use Rattle.ldscript_tokens.specs.CodeTokens.{lexeme_of}
+use Rattle.ldscript_tokens.specs.Modes.{line_at}
+use Rattle.ldscript_tokens.specs.CodeTokens.{IsPlace, IsShallow}
 use Rattle.ldscript_tokens.proofs.Cut.{IsCutTo}
 use Rattle.ldscript_tokens.proofs.lexer.cut.Given as goal
 

@@ -1,6 +1,6 @@
 use Rattle.std.proofs.Common.{take}
 use Rattle.std.specs.List.{All}
-use Rattle.ldscript_tokens.specs.Tokens.{token_of}
+use Rattle.ldscript_tokens.specs.CodeTokens.{token_of}
 use Rattle.ldscript_tokens.specs.Limits.{HasShortSpelling}
 use Rattle.ldscript_tokens.proofs.limits.have_short_spellings.Given as goal
 

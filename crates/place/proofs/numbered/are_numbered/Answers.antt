@@ -2,7 +2,7 @@ use Rattle.std.proofs.Common.{◌≡◌, ◌==◌, add-one, arith, false, subst,
 use Rattle.std.proofs.lemmas.List.{take_all}
 use Rattle.elfobj.specs.Sections.{LinkedSection}
 use Rattle.ldmodel_laws.specs.Spread.{EachLater}
-use Rattle.ldmodel.specs.FileLayout.{Each}
+use Rattle.ldmodel.specs.Each.{Each}
 use Rattle.ldmodel.specs.Project.{NamedObject}
 use Rattle.ldmodel_project.specs.Inputs.{shown_input}
 use Rattle.ldmodel_project.specs.declared.input.InputObject.{InputObject}

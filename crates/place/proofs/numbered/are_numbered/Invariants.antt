@@ -1,7 +1,7 @@
 use Rattle.std.proofs.Common.{take, ◌≡◌, false, ◌==◌}
 use Rattle.elfobj.specs.Sections.{LinkedSection}
 use Rattle.ldmodel_laws.specs.Spread.{EachLater}
-use Rattle.ldmodel.specs.FileLayout.{Each}
+use Rattle.ldmodel.specs.Each.{Each}
 use Rattle.ldmodel_project.specs.declared.input.InputObject.{InputObject}
 use Rattle.place.proofs.numbered.are_numbered.Given as goal
 

@@ -1,5 +1,5 @@
 use Rattle.std.proofs.Common.{◌≡◌, ◌<◌, drop}
-use Rattle.ldmodel.specs.SectionHead.{widest}
+use Rattle.ldmodel.specs.Placement.{widest}
 use Rattle.place_terms.specs.Naming.{row_named}
 use Rattle.place_sections.proofs.head.widest_of.Given as goal
 

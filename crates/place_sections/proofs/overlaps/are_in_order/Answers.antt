@@ -12,6 +12,7 @@ nowhere = record {
   start = 0;
   size = 0;
   load = 0;
+  has_file_bytes = false;
   load_size = 0;
   alignment = 0;
   writable = false;

@@ -1,6 +1,6 @@
 use Rattle.std.proofs.Common.{◌≡◌, ◌∙◌, ℕ, List, ap, sym, subst}
 use Rattle.std.specs.Prelude.{None, Some, Ok, Err, Result, IfOk}
-use Rattle.ldmodel.specs.Edits.{Change, Add, early_refusal, named, with_objects}
+use Rattle.ldmodel.specs.Edits.{Change, Add, early_refusal, new_object, with_objects}
 use Rattle.ldmodel.specs.Project.{NamedObject, Project}
 use Rattle.ldmodel_project.specs.Holding.{Holding, held}
 use Rattle.ldmodel_project.specs.Listing.{Entry, objects_of}
@@ -41,13 +41,14 @@ returns-in-Ok-read-clause-staged c =
     (sym c.deref.ensures.value) ∙ c.in-Ok.ensures.ok in
     let early_old = subst (λ (x : Holding). early_refusal (held x) change ≡ None) (sym c.self.view_is) early_here in
     let early = subst (λ (p : Project). early_refusal p change ≡ None) project early_old in
-    let read : o ≡ named c.args.name.now c.args.bytes.items =
+    let read : o ≡ new_object c.args.name.now c.args.bytes.items =
     ap (λ (d : ObjectData). let x : NamedObject = record { name = c.args.name.now; object = d } in
     x) c.in-Ok-read.ensures.ok.1 in
-    let made : next ≡ insert (objects_of h.contents.entries) c.args.at (named c.args.name.now c.args.bytes.items) =
+    let made : next ≡ insert (objects_of h.contents.entries) c.args.at (new_object c.args.name.now c.args.bytes.items) =
     ap (λ (x : NamedObject). insert objects c.in-Ok.place x) read
-    ∙ (ap (λ (i : ℕ). insert objects i (named c.args.name.now c.args.bytes.items)) c.in-Ok.ensures.place.0
-    ∙ ap (λ (es : List Entry). insert (objects_of es) c.args.at (named c.args.name.now c.args.bytes.items)) same) in
+    ∙ (ap (λ (i : ℕ). insert objects i (new_object c.args.name.now c.args.bytes.items)) c.in-Ok.ensures.place.0
+    ∙ ap (λ (es : List Entry). insert (objects_of es) c.args.at
+    (new_object c.args.name.now c.args.bytes.items)) same) in
     stages_objects h change next c.staged.result early (c.in-Ok-read.ensures.ok.0, ap (with_objects (held h)) made)
     (c.staged.ensures.ok h next c.grow_add.ensures.staged)
 

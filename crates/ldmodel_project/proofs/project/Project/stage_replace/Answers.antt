@@ -1,6 +1,6 @@
 use Rattle.std.proofs.Common.{◌≡◌, ◌∙◌, ℕ, List, ap, sym, subst}
 use Rattle.std.specs.Prelude.{Option, None, Some, slice_set}
-use Rattle.ldmodel.specs.Edits.{place_of, Change, Replace, early_refusal, named, replaced, with_objects}
+use Rattle.ldmodel.specs.Edits.{place_of, Change, Replace, early_refusal, new_object, replaced, with_objects}
 use Rattle.ldmodel.specs.Project.{NamedObject}
 use Rattle.ldmodel_project.specs.Holding.{Holding, Stages, held}
 use Rattle.ldmodel_project.specs.Listing.{objects_of}
@@ -26,11 +26,11 @@ returns-in-Ok-read-clause-staged c =
     let early = subst (λ (x : Holding). early_refusal (held x) change ≡ None) (sym c.self.view_is) early_here in
     let place = subst (λ (x : Holding). place_of (objects_of x.contents.entries) c.args.name.now
     ≡ Some c.in-Ok.place) (sym c.self.view_is) c.in-Ok.ensures.place in
-    let read : o ≡ named c.args.name.now c.args.bytes.items =
+    let read : o ≡ new_object c.args.name.now c.args.bytes.items =
     ap (λ (d : ObjectData). let x : NamedObject = record { name = c.args.name.now; object = d } in
     x) c.in-Ok-read.ensures.ok.1 in
     let accepts = ap (λ (x : NamedObject). with_objects (held h) (slice_set objects c.in-Ok.place x)) read
-    ∙ ap (λ (m : Option ℕ). with_objects (held h) (replaced objects (named c.args.name.now c.args.bytes.items) m))
+    ∙ ap (λ (m : Option ℕ). with_objects (held h) (replaced objects (new_object c.args.name.now c.args.bytes.items) m))
     (sym place) in
     subst (λ (x : Holding). Stages x change c.staged.result) c.self.view_is
     (stages_objects h change next c.staged.result early (c.in-Ok-read.ensures.ok.0, accepts)

@@ -1,7 +1,7 @@
 use Rattle.std.proofs.Common.{length, subst}
 use Rattle.std.specs.List.{All}
 use Rattle.std.proofs.lemmas.List.Elements.{All-tail}
-use Rattle.ldscript_tokens.specs.Modes.{IsPlace}
+use Rattle.ldscript_tokens.specs.CodeTokens.{IsPlace}
 use Rattle.ldscript_tokens.proofs.cursor.Cursor.next.Goals as goal
 
 pub invariant_of-result : goal.invariant_of-result

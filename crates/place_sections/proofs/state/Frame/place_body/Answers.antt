@@ -1,4 +1,4 @@
-use Rattle.ldmodel.specs.Body.{body_step}
+use Rattle.ldmodel.specs.Placement.{body_step}
 use Rattle.place_sections.proofs.Alongside.{alongside_on, counted_on, input_stays, run_next}
 use Rattle.place_sections.specs.State.{body_of}
 use Rattle.place_sections.proofs.state.Frame.place_body.Goals as goal

@@ -1,5 +1,5 @@
 use Rattle.std.proofs.Common.{◌≡◌, drop, IfSome}
-use Rattle.ldmodel.specs.Body.{body_step}
+use Rattle.ldmodel.specs.Placement.{body_step}
 use Rattle.ldmodel.specs.Chain.{run}
 use Rattle.place_sections.specs.Alongside.{BodyAlongside}
 use Rattle.place_sections.specs.Counted.{Counted}

@@ -1,5 +1,5 @@
 use Rattle.std.proofs.Common.{◌≡◌, ◌-◌, drop, length}
-use Rattle.ldmodel.specs.Body.{pieces_placed}
+use Rattle.ldmodel.specs.Placement.{pieces_placed}
 use Rattle.place_terms.specs.Naming.{row_named}
 use Rattle.place_sections.specs.Counted.{Entered}
 use Rattle.place_sections.specs.State.{body_of}

@@ -1,7 +1,7 @@
 use Rattle.std.proofs.Common.{ℕ, Ok, inl, inr, sym, ap, subst, length, ◌∙◌}
 use Rattle.ldmodel.specs.Chain.{and_then}
 use Rattle.ldmodel.specs.Layout.{Layout, PlacedSection}
-use Rattle.ldmodel.specs.SectionEnd.{freed_from, with_section}
+use Rattle.ldmodel.specs.Placement.{freed_from, with_section}
 use Rattle.place_terms.specs.Keyed.{section_of}
 use Rattle.place_terms.specs.Outputs.{IsOutput}
 use Rattle.place_terms.specs.SectionTable.{keyed}

@@ -1,5 +1,5 @@
 use Rattle.std.proofs.Common.{Ok, Err, sym, ap, ◌∙◌}
-use Rattle.ldscript.specs.terms.Expressions.{expr_of}
+use Rattle.ldscript.specs.terms.CodeTerms.{expr_of}
 use Rattle.place_terms.specs.Outcomes.{outcome_of}
 use Rattle.place_terms.specs.declared.value.ValueFault.TheVariants.{NotReady, NoValue}
 use Rattle.place_sections.proofs.Valued.{number_is}

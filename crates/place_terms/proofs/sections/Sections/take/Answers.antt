@@ -1,6 +1,6 @@
 use Rattle.std.proofs.Common.{arith, ap, set, length, subst, sym, ◌∙◌}
 use Rattle.ldscript.specs.statements.declared.section.OutputSection.{OutputSection}
-use Rattle.ldmodel.specs.SectionHead.{difference_of}
+use Rattle.ldmodel.specs.Placement.{difference_of}
 use Rattle.place_terms.proofs.FoundSections.{both_taken, next_number, none_there, pushed_elsewhere, pushed_in}
 use Rattle.place_terms.proofs.TakenOver.{commands_more, counted_more, taken_more, with_taken}
 use Rattle.place_terms.specs.Earlier.{earlier_of}

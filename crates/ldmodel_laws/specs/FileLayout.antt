@@ -2,8 +2,9 @@
 -- stand in one segment exactly where `shares_segment` holds; and each segment begins at the least offset, past the
 -- headers and the file bytes of the segments before it, that is congruent to its address modulo the page size.
 use Rattle.std.specs.Prelude.{◌≡◌, ℕ, ◌≤◌, ◌%◌, List, [], ◌∷◌, length, flat_map, map, true, false}
+use Rattle.ldmodel.specs.Each.{Each}
 use Rattle.ldmodel.specs.Layout.{PlacedSection}
-use Rattle.ldmodel.specs.Segments.{Group, Segment, sections_in, nonempty, shares_segment, start_of, file_end}
+use Rattle.ldmodel.specs.Segments.{Group, Segment, sections_of_group, nonempty, shares_segment, segment_start, file_end}
 use Rattle.ldmodel.specs.Segments.{headers_end, page_size}
 
 -- each member and the one after it
@@ -11,10 +12,6 @@ abbrev pub Neighbours : {X : Type 0} → (X → X → Type 0) → List X → Typ
 Neighbours R [] = Unit {0}
 Neighbours R (x ∷ []) = Unit {0}
 Neighbours R (x ∷ y ∷ ys) = R x y × Neighbours R (y ∷ ys)
-
-abbrev pub Each : {X : Type 0} → (X → Type 0) → List X → Type 0
-Each P [] = Unit {0}
-Each P (x ∷ xs) = P x × Each P xs
 
 -- the last section of a group
 abbrev pub last_from : PlacedSection → List PlacedSection → PlacedSection
@@ -29,7 +26,7 @@ Shares p q = shares_segment p q ≡ true
 
 -- the sections of a group share a segment, each with the one before it
 abbrev pub IsTogether : Group → Type 0
-IsTogether g = Neighbours Shares (sections_in g)
+IsTogether g = Neighbours Shares (sections_of_group g)
 
 -- the last section of a group and the first of the next one do not
 abbrev pub AreApart : Group → Group → Type 0
@@ -37,7 +34,7 @@ AreApart g h = shares_segment (last_of g) h.first ≡ false
 
 -- a list of sections in groups
 pub record IsGrouping (sections : List PlacedSection) (gs : List Group) : Type 0 where
-  pub parts : flat_map sections_in gs ≡ sections
+  pub parts : flat_map sections_of_group gs ≡ sections
   pub together : Each IsTogether gs
   pub apart : Neighbours AreApart gs
 
@@ -50,7 +47,7 @@ pub record IsLeastCongruent (end at offset : ℕ) : Type 0 where
 -- each segment begins at the least place past the file bytes of those before it
 abbrev pub BeginFrom : ℕ → List Segment → Type 0
 BeginFrom end [] = Unit {0}
-BeginFrom end (g ∷ gs) = IsLeastCongruent end (start_of g) g.offset × BeginFrom (file_end end g) gs
+BeginFrom end (g ∷ gs) = IsLeastCongruent end (segment_start g) g.offset × BeginFrom (file_end end g) gs
 
 pub record IsFileLayout (sections : List PlacedSection) (segments : List Segment) : Type 0 where
   pub grouping : IsGrouping (nonempty sections) (map (λ (g : Segment). g.group) segments)
