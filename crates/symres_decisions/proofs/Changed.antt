@@ -5,6 +5,7 @@ use Rattle.elfobj.specs.Counts.{Counts}
 use Rattle.elfobj.specs.Raised.{raised}
 use Rattle.elfobj.specs.declared.meter.Count.TheVariants as counts
 use Rattle.ldscript.specs.statements.declared.statement.Statement.{Statement}
+use Rattle.ldmodel.specs.Names.{distinct}
 use Rattle.ldmodel.specs.declared.names.Case.{Case}
 use Rattle.symres_table.specs.State.{HasName, IsInByteOrder, IsNamed, State, entries_of, slot}
 use Rattle.symres_decisions.specs.Change.{AreThere, Fits, IsReadyFor, PutsIn, Table, TakesOut, changed_tables, declared_by}
@@ -165,9 +166,11 @@ module _ (script : List Statement) (c : ObjectChange) (s0 s1 s2 : State)
 
   pub counted_after : CountsNames m0 m2 (declared_by c.out ++ declared_by c.into)
   counted_after =
+      let both : old_decided.count + new_decided.count ≡ length (distinct (declared_by c.out ++ declared_by c.into)) =
+      omega (arith, old_decided.each, new_decided.each) in
       new_decided.counted ∙ ap (λ (m : Counts). raised m counts.Names new_decided.count) old_decided.counted
       ∙ raised_twice m0 old_decided.count new_decided.count
-      ∙ ap (raised m0 counts.Names) (omega (arith, old_decided.each, new_decided.each))
+      ∙ ap (raised m0 counts.Names) both
 
   pub back_after : Law → IsReadyFor (record { names = s2; cases = cases4 }) (reversed c)
   back_after law = record {

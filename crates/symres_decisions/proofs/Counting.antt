@@ -48,33 +48,36 @@ distinct_once (x ∷ xs) = (
 
 any_filtered : (f p : List ℕ → Bool) (xs : List (List ℕ)) → list_any f (filter p xs) ≡ true → list_any f xs ≡ true
 any_filtered f p [] h = h
-any_filtered f p (x ∷ xs) h = go (p x) h
+any_filtered f p (x ∷ xs) h = go (p x) h (any_filtered f p xs)
   where
-    at : (b : Bool) → f x ≡ b → (f x || list_any f (filter p xs)) ≡ true → (f x || list_any f xs) ≡ true
-    at true e h = ap (λ (b : Bool). b || list_any f xs) e
-    at false e h =
+    at : (b : Bool) → f x ≡ b → (f x || list_any f (filter p xs)) ≡ true
+        → (list_any f (filter p xs) ≡ true → list_any f xs ≡ true) → (f x || list_any f xs) ≡ true
+    at true e h rest = ap (λ (b : Bool). b || list_any f xs) e
+    at false e h rest =
         ap (λ (b : Bool). b || list_any f xs) e
-        ∙ any_filtered f p xs (sym (ap (λ (b : Bool). b || list_any f (filter p xs)) e) ∙ h)
+        ∙ rest (sym (ap (λ (b : Bool). b || list_any f (filter p xs)) e) ∙ h)
 
-    go : (b : Bool) → list_any f (cond b (x ∷ filter p xs) (filter p xs)) ≡ true → (f x || list_any f xs) ≡ true
-    go true h = at (f x) refl h
-    go false h = ap (λ (b : Bool). f x || b) (any_filtered f p xs h) ∙ or_true (f x)
+    go : (b : Bool) → list_any f (cond b (x ∷ filter p xs) (filter p xs)) ≡ true
+        → (list_any f (filter p xs) ≡ true → list_any f xs ≡ true) → (f x || list_any f xs) ≡ true
+    go true h rest = at (f x) refl h rest
+    go false h rest = ap (λ (b : Bool). f x || b) (rest h) ∙ or_true (f x)
 
 -- a name of the list with each once is one of the list
 member_listed : (xs : List (List ℕ)) (q : List ℕ) → is_member bytes_eq (distinct xs) q ≡ true
     → is_member bytes_eq xs q ≡ true
 member_listed [] q h = h
-member_listed (x ∷ xs) q h = go (bytes_eq q x) refl h
+member_listed (x ∷ xs) q h = go (bytes_eq q x) refl h (member_listed xs q)
   where
     rest : List (List ℕ)
     rest = filter (λ (y : List ℕ). not (bytes_eq x y)) (distinct xs)
 
     go : (b : Bool) → bytes_eq q x ≡ b → (bytes_eq q x || list_any (bytes_eq q) rest) ≡ true
+        → (is_member bytes_eq (distinct xs) q ≡ true → is_member bytes_eq xs q ≡ true)
         → is_member bytes_eq (x ∷ xs) q ≡ true
-    go true e h = ap (λ (b : Bool). b || is_member bytes_eq xs q) e
-    go false e h =
+    go true e h f = ap (λ (b : Bool). b || is_member bytes_eq xs q) e
+    go false e h f =
         ap (λ (b : Bool). b || is_member bytes_eq xs q) e
-        ∙ member_listed xs q
+        ∙ f
         (any_filtered (bytes_eq q) (λ (y : List ℕ). not (bytes_eq x y)) (distinct xs)
         (sym (ap (λ (b : Bool). b || list_any (bytes_eq q) rest) e) ∙ h))
 
@@ -84,17 +87,18 @@ among_used : (q : List ℕ) (ds : List Declaration)
     → is_member bytes_eq (map (λ (d : Declaration). d.name) ds) q ≡ true
     → nat_lt 0 (length (filter (is_of_name q) ds)) ≡ true
 among_used q [] h = absurd (cc)
-among_used q (d ∷ ds) h = go (bytes_eq q d.name) refl h
+among_used q (d ∷ ds) h = go (bytes_eq q d.name) refl h (among_used q ds)
   where
     go : (b : Bool) → bytes_eq q d.name ≡ b
         → (bytes_eq q d.name || is_member bytes_eq (map (λ (d : Declaration). d.name) ds) q) ≡ true
+        → (is_member bytes_eq (map (λ (d : Declaration). d.name) ds) q ≡ true
+        → nat_lt 0 (length (filter (is_of_name q) ds)) ≡ true)
         → nat_lt 0 (length (cond (bytes_eq q d.name) (d ∷ filter (is_of_name q) ds) (filter (is_of_name q) ds))) ≡ true
-    go true e h =
+    go true e h f =
         ap (λ (b : Bool). nat_lt 0 (length (cond b (d ∷ filter (is_of_name q) ds) (filter (is_of_name q) ds)))) e
-    go false e h =
+    go false e h f =
         ap (λ (b : Bool). nat_lt 0 (length (cond b (d ∷ filter (is_of_name q) ds) (filter (is_of_name q) ds)))) e
-        ∙ among_used q ds
-        (sym (ap (λ (b : Bool). b || is_member bytes_eq (map (λ (d : Declaration). d.name) ds) q) e) ∙ h)
+        ∙ f (sym (ap (λ (b : Bool). b || is_member bytes_eq (map (λ (d : Declaration). d.name) ds) q) e) ∙ h)
 
 declared_used : (tables : List Table) (q : List ℕ) → is_member bytes_eq (declared_names tables) q ≡ true
     → is_used tables q ≡ true
