@@ -20,6 +20,7 @@ pub fn is_good(project: &ProjectView<'_>, laying: &Laying)
         → relocation_faults project.now s ≡ [] → IsGood (record { project = project.now; layout = s }) }
 {
     faultless_is_good();
+    // so that what a project says of its objects is known
     let _inputs = project.inputs();
     project.objects_are_read();
     are_numbered(project);

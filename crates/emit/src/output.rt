@@ -14,6 +14,7 @@ ghost use Rattle.emit.specs.Output.{IsJoinedRow, IsOutput};
 
 use crate::data_runs::data_runs;
 use emit_image::section::ImagePiece;
+use ldmodel::impossible::impossible;
 use ldmodel_laws::layout::layout_by_effects;
 use place::laying::Laying;
 use ldmodel::laid::{Placed, PlacedData};
@@ -21,7 +22,7 @@ use ldmodel::memory::NoMemory;
 use ldmodel_project::view::ProjectView;
 use ldscript::tree::{OutputSection, OutputSectionAt};
 use place::sections::law::outputs_are_of_script;
-use std::alloc::{AllocError, Global};
+use std::alloc::Global;
 
 /// An output section, with all that is drawn of it.
 #[derive(Clone, Copy)]
@@ -102,7 +103,8 @@ fn join<'a>(
     for (number, place) in placed.iter().enumerate() {
         match output_at(number, place, sections, offsets, pieces, runs) {
             Some(output) => outputs.push(output)?,
-            None => return Err(AllocError),
+            // Each placed section has a row and an offset
+            None => return Err(impossible()),
         }
     }
     Ok(outputs)

@@ -17,13 +17,14 @@ use emit_image::headers::{headers, loaded_end};
 use emit_image::section::ImageSection;
 use emit_image::sections::TableSection;
 use emit_image::tail::{TailParts, tail};
+use ldmodel::impossible::impossible;
 use ldmodel_laws::segments::segments_by_neighbours;
 use place::laying::Laying;
 use place::starts::Starts;
 use ldmodel::memory::NoMemory;
 use ldmodel_project::view::ProjectView;
 use emit_values::values::Values;
-use std::alloc::{AllocError, Global};
+use std::alloc::Global;
 
 /// One more than the greatest offset that a section header can state.
 const PAST_OFFSETS: u128 = 1 << 64;
@@ -61,7 +62,8 @@ fn image_section<'a>(output: &Output<'a>) -> Result<ImageSection<'a>, NoMemory>
         → IsOutput p s stays q output.now → IsDrawn p s stays q y) }
 {
     match u64::try_from(output.offset) {
-        Err(_too_great) => Err(AllocError),
+        // No file is longer than 2^64 bytes
+        Err(_too_great) => Err(impossible()),
         Ok(offset) => Ok(ImageSection {
             offset,
             start: output.placed.start,

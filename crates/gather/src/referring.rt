@@ -40,6 +40,7 @@ fn relocations_at(object: &Object, number: SectionIndex) -> &[Relocation]
     ensures { result.now ≡ option_map_or (λ (x : LinkedSection). x.relocations)
         (find (λ (x : LinkedSection). x.number.0 == number.0) object.now.sections) [] }
 {
+    // so that what an object says of its sections is known
     let _sections = object.sections();
     match object.section_at(number) {
         Some(place) => object.relocations(place),

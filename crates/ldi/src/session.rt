@@ -8,11 +8,10 @@ ghost use Rattle.ldi_stream.specs.Ran.{status_of};
 ghost use Rattle.ldi.specs.Session.{Leaves};
 
 use ldmodel::memory::NoMemory;
-use ldmodel::options::Options;
-use relink::session::Session;
 use ldi_stream::devices::{AnswerWriter, CommandReader};
 use ldi_stream::fault::RunFault;
 use ldi_stream::{Status, run};
+use relink::{Options, Session};
 use std::alloc::Global;
 use std::hash::RandomState;
 use std::io::{Read, Write};

@@ -118,6 +118,7 @@ impl Kept {
         ensures value { result.now ≡ keys_of self.now.entries }
         ensures distinct { AreKeysDistinct result.now }
     {
+        // so that the invariant of the field is known
         let _objects = &self.objects;
         &self.order
     }
@@ -126,6 +127,7 @@ impl Kept {
     pub(crate) fn names_differ(&self)
         ensures { AreNamesDistinct (objects_of self.now.entries) }
     {
+        // so that the invariant of the field is known
         let _objects = &self.objects;
     }
 

@@ -141,6 +141,7 @@ impl Laying {
             ≡ raised meter.old Pieces (placed_from (first_of kept.entry) l.placement.counts)) }
     {
         outputs_are_of_script();
+        // so that what a script says of its statements is known
         let _statements = project.script().statements();
         let placement = place_rows(alloc, project, naming, rows, kept, meter)?;
         let segments = segments(alloc, placement.laid())?;

@@ -9,6 +9,7 @@ ghost use Rattle.ldmodel.specs.Segments as model;
 ghost use Rattle.place.specs.Offsets.{is_last, offset_at, offsets_in};
 ghost use Rattle.place.specs.Offsets.{IsOffset};
 
+use ldmodel::impossible::impossible;
 use ldmodel_laws::segments::segments_by_neighbours;
 use ldmodel::laid::Placed;
 use ldmodel::memory::NoMemory;
@@ -54,7 +55,8 @@ fn step(segments: &[Segment], number: usize, section: &Placed) -> Result<Place, 
         });
     }
     match segments.get(number) {
-        None => Err(AllocError),
+        // Each output section with file bytes is in a segment
+        None => Err(impossible()),
         Some(segment) => {
             let offset = offset_at(segment, section)?;
             let last = is_last(segment, section);

@@ -134,6 +134,7 @@ impl Session {
             return Ok(self.answer.summary(&self.canvas));
         }
         let next = self.project.next(&staged);
+        // so that it is known that each object has a key of its own
         let _keys = next.keys();
         let effect = effect_of(&self.last, &self.answer, &self.project, &staged, same);
         let from = match origins_for(self.alloc, &self.last, effect, &next) {

@@ -180,6 +180,7 @@ pub(crate) fn relocated(
 {
     stays.is_complete();
     is_good(lent.project, stays.laying);
+    // so that what a project says of its objects is known
     let _inputs = lent.project.inputs();
     // so that the range of the count is known
     let _fields = meter.fields();

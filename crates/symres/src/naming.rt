@@ -88,6 +88,7 @@ impl Naming {
     {
         decision_by_keys();
         tables_by_place();
+        // so that it is known that each object has a key of its own
         let _keys = self.order.keys();
     }
 
@@ -98,6 +99,7 @@ impl Naming {
             → symbol_tables p.objects ≡ map (λ (t : ℕ × List NamedSymbol). t.1) self.now.kept.names.objects
             → IsNaming p self.now }
     {
+        // so that the invariant of the field is known
         let _order = &self.order;
         self.decided_by_keys();
     }
@@ -107,6 +109,7 @@ impl Naming {
         ensures cases { (k : ℕ) (name : List ℕ) → IsNamed self.now.names k name → HasCase self.now.cases k }
         ensures distinct { AreDistinct self.now.names }
     {
+        // so that the invariant of the field is known
         let _order = &self.order;
         let _known = self.decisions.known();
     }

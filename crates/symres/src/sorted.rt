@@ -46,6 +46,7 @@ impl Naming {
         ensures { IfOk result (λ list. AreSorted self.now list.items) }
     {
         names_of_objects();
+        // so that the number of known names is known to fit
         let _count = self.decisions.known();
         let mut list = listed(alloc, &self.decisions)?;
         if self.decisions.is_in_order() {
