@@ -5,7 +5,7 @@ use Rattle.std.proofs.Common.{subst, sym}
 use Rattle.std.specs.List.{count_by, find, insert, remove}
 use Rattle.std.specs.Option.{option_map_or}
 use Rattle.std.specs.Prelude.{Ok, is_some, nat_eq, nat_le, nat_lt, not, slice_get}
-use Rattle.std.proofs.lemmas.Bool.{eq-eqb, ltb-false}
+use Rattle.std.proofs.lemmas.Bool.{eq-eqb, leb-false, ltb-false}
 use Rattle.std.proofs.lemmas.List.{length-map, length-set}
 use Rattle.std.proofs.lemmas.List.Edits.{get_or-insert_at, length-insert, length-remove}
 use Rattle.std.proofs.lemmas.List.Quantifiers.{position-Some}
@@ -17,7 +17,7 @@ use Rattle.ldmodel.specs.Edits.{Add, After, Change, InUse, Move, PastEnd, Refusa
 use Rattle.ldmodel.specs.Edits.{early_refusal, has_name, is_in_use, moved, named, place_of, removed, replaced, unnamed}
 use Rattle.ldmodel.specs.Names.{distinct, names_in_objects, symbol_tables}
 use Rattle.ldmodel.specs.Project.{NamedObject, Project}
-use Rattle.ldmodel.specs.SessionWork.{Rises, names_by_script, names_of, objects_read, touched_names}
+use Rattle.ldmodel.specs.SessionWork.{Rises, named_by, names_by_script, names_of, objects_read, touched_names}
 use Rattle.symres.specs.decisions.Change.{Table}
 use Rattle.symres.specs.decisions.Counted.{CountsNames, declared_in, declared_names}
 use Rattle.ldmodel_project.specs.Holding.{Holding, ReadsOne, StandsAsNamed, held, next_listing, project_of}
@@ -329,12 +329,15 @@ same_of_script all h s none =
 abbrev pub Few : Type 0
 Few = (names more : List (List ℕ)) → length (distinct names) ≤ length (distinct (names ++ more))
 
+as_many : (n : ℕ) → n ≤ n
+as_many n = omega arith
+
 few_decided : Few → (p : Project) (change : Change) (q : Project)
     → length (distinct (decided_by p change q)) ≤ length (touched_names p change q)
 unfolding touched_names
-few_decided few p (Add name at bytes) q = omega arith
-few_decided few p (Replace name bytes) q = omega arith
-few_decided few p (Move name to) q = omega arith
+few_decided few p (Add name at bytes) q = as_many (length (distinct (named_by p (Add name at bytes) q)))
+few_decided few p (Replace name bytes) q = as_many (length (distinct (named_by p (Replace name bytes) q)))
+few_decided few p (Move name to) q = as_many (length (distinct (named_by p (Move name to) q)))
 few_decided few p (Remove name) q = few (names_of p name) (names_of q name)
 few_decided few p (SetScript text) q = few (names_in_objects p.objects) (names_by_script p ++ names_by_script q)
 

@@ -4,7 +4,7 @@ use Rattle.std.proofs.Common.{filter, get_or, refl, ap, sym, subst, arith, ⊎_e
 use Rattle.std.specs.Prelude.{Option, bytes_eq, nat_lt, ◌||◌}
 use Rattle.std.specs.List.{AllByRecursion, IsDistinct, list_any}
 use Rattle.std.specs.Set.{is_member}
-use Rattle.std.proofs.lemmas.Bool.{true≢false}
+use Rattle.std.proofs.lemmas.Bool.{lt-ltb, true≢false}
 use Rattle.std.proofs.lemmas.Map.Made.{length-le_from_is_member}
 use Rattle.std.proofs.lemmas.Map.Views.{Contains-from_lookup}
 use Rattle.std.proofs.lemmas.Slice.Eq.{bytes_eq-Decides}
@@ -96,6 +96,7 @@ among_used q (d ∷ ds) h = go (bytes_eq q d.name) refl h (among_used q ds)
         → nat_lt 0 (length (cond (bytes_eq q d.name) (d ∷ filter (is_of_name q) ds) (filter (is_of_name q) ds))) ≡ true
     go true e h f =
         ap (λ (b : Bool). nat_lt 0 (length (cond b (d ∷ filter (is_of_name q) ds) (filter (is_of_name q) ds)))) e
+        ∙ lt-ltb 0 (length (d ∷ filter (is_of_name q) ds)) (omega arith)
     go false e h f =
         ap (λ (b : Bool). nat_lt 0 (length (cond b (d ∷ filter (is_of_name q) ds) (filter (is_of_name q) ds)))) e
         ∙ f (sym (ap (λ (b : Bool). b || is_member bytes_eq (map (λ (d : Declaration). d.name) ds) q) e) ∙ h)
