@@ -1,6 +1,6 @@
 -- How much an edit between two links without faults counts.
 use Rattle.std.proofs.Common.{◌≡◌, ◌∙◌, ◌+◌, ◌-◌, ◌<◌, ◌≤◌, ◌^◌, ℕ, Bool, true, false, List, [], ◌∷◌, Option, Some, None}
-use Rattle.std.proofs.Common.{Global, Vec, ap, arith, inl, inr, refl, subst, sym}
+use Rattle.std.proofs.Common.{Global, Vec, ap, arith, inl, inr, length, refl, subst, sym}
 use Rattle.std.specs.Prelude.{◌&&◌, Err, IfSome, Ok, if◌then◌else◌, is_some, nat_lt, take}
 use Rattle.elfobj.specs.Counts.{Counts, capped}
 use Rattle.relink_kept.specs.First.{AreSameBefore, IsFirstChanged, IsNext}
@@ -8,6 +8,7 @@ use Rattle.relink_kept.specs.Stays.{IsLastOf, LastState}
 use Rattle.ldmodel.specs.Edits.{Add, Change, Move, Remove, Replace, SetScript}
 use Rattle.ldmodel.specs.Fault.{Fault, ImageTooLong}
 use Rattle.ldmodel.specs.Layout.{Layout}
+use Rattle.ldmodel.specs.Names.{distinct}
 use Rattle.ldmodel.specs.Link.{Link, layout, link, max_image_length, of_length}
 use Rattle.ldmodel.specs.Project.{Project}
 use Rattle.ldmodel.specs.Rows.{rows}
@@ -27,7 +28,7 @@ use Rattle.relink_link.specs.Counted.{IsImageCount}
 use Rattle.relink_link.specs.Worked.{IsLinkWork}
 use Rattle.relink.specs.Answer.{is_good, shown}
 use Rattle.relink.specs.Last.{HasFollowed, IsCurrent, IsFrom, IsLast, lent, lent_with, origin_of}
-use Rattle.relink.specs.Work.{HasWorked, IsCounted, IsReadingWork, IsWholeWork}
+use Rattle.relink.specs.Work.{HasWorked, IsCounted, IsReadingWork, IsWholeWork, decided_by}
 use Rattle.relink.specs.declared.answer.Answer.{Answer}
 use Rattle.relink.specs.declared.answer.Answer.TheVariants as answer
 use Rattle.relink.specs.declared.last.Effect.{Effect}
@@ -49,9 +50,9 @@ pub record LinksNothing (old new : Counts) : Type 0 where
 
 pub names_link_nothing : (m0 m1 : Counts) (names : List (List ℕ)) → CountsNames m0 m1 names → LinksNothing m0 m1
 names_link_nothing m0 m1 names h = record {
-  pieces = ap (λ (m : Counts). m.pieces) h.1;
-  fields = ap (λ (m : Counts). m.fields) h.1;
-  bytes = ap (λ (m : Counts). m.bytes) h.1;
+  pieces = ap (λ (m : Counts). m.pieces) h;
+  fields = ap (λ (m : Counts). m.fields) h;
+  bytes = ap (λ (m : Counts). m.bytes) h;
 }
 
 pub objects_link_nothing : (n : ℕ) (m0 m1 : Counts) → ReadsObjects n m0 m1 → LinksNothing m0 m1
@@ -200,11 +201,12 @@ pub whole_work : (h : Holding) (s : Staged) (same : Bool) (bytes new : List ℕ)
     → IsFrom last e.known e.gone (keys_of (next_listing h s).entries) from
     → HasFollowed (next_listing h s) bytes new f
     → HasWorked (project_of (next_listing h s)) (lent last from e.same_script h.contents.entries s.objects) m1 m2 f
-    → AreSmall m0 → ReadsObjects (objects_read change) m0 m1 → m2.objects ≡ m1.objects → LeavesScript change s
-    → IsReadingWork (held h) change (project_of (next_listing h s)) m0 m2
+    → AreSmall m0 → ReadsObjects (objects_read change) m0 m1 → m2.objects ≡ m1.objects
+    → m2.names ≡ capped m0.names (length (distinct (decided_by (held h) change (project_of (next_listing h s)))))
+    → LeavesScript change s → IsReadingWork (held h) change (project_of (next_listing h s)) m0 m2
     → IsWholeWork (held h) change (project_of (next_listing h s)) m0 m2
 whole_work h s same bytes new a e last from f change m0 m1 m2 given answers origins followed worked small read none
-    leaves reading = (
+    exact leaves reading = (
       reading,
       (λ t u zero zero_too laid laid_too.
           (between a last from f e.known refl given.effect given.kept answers origins followed worked t u zero zero_too laid
@@ -286,6 +288,7 @@ whole_work h s same bytes new a e last from f change m0 m1 m2 given answers orig
           },
           record {
             objects = none ∙ read.objects;
+            names = exact;
             first = work.first;
             same = subst (λ (g : GoodLink). AreSameBefore g.project q work.first) is work.same;
             pieces = work.pieces;

@@ -2,22 +2,23 @@
 use Rattle.std.proofs.Common.{◌≡◌, ◌∙◌, ◌<◌, ◌≤◌, ◌+◌, ◌^◌, ◌++◌, ◌⊎◌, ℕ, Bool, true, false, List, [], ◌∷◌}
 use Rattle.std.proofs.Common.{Option, Some, None, append-nil, ap, arith, cond, get_or, inl, inr, length, map, refl}
 use Rattle.std.proofs.Common.{subst, sym}
-use Rattle.std.specs.List.{count_by, find, insert}
+use Rattle.std.specs.List.{count_by, find, insert, remove}
 use Rattle.std.specs.Option.{option_map_or}
-use Rattle.std.specs.Prelude.{Ok, is_some, nat_eq, nat_lt, slice_get}
-use Rattle.std.proofs.lemmas.Bool.{eq-eqb, ltb-false}
-use Rattle.std.proofs.lemmas.List.{length-map}
-use Rattle.std.proofs.lemmas.List.Edits.{get_or-insert_at}
+use Rattle.std.specs.Prelude.{Ok, is_some, nat_eq, nat_le, nat_lt, not, slice_get}
+use Rattle.std.proofs.lemmas.Bool.{eq-eqb, leb-false, ltb-false}
+use Rattle.std.proofs.lemmas.List.{length-map, length-set}
+use Rattle.std.proofs.lemmas.List.Edits.{get_or-insert_at, length-insert, length-remove}
 use Rattle.std.proofs.lemmas.List.Quantifiers.{position-Some}
 use Rattle.std.proofs.lemmas.Slice.Eq.{bytes_eq-Decides}
 use Rattle.elfobj.specs.Counts.{Counts, capped}
 use Rattle.elfobj.specs.Raised.{raised}
 use Rattle.elfobj.specs.declared.meter.Count.TheVariants as counts
-use Rattle.ldmodel.specs.Edits.{Add, After, Change, InUse, Move, PastEnd, Refusal, Remove, Replace, SetScript}
-use Rattle.ldmodel.specs.Edits.{early_refusal, has_name, is_in_use, new_object, place_of}
+use Rattle.ldmodel.specs.Edits.{Add, After, Change, InUse, Move, PastEnd, Refusal, Remove, Replace, SetScript, Unknown}
+use Rattle.ldmodel.specs.Edits.{early_refusal, has_name, is_in_use, moved, new_object, place_of, removed, replaced}
+use Rattle.ldmodel.specs.Edits.{unnamed}
 use Rattle.ldmodel.specs.Names.{distinct, names_in_objects, symbol_tables}
 use Rattle.ldmodel.specs.Project.{NamedObject, Project}
-use Rattle.ldmodel.specs.SessionWork.{Rises, names_by_script, objects_read, touched_names}
+use Rattle.ldmodel.specs.SessionWork.{Rises, named_by, names_by_script, names_of, objects_read, touched_names}
 use Rattle.symres.specs.decisions.Change.{Table}
 use Rattle.symres.specs.decisions.Counted.{CountsNames, declared_in, declared_names}
 use Rattle.ldmodel_project.specs.Holding.{Holding, ReadsOne, StandsAsNamed, held, next_listing, project_of}
@@ -29,7 +30,7 @@ use Rattle.ldmodel_project.specs.Touched.{IsAmong, IsArranged, untouched}
 use Rattle.ldmodel_project.specs.declared.staged.Staged.{Staged}
 use Rattle.relink_link.specs.Reads.{ReadsNothing}
 use Rattle.relink.specs.Change.{names_at, names_of_edit, names_of_step}
-use Rattle.relink.specs.Work.{DecidesFew, IsReadingWork}
+use Rattle.relink.specs.Work.{Decides, IsReadingWork, decided_by}
 use Rattle.relink.proofs.Finding.{any_none, find_none, find_only, find_some, get_insert, inserted_counts}
 use Rattle.relink.proofs.Finding.{same_inserted}
 use Rattle.relink.proofs.Following.{tables_of_objects}
@@ -53,6 +54,13 @@ here_at key p es h =
 
 below : (p : ℕ) (es : List Entry) → p ≤ length es → p ≤ length (objects_of es)
 below p es l = omega (arith, l, length-map es (λ (e : Entry). e.named))
+
+-- the entries are one more than the others
+one_longer : (key p : ℕ) (es : List Entry) → IsAmong (Some key) (Some p) es
+    → length es ≡ length (untouched (Some key) es) + 1
+one_longer key p es h =
+    let e : Entry = record { key = key; named = named_under es key } in
+    ap (λ (l : List Entry). length l) h.1 ∙ length-insert (untouched (Some key) es) p e h.0
 
 -- before the edit the names are those of the object of the name
 names_before : One → (es : List Entry) (key : ℕ) (name : List ℕ) (place : Option ℕ) → place
@@ -93,24 +101,6 @@ names_after one es key name p once is h =
     ((bytes_eq-Decides (named_under es key).name name).1 is)
     (subst (λ (l : List NamedObject). count_by (has_name name) l ≤ 1) here once)))
 
-abbrev pub Few : Type 0
-Few = (names more : List (List ℕ)) → length (distinct names) ≤ length (distinct (names ++ more))
-
--- the names of an object before an edit and after it
-both_names : Few → (old new more : List (List ℕ)) → (new ≡ more) ⊎ (new ≡ []) → length (distinct (old ++ new))
-    ≤ length (distinct (old ++ more))
-both_names few old new more (inl e) = ap_le (ap (λ (l : List (List ℕ)). length (distinct (old ++ l))) e)
-  where
-    ap_le : {m n : ℕ} → m ≡ n → m ≤ n
-    ap_le e = omega (arith, e)
-both_names few old new more (inr e) =
-    omega (
-      arith,
-      ap (λ (l : List (List ℕ)). length (distinct (old ++ l))) e,
-      ap (λ (l : List (List ℕ)). length (distinct l)) (append-nil old),
-      few old more,
-    )
-
 -- the key of an object at a place is listed
 listed : (key p : ℕ) (es : List Entry) → IsAmong (Some key) (Some p) es → 0 < key_count es key
 listed key p es h =
@@ -119,15 +109,13 @@ listed key p es h =
     (let e : Entry = record { key = key; named = named_under es key } in e) (eq-eqb key key refl))
 
 -- the names after an edit of an object that stood before
-stood : One → (old new : List Entry) (key : ℕ) (name : List ℕ) (before after : Option ℕ)
-    → before ≡ place_of (objects_of old) name → is_some before ≡ true → IsAmong (Some key) before old
-    → IsAmong (Some key) after new → count_by (has_name name) (objects_of new) ≤ 1 → KeysAreStable old new
-    → (names_at after new key ≡ names_found (find (has_name name) (objects_of new))) ⊎ (names_at after new key ≡ [])
-stood one old new key name None after e some b a once stable = absurd (cc)
-stood one old new key name (Some p) None e some b a once stable = inr refl
-stood one old new key name (Some p) (Some q) e some b a once stable =
-    inl (names_after one new key name q once
-    (stable key (listed key p old b) (listed key q new a) ∙ named_before old key name p (sym e) b) a)
+stood : One → (old new : List Entry) (key : ℕ) (name : List ℕ) (p q : ℕ) → place_of (objects_of old) name ≡ Some p
+    → IsAmong (Some key) (Some p) old → IsAmong (Some key) (Some q) new
+    → count_by (has_name name) (objects_of new) ≤ 1 → KeysAreStable old new
+    → names_at (Some q) new key ≡ names_found (find (has_name name) (objects_of new))
+stood one old new key name p q e b a once stable =
+    names_after one new key name q once
+    (stable key (listed key p old b) (listed key q new a) ∙ named_before old key name p e b) a
 
 -- what a test that comes first says, where nothing is refused, and what comes after it
 not_refused : (b : Bool) (r : Refusal) (rest : Option Refusal) → cond b (Some r) rest ≡ None → b ≡ false
@@ -159,37 +147,97 @@ among_after h s key d =
     subst (λ (t : Option ℕ). IsAmong t s.objects.places.after (next_entries h.contents.entries s.objects)) d.touched
     d.arranged.after
 
+-- an object that stood among these stands among as many, and among fewer no more
+stays_there : (key p : ℕ) (after : Option ℕ) (old new : List Entry) → IsAmong (Some key) (Some p) old
+    → IsAmong (Some key) after new → untouched (Some key) new ≡ untouched (Some key) old
+    → length (objects_of new) ≡ length (objects_of old) → (q : ℕ) × (after ≡ Some q)
+stays_there key p (Some q) old new b a others same = (q, refl)
+stays_there key p None old new b a others same =
+    absurd (omega (
+      arith,
+      same,
+      length-map new (λ (e : Entry). e.named),
+      length-map old (λ (e : Entry). e.named),
+      ap (λ (l : List Entry). length l) a,
+      ap (λ (l : List Entry). length l) others,
+      one_longer key p old b,
+    ))
+
+goes_away : (key p : ℕ) (after : Option ℕ) (old new : List Entry) → IsAmong (Some key) (Some p) old
+    → IsAmong (Some key) after new → untouched (Some key) new ≡ untouched (Some key) old
+    → length (objects_of new) + 1 ≡ length (objects_of old) → after ≡ None
+goes_away key p None old new b a others fewer = refl
+goes_away key p (Some q) old new b a others fewer =
+    absurd (omega (
+      arith,
+      fewer,
+      length-map new (λ (e : Entry). e.named),
+      length-map old (λ (e : Entry). e.named),
+      one_longer key q new a,
+      ap (λ (l : List Entry). length l) others,
+      one_longer key p old b,
+    ))
+
 -- of an object that stood before
-pub few_named : One → Few → (h : Holding) (s : Staged) (key : ℕ) (name : List ℕ) → IsEdit h s key
+names_before_named : One → (h : Holding) (s : Staged) (key : ℕ) (name : List ℕ) → IsEdit h s key
     → TouchesNamed (objects_of h.contents.entries) name s.objects
-    → length (distinct (names_of_step h.contents.entries s.objects (Some key)))
-    ≤ length (distinct (names_found (find (has_name name) (objects_of h.contents.entries))
-    ++ names_found (find (has_name name) (objects_of (next_entries h.contents.entries s.objects)))))
-few_named one few h s key name d t =
+    → names_at s.objects.places.before h.contents.entries key
+    ≡ names_found (find (has_name name) (objects_of h.contents.entries))
+names_before_named one h s key name d t =
+    names_before one h.contents.entries key name s.objects.places.before (t.touching.before ∙ sym t.is)
+    (among_before h s key s.objects.places.before d refl)
+
+others_stay : (h : Holding) (s : Staged) (key : ℕ) → IsEdit h s key
+    → untouched (Some key) (next_entries h.contents.entries s.objects) ≡ untouched (Some key) h.contents.entries
+others_stay h s key d =
+    subst (λ (t : Option ℕ). untouched t (next_entries h.contents.entries s.objects)
+    ≡ untouched t h.contents.entries) d.touched d.arranged.others
+
+-- and of one that stays
+same_named : One → (h : Holding) (s : Staged) (key : ℕ) (name : List ℕ) → IsEdit h s key
+    → TouchesNamed (objects_of h.contents.entries) name s.objects
+    → length (objects_of (next_entries h.contents.entries s.objects)) ≡ length (objects_of h.contents.entries)
+    → names_of_step h.contents.entries s.objects (Some key)
+    ≡ names_found (find (has_name name) (objects_of h.contents.entries))
+    ++ names_found (find (has_name name) (objects_of (next_entries h.contents.entries s.objects)))
+same_named one h s key name d t many =
     let old : List Entry = h.contents.entries in
     let new : List Entry = next_entries old s.objects in
-    let before : s.objects.places.before ≡ place_of (objects_of old) name = t.touching.before ∙ sym t.is in
-    let there : is_some s.objects.places.before ≡ true = ap is_some t.touching.before in
-    let among = among_before h s key s.objects.places.before d refl in
-    let first = names_before one old key name s.objects.places.before before among in
-    subst (λ (l : List (List ℕ)). length (distinct (l ++ names_at s.objects.places.after new key))
-    ≤ length (distinct (names_found (find (has_name name) (objects_of old))
-    ++ names_found (find (has_name name) (objects_of new))))) (sym first)
-    (both_names few (names_found (find (has_name name) (objects_of old))) (names_at s.objects.places.after new key)
-    (names_found (find (has_name name) (objects_of new)))
-    (stood one old new key name s.objects.places.before s.objects.places.after before there among
-    (among_after h s key d) (d.once name) d.stable))
+    let before : IsAmong (Some key) (Some t.place) old = among_before h s key (Some t.place) d t.touching.before in
+    let after = stays_there key t.place s.objects.places.after old new before (among_after h s key d)
+    (others_stay h s key d) many in
+    let last : names_at s.objects.places.after new key ≡ names_found (find (has_name name) (objects_of new)) =
+    ap (λ (p : Option ℕ). names_at p new key) after.1
+    ∙ stood one old new key name t.place after.0 t.is before
+    (subst (λ (p : Option ℕ). IsAmong (Some key) p new) after.1 (among_after h s key d)) (d.once name) d.stable in
+    ap (λ (l : List (List ℕ)). l ++ names_at s.objects.places.after new key) (names_before_named one h s key name d t)
+    ∙ ap (λ (l : List (List ℕ)). names_found (find (has_name name) (objects_of old)) ++ l) last
+
+-- of one that goes
+same_removed : One → (h : Holding) (s : Staged) (key : ℕ) (name : List ℕ) → IsEdit h s key
+    → TouchesNamed (objects_of h.contents.entries) name s.objects
+    → length (objects_of (next_entries h.contents.entries s.objects)) + 1 ≡ length (objects_of h.contents.entries)
+    → names_of_step h.contents.entries s.objects (Some key)
+    ≡ names_found (find (has_name name) (objects_of h.contents.entries))
+same_removed one h s key name d t fewer =
+    let old : List Entry = h.contents.entries in
+    let new : List Entry = next_entries old s.objects in
+    let gone : s.objects.places.after ≡ None =
+    goes_away key t.place s.objects.places.after old new (among_before h s key (Some t.place) d t.touching.before)
+    (among_after h s key d) (others_stay h s key d) fewer in
+    ap (λ (p : Option ℕ). names_at s.objects.places.before old key ++ names_at p new key) gone
+    ∙ append-nil (names_at s.objects.places.before old key) ∙ names_before_named one h s key name d t
 
 -- of a new one
-pub few_added : One → Few → (h : Holding) (s : Staged) (key at : ℕ) (name bytes : List ℕ) → IsEdit h s key
+same_added : One → (h : Holding) (s : Staged) (key at : ℕ) (name bytes : List ℕ) → IsEdit h s key
     → s.objects.places.before ≡ None → s.objects.places.after ≡ Some at
     → is_in_use (objects_of h.contents.entries) name ≡ false → at ≤ length (objects_of h.contents.entries)
     → objects_of (next_entries h.contents.entries s.objects)
     ≡ insert (objects_of h.contents.entries) at (new_object name bytes)
-    → length (distinct (names_of_step h.contents.entries s.objects (Some key)))
-    ≤ length (distinct (names_found (find (has_name name) (objects_of h.contents.entries))
-    ++ names_found (find (has_name name) (objects_of (next_entries h.contents.entries s.objects)))))
-few_added one few h s key at name bytes d before after unused within made =
+    → names_of_step h.contents.entries s.objects (Some key)
+    ≡ names_found (find (has_name name) (objects_of h.contents.entries))
+    ++ names_found (find (has_name name) (objects_of (next_entries h.contents.entries s.objects)))
+same_added one h s key at name bytes d before after unused within made =
     let old : List Entry = h.contents.entries in
     let new : List Entry = next_entries old s.objects in
     let among : IsAmong (Some key) (Some at) new =
@@ -205,60 +253,94 @@ few_added one few h s key at name bytes d before after unused within made =
     let last : names_at s.objects.places.after new key ≡ names_found (find (has_name name) (objects_of new)) =
     ap (λ (p : Option ℕ). names_at p new key) after
     ∙ names_after one new key name at (d.once name) (ap (λ (o : NamedObject). o.name) here) among in
+    ap (λ (l : List (List ℕ)). l ++ names_at s.objects.places.after new key) (first ∙ sym none)
+    ∙ ap (λ (l : List (List ℕ)). names_found (find (has_name name) (objects_of old)) ++ l) last
+
+-- how many objects there are after an edit
+many_replaced : (objects : List NamedObject) (o : NamedObject) (place : Option ℕ)
+    → length (replaced objects o place) ≡ length objects
+many_replaced objects o None = refl
+many_replaced objects o (Some i) = length-set objects i o
+
+many_moved : (objects : List NamedObject) (name : List ℕ) (to : ℕ) (place : Option ℕ)
+    → place_of objects name ≡ place → nat_le (length objects) to ≡ false
+    → length (moved objects to place) ≡ length objects
+many_moved objects name to None e within = refl
+many_moved objects name to (Some i) e within =
+    let here : i < length objects = (position-Some (has_name name) objects i unnamed e).0 in
+    let less : length (remove objects i) + 1 ≡ length objects = length-remove objects i here in
+    let below_end : to < length objects = leb-false (length objects) to within in
     omega (
       arith,
-      ap (λ (l : List (List ℕ)). length (distinct l))
-          (ap (λ (l : List (List ℕ)). l ++ names_at s.objects.places.after new key) first ∙ last),
-      ap (λ (l : List (List ℕ)). length (distinct (l ++ names_found (find (has_name name) (objects_of new))))) none,
+      less,
+      length-insert (remove objects i) to (get_or objects i unnamed) (omega (arith, less, below_end)),
     )
 
--- at most those of the definition
-few_of : One → Few → (h : Holding) (change : Change) (s : Staged) (key : ℕ) → IsEdit h s key
+many_removed : (objects : List NamedObject) (name : List ℕ) (i : ℕ) → place_of objects name ≡ Some i
+    → length (removed objects (place_of objects name)) + 1 ≡ length objects
+many_removed objects name i e =
+    ap (λ (p : Option ℕ). length (removed objects p) + 1) e
+    ∙ length-remove objects i (position-Some (has_name name) objects i unnamed e).0
+
+-- those of the definition
+same_of : One → (h : Holding) (change : Change) (s : Staged) (key : ℕ) → IsEdit h s key
     → After (held h) change (Ok (project_of (next_listing h s))) → StandsAsNamed change h.contents s
-    → length (distinct (names_of_edit h.contents.entries s.objects))
-    ≤ length (touched_names (held h) change (project_of (next_listing h s)))
-unfolding touched_names early_refusal
-few_of one few h (Add name at bytes) s key d after stands =
+    → names_of_step h.contents.entries s.objects (Some key)
+    ≡ decided_by (held h) change (project_of (next_listing h s))
+unfolding early_refusal
+same_of one h (Add name at bytes) s key d after stands =
     let objects : List NamedObject = objects_of h.contents.entries in
     let unused : is_in_use objects name ≡ false = not_refused (is_in_use objects name) InUse _ after.0 in
     let rest = past_refusal (is_in_use objects name) InUse _ unused after.0 in
     let within : nat_lt (length objects) at ≡ false = not_refused (nat_lt (length objects) at) PastEnd _ rest in
-    subst (λ (t : Option ℕ). length (distinct (names_of_step h.contents.entries s.objects t))
-    ≤ length (touched_names (held h) (Add name at bytes) (project_of (next_listing h s)))) (sym d.touched)
-    (few_added one few h s key at name bytes d stands.0.before stands.1 unused (ltb-false (length objects) at within)
-    (ap (λ (p : Project). p.objects) after.1.1))
-few_of one few h (Replace name bytes) s key d after stands =
-    subst (λ (t : Option ℕ). length (distinct (names_of_step h.contents.entries s.objects t))
-    ≤ length (touched_names (held h) (Replace name bytes) (project_of (next_listing h s)))) (sym d.touched)
-    (few_named one few h s key name d stands)
-few_of one few h (Move name to) s key d after stands =
-    subst (λ (t : Option ℕ). length (distinct (names_of_step h.contents.entries s.objects t))
-    ≤ length (touched_names (held h) (Move name to) (project_of (next_listing h s)))) (sym d.touched)
-    (few_named one few h s key name d stands)
-few_of one few h (Remove name) s key d after stands =
-    subst (λ (t : Option ℕ). length (distinct (names_of_step h.contents.entries s.objects t))
-    ≤ length (touched_names (held h) (Remove name) (project_of (next_listing h s)))) (sym d.touched)
-    (few_named one few h s key name d stands)
-few_of one few h (SetScript text) s key d after stands = absurd (cc)
+    same_added one h s key at name bytes d stands.0.before stands.1 unused (ltb-false (length objects) at within)
+    (ap (λ (p : Project). p.objects) after.1.1)
+same_of one h (Replace name bytes) s key d after stands =
+    let objects : List NamedObject = objects_of h.contents.entries in
+    same_named one h s key name d stands
+    (ap (λ (p : Project). length p.objects) after.1.1
+    ∙ many_replaced objects (new_object name bytes) (place_of objects name))
+same_of one h (Move name to) s key d after stands =
+    let objects : List NamedObject = objects_of h.contents.entries in
+    let known = not_refused (not (is_in_use objects name)) Unknown _ after.0 in
+    let rest = past_refusal (not (is_in_use objects name)) Unknown _ known after.0 in
+    let within : nat_le (length objects) to ≡ false = not_refused (nat_le (length objects) to) PastEnd _ rest in
+    same_named one h s key name d stands
+    (ap (λ (p : Project). length p.objects) after.1
+    ∙ many_moved objects name to (place_of objects name) refl within)
+same_of one h (Remove name) s key d after stands =
+    let objects : List NamedObject = objects_of h.contents.entries in
+    same_removed one h s key name d stands
+    (ap (λ (p : Project). length p.objects + 1) after.1 ∙ many_removed objects name stands.place stands.is)
+same_of one h (SetScript text) s key d after stands = absurd (cc)
 
 -- of a script
-few_of_script : Few → ((objects : List NamedObject) (tables : List Table) → map (λ (t : Table). t.1) tables
-    ≡ symbol_tables objects → declared_names tables ≡ names_in_objects objects)
-    → (h : Holding) (change : Change) (text : List ℕ) (s : Staged) → change ≡ SetScript text
-    → touched_key s.objects.step ≡ None → length (distinct (names_of_edit h.contents.entries s.objects))
-    ≤ length (touched_names (held h) (SetScript text) (project_of (next_listing h s)))
+abbrev pub AllNames : Type 0
+AllNames = (objects : List NamedObject) (tables : List Table)
+    → map (λ (t : Table). t.1) tables ≡ symbol_tables objects → declared_names tables ≡ names_in_objects objects
+
+same_of_script : AllNames → (h : Holding) (s : Staged) → touched_key s.objects.step ≡ None
+    → names_of_edit h.contents.entries s.objects ≡ names_in_objects (objects_of h.contents.entries)
+same_of_script all h s none =
+    ap (names_of_step h.contents.entries s.objects) none
+    ∙ all (objects_of h.contents.entries) (tables_under h.contents.entries)
+    (sym (tables_of_objects h.contents.entries))
+
+-- what is decided is no more than what is touched
+abbrev pub Few : Type 0
+Few = (names more : List (List ℕ)) → length (distinct names) ≤ length (distinct (names ++ more))
+
+as_many : (n : ℕ) → n ≤ n
+as_many n = omega arith
+
+few_decided : Few → (p : Project) (change : Change) (q : Project)
+    → length (distinct (decided_by p change q)) ≤ length (touched_names p change q)
 unfolding touched_names
-few_of_script few all h change text s e none =
-    let p : Project = held h in
-    let q : Project = project_of (next_listing h s) in
-    omega (
-      arith,
-      ap (λ (t : Option ℕ). length (distinct (names_of_step h.contents.entries s.objects t))) none,
-      ap (λ (l : List (List ℕ)). length (distinct l))
-          (all (objects_of h.contents.entries) (tables_under h.contents.entries)
-          (sym (tables_of_objects h.contents.entries))),
-      few (names_in_objects p.objects) (names_by_script p ++ names_by_script q),
-    )
+few_decided few p (Add name at bytes) q = as_many (length (distinct (named_by p (Add name at bytes) q)))
+few_decided few p (Replace name bytes) q = as_many (length (distinct (named_by p (Replace name bytes) q)))
+few_decided few p (Move name to) q = as_many (length (distinct (named_by p (Move name to) q)))
+few_decided few p (Remove name) q = few (names_of p name) (names_of q name)
+few_decided few p (SetScript text) q = few (names_in_objects p.objects) (names_by_script p ++ names_by_script q)
 
 -- ---- the counts
 
@@ -269,17 +351,15 @@ capped_le n a = omega arith
 pub rises_by : (n m by most : ℕ) → n < 2 ^ 64 → m ≡ capped n by → by ≤ most → Rises n m most
 rises_by n m by most small e few = record { onward = omega (arith, small, e); within = omega (arith, e, few) }
 
-pub decides_few : (m0 m1 m2 : Counts) (names : List (List ℕ)) → m0.names < 2 ^ 64 → CountsNames m0 m1 names
-    → ReadsNothing m1 m2 → DecidesFew m0 m2 names
-decides_few m0 m1 m2 names small h r =
-    let rose = rises_by m0.names m1.names h.0 (length (distinct names)) small (ap (λ (m : Counts). m.names) h.1) h.2 in
-    record {
-      objects = r.objects ∙ ap (λ (m : Counts). m.objects) h.1;
-      names = record { onward = omega (arith, r.names, rose.onward); within = omega (arith, r.names, rose.within) };
-      pieces = (let same = ap (λ (m : Counts). m.pieces) h.1 in omega (arith, same, r.pieces));
-      fields = (let same = ap (λ (m : Counts). m.fields) h.1 in omega (arith, same, r.fields));
-      bytes = (let same = ap (λ (m : Counts). m.bytes) h.1 in omega (arith, same, r.bytes));
-    }
+pub decides : (m0 m1 m2 : Counts) (names : List (List ℕ)) → CountsNames m0 m1 names → ReadsNothing m1 m2
+    → Decides m0 m2 names
+decides m0 m1 m2 names h r = record {
+  objects = r.objects ∙ ap (λ (m : Counts). m.objects) h;
+  names = r.names ∙ ap (λ (m : Counts). m.names) h;
+  pieces = (let same = ap (λ (m : Counts). m.pieces) h in omega (arith, same, r.pieces));
+  fields = (let same = ap (λ (m : Counts). m.fields) h in omega (arith, same, r.fields));
+  bytes = (let same = ap (λ (m : Counts). m.bytes) h in omega (arith, same, r.bytes));
+}
 
 -- the counts before an edit are those of a meter
 pub record AreSmall (m : Counts) : Type 0 where
@@ -335,16 +415,23 @@ read_alone p change q m0 m1 small r = record {
   bytes = omega (arith, r.bytes);
 }
 
+-- the names that an edit has decided, each once, over what was read before them
+pub decided_from : (p : Project) (change : Change) (q : Project) (m0 m1 m2 : Counts) (names : List (List ℕ))
+    → ReadsObjects (objects_read change) m0 m1 → Decides m1 m2 names → names ≡ decided_by p change q
+    → m2.names ≡ capped m0.names (length (distinct (decided_by p change q)))
+decided_from p change q m0 m1 m2 names r decided same =
+    decided.names
+    ∙ ap (λ (n : ℕ). capped n (length (distinct names))) r.names
+    ∙ ap (λ (l : List (List ℕ)). capped m0.names (length (distinct l))) same
+
 pub is_work : (p : Project) (change : Change) (q : Project) (m0 m1 m2 : Counts) (names : List (List ℕ)) → AreSmall m0
-    → ReadsObjects (objects_read change) m0 m1 → DecidesFew m1 m2 names
-    → length (distinct names) ≤ length (touched_names p change q) → IsReadingWork p change q m0 m2
-is_work p change q m0 m1 m2 names small r decided few = record {
+    → ReadsObjects (objects_read change) m0 m1 → Decides m1 m2 names
+    → m2.names ≡ capped m0.names (length (distinct (decided_by p change q))) → Few → IsReadingWork p change q m0 m2
+is_work p change q m0 m1 m2 names small r decided exact few = record {
   objects = rises_by m0.objects m2.objects (objects_read change) (objects_read change) small.objects
       (decided.objects ∙ r.objects) (omega arith);
-  names = record {
-    onward = omega (arith, r.names, decided.names.onward);
-    within = omega (arith, r.names, decided.names.within, few);
-  };
+  names = rises_by m0.names m2.names (length (distinct (decided_by p change q)))
+      (length (touched_names p change q)) small.names exact (few_decided few p change q);
   pieces = omega (arith, r.pieces, decided.pieces);
   fields = omega (arith, r.fields, decided.fields);
   bytes = omega (arith, r.bytes, decided.bytes);
@@ -355,29 +442,29 @@ some_key : (o : Option ℕ) → is_some o ≡ true → (key : ℕ) × (o ≡ Som
 some_key None h = absurd (cc)
 some_key (Some key) h = (key, refl)
 
-pub few_touched : One → Few → ((objects : List NamedObject) (tables : List Table) → map (λ (t : Table). t.1) tables
-    ≡ symbol_tables objects → declared_names tables ≡ names_in_objects objects)
-    → (h : Holding) (change : Change) (s : Staged) → Fits h.contents s.objects
+pub same_touched : One → AllNames → (h : Holding) (change : Change) (s : Staged) → Fits h.contents s.objects
     → After (held h) change (Ok (project_of (next_listing h s))) → IsArranged h.contents.entries s.objects
     → StandsAsNamed change h.contents s
     → KeysAreStable h.contents.entries (next_entries h.contents.entries s.objects)
-    → length (distinct (names_of_edit h.contents.entries s.objects))
-    ≤ length (touched_names (held h) change (project_of (next_listing h s)))
-few_touched one few all h (Add name at bytes) s fits after arranged stands stable =
+    → names_of_edit h.contents.entries s.objects ≡ decided_by (held h) change (project_of (next_listing h s))
+same_touched one all h (Add name at bytes) s fits after arranged stands stable =
     let key = some_key (touched_key s.objects.step) stands.0.touches in
-    few_of one few h (Add name at bytes) s key.0
+    ap (names_of_step h.contents.entries s.objects) key.1
+    ∙ same_of one h (Add name at bytes) s key.0
     (record { arranged = arranged; touched = key.1; once = fits.names; stable = stable }) after stands
-few_touched one few all h (Replace name bytes) s fits after arranged stands stable =
+same_touched one all h (Replace name bytes) s fits after arranged stands stable =
     let key = some_key (touched_key s.objects.step) stands.touching.touches in
-    few_of one few h (Replace name bytes) s key.0
+    ap (names_of_step h.contents.entries s.objects) key.1
+    ∙ same_of one h (Replace name bytes) s key.0
     (record { arranged = arranged; touched = key.1; once = fits.names; stable = stable }) after stands
-few_touched one few all h (Move name to) s fits after arranged stands stable =
+same_touched one all h (Move name to) s fits after arranged stands stable =
     let key = some_key (touched_key s.objects.step) stands.touching.touches in
-    few_of one few h (Move name to) s key.0
+    ap (names_of_step h.contents.entries s.objects) key.1
+    ∙ same_of one h (Move name to) s key.0
     (record { arranged = arranged; touched = key.1; once = fits.names; stable = stable }) after stands
-few_touched one few all h (Remove name) s fits after arranged stands stable =
+same_touched one all h (Remove name) s fits after arranged stands stable =
     let key = some_key (touched_key s.objects.step) stands.touching.touches in
-    few_of one few h (Remove name) s key.0
+    ap (names_of_step h.contents.entries s.objects) key.1
+    ∙ same_of one h (Remove name) s key.0
     (record { arranged = arranged; touched = key.1; once = fits.names; stable = stable }) after stands
-few_touched one few all h (SetScript text) s fits after arranged stands stable =
-    few_of_script few all h (SetScript text) text s refl stands
+same_touched one all h (SetScript text) s fits after arranged stands stable = same_of_script all h s stands

@@ -3,23 +3,23 @@ use Rattle.std.specs.Prelude.{◌≡◌, ◌≤◌, ◌⊎◌, ⊤, ℕ, List, O
 use Rattle.elfobj.specs.Counts.{Counts, capped}
 use Rattle.relink_kept.specs.First.{AreSameBefore}
 use Rattle.relink_kept.specs.Stays.{IsLastOf, LastState}
-use Rattle.ldmodel.specs.Edits.{Change}
+use Rattle.ldmodel.specs.Edits.{Change, Remove, SetScript}
 use Rattle.ldmodel.specs.Layout.{Layout}
 use Rattle.ldmodel.specs.Link.{layout, link}
-use Rattle.ldmodel.specs.Names.{distinct}
+use Rattle.ldmodel.specs.Names.{distinct, names_in_objects}
 use Rattle.ldmodel.specs.Project.{Project}
 use Rattle.ldmodel.specs.Rows.{rows}
-use Rattle.ldmodel.specs.SessionWork.{IsSessionWork, Rises, entries_from, objects_read, touched_names}
+use Rattle.ldmodel.specs.SessionWork.{IsSessionWork, Rises, entries_from, named_by, names_of, objects_read, touched_names}
 use Rattle.ldmodel.specs.Stayed.{GoodLink}
 use Rattle.relink_link.specs.Counted.{IsImageCount}
 use Rattle.relink_link.specs.Worked.{IsLinkWork}
 use Rattle.relink.specs.declared.last.Followed.{Followed}
 use Rattle.relink.specs.declared.last.Followed.TheVariants.{Faulty, Good}
 
--- no object is read, and at most these names are decided, each once; no count falls
-pub record DecidesFew (old new : Counts) (most : List (List ℕ)) : Type 0 where
+-- no object is read, and these names are decided, each once; no count falls
+pub record Decides (old new : Counts) (names : List (List ℕ)) : Type 0 where
   pub objects : new.objects ≡ old.objects
-  pub names : Rises old.names new.names (length (distinct most))
+  pub names : new.names ≡ capped old.names (length (distinct names))
   pub pieces : old.pieces ≤ new.pieces
   pub fields : old.fields ≤ new.fields
   pub bytes : old.bytes ≤ new.bytes
@@ -40,11 +40,19 @@ pub record IsReadingWork (p : Project) (change : Change) (q : Project) (before a
   pub fields : before.fields ≤ after.fields
   pub bytes : before.bytes ≤ after.bytes
 
--- what was worked out between two links without faults is counted: the object that an edit brings; the entries of the
--- rows from the first one on that differs, or from an earlier one, before which no row differs either; and the fields
--- and bytes of `IsImageCount`. Of names `IsReadingWork` says all
+-- the names that are decided anew: those that the object of an edit declares before it and after it; where it goes,
+-- those that it declared; for a script those of all objects
+abbrev pub decided_by : Project → Change → Project → List (List ℕ)
+decided_by p (Remove name) q = names_of p name
+decided_by p (SetScript text) q = names_in_objects p.objects
+decided_by p change q = named_by p change q
+
+-- what was worked out between two links without faults is counted: the object that an edit brings; the names of
+-- `decided_by`, each once; the entries of the rows from the first one on that differs, or from an earlier one, before
+-- which no row differs either; and the fields and bytes of `IsImageCount`
 pub record IsCounted (old : GoodLink) (change : Change) (new : GoodLink) (before after : Counts) : Type 0 where
   pub objects : after.objects ≡ capped before.objects (objects_read change)
+  pub names : after.names ≡ capped before.names (length (distinct (decided_by old.project change new.project)))
   pub first : ℕ
   pub same : AreSameBefore old.project new.project first
   pub pieces : after.pieces ≡ capped before.pieces (entries_from first (rows new.project))

@@ -13,7 +13,7 @@ ghost use Rattle.relink.specs.Change.{names_of_edit};
 ghost use Rattle.relink.specs.Kept.{IsKept};
 ghost use Rattle.relink.specs.Last.{HasFollowed};
 ghost use Rattle.relink.specs.Matches.{IsMatchedOr};
-ghost use Rattle.relink.specs.Work.{DecidesFew, HasWorked};
+ghost use Rattle.relink.specs.Work.{Decides, HasWorked};
 ghost use Rattle.ldscript.specs.statements.declared.statement.Statement.{Statement};
 ghost use Rattle.relink_link.specs.Ended.{HasLast};
 
@@ -121,7 +121,7 @@ impl LinkTables {
         ensures kept { OnOk result (IsKept (next_listing project.now staged.now) self.new.naming
             self.new.matches.items) }
         ensures back { OnErr result (IsKept (listing_of project.now) self.new.naming self.new.matches.items) }
-        ensures few { OnOk result (DecidesFew meter.old meter.new
+        ensures decides { OnOk result (Decides meter.old meter.new
             (names_of_edit project.now.contents.entries staged.now.objects)) }
         ensures worked { IfOk result (HasWorked (project_of (next_listing project.now staged.now))
             (last_of last.entry) meter.old meter.new) }
@@ -181,7 +181,7 @@ impl LinkTables {
         ensures kept { OnOk result (IsKept (next_listing project.now staged.now) self.new.naming
             self.new.matches.items) }
         ensures back { OnErr result (IsKept (listing_of project.now) self.new.naming self.new.matches.items) }
-        ensures few { OnOk result (DecidesFew meter.old meter.new
+        ensures decides { OnOk result (Decides meter.old meter.new
             (names_of_edit project.now.contents.entries staged.now.objects)) }
         ensures worked { IfOk result (HasWorked (project_of (next_listing project.now staged.now))
             (last_of last.entry) meter.old meter.new) }
@@ -230,7 +230,7 @@ impl LinkTables {
         ensures kept { OnOk result (IsKept (next_listing project.now staged.now) self.new.naming
             self.new.matches.items) }
         ensures back { OnErr result (IsKept (listing_of project.now) self.new.naming self.new.matches.items) }
-        ensures few { OnOk result (DecidesFew meter.old meter.new
+        ensures decides { OnOk result (Decides meter.old meter.new
             (names_of_edit project.now.contents.entries staged.now.objects)) }
         ensures worked { IfOk result (HasWorked (project_of (next_listing project.now staged.now))
             (last_of last.entry) meter.old meter.new) }

@@ -1,10 +1,11 @@
 -- A change of one object, from its first step to its last.
 use Rattle.std.proofs.Common.{◌≡◌, ◌∙◌, ◌+◌, ℕ, Bool, true, false, cond, List, [], ◌++◌, Option, Some, None, length, ap, sym}
-use Rattle.std.proofs.Common.{subst, arith}
+use Rattle.std.proofs.Common.{refl, subst, arith}
 use Rattle.elfobj.specs.Counts.{Counts}
 use Rattle.elfobj.specs.Raised.{raised}
 use Rattle.elfobj.specs.declared.meter.Count.TheVariants as counts
 use Rattle.ldscript.specs.statements.declared.statement.Statement.{Statement}
+use Rattle.ldmodel.specs.Names.{distinct}
 use Rattle.ldmodel.specs.declared.names.Case.{Case}
 use Rattle.symres_table.specs.State.{HasName, IsInByteOrder, IsNamed, State, entries_of, slot}
 use Rattle.symres_decisions.specs.Change.{AreThere, Fits, IsReadyFor, PutsIn, Table, TakesOut, changed_tables, declared_by}
@@ -13,7 +14,7 @@ use Rattle.symres_decisions.specs.Change.{put_in, symbols_at, symbols_or}
 use Rattle.symres_decisions.specs.Counted.{CountsNames}
 use Rattle.symres_decisions.specs.Decided.{AreCases, HasCase, case_at}
 use Rattle.symres_decisions.specs.Decisions.{AreUsedIf, IsNoted, IsWhole}
-use Rattle.symres_decisions.specs.Texts.{AreDone, DecidedFor, HasPlaces, AreFound, IsCleared, declares, touches}
+use Rattle.symres_decisions.specs.Texts.{AreDone, AreFound, AreOpen, DecidedFor, HasPlaces, IsCleared, declares, touches}
 use Rattle.symres_decisions.specs.declared.change.ObjectAt.{ObjectAt}
 use Rattle.symres_decisions.specs.declared.change.ObjectChange.{ObjectChange}
 use Rattle.symres_decisions.specs.declared.texts.KeySource.TheVariants as sources
@@ -56,6 +57,10 @@ places_after s0 s2 old new same complete long k h =
 
 -- ---- the whole change
 
+both_none : (b : Bool) → (let n : Option Case = None in cond b n n) ≡ None
+both_none true = refl
+both_none false = refl
+
 -- what its steps say
 pub record Steps (script : List Statement) (c : ObjectChange) (s0 s1 s2 : State)
     (cases0 cases1 cases2 cases3 cases4 : List (Option Case)) (m0 m1 m2 : Counts) : Type 0 where
@@ -67,8 +72,10 @@ pub record Steps (script : List Statement) (c : ObjectChange) (s0 s1 s2 : State)
   pub into : PutsIn s1 s2 c.key.0 c.into
   pub cleared_new : IsCleared s2.names (symbols_or c.into) cases1 cases2
   pub gone : (seen : List (List ℕ)) → AreCases script s2 cases2 → AreDone s2.names cases2 seen
+      → AreOpen s2.names cases2 (declared_by c.out) seen
       → DecidedFor script s2 cases2 cases3 m0 m1 seen (symbols_or c.out)
   pub come : (seen : List (List ℕ)) → AreCases script s2 cases3 → AreDone s2.names cases3 seen
+      → AreOpen s2.names cases3 (declared_by c.into) seen
       → DecidedFor script s2 cases3 cases4 m1 m2 seen (symbols_or c.into)
 
 module _ (script : List Statement) (c : ObjectChange) (s0 s1 s2 : State)
@@ -92,11 +99,31 @@ module _ (script : List Statement) (c : ObjectChange) (s0 s1 s2 : State)
   none_done : AreDone s2.names cases2 []
   none_done name e k n = absurd (cc)
 
+  -- a name that either object declares has no case before they are decided
+  into_open : (name : List ℕ) → declares (symbols_or c.into) name ≡ true → (k : ℕ) → IsNamed s2.names k name
+      → case_at cases2 k ≡ None
+  into_open name e k named =
+      h.cleared_new.at k
+      ∙ ap (λ (t : Bool). cond t None (case_at cases1 k)) (ap (touches (symbols_or c.into)) named ∙ e)
+
+  out_open : AreOpen s2.names cases2 (declared_by c.out) []
+  out_open name e unseen k named =
+      let was : IsNamed s0.names k name =
+      ap (λ (ns : List (Option (List ℕ))). slot ns k) (sym names_after) ∙ named in
+      let cleared : case_at cases1 k ≡ None =
+      h.cleared.at k
+      ∙ ap (λ (t : Bool). cond t None (case_at cases0 k)) (ap (touches (symbols_or c.out)) was ∙ e) in
+      h.cleared_new.at k
+      ∙ (ap (cond (touches (symbols_or c.into) (slot s2.names k)) None) cleared
+      ∙ both_none (touches (symbols_or c.into) (slot s2.names k)))
+
   old_decided : DecidedFor script s2 cases2 cases3 m0 m1 [] (symbols_or c.out)
-  old_decided = h.gone [] sound none_done
+  old_decided = h.gone [] sound none_done out_open
 
   new_decided : DecidedFor script s2 cases3 cases4 m1 m2 (declared_by c.out) (symbols_or c.into)
-  new_decided = h.come (declared_by c.out) old_decided.sound old_decided.done
+  new_decided =
+      h.come (declared_by c.out) old_decided.sound old_decided.done
+      (λ name e unseen k named. old_decided.others k name named unseen ∙ into_open name e k named)
 
   pub kept_after : AreCases script s2 cases4
   kept_after = new_decided.sound
@@ -138,12 +165,12 @@ module _ (script : List Statement) (c : ObjectChange) (s0 s1 s2 : State)
       (sym (in_order s1 s2 c.key.0 c.into h.into ∙ out_order s0 s1 c.key.0 c.out h.out)) (is sure)
 
   pub counted_after : CountsNames m0 m2 (declared_by c.out ++ declared_by c.into)
-  counted_after = (
-    old_decided.count + new_decided.count,
-    new_decided.counted ∙ ap (λ (m : Counts). raised m counts.Names new_decided.count) old_decided.counted
-        ∙ raised_twice m0 old_decided.count new_decided.count,
-    omega (arith, old_decided.few, new_decided.few),
-  )
+  counted_after =
+      let both : old_decided.count + new_decided.count ≡ length (distinct (declared_by c.out ++ declared_by c.into)) =
+      omega (arith, old_decided.each, new_decided.each) in
+      new_decided.counted ∙ ap (λ (m : Counts). raised m counts.Names new_decided.count) old_decided.counted
+      ∙ raised_twice m0 old_decided.count new_decided.count
+      ∙ ap (raised m0 counts.Names) both
 
   pub back_after : Law → IsReadyFor (record { names = s2; cases = cases4 }) (reversed c)
   back_after law = record {

@@ -1,7 +1,7 @@
 -- Cases of names that a symbol table declares are cleared.
 use Rattle.std.proofs.Common.{◌≡◌, ◌∙◌, ◌<◌, ◌+◌, ℕ, Bool, true, false, cond, not, List, [], ◌∷◌, ◌++◌, length, map}
 use Rattle.std.proofs.Common.{filter}
-use Rattle.std.proofs.Common.{Option, Some, None, get_or, set, take, refl, ap, sym, arith, append-nil, ⊎_elim, suc}
+use Rattle.std.proofs.Common.{Option, Some, None, get_or, set, take, refl, ap, sym, arith, append-nil, ⊎_elim, suc, zero}
 use Rattle.std.proofs.Common.{get_or-set_other, get_or-set_same}
 use Rattle.std.specs.Prelude.{bytes_eq, ◌||◌}
 use Rattle.std.specs.Set.{is_member}
@@ -100,6 +100,26 @@ touches_other ss x (Some name) e h =
     apart : (b : Bool) → bytes_eq name x.name ≡ b → bytes_eq name x.name ≡ false
     apart true q = absurd (h (ap Some ((bytes_eq-Decides name x.name).0 q)))
     apart false q = q
+
+-- a symbol that isn't local declares its name
+pub declares_at : (ss : List NamedSymbol) (i : ℕ) (d : NamedSymbol) → i < length ss
+    → is_local (get_or ss i d).symbol.binding ≡ false → declares ss (get_or ss i d).name ≡ true
+declares_at [] i d l seen = absurd (omega (arith, l))
+declares_at (s ∷ ss) zero d l seen =
+    ap (λ (b : Bool). is_member bytes_eq (map (λ (s : NamedSymbol). s.name)
+    (cond (not b) (s ∷ filter (λ (s : NamedSymbol). not (is_local s.symbol.binding)) ss)
+    (filter (λ (s : NamedSymbol). not (is_local s.symbol.binding)) ss))) s.name) seen
+    ∙ ap (λ (b : Bool). b || declares ss s.name) ((bytes_eq-Decides s.name s.name).1 refl)
+declares_at (s ∷ ss) (suc i) d l seen =
+    go (is_local s.symbol.binding) (declares_at ss i d (omega (arith, l)) seen)
+  where
+    go : (b : Bool) → declares ss (get_or ss i d).name ≡ true
+        → is_member bytes_eq (map (λ (s : NamedSymbol). s.name)
+        (cond (not b) (s ∷ filter (λ (s : NamedSymbol). not (is_local s.symbol.binding)) ss)
+        (filter (λ (s : NamedSymbol). not (is_local s.symbol.binding)) ss))) (get_or ss i d).name ≡ true
+    go true h = h
+    go false h = ap (λ (b : Bool). bytes_eq (get_or ss i d).name s.name || b) h
+        ∙ or_true (bytes_eq (get_or ss i d).name s.name)
 
 -- ---- clearing
 

@@ -89,26 +89,24 @@ unfolding IsDistinct
 names_apart [] d = d
 names_apart (e ∷ es) d = (apart_mapped e es d.0, names_apart es d.1)
 
-apart_filtered : (p : Listed → Bool) (x : Listed) (es : List Listed)
-    → AllByRecursion (λ (y : Listed). bytes_eq x.0 y.0 ≡ false) es
-    → AllByRecursion (λ (y : Listed). bytes_eq x.0 y.0 ≡ false) (filter p es)
-apart_filtered p x [] a = a
-apart_filtered p x (e ∷ es) a = go (p e) (apart_filtered p x es a.1)
+apart_filtered : {K : Type 0} (eq : K → K → Bool) (p : K → Bool) (x : K) (ks : List K)
+    → AllByRecursion (λ y. eq x y ≡ false) ks → AllByRecursion (λ y. eq x y ≡ false) (filter p ks)
+apart_filtered eq p x [] a = a
+apart_filtered eq p x (k ∷ ks) a = go (p k) (apart_filtered eq p x ks a.1)
   where
-    go : (b : Bool) → AllByRecursion (λ (y : Listed). bytes_eq x.0 y.0 ≡ false) (filter p es)
-        → AllByRecursion (λ (y : Listed). bytes_eq x.0 y.0 ≡ false) (cond b (e ∷ filter p es) (filter p es))
+    go : (b : Bool) → AllByRecursion (λ y. eq x y ≡ false) (filter p ks)
+        → AllByRecursion (λ y. eq x y ≡ false) (cond b (k ∷ filter p ks) (filter p ks))
     go true h = (a.0, h)
     go false h = h
 
-distinct_filtered : (p : Listed → Bool) (es : List Listed) → IsDistinct (λ (x y : Listed). bytes_eq x.0 y.0) es
-    → IsDistinct (λ (x y : Listed). bytes_eq x.0 y.0) (filter p es)
+pub distinct_filtered : {K : Type 0} (eq : K → K → Bool) (p : K → Bool) (ks : List K) → IsDistinct eq ks
+    → IsDistinct eq (filter p ks)
 unfolding IsDistinct
-distinct_filtered p [] d = d
-distinct_filtered p (e ∷ es) d = go (p e) (distinct_filtered p es d.1) (apart_filtered p e es d.0)
+distinct_filtered eq p [] d = d
+distinct_filtered eq p (k ∷ ks) d = go (p k) (distinct_filtered eq p ks d.1) (apart_filtered eq p k ks d.0)
   where
-    go : (b : Bool) → IsDistinct (λ (x y : Listed). bytes_eq x.0 y.0) (filter p es)
-        → AllByRecursion (λ (y : Listed). bytes_eq e.0 y.0 ≡ false) (filter p es)
-        → IsDistinct (λ (x y : Listed). bytes_eq x.0 y.0) (cond b (e ∷ filter p es) (filter p es))
+    go : (b : Bool) → IsDistinct eq (filter p ks) → AllByRecursion (λ y. eq k y ≡ false) (filter p ks)
+        → IsDistinct eq (cond b (k ∷ filter p ks) (filter p ks))
     go true h a = (a, h)
     go false h a = h
 
@@ -135,13 +133,20 @@ kept_used tables q (e ∷ es) h = go (is_used tables e.0) refl h (kept_used tabl
     go true u h f = here (bytes_eq q e.0) refl u h f
     go false u h f = f h
 
--- each name in use is declared, and listed once
+-- the listed names that are used
+abbrev pub used_names : List Table → List Listed → List (List ℕ)
+used_names tables order = map (λ (e : Listed). e.0) (filter (λ (e : Listed). is_used tables e.0) order)
+
+pub used_count : (tables : List Table) (order : List Listed) → length (used_names tables order) ≡ all_uses tables order
+used_count tables order =
+    let p : Listed → Bool = λ (e : Listed). is_used tables e.0 in
+    length-map (filter p order) (λ (e : Listed). e.0) ∙ length-filter p order
+
+-- each is declared, and listed once
 pub uses_few : (names : List (Option (List ℕ))) (tables : List Table) (order : List Listed) → IsListing names order
-    → all_uses tables order ≤ length (distinct (declared_names tables))
+    → length (used_names tables order) ≤ length (distinct (declared_names tables))
 uses_few names tables order l =
     let p : Listed → Bool = λ (e : Listed). is_used tables e.0 in
-    let used : List (List ℕ) = map (λ (e : Listed). e.0) (filter p order) in
-    let most : length used ≤ length (distinct (declared_names tables)) =
-    at_most used (declared_names tables) (names_apart (filter p order) (distinct_filtered p order l.once))
-    (λ q m. used_declared tables q (kept_used tables q order m)) in
-    omega (arith, most, length-map (filter p order) (λ (e : Listed). e.0), length-filter p order)
+    at_most (used_names tables order) (declared_names tables)
+    (names_apart (filter p order) (distinct_filtered (λ (x y : Listed). bytes_eq x.0 y.0) p order l.once))
+    (λ q m. used_declared tables q (kept_used tables q order m))

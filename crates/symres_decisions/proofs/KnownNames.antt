@@ -21,7 +21,7 @@ none_some : (k : ℕ) → None ≡ Some k → ⊥
 none_some k h = absurd (cc)
 
 -- a name has a key, or it has none
-known_or_not : (names : List (Option (List ℕ))) (order : List Listed) (name : List ℕ) → IsListing names order
+pub known_or_not : (names : List (Option (List ℕ))) (order : List Listed) (name : List ℕ) → IsListing names order
     → ((k : ℕ) × IsNamed names k name) ⊎ ((k : ℕ) → IsNamed names k name → ⊥)
 known_or_not names order name l = go (lookup (λ (x : List ℕ). bytes_eq name x) order) refl
   where

@@ -5,6 +5,7 @@ pub mod Entering
 pub mod Distinct
 pub mod Declared
 pub mod KnownNames
+pub mod Counting
 pub mod Clearing
 pub mod NamesDecided
 pub mod Keys

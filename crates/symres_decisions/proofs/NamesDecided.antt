@@ -4,7 +4,7 @@ use Rattle.std.proofs.Common.{Option, Some, None, set, refl, ap, sym, subst, ari
 use Rattle.std.proofs.Common.{get_or-set_other, get_or-set_same, inl, inr}
 use Rattle.std.specs.Prelude.{bytes_eq, ◌||◌}
 use Rattle.std.specs.Set.{is_member}
-use Rattle.std.proofs.lemmas.Bool.{cases_eq}
+use Rattle.std.proofs.lemmas.Bool.{cases_eq, true≢false}
 use Rattle.std.proofs.lemmas.List.{length-set}
 use Rattle.std.proofs.lemmas.Slice.Eq.{bytes_eq-Decides}
 use Rattle.elfobj.specs.Symbols.{NamedSymbol}
@@ -17,10 +17,10 @@ use Rattle.ldmodel.specs.declared.names.Case.{Case}
 use Rattle.symres_table.specs.State.{AreDistinct, IsNamed, State}
 use Rattle.symres_decisions.specs.Counted.{declared_in}
 use Rattle.symres_decisions.specs.Decided.{AreCases, HasCase, IsCase, KeepsCases, case_at}
-use Rattle.symres_decisions.specs.Texts.{AreDone, DecidedFor, DecidesOnce}
+use Rattle.symres_decisions.specs.Texts.{AreDone, AreOpen, DecidedFor, DecidesOnce}
 use Rattle.symres_decisions.proofs.Clearing.{declared_local, declared_seen}
-use Rattle.symres_decisions.proofs.Distinct.{member_pushed, pushed_more, pushed_new}
-use Rattle.symres_decisions.proofs.OneName.{raised_none, raised_twice}
+use Rattle.symres_decisions.proofs.Distinct.{member_append, member_pushed, old_pushed, pushed_new}
+use Rattle.symres_decisions.proofs.OneName.{one_name, raised_none, raised_twice}
 
 pub none_named : (script : List Statement) (s : State) (cases : List (Option Case)) (m : Counts) (seen : List (List ℕ))
     → m.names < 2 ^ 64 → AreCases script s cases → AreDone s.names cases seen
@@ -30,9 +30,10 @@ none_named script s cases m seen small sound done = record {
   kept = λ k c h. h;
   sound = sound;
   done = subst (AreDone s.names cases) (sym (append-nil seen)) done;
+  others = λ k name n e. refl;
   count = 0;
   counted = raised_none m small;
-  few = omega (arith, ap (λ (ns : List (List ℕ)). length (distinct ns)) (append-nil seen));
+  each = omega (arith, ap (λ (ns : List (List ℕ)). length (distinct ns)) (append-nil seen));
 }
 
 pub named_local : (script : List Statement) (s : State) (start cases : List (Option Case)) (m m' : Counts)
@@ -46,9 +47,11 @@ named_local script s start cases m m' seen ss x e d =
       kept = d.kept;
       sound = d.sound;
       done = subst (AreDone s.names cases) (sym same) d.done;
+      others = λ k name n q.
+          d.others k name n (ap (λ (ns : List (List ℕ)). is_member bytes_eq ns name) (sym same) ∙ q);
       count = d.count;
       counted = d.counted;
-      few = omega (arith, d.few, ap (λ (ns : List (List ℕ)). length (distinct ns)) same);
+      each = omega (arith, d.each, ap (λ (ns : List (List ℕ)). length (distinct ns)) same);
     }
 
 -- one more name has a case
@@ -77,11 +80,53 @@ names_more seen ss x e =
     ap (λ (ns : List (List ℕ)). seen ++ ns) (declared_seen ss x e)
     ∙ sym (append_assoc seen (declared_in ss) (x.name ∷ []))
 
-again : (script : List Statement) (s : State) (start cases : List (Option Case)) (m m' : Counts) (seen : List (List ℕ))
-    (ss : List NamedSymbol) (x : NamedSymbol) (n : ℕ) → AreDistinct s.names → is_local x.symbol.binding ≡ false
-    → IsNamed s.names n x.name → HasCase cases n → DecidedFor script s start cases m m' seen ss
-    → DecidedFor script s start cases m m' seen (ss ++ x ∷ [])
-again script s start cases m m' seen ss x n apart e here has d =
+some_none : (c : Case) → Some c ≡ None → ⊥
+some_none c h = absurd (cc)
+
+or_left : (a b : Bool) → (a || b) ≡ false → a ≡ false
+or_left true b h = absurd (cc)
+or_left false b h = refl
+
+or_right : (a b : Bool) → (a || b) ≡ false → b ≡ false
+or_right true b h = absurd (cc)
+or_right false b h = h
+
+-- a name that is not among these, nor is it the last one
+not_before : (ns : List (List ℕ)) (x q : List ℕ) → is_member bytes_eq (ns ++ x ∷ []) q ≡ false
+    → is_member bytes_eq ns q ≡ false
+not_before ns x q h = or_left (is_member bytes_eq ns q) (bytes_eq q x) (sym (member_pushed ns x q) ∙ h)
+
+not_last : (ns : List (List ℕ)) (x q : List ℕ) → is_member bytes_eq (ns ++ x ∷ []) q ≡ false → q ≡ x → ⊥
+not_last ns x q h same =
+    true≢false
+    (sym ((bytes_eq-Decides q x).1 same)
+    ∙ or_right (is_member bytes_eq ns q) (bytes_eq q x) (sym (member_pushed ns x q) ∙ h))
+
+-- a name that has a case is one of those that were decided
+was_decided : (script : List Statement) (s : State) (start cases : List (Option Case)) (m m' : Counts)
+    (pending seen : List (List ℕ)) (ss : List NamedSymbol) (name : List ℕ) (n : ℕ) → IsNamed s.names n name
+    → HasCase cases n → AreOpen s.names start pending seen → is_member bytes_eq pending name ≡ true
+    → DecidedFor script s start cases m m' seen ss → is_member bytes_eq (seen ++ declared_in ss) name ≡ true
+was_decided script s start cases m m' pending seen ss name n here has free among d =
+    go (is_member bytes_eq (seen ++ declared_in ss) name) refl
+  where
+    go : (b : Bool) → is_member bytes_eq (seen ++ declared_in ss) name ≡ b
+        → is_member bytes_eq (seen ++ declared_in ss) name ≡ true
+    go true e = e
+    go false e =
+        let unseen : is_member bytes_eq seen name ≡ false =
+        or_left (is_member bytes_eq seen name) (is_member bytes_eq (declared_in ss) name)
+        (sym (member_append seen (declared_in ss) name) ∙ e) in
+        absurd (some_none has.0 (sym has.1 ∙ (d.others n name here e ∙ free name among unseen n here)))
+
+again : (script : List Statement) (s : State) (start cases : List (Option Case)) (m m' : Counts)
+    (pending seen : List (List ℕ)) (ss : List NamedSymbol) (x : NamedSymbol) (n : ℕ) → AreDistinct s.names
+    → is_local x.symbol.binding ≡ false → IsNamed s.names n x.name → HasCase cases n
+    → AreOpen s.names start pending seen → is_member bytes_eq pending x.name ≡ true
+    → DecidedFor script s start cases m m' seen ss → DecidedFor script s start cases m m' seen (ss ++ x ∷ [])
+again script s start cases m m' pending seen ss x n apart e here has free among d =
+    let there : is_member bytes_eq (seen ++ declared_in ss) x.name ≡ true =
+    was_decided script s start cases m m' pending seen ss x.name n here has free among d in
     let more : seen ++ declared_in (ss ++ x ∷ []) ≡ (seen ++ declared_in ss) ++ x.name ∷ [] = names_more seen ss x e in
     record {
       long = d.long;
@@ -89,18 +134,19 @@ again script s start cases m m' seen ss x n apart e here has d =
       sound = d.sound;
       done = subst (AreDone s.names cases) (sym more)
           (done_more s cases n x.name (seen ++ declared_in ss) apart here has d.done);
+      others = λ k name n q.
+          d.others k name n
+          (not_before (seen ++ declared_in ss) x.name name
+          (ap (λ (ns : List (List ℕ)). is_member bytes_eq ns name) (sym more) ∙ q));
       count = d.count;
       counted = d.counted;
-      few = omega (
+      each = omega (
         arith,
-        d.few,
-        pushed_more (seen ++ declared_in ss) x.name,
+        d.each,
+        ap length (old_pushed (seen ++ declared_in ss) x.name there),
         ap (λ (ns : List (List ℕ)). length (distinct ns)) more,
       );
     }
-
-some_none : (c : Case) → Some c ≡ None → ⊥
-some_none c h = absurd (cc)
 
 kept_set : (start cases : List (Option Case)) (n : ℕ) (c : Case) → case_at cases n ≡ None → KeepsCases start cases
     → KeepsCases start (set cases n (Some c))
@@ -159,25 +205,34 @@ anew script s start cases m m1 m2 seen ss x n c apart e here l none is up d =
       done = subst (AreDone s.names (set cases n (Some c))) (sym more)
           (done_more s (set cases n (Some c)) n x.name ns apart here (c, get_or-set_same cases n (Some c) None l)
           (done_set s cases n c ns l d.done));
+      others = λ k name named q.
+          let out : is_member bytes_eq (ns ++ x.name ∷ []) name ≡ false =
+          ap (λ (ns : List (List ℕ)). is_member bytes_eq ns name) (sym more) ∙ q in
+          let ne : k ≡ n → ⊥ =
+          λ same.
+          not_last ns x.name name out
+          (one_name s.names n name x.name (subst (λ (j : ℕ). IsNamed s.names j name) same named) here) in
+          get_or-set_other cases n k (Some c) None ne ∙ d.others k name named (not_before ns x.name name out);
       count = d.count + 1;
       counted = up ∙ ap (λ (y : Counts). raised y counts.Names 1) d.counted ∙ raised_twice m d.count 1;
-      few = omega (
+      each = omega (
         arith,
-        d.few,
+        d.each,
         pushed_new ns x.name fresh,
         ap (λ (ns : List (List ℕ)). length (distinct ns)) more,
       );
     }
 
 pub named_seen : (script : List Statement) (s : State) (start old new : List (Option Case)) (m m1 m2 : Counts)
-    (seen : List (List ℕ)) (ss : List NamedSymbol) (x : NamedSymbol) (n : ℕ) → AreDistinct s.names
+    (pending seen : List (List ℕ)) (ss : List NamedSymbol) (x : NamedSymbol) (n : ℕ) → AreDistinct s.names
     → is_local x.symbol.binding ≡ false → IsNamed s.names n x.name → n < length old
+    → AreOpen s.names start pending seen → is_member bytes_eq pending x.name ≡ true
     → DecidesOnce script s n old new m1 m2 → DecidedFor script s start old m m1 seen ss
     → DecidedFor script s start new m m2 seen (ss ++ x ∷ [])
-named_seen script s start old new m m1 m2 seen ss x n apart e here l (inl h) d =
+named_seen script s start old new m m1 m2 pending seen ss x n apart e here l free among (inl h) d =
     subst (λ (cs : List (Option Case)). DecidedFor script s start cs m m2 seen (ss ++ x ∷ [])) (sym h.1)
     (subst (λ (y : Counts). DecidedFor script s start old m y seen (ss ++ x ∷ [])) (sym h.2)
-    (again script s start old m m1 seen ss x n apart e here h.0 d))
-named_seen script s start old new m m1 m2 seen ss x n apart e here l (inr h) d =
+    (again script s start old m m1 pending seen ss x n apart e here h.0 free among d))
+named_seen script s start old new m m1 m2 pending seen ss x n apart e here l free among (inr h) d =
     subst (λ (cs : List (Option Case)). DecidedFor script s start cs m m2 seen (ss ++ x ∷ [])) (sym h.cases)
     (anew script s start old m m1 m2 seen ss x n h.which apart e here l h.none h.is h.counted d)

@@ -1,5 +1,5 @@
 -- How many names are decided.
-use Rattle.std.specs.Prelude.{ℕ, ◌≡◌, ◌≤◌, List, filter, flat_map, map, not, length, nat_lt, count_by, if◌then◌else◌}
+use Rattle.std.specs.Prelude.{ℕ, ◌≡◌, List, filter, flat_map, map, not, length, nat_lt, count_by, if◌then◌else◌}
 use Rattle.std.specs.Prelude.{Bool}
 use Rattle.elfobj.specs.Counts.{Counts}
 use Rattle.elfobj.specs.Raised.{raised}
@@ -29,6 +29,6 @@ uses tables name = if is_used tables name then 1 else 0
 abbrev pub all_uses : List (ℕ × List NamedSymbol) → List (List ℕ × ℕ) → ℕ
 all_uses tables order = count_by (λ (e : List ℕ × ℕ). is_used tables e.0) order
 
--- names were decided and counted, at most as many as are listed here, each counted once
+-- the names that are listed here were decided and counted, each once
 abbrev pub CountsNames : Counts → Counts → List (List ℕ) → Type 0
-CountsNames old new names = (n : ℕ) × (new ≡ raised old counts.Names n) × (n ≤ length (distinct names))
+CountsNames old new names = new ≡ raised old counts.Names (length (distinct names))

@@ -69,6 +69,12 @@ abbrev pub AreDone : List (Option (List ℕ)) → List (Option Case) → List (L
 AreDone names cases seen = (name : List ℕ) → is_member bytes_eq seen name ≡ true → (k : ℕ) → IsNamed names k name
     → HasCase cases k
 
+-- none of these names has a case, but for those in `seen`
+abbrev pub AreOpen : List (Option (List ℕ)) → List (Option Case) → (pending seen : List (List ℕ)) → Type 0
+AreOpen names cases pending seen =
+    (name : List ℕ) → is_member bytes_eq pending name ≡ true → is_member bytes_eq seen name ≡ false
+    → (k : ℕ) → IsNamed names k name → case_at cases k ≡ None
+
 -- the name of a key had no case, and was decided and counted
 pub record IsDecidedAnew (script : List Statement) (s : State) (k : ℕ) (old new : List (Option Case))
     (before after : Counts) : Type 0 where
@@ -83,13 +89,17 @@ abbrev pub DecidesOnce : List Statement → State → ℕ → (old new : List (O
 DecidesOnce script s k old new before after =
     (HasCase old k × (new ≡ old) × (after ≡ before)) ⊎ IsDecidedAnew script s k old new before after
 
--- the names that these symbols declare were decided, those that had no case; `seen` are names that had one
+-- the names that these symbols declare were decided and counted, each once, but for those in `seen`, which had a case;
+-- all others have the case that they had
 pub record DecidedFor (script : List Statement) (s : State) (old new : List (Option Case)) (before after : Counts)
     (seen : List (List ℕ)) (symbols : List NamedSymbol) : Type 0 where
   pub long : length new ≡ length old
   pub kept : KeepsCases old new
   pub sound : AreCases script s new
   pub done : AreDone s.names new (seen ++ declared_in symbols)
+  pub others :
+      (k : ℕ) (name : List ℕ) → IsNamed s.names k name → is_member bytes_eq (seen ++ declared_in symbols) name ≡ false
+      → case_at new k ≡ case_at old k
   pub count : ℕ
   pub counted : after ≡ raised before counts.Names count
-  pub few : count + length (distinct seen) ≤ length (distinct (seen ++ declared_in symbols))
+  pub each : count + length (distinct seen) ≡ length (distinct (seen ++ declared_in symbols))

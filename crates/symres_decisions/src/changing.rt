@@ -6,7 +6,8 @@ ghost use Rattle.symres_decisions.specs.Counted.{CountsNames};
 ghost use Rattle.symres_decisions.specs.Decided.{AreCases, case_at};
 ghost use Rattle.symres_decisions.specs.Decisions.{AreKept};
 ghost use Rattle.symres_decisions.specs.Room.{HaveEntries};
-ghost use Rattle.symres_decisions.specs.Texts.{AreDone, AreKnown, AreNoted, DecidedFor, HasPlaces, IsCleared, declares};
+ghost use Rattle.symres_decisions.specs.Texts.{AreDone, AreKnown, AreNoted, AreOpen, DecidedFor, HasPlaces, IsCleared};
+ghost use Rattle.symres_decisions.specs.Texts.{declares};
 ghost use Rattle.symres_table.specs.State.{AreDistinct, IsNamed};
 
 use crate::cases::Cases;
@@ -97,6 +98,7 @@ fn decide_gone(
     ensures long { length cases.new ≡ length cases.old }
     ensures decided { (seen : List (List ℕ)) → AreCases script.now names.now cases.old
         → AreDone names.now.names cases.old seen
+        → AreOpen names.now.names cases.old (declared_by out.entry) seen
         → DecidedFor script.now names.now cases.old cases.new meter.old meter.new seen (symbols_or out.entry) }
 {
     // so that the range of the count is known
@@ -128,6 +130,7 @@ fn decide_come(
     ensures long { length cases.new ≡ length cases.old }
     ensures decided { (seen : List (List ℕ)) → AreCases script.now names.now cases.old
         → AreDone names.now.names cases.old seen
+        → AreOpen names.now.names cases.old (declared_by into.entry) seen
         → DecidedFor script.now names.now cases.old cases.new meter.old meter.new seen (symbols_or into.entry) }
 {
     // so that the range of the count is known

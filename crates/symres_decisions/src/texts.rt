@@ -8,8 +8,9 @@ ghost use Rattle.ldmodel.specs.Names.{is_local};
 ghost use Rattle.ldmodel.specs.declared.names.Case.{Case};
 ghost use Rattle.symres_decisions.specs.Decided.{AreCases};
 ghost use Rattle.symres_decisions.specs.Room.{HaveEntries};
-ghost use Rattle.symres_decisions.specs.Texts.{AreDone, AreFound, AreKnown, AreNoted, DecidedFor, DecidesOnce, HasPlaces};
-ghost use Rattle.symres_decisions.specs.Texts.{IsCleared, IsKeyOf};
+ghost use Rattle.symres_decisions.specs.Counted.{declared_in};
+ghost use Rattle.symres_decisions.specs.Texts.{AreDone, AreFound, AreKnown, AreNoted, AreOpen, DecidedFor, DecidesOnce};
+ghost use Rattle.symres_decisions.specs.Texts.{HasPlaces, IsCleared, IsKeyOf};
 ghost use Rattle.symres_table.specs.State.{AreDistinct, HasName};
 
 use crate::cases::Cases;
@@ -149,7 +150,8 @@ fn decide_name(
     requires room { HasPlaces names.now.names cases.old }
     ensures long { length cases.new ≡ length cases.old }
     ensures decided { (start : List (Option Case)) (m : Counts) (seen : List (List ℕ)) (before : List NamedSymbol)
-        (d : NamedSymbol) → DecidedFor script.now names.now start cases.old m meter.old seen before
+        (d : NamedSymbol) → AreOpen names.now.names start (declared_in object.now.symbols) seen
+        → DecidedFor script.now names.now start cases.old m meter.old seen before
         → DecidedFor script.now names.now start cases.new m meter.new seen
         (before ++ slice_index_or object.now.symbols number d ∷ []) }
 {
@@ -174,6 +176,7 @@ pub fn decide_names(
     ensures long { length cases.new ≡ length cases.old }
     ensures decided { (seen : List (List ℕ)) → AreCases script.now names.now cases.old
         → AreDone names.now.names cases.old seen
+        → AreOpen names.now.names cases.old (declared_in object.now.symbols) seen
         → DecidedFor script.now names.now cases.old cases.new meter.old meter.new seen object.now.symbols }
 {
     // so that the range of the count is known

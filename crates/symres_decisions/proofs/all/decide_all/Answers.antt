@@ -1,7 +1,8 @@
-use Rattle.std.proofs.Common.{◌<◌, ℕ, List, length, get_or, subst, arith, []}
+use Rattle.std.proofs.Common.{◌<◌, ◌∙◌, ℕ, List, length, get_or, ap, subst, arith, []}
+use Rattle.elfobj.specs.Raised.{raised}
+use Rattle.elfobj.specs.declared.meter.Count.TheVariants as counts
 use Rattle.symres_table.specs.State.{IsNamed}
-use Rattle.symres_decisions.specs.Counted.{all_uses}
-use Rattle.symres_decisions.proofs.Declared.{uses_few}
+use Rattle.symres_decisions.proofs.Counting.{uses_all}
 use Rattle.symres_decisions.proofs.Deciding.{all_complete, all_counted, all_sound, none_decided, one_decided}
 use Rattle.symres_decisions.proofs.Listed.{named_listed}
 use Rattle.symres_decisions.proofs.all.decide_all.Goals as goal
@@ -60,10 +61,8 @@ returns-clause-complete c =
 
 pub returns-clause-counted : goal.returns-clause-counted
 returns-clause-counted c =
-    let s = c.args.names.now in (
-      all_uses s.objects s.order,
-      all_counted c.args.script.now s c.args.cases.now c.loop-number.cases c.args.meter.now c.loop-number.meter
-          c.loop-number.number (omega (arith, c.loop-number-test.false, c.known-count.ensures.len))
-          c.loop-number.invariant,
-      uses_few s.names s.objects s.order c.known-count.ensures.listing,
-    )
+    let s = c.args.names.now in
+    all_counted c.args.script.now s c.args.cases.now c.loop-number.cases c.args.meter.now c.loop-number.meter
+    c.loop-number.number (omega (arith, c.loop-number-test.false, c.known-count.ensures.len)) c.loop-number.invariant
+    ∙ ap (raised c.args.meter.now counts.Names)
+    (uses_all s.names s.objects s.order c.known-count.ensures.listing c.known-count.ensures.unknown)

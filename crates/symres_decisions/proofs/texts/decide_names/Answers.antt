@@ -9,7 +9,7 @@ use Rattle.symres_decisions.proofs.texts.decide_names.Goals as goal
 pub loop-number-init : goal.loop-number-init
 loop-number-init c = record {
   long = refl;
-  decided = λ seen sound done.
+  decided = λ seen sound done free.
       none_named c.args.script.now c.args.names.now c.args.cases.now c.args.meter.now seen
       (omega (arith, c.names-names.ensures, c.names-names.type_inv)) sound done;
 }
@@ -38,17 +38,17 @@ loop-number-preserved c =
     ) in
     record {
       long = c.decide_name.ensures.long ∙ c.loop-number.invariant.long;
-      decided = λ seen sound done.
+      decided = λ seen sound done free.
           subst (λ (ss : List NamedSymbol).
           DecidedFor c.args.script.now c.args.names.now c.args.cases.now c.decide_name.new.cases c.args.meter.now
           c.decide_name.new.meter seen ss)
           (next_symbols xs c.loop-number.number null_symbol within)
           (c.decide_name.ensures.decided c.args.cases.now c.args.meter.now seen (take c.loop-number.number xs)
-          null_symbol (c.loop-number.invariant.decided seen sound done));
+          null_symbol free (c.loop-number.invariant.decided seen sound done free));
     }
 
 pub returns-clause-decided : goal.returns-clause-decided
-returns-clause-decided c = λ seen sound done.
+returns-clause-decided c = λ seen sound done free.
     let xs : List NamedSymbol = c.args.object.now.symbols in
     subst (λ (ss : List NamedSymbol).
     DecidedFor c.args.script.now c.args.names.now c.args.cases.now c.loop-number.cases c.args.meter.now
@@ -60,4 +60,4 @@ returns-clause-decided c = λ seen sound done.
       length-map xs (λ (s : NamedSymbol). s.symbol),
       c.loop-number-test.false,
     )))
-    (c.loop-number.invariant.decided seen sound done)
+    (c.loop-number.invariant.decided seen sound done free)

@@ -1,6 +1,7 @@
 use Rattle.std.proofs.Common.{◌≡◌, ℕ, List, length, take}
 use Rattle.symres_decisions.specs.Decided.{AreCases}
-use Rattle.symres_decisions.specs.Texts.{AreDone, DecidedFor}
+use Rattle.symres_decisions.specs.Counted.{declared_in}
+use Rattle.symres_decisions.specs.Texts.{AreDone, AreOpen, DecidedFor}
 use Rattle.symres_decisions.proofs.texts.decide_names.Given as goal
 
 -- the names of the symbols before this one are decided
@@ -8,5 +9,6 @@ abbrev pub invariant-loop-number : goal.invariant-loop-number
 invariant-loop-number l = record {
   long : length l.cases ≡ length l.fn.cases;
   decided : (seen : List (List ℕ)) → AreCases l.script l.names l.fn.cases → AreDone l.names.names l.fn.cases seen
+      → AreOpen l.names.names l.fn.cases (declared_in l.object.symbols) seen
       → DecidedFor l.script l.names l.fn.cases l.cases l.fn.meter l.meter seen (take l.number l.object.symbols);
 }

@@ -20,7 +20,7 @@ use Rattle.relink.specs.declared.last.LastGood.{LastGood}
 use Rattle.relink.proofs.Bounding.{leaves_script, unchanged_work, whole_work}
 use Rattle.relink.proofs.Following.{same_held}
 use Rattle.relink.proofs.Lending.{IsFollowing, ended_after, following, last_lent, same_listing}
-use Rattle.relink.proofs.Working.{AreSmall, few_touched, is_work, objects_of_edit}
+use Rattle.relink.proofs.Working.{AreSmall, decided_from, is_work, objects_of_edit, same_touched}
 use Rattle.relink.proofs.session.Session.make.Goals.{in-Some-5, in-None-5}
 use Rattle.relink.proofs.session.Session.make.Goals as goal
 
@@ -133,8 +133,7 @@ returns-in-Ok-follow-clause-counted c =
     let change : Change = change_of c.args.edit in
     let stable = subst (λ (es : List Entry). KeysAreStable h.contents.entries es)
     (ap (λ (l : Listing). l.entries) c.commit.ensures.next) c.commit.ensures.stable in
-    let few = few_touched c.names_of_objects.ensures.one c.distinct_more.ensures c.names_of_objects.ensures.all h
-    change s
+    let touched = same_touched c.names_of_objects.ensures.one c.names_of_objects.ensures.all h change s
     c.in-Ok.ensures.staged.0 c.in-Ok.ensures.staged.1 c.in-Ok.ensures.staged.2 c.in-Ok.ensures.named stable in
     let small : AreSmall c.args.meter.now = record {
       objects = omega (arith, c.objects.type_inv, c.objects.ensures);
@@ -144,8 +143,11 @@ returns-in-Ok-follow-clause-counted c =
       bytes = omega (arith, c.bytes.type_inv, c.bytes.ensures);
     } in
     let read = objects_of_edit change c.args.meter.now c.stage.new.meter small.objects c.in-Ok.ensures.read in
+    let exact = decided_from (held h) change (project_of next) c.args.meter.now c.stage.new.meter c.follow.new.meter
+    (names_of_edit h.contents.entries s.objects) read c.in-Ok-follow.ensures.decides touched in
     let reading = is_work (held h) change (project_of next) c.args.meter.now c.stage.new.meter c.follow.new.meter
-    (names_of_edit h.contents.entries s.objects) small read c.in-Ok-follow.ensures.few few in
+    (names_of_edit h.contents.entries s.objects) small read c.in-Ok-follow.ensures.decides exact
+    c.distinct_more.ensures in
     let answers : shown bytes a ≡ link (held h) =
     c.self.invariant.0 ∙ ap link (sym (same_held c.self.inside.project h c.in-Ok.ensures.same)) in
     let worked = subst (λ (x : Option LastState). HasWorked (project_of next) x c.stage.new.meter c.follow.new.meter
@@ -153,7 +155,7 @@ returns-in-Ok-follow-clause-counted c =
     let work : IsWholeWork (held h) change (project_of next) c.args.meter.now c.follow.new.meter =
     whole_work h s same bytes c.follow.new.canvas.bytes a e last c.in-Ok-origins_for.from c.in-Ok-follow.followed change
     c.args.meter.now c.stage.new.meter c.follow.new.meter given answers from
-    c.in-Ok-follow.ensures.followed worked small read c.in-Ok-follow.ensures.few.objects
+    c.in-Ok-follow.ensures.followed worked small read c.in-Ok-follow.ensures.decides.objects exact
     (leaves_script h change s c.in-Ok.ensures.staged.3 c.in-Ok.ensures.named) reading in
     let counted = subst (λ (p : Project). IsWholeWork p change (held c.commit.new.self) c.args.meter.now
     c.follow.new.meter) (same_held c.self.inside.project h c.in-Ok.ensures.same ∙ c.self.view_is)
