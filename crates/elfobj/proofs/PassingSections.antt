@@ -3,7 +3,7 @@ use Rattle.std.proofs.Common.{◌≡◌, ℕ, ◌+◌, ◌<◌, ◌≤◌, List,
 use Rattle.std.proofs.Common.{⊎_elim, arith, Some, None}
 use Rattle.std.proofs.lemmas.Bool.{cases_lt, or_parts}
 use Rattle.std.proofs.lemmas.List.Folds.{list_any_none}
-use Rattle.elfobj_file.specs.ElfHeader.{e_shnum, e_shstrndx}
+use Rattle.elfobj_file.specs.ElfHeader.{e_shnum}
 use Rattle.elfobj_file.specs.LinkedKinds.{is_alloc, linked_kind}
 use Rattle.elfobj_file.specs.Refusal.{holds, is_out_of_bounds, is_outside_profile, is_outside_profile_by}
 use Rattle.elfobj_file.specs.SectionHeaders.{file_bytes, header, headers}

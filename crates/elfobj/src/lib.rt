@@ -30,4 +30,5 @@ pub mod span;
 pub mod symbol;
 mod symbol_table;
 mod symbols;
+
 pub use elfobj_file as file;

@@ -108,7 +108,7 @@ front_of_brackets : (word : List ℕ) → front (91 ∷ word) ≡ set_front (91 
 unfolding front
 front_of_brackets word = refl
 
-front_of_plain : (b : ℕ) (rest : List ℕ) → is_plain b ≡ true → front (b ∷ rest) ≡ front_part (Byte b) 1
+pub front_of_plain : (b : ℕ) (rest : List ℕ) → is_plain b ≡ true → front (b ∷ rest) ≡ front_part (Byte b) 1
 unfolding front
 front_of_plain b rest g =
     cond-false (eqb b 42) _ _ (no_sign b 42 refl g) ∙ cond-false (eqb b 63) _ _ (no_sign b 63 refl g)

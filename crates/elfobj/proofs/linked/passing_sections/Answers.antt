@@ -43,23 +43,23 @@ loop-number-preserved c =
     let e = header_of bytes c.args.headers.now k null_header c.requires.headers c.loop-number-test.true in
     elim c.if-is_alloc.branch [
       | then-is_alloc+in-Some+else-left-length+in_ok-push w ↦ rw w.linked-is record {
-          read = read_more bytes k h w.in-Some.kind c.loop-number.linked.sections.items _
-              c.loop-number.linked.places.items _ w.section_at.result.0 w.section_at.result.1 e
-              w.in-Some.ensures.kind c.loop-number.invariant.read w.section_at.ensures
-              w.in_ok-push.ensures.sections w.in_ok-push.ensures.places;
-          passes = below_more (λ j. is_outside_profile bytes (header bytes j) ≡ false) k
-              (ap (is_outside_profile bytes) (sym e)
-              ∙ right_by bytes c.args.names.now h c.requires.names w.in-Some.ensures.right)
-              c.loop-number.invariant.passes;
-        }
+        read = read_more bytes k h w.in-Some.kind c.loop-number.linked.sections.items _
+            c.loop-number.linked.places.items _ w.section_at.result.0 w.section_at.result.1 e
+            w.in-Some.ensures.kind c.loop-number.invariant.read w.section_at.ensures
+            w.in_ok-push.ensures.sections w.in_ok-push.ensures.places;
+        passes = below_more (λ j. is_outside_profile bytes (header bytes j) ≡ false) k
+            (ap (is_outside_profile bytes) (sym e)
+            ∙ right_by bytes c.args.names.now h c.requires.names w.in-Some.ensures.right)
+            c.loop-number.invariant.passes;
+      }
       | else-is_alloc w ↦ rw w.linked-is record {
-          read = read_same bytes k h _ _ e (not_linked h (sym c.is_alloc.ensures ∙ w.if-is_alloc.false))
-              c.loop-number.invariant.read;
-          passes = below_more (λ j. is_outside_profile bytes (header bytes j) ≡ false) k
-              (ap (is_outside_profile bytes) (sym e)
-              ∙ not_outside bytes h (sym c.is_alloc.ensures ∙ w.if-is_alloc.false))
-              c.loop-number.invariant.passes;
-        }
+        read = read_same bytes k h _ _ e (not_linked h (sym c.is_alloc.ensures ∙ w.if-is_alloc.false))
+            c.loop-number.invariant.read;
+        passes = below_more (λ j. is_outside_profile bytes (header bytes j) ≡ false) k
+            (ap (is_outside_profile bytes) (sym e)
+            ∙ not_outside bytes h (sym c.is_alloc.ensures ∙ w.if-is_alloc.false))
+            c.loop-number.invariant.passes;
+      }
     ]
 
 pub returns-clause-passes : goal.returns-clause-passes

@@ -1,4 +1,4 @@
-use Rattle.std.proofs.Common.{◌≡◌, ◌⊎◌, ◌++◌, ◌∙◌, sym, inr, find, Some, None, true}
+use Rattle.std.proofs.Common.{◌≡◌, ◌⊎◌, ◌++◌, ◌∙◌, sym, inr, find, Some, None}
 use Rattle.std.proofs.lemmas.Result.{IfErr-weaker, IfOk-weaker}
 use Rattle.elfobj_file.specs.Refusal.{header_refusals, holds, object_refusal, relocation_refusals, symbol_refusals}
 use Rattle.elfobj_file.specs.declared.refusal.ObjectRefusal.TheVariants.{NoMemory}

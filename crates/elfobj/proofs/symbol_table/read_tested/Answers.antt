@@ -1,4 +1,4 @@
-use Rattle.std.proofs.Common.{◌<◌, ap, sym, ◌∙◌, arith, rules, inr, true, false, get_or, length, refl}
+use Rattle.std.proofs.Common.{◌<◌, sym, ◌∙◌, arith, rules, inr, true, false, get_or, length, refl}
 use Rattle.elfobj_file.specs.SectionHeaders.{null_header}
 use Rattle.elfobj_file.specs.TableOf.{table_of}
 use Rattle.elfobj_file.proofs.Headers.{count_of, header_of}
