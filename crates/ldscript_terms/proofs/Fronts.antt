@@ -9,7 +9,8 @@ use Rattle.std.proofs.lemmas.Bool.{cond-false}
 use Rattle.std.proofs.lemmas.List.{take_more, length-take-le}
 use Rattle.std.proofs.lemmas.List.Sums.{take_while-cons, prefix_len-le-length}
 use Rattle.ldscript_terms.specs.Parts.{Part, AnyRun, AnyByte, Byte, OneOf, ranges_of}
-use Rattle.ldscript_terms.specs.Spelling.{is_plain, is_set_byte, is_graphic, IsSetBody, SpellsPart}
+use Rattle.ldscript_terms.specs.Spelling.{is_plain, is_set_byte, IsSetBody, SpellsPart}
+use Rattle.ldscript_tokens.specs.Bytes.{is_escapable}
 use Rattle.ldscript_terms.specs.Front.{Front, front_part, front, escape_front, set_front, set_length}
 
 -- runs that pass a test
@@ -115,9 +116,9 @@ front_of_plain b rest g =
     ∙ cond-false (eqb b 92) _ _ (no_sign b 92 refl g) ∙ cond-false (eqb b 91) _ _ (no_sign b 91 refl g)
     ∙ cond-true (is_plain b) _ _ g
 
-front_of_escape : (b : ℕ) (rest : List ℕ) → is_graphic b ≡ true → front (92 ∷ b ∷ rest) ≡ front_part (Byte b) 2
+front_of_escape : (b : ℕ) (rest : List ℕ) → is_escapable b ≡ true → front (92 ∷ b ∷ rest) ≡ front_part (Byte b) 2
 unfolding front escape_front
-front_of_escape b rest g = cond-true (is_graphic b) _ _ g
+front_of_escape b rest g = cond-true (is_escapable b) _ _ g
 
 front_of_signs : (rest : List ℕ)
     → (front (42 ∷ rest) ≡ front_part AnyRun 1) × (front (63 ∷ rest) ≡ front_part AnyByte 1)
@@ -179,7 +180,8 @@ escape_spelled : (b : ℕ) (rest : List ℕ) (q : Part) (m : ℕ) → b ≡ 92 �
     → SpellsPart q (take m (b ∷ rest))
 unfolding escape_front
 escape_spelled b [] q m s e = absurd (no_front q m e)
-escape_spelled b (x ∷ rest) q m s e = elim (split_cond (is_graphic x) (front_part (Byte x) 2) None (front_part q m) e) [
+escape_spelled b (x ∷ rest) q m s e = elim (split_cond (is_escapable x) (front_part (Byte x) 2) None
+    (front_part q m) e) [
   | inl (g, h) ↦ spell_as (Byte x) q 2 m (b ∷ x ∷ rest) h (inr (g, ap (λ v. v ∷ x ∷ []) s))
   | inr (g, h) ↦ absurd (no_front q m h)
 ]

@@ -3,7 +3,7 @@ use Rattle.std.proofs.Common.{◌≡◌, ℕ, ◌+◌, ◌<◌, true, List, [], 
 use Rattle.std.proofs.Common.{subst, append-nil, arith}
 use Rattle.std.proofs.lemmas.List.{drop_more}
 use Rattle.ldscript_terms.specs.Parts.{Part, AnyRun, Byte}
-use Rattle.ldscript_terms.specs.Spelling.{Spells, is_plain}
+use Rattle.ldscript_terms.specs.Spelling.{SpellsPattern, is_plain}
 use Rattle.ldscript_terms.specs.Matching.{Matches, nothing, part}
 use Rattle.ldscript_terms.specs.Front.{front, front_part}
 use Rattle.ldscript_terms.specs.Trying.{BeginsWith, Passed}
@@ -14,7 +14,7 @@ use Rattle.ldscript_terms.proofs.Stars.{Searches, passed_more, passed_none}
 
 -- parts that stand at these places of a word and of a name, past those that took a byte each
 abbrev pub IsPast : List ℕ → List ℕ → ℕ → Type 0
-IsPast word name k = (ps : List Part) → Spells ps word → (qs : List Part) × Spells qs (drop k word)
+IsPast word name k = (ps : List Part) → SpellsPattern ps word → (qs : List Part) × SpellsPattern qs (drop k word)
     × Passed ps qs name (drop k name)
 
 pub past_none : (word name : List ℕ) → IsPast word name 0

@@ -3,7 +3,7 @@
 ghost use Rattle.std.specs.Prelude.{◌≡◌, ◌↔◌, ◌≤◌, ◌∷◌, [], IsTrue, List, MatchOption, drop, length};
 ghost use Rattle.ldscript_terms.specs.Parts.{AnyRun, Part};
 ghost use Rattle.ldscript_terms.specs.Matching.{Matches};
-ghost use Rattle.ldscript_terms.specs.Spelling.{Spells};
+ghost use Rattle.ldscript_terms.specs.Spelling.{SpellsPattern};
 ghost use Rattle.ldscript_terms.specs.Trying.{IsWithin, Passed, TriedAs};
 
 use crate::bytes::is_plain;
@@ -32,7 +32,7 @@ fn split(bytes: &[u8]) -> Option<(u8, &[u8])>
 fn plain_run(word: &[u8], name: &[u8]) -> usize
     ensures word { result ≤ length word.now }
     ensures name { result ≤ length name.now }
-    ensures passed { (ps : List Part) → Spells ps word.now → (qs : List Part) × Spells qs (drop result word.now)
+    ensures passed { (ps : List Part) → SpellsPattern ps word.now → (qs : List Part) × Spells qs (drop result word.now)
         × Passed ps qs name.now (drop result name.now) }
 {
     let mut count = 0;
@@ -48,7 +48,7 @@ fn plain_run(word: &[u8], name: &[u8]) -> usize
 
 /// Lets each part of a word take a byte of the name's front, up to the first `*`.
 fn try_front<'w, 'n>(word: &'w [u8], name: &'n [u8]) -> Tried<'w, 'n>
-    ensures value { (ps : List Part) → Spells ps word.now → TriedAs ps name.now result }
+    ensures value { (ps : List Part) → SpellsPattern ps word.now → TriedAs ps name.now result }
     ensures within { IsWithin (length word.now) (length name.now) result }
 {
     let count = plain_run(word, name);
@@ -75,7 +75,7 @@ fn try_front<'w, 'n>(word: &'w [u8], name: &'n [u8]) -> Tried<'w, 'n>
 
 /// Whether a name is matched by `*` and then the parts of a word. A `*` at the end of a word takes all that is left.
 fn matches_behind_star(word: &[u8], name: &[u8]) -> bool
-    ensures { (ps : List Part) → Spells ps word.now → IsTrue result ↔ Matches (AnyRun ∷ ps) name.now }
+    ensures { (ps : List Part) → SpellsPattern ps word.now → IsTrue result ↔ Matches (AnyRun ∷ ps) name.now }
 {
     let mut after = word;
     let mut left = name;
@@ -99,7 +99,7 @@ fn matches_behind_star(word: &[u8], name: &[u8]) -> bool
 
 /// Whether the parts that a word spells match the whole name.
 pub fn matches_word(word: &[u8], name: &[u8]) -> bool
-    ensures { (ps : List Part) → Spells ps word.now → IsTrue result ↔ Matches ps name.now }
+    ensures { (ps : List Part) → SpellsPattern ps word.now → IsTrue result ↔ Matches ps name.now }
 {
     match try_front(word, name) {
         Tried::Whole => true,
