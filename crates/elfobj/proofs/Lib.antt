@@ -16,3 +16,4 @@ pub mod FieldsBelow
 pub mod Placed
 pub mod OrderedTables
 pub mod PassingSymbols
+pub mod PassingSections

@@ -115,9 +115,11 @@ profile_told bytes file names hs r b e f g h k =
     ∙ ap (λ x. list_any (is_outside_profile_by (file_bytes file names)) x) (sym g)
     ∙ sym h ∙ k
 
-pub passes_told : (bytes file : List ℕ) (names : SectionHeader) (hs : List SectionHeader) (b r : Bool)
-    → b ≡ holds bytes SectionBounds → b ≡ false → file ≡ bytes → names ≡ header bytes (e_shstrndx bytes)
-    → hs ≡ headers bytes
-    → r ≡ list_any (is_outside_profile_by (file_bytes file names)) hs → r ≡ false → PassesTests bytes
-passes_told bytes file names hs b r d l e f g h k =
-    record { bounds = sym d ∙ l; profile = profile_told bytes file names hs r false e f g h k }
+-- the same of a call that may also want memory
+pub sections_told : (bytes : List ℕ) (e : ObjectRefusal) → find (holds bytes) header_refusals ≡ None
+    → holds bytes SectionBounds ≡ false
+    → (e ≡ NoMemory) ⊎ ((holds bytes SectionProfile ≡ true) × (e ≡ SectionProfile))
+    → (e ≡ NoMemory) ⊎ (object_refusal bytes ≡ Some e)
+sections_told bytes e n b h = ⊎_elim (λ a. inl a)
+    (λ a. inr (refused_by_sections bytes SectionProfile n (profile_refused bytes b a.0)
+    ∙ ap (λ x. Some x) (sym a.1))) h

@@ -84,7 +84,7 @@ bounds_parts false nobits past large odd a b h = absurd (true≢false (sym a))
 bounds_parts true true past large odd a b h = absurd (true≢false b)
 bounds_parts true false past large odd a b h = (or_parts past large (or_parts (past || large) odd h).0).0
 
-file_within : (n : ℕ) (h : SectionHeader) (kind : SectionKind) → kind_of h.sh_type ≡ Some kind
+pub file_within : (n : ℕ) (h : SectionHeader) (kind : SectionKind) → kind_of h.sh_type ≡ Some kind
     → is_out_of_bounds n h ≡ false → IsFileWithin n h kind
 file_within n h kind e b = ⊎_elim
     (λ q. subst (λ k. IsFileWithin n h k) (sym (kind_nobits h.sh_type kind e q)) tt)

@@ -1,16 +1,20 @@
 //! The linked sections of an object, gathered from its section headers.
 
-ghost use Rattle.std.specs.Prelude.{◌≡◌, [], ◌∷◌, ◌++◌, IfOk, OnOk};
+ghost use Rattle.std.specs.Prelude.{◌≡◌, [], ◌∷◌, ◌++◌, IfOk, IfSome, OnOk, false, length, unwrap_or};
 ghost use Rattle.elfobj.specs.Linkable.{IsLinkable, IsNameTable, IsPlaced, PassesTests};
-ghost use Rattle.elfobj.specs.Places.{AreRead};
+ghost use Rattle.elfobj.specs.Places.{AreRead, IsFileWithin};
+ghost use Rattle.elfobj_file.specs.Refusal.{holds};
 ghost use Rattle.elfobj_file.specs.SectionHeaders.{headers as headers_of};
-ghost use Rattle.elfobj_file.specs.Sections.{linked_as, sections_of};
+ghost use Rattle.elfobj_file.specs.Sections.{linked_as, name_of, sections_of};
 ghost use Rattle.elfobj_file.specs.SectionTable.{HasSectionTable};
+ghost use Rattle.elfobj_file.specs.Spans.{IsInside, bytes_at};
+ghost use Rattle.elfobj_file.specs.declared.refusal.ObjectRefusal.TheVariants.{SectionBounds, SectionProfile};
 
 use crate::place::{Place, place_of};
 use crate::section::{Section, SectionIndex, SectionKind};
 use elfobj_file::names::StringTable;
 use elfobj_file::section_header::SectionHeader;
+use elfobj_file::span::Span;
 use std::alloc::{AllocError, Global};
 
 /// The linked sections in table order, and where the parts of each lie.
@@ -22,7 +26,30 @@ pub struct LinkedSections {
     pub places: Vec<Place>,
 }
 
-/// The section of a header of this number and kind, and its place.
+/// The section of a header of this number and kind, whose name lies there, and its place.
+fn section_at(
+    bytes: &[u8],
+    number: u16,
+    header: &SectionHeader,
+    kind: SectionKind,
+    name: Span,
+) -> (Section, Place)
+    requires within { IsInside (length bytes.now) name }
+    requires name { bytes_at bytes.now name ≡ unwrap_or (name_of bytes.now header.now) [] }
+    requires file { IsFileWithin (length bytes.now) header.now kind }
+    ensures { IsPlaced bytes.now (linked_as bytes.now number header.now kind) result.0 result.1 }
+{
+    let section = Section {
+        number: SectionIndex(number),
+        kind,
+        flags: header.sh_flags,
+        size: header.sh_size,
+        alignment: header.sh_addralign,
+    };
+    (section, place_of(name, header, kind, bytes.len()))
+}
+
+/// The section of a header of this number and kind, whose name stands in this table, and its place.
 #[tactic(auto, unfolding(elfobj_file::specs::Sections::name_table))]
 fn placed_section(
     bytes: &[u8],
@@ -36,17 +63,22 @@ fn placed_section(
     requires linkable { IsLinkable bytes.now header.now kind }
     ensures { IsPlaced bytes.now (linked_as bytes.now number header.now kind) result.0 result.1 }
 {
-    let section = Section {
-        number: SectionIndex(number),
-        kind,
-        flags: header.sh_flags,
-        size: header.sh_size,
-        alignment: header.sh_addralign,
-    };
-    (section, place_of(names, header, kind, bytes.len()))
+    let name = names.file_range(header.sh_name);
+    section_at(bytes, number, header, kind, name)
 }
 
 impl LinkedSections {
+    /// No sections, with room for this number of them.
+    fn with_room(alloc: Global, count: usize) -> Result<LinkedSections, AllocError>
+        ensures sections { IfOk result (λ l. l.sections.items ≡ []) }
+        ensures places { IfOk result (λ l. l.places.items ≡ []) }
+    {
+        Ok(LinkedSections {
+            sections: Vec::with_capacity(alloc, count)?,
+            places: Vec::with_capacity(alloc, count)?,
+        })
+    }
+
     fn push(&mut self, section: Section, place: Place) -> Result<(), AllocError>
         ensures sections { OnOk result (self.new.sections.items ≡ self.old.sections.items ++ section ∷ []) }
         ensures places { OnOk result (self.new.places.items ≡ self.old.places.items ++ place ∷ []) }
@@ -76,11 +108,7 @@ pub fn linked_sections(
     requires tests { PassesTests bytes.now }
     ensures { IfOk result (λ l. AreRead bytes.now (sections_of bytes.now) l.sections.items l.places.items) }
 {
-    let count = linked_count(headers);
-    let mut linked = LinkedSections {
-        sections: Vec::with_capacity(alloc, count)?,
-        places: Vec::with_capacity(alloc, count)?,
-    };
+    let mut linked = LinkedSections::with_room(alloc, linked_count(headers))?;
     for (number, header) in headers.iter().enumerate() {
         if let Some(kind) = header.linked_kind() {
             let (section, place) = placed_section(bytes, names, number as u16, header, kind);
@@ -88,4 +116,41 @@ pub fn linked_sections(
         }
     }
     Ok(linked)
+}
+
+/// The linked sections of a file whose section headers are in bounds, with names in the table of this header, if the
+/// headers are within the profile, and their names are together no longer than the file, as compilers write them. Each
+/// name is looked through where it is needed. Of other files it finds only that they are not such.
+#[inline(never)]
+pub fn passing_sections(
+    alloc: Global,
+    bytes: &[u8],
+    names: &SectionHeader,
+    headers: &[SectionHeader],
+) -> Result<Option<LinkedSections>, AllocError>
+    requires table { HasSectionTable bytes.now }
+    requires names { IsNameTable bytes.now names.now }
+    requires headers { headers.now ≡ headers_of bytes.now }
+    requires bounds { holds bytes.now SectionBounds ≡ false }
+    ensures passes { IfOk result (λ o. IfSome o (λ l. holds bytes.now SectionProfile ≡ false)) }
+    ensures read { IfOk result
+        (λ o. IfSome o (λ l. AreRead bytes.now (sections_of bytes.now) l.sections.items l.places.items)) }
+{
+    let mut linked = LinkedSections::with_room(alloc, linked_count(headers))?;
+    let mut left = bytes.len();
+    for (number, header) in headers.iter().enumerate() {
+        if header.is_alloc() {
+            let Some((kind, name)) = header.looked_section(bytes, names) else {
+                return Ok(None);
+            };
+            let length = name.end - name.start;
+            if left < length {
+                return Ok(None);
+            }
+            left -= length;
+            let (section, place) = section_at(bytes, number as u16, header, kind, name);
+            linked.push(section, place)?;
+        }
+    }
+    Ok(Some(linked))
 }

@@ -1,15 +1,11 @@
 //! Where the parts of a linked section lie: its name, its bytes and its relocations.
 
-ghost use Rattle.std.specs.Prelude.{◌≡◌, ℕ, List, [], false, length, map, true, unwrap_or};
-ghost use Rattle.std.specs.Option.{option_map_or};
-ghost use Rattle.elfobj_file.specs.Names.{string_at, is_name};
+ghost use Rattle.std.specs.Prelude.{◌≡◌, ℕ, List, length, map};
 ghost use Rattle.elfobj_file.specs.Sections.{contents};
 ghost use Rattle.elfobj_file.specs.Spans.{IsInside, bytes_at};
-ghost use Rattle.elfobj_file.specs.TableOf.{table_of};
-ghost use Rattle.elfobj.specs.Places.{IsWithin, IsFileWithin, name_in, bytes_in};
+ghost use Rattle.elfobj.specs.Places.{IsWithin, IsFileWithin, bytes_in};
 
 use crate::section::SectionKind;
-use elfobj_file::names::StringTable;
 use elfobj_file::section_header::SectionHeader;
 use elfobj_file::span::{EMPTY_SPAN, Span};
 
@@ -39,18 +35,16 @@ fn contents_range(header: &SectionHeader, kind: SectionKind, len: usize) -> Span
     }
 }
 
-/// The place of a section, whose name stands in this table, before its relocations are read.
-pub fn place_of(names: &StringTable, header: &SectionHeader, kind: SectionKind, len: usize) -> Place
-    requires name { option_map_or is_name (string_at (table_of names.now) header.now.sh_name) false ≡ true }
+/// The place of a section in a file of `len` bytes, where its name lies there, before its relocations are read.
+pub fn place_of(name: Span, header: &SectionHeader, kind: SectionKind, len: usize) -> Place
+    requires name { IsInside len name }
     requires file { IsFileWithin len header.now kind }
-    requires len { len ≡ length names.now.file.now }
     ensures within { IsWithin len result }
-    ensures name { name_in names.now.file.now result ≡ unwrap_or
-        (string_at (table_of names.now) header.now.sh_name) [] }
-    ensures bytes { bytes_in names.now.file.now result ≡ contents names.now.file.now header.now kind }
+    ensures name { result.name ≡ name }
+    ensures bytes { (file : List ℕ) → bytes_in file result ≡ contents file header.now kind }
 {
     Place {
-        name: names.file_range(header.sh_name),
+        name,
         bytes: contents_range(header, kind, len),
         relocations: EMPTY_SPAN,
     }

@@ -1,6 +1,6 @@
 //! The tests of the section headers, and what they leave to read.
 
-ghost use Rattle.std.specs.Prelude.{◌≡◌, ◌⊎◌, ◌++◌, IfErr, IfNone, IfOk, IfSome, None, Some, false, find};
+ghost use Rattle.std.specs.Prelude.{◌≡◌, ◌⊎◌, ◌++◌, IfErr, IfNone, IfOk, IfSome, None, OnOk, Some, false, find, true};
 ghost use Rattle.std.specs.List.{list_any};
 ghost use Rattle.elfobj.specs.Linkable.{ArePartsOf, IsNameTable, PassesTests};
 ghost use Rattle.elfobj_file.specs.ElfHeader.{e_shstrndx};
@@ -8,10 +8,12 @@ ghost use Rattle.elfobj_file.specs.Refusal.{holds, is_out_of_bounds, is_outside_
 ghost use Rattle.elfobj_file.specs.Refusal.{object_refusal, relocation_refusals, symbol_refusals};
 ghost use Rattle.elfobj_file.specs.SectionHeaders.{header, headers as headers_of};
 ghost use Rattle.elfobj_file.specs.SectionTable.{HasSectionTable};
+ghost use Rattle.elfobj.specs.Places.{AreRead};
+ghost use Rattle.elfobj_file.specs.Sections.{sections_of};
 ghost use Rattle.elfobj_file.specs.TableOf.{table_of};
-ghost use Rattle.elfobj_file.specs.declared.refusal.ObjectRefusal.TheVariants.{NoMemory, SectionBounds};
+ghost use Rattle.elfobj_file.specs.declared.refusal.ObjectRefusal.TheVariants.{NoMemory, SectionBounds, SectionProfile};
 
-use crate::linked::{LinkedSections, linked_sections};
+use crate::linked::{LinkedSections, linked_sections, passing_sections};
 use crate::place::place_relocations;
 use crate::refusal::ObjectRefusal;
 use crate::relocation::Relocation;
@@ -59,6 +61,61 @@ fn has_wrong_bounds(bytes: &[u8], names: &SectionHeader, headers: &[SectionHeade
     names.sh_type != SHT_STRTAB || is_any_out_of_bounds(headers, bytes.len() as u64)
 }
 
+/// The linked sections of a file whose section headers are in bounds, or `SectionProfile` where one of them is outside
+/// the profile. The table of names is looked through once.
+#[cold]
+#[inline(never)]
+fn looked_sections(
+    alloc: Global,
+    bytes: &[u8],
+    names: &SectionHeader,
+    headers: &[SectionHeader],
+) -> Result<LinkedSections, ObjectRefusal>
+    requires table { HasSectionTable bytes.now }
+    requires names { IsNameTable bytes.now names.now }
+    requires headers { headers.now ≡ headers_of bytes.now }
+    requires bounds { holds bytes.now SectionBounds ≡ false }
+    ensures passes { OnOk result (holds bytes.now SectionProfile ≡ false) }
+    ensures read { IfOk result (λ l. AreRead bytes.now (sections_of bytes.now) l.sections.items l.places.items) }
+    ensures refused { IfErr result (λ e. (e ≡ NoMemory)
+        ⊎ ((holds bytes.now SectionProfile ≡ true) × (e ≡ SectionProfile))) }
+{
+    let Ok(table) = StringTable::of_header(alloc, bytes, names) else {
+        return Err(ObjectRefusal::NoMemory);
+    };
+    if is_any_outside_profile(headers, &table) {
+        return Err(ObjectRefusal::SectionProfile);
+    }
+    match linked_sections(alloc, bytes, &table, headers) {
+        Ok(linked) => Ok(linked),
+        Err(_) => Err(ObjectRefusal::NoMemory),
+    }
+}
+
+/// The linked sections of a file whose section headers are in bounds, or `SectionProfile` where one of them is outside
+/// the profile.
+fn read_sections(
+    alloc: Global,
+    bytes: &[u8],
+    names: &SectionHeader,
+    headers: &[SectionHeader],
+) -> Result<LinkedSections, ObjectRefusal>
+    requires table { HasSectionTable bytes.now }
+    requires names { IsNameTable bytes.now names.now }
+    requires headers { headers.now ≡ headers_of bytes.now }
+    requires bounds { holds bytes.now SectionBounds ≡ false }
+    ensures passes { OnOk result (holds bytes.now SectionProfile ≡ false) }
+    ensures read { IfOk result (λ l. AreRead bytes.now (sections_of bytes.now) l.sections.items l.places.items) }
+    ensures refused { IfErr result (λ e. (e ≡ NoMemory)
+        ⊎ ((holds bytes.now SectionProfile ≡ true) × (e ≡ SectionProfile))) }
+{
+    match passing_sections(alloc, bytes, names, headers) {
+        Ok(Some(linked)) => Ok(linked),
+        Ok(None) => looked_sections(alloc, bytes, names, headers),
+        Err(_) => Err(ObjectRefusal::NoMemory),
+    }
+}
+
 /// All that is read of an object.
 #[derive(Drop)]
 pub struct Parts {
@@ -70,16 +127,15 @@ pub struct Parts {
     pub relocations: Vec<Relocation>,
 }
 
-/// Reads the parts of a file whose section headers have passed their tests, or tells why it is no object.
-fn read_tables<'a>(
+/// Reads the other parts of a file whose section headers have passed their tests, or tells why it is no object.
+fn read_tables(
     alloc: Global,
-    bytes: &'a [u8],
-    names: StringTable<'a>,
+    bytes: &[u8],
+    mut linked: LinkedSections,
     headers: &[SectionHeader],
 ) -> Result<Parts, ObjectRefusal>
     requires table { HasSectionTable bytes.now }
-    requires names { IsNameTable bytes.now names.header }
-    requires file { names.file.now ≡ bytes.now }
+    requires linked { AreRead bytes.now (sections_of bytes.now) linked.sections.items linked.places.items }
     requires headers { headers.now ≡ headers_of bytes.now }
     requires tests { PassesTests bytes.now }
     ensures ok { IfOk result (λ p. find (holds bytes.now) (symbol_refusals ++ relocation_refusals) ≡ None) }
@@ -89,10 +145,7 @@ fn read_tables<'a>(
     ensures refused { IfErr result
         (λ e. (e ≡ NoMemory) ⊎ (find (holds bytes.now) (symbol_refusals ++ relocation_refusals) ≡ Some e)) }
 {
-    let Ok(mut linked) = linked_sections(alloc, bytes, &names, headers) else {
-        return Err(ObjectRefusal::NoMemory);
-    };
-    let symbols = read_symbols(alloc, bytes, headers, names)?;
+    let symbols = read_symbols(alloc, bytes, headers)?;
     let count = symbols.symbols.len();
     let Relocations { all, spans } = read_relocations(
         alloc,
@@ -128,11 +181,8 @@ pub fn read_parts(alloc: Global, bytes: &[u8]) -> Result<Parts, ObjectRefusal>
     if has_wrong_bounds(bytes, &names, &headers) {
         return Err(ObjectRefusal::SectionBounds);
     }
-    let Ok(table) = StringTable::of_header(alloc, bytes, &names) else {
-        return Err(ObjectRefusal::NoMemory);
-    };
-    if is_any_outside_profile(&headers, &table) {
-        return Err(ObjectRefusal::SectionProfile);
+    match read_sections(alloc, bytes, &names, &headers) {
+        Ok(linked) => read_tables(alloc, bytes, linked, &headers),
+        Err(refusal) => Err(refusal),
     }
-    read_tables(alloc, bytes, table, &headers)
 }

@@ -8,8 +8,7 @@ ghost use Rattle.elfobj_file.specs.Spans.{IsInside, bytes_at};
 ghost use Rattle.elfobj_file.specs.Refusal.{holds, symbol_refusals};
 ghost use Rattle.elfobj_file.specs.SectionHeaders.{headers as headers_of};
 ghost use Rattle.elfobj_file.specs.SectionTable.{HasSectionTable};
-ghost use Rattle.elfobj_file.specs.ElfHeader.{e_shstrndx};
-ghost use Rattle.elfobj.specs.Linkable.{IsNameTable, PassesTests};
+ghost use Rattle.elfobj.specs.Linkable.{PassesTests};
 ghost use Rattle.elfobj_file.specs.Symbols.{entries_of, is_symbol_table, symbol_name, symbol_table, symbols_from};
 ghost use Rattle.elfobj_file.specs.Symbols.{symbols_of};
 ghost use Rattle.elfobj_file.specs.TableOf.{table_of};
@@ -20,7 +19,6 @@ ghost use Rattle.elfobj_file.specs.declared.refusal.ObjectRefusal.TheVariants.{N
 use crate::refusal::ObjectRefusal;
 use crate::symbols::{Symbols, read_passing};
 use elfobj_file::constants::{SHT_STRTAB, SYM_SIZE};
-use elfobj_file::elf_header::name_table_number;
 use elfobj_file::names::StringTable;
 use elfobj_file::section_header::SectionHeader;
 use elfobj_file::span::{EMPTY_SPAN, Span};
@@ -157,44 +155,18 @@ fn named_symbols(
     Ok(symbols)
 }
 
-/// The string table of a symbol table, whose header has this number. It is that of the sections' names where the header
-/// is, and else the first is let go before the second is made.
-fn symbol_names<'a>(
-    alloc: Global,
-    bytes: &'a [u8],
-    number: u32,
-    strings: &SectionHeader,
-    section_names: StringTable<'a>,
-) -> Result<StringTable<'a>, AllocError>
-    requires long { 64 ≤ length bytes.now }
-    requires within { strings.now.sh_offset + strings.now.sh_size ≤ length bytes.now }
-    requires file { section_names.file.now ≡ bytes.now }
-    requires same { number ≡ e_shstrndx bytes.now → section_names.header ≡ strings.now }
-    ensures file { IfOk result (λ t. t.file.now ≡ bytes.now) }
-    ensures header { IfOk result (λ t. t.header ≡ strings.now) }
-{
-    if number == u32::from(name_table_number(bytes)) {
-        return Ok(section_names);
-    }
-    drop(section_names);
-    StringTable::of_header(alloc, bytes, strings)
-}
-
-/// Reads the symbols of a table whose header has passed its tests, or tells why they are refused. The table of the
-/// sections' names serves for the symbols too, if it is theirs.
+/// Reads the symbols of a table whose header has passed its tests, or tells why they are refused. Their string table is
+/// looked through once.
 #[cold]
 #[inline(never)]
-fn read_tested<'a>(
+fn read_tested(
     alloc: Global,
-    bytes: &'a [u8],
+    bytes: &[u8],
     headers: &[SectionHeader],
     table: &SectionHeader,
-    section_names: StringTable<'a>,
 ) -> Result<Symbols, ObjectRefusal>
     requires table { HasSectionTable bytes.now }
     requires headers { headers.now ≡ headers_of bytes.now }
-    requires names { IsNameTable bytes.now section_names.header }
-    requires file { section_names.file.now ≡ bytes.now }
     requires tests { PassesTests bytes.now }
     requires one { nat_lt 1 (count_by is_symbol_table headers.now) ≡ false }
     requires found { symbol_table bytes.now ≡ Some table.now }
@@ -210,7 +182,7 @@ fn read_tested<'a>(
         return Err(ObjectRefusal::SymbolTable);
     }
     let strings = headers[table.sh_link as usize];
-    let Ok(names) = symbol_names(alloc, bytes, table.sh_link, &strings, section_names) else {
+    let Ok(names) = StringTable::of_header(alloc, bytes, &strings) else {
         return Err(ObjectRefusal::NoMemory);
     };
     let count = headers.len() as u16;
@@ -224,16 +196,13 @@ fn read_tested<'a>(
 }
 
 /// Reads the symbols of a file whose section headers have passed their tests, or tells why it is no object.
-pub fn read_symbols<'a>(
+pub fn read_symbols(
     alloc: Global,
-    bytes: &'a [u8],
+    bytes: &[u8],
     headers: &[SectionHeader],
-    section_names: StringTable<'a>,
 ) -> Result<Symbols, ObjectRefusal>
     requires table { HasSectionTable bytes.now }
     requires headers { headers.now ≡ headers_of bytes.now }
-    requires names { IsNameTable bytes.now section_names.header }
-    requires file { section_names.file.now ≡ bytes.now }
     requires tests { PassesTests bytes.now }
     ensures ok { IfOk result (λ s. find (holds bytes.now) symbol_refusals ≡ None) }
     ensures symbols { IfOk result (λ s. AreNamed bytes.now (symbols_of bytes.now) s.symbols.items s.names.items) }
@@ -255,7 +224,7 @@ pub fn read_symbols<'a>(
     let count = headers.len() as u16;
     match read_passing(alloc, bytes, &table, &strings, count) {
         Ok(Some(symbols)) => Ok(symbols),
-        Ok(None) => read_tested(alloc, bytes, headers, &table, section_names),
+        Ok(None) => read_tested(alloc, bytes, headers, &table),
         Err(_) => Err(ObjectRefusal::NoMemory),
     }
 }

@@ -1,7 +1,7 @@
 //! Section headers as they stand in the file (gABI, `Elf64_Shdr`: 64 bytes each), and the tests of
 //! one of them.
 
-ghost use Rattle.std.specs.Prelude.{◌≡◌, ◌≤◌, ◌+◌, IfOk, length};
+ghost use Rattle.std.specs.Prelude.{◌≡◌, ◌≤◌, ◌+◌, IfOk, IfSome, Some, [], false, length, unwrap_or};
 ghost use Rattle.elfobj_file.specs.SectionHeaders.{header_at, headers};
 ghost use Rattle.elfobj_file.specs.SectionTable.{HasSectionTable};
 
@@ -10,9 +10,10 @@ use crate::constants::{
     SHT_SYMTAB,
 };
 use crate::elf_header::{section_count, section_table_offset};
-use crate::names::StringTable;
+use crate::names::{StringTable, looked_name};
 use crate::numbers::{read_u32, read_u64};
 use crate::section::SectionKind;
+use crate::span::Span;
 use std::alloc::{AllocError, Global};
 
 /// The fields of a section header that the reader looks at.
@@ -54,9 +55,11 @@ pub const NULL_HEADER: SectionHeader = SectionHeader {
 
 impl SectionHeader {
     ghost use Rattle.elfobj_file.specs.LinkedKinds.{is_alloc, linked_kind};
+    ghost use Rattle.elfobj_file.specs.Names.{string_at};
     ghost use Rattle.elfobj_file.specs.Refusal.{is_looked_at, is_out_of_bounds, is_outside_profile_by};
     ghost use Rattle.elfobj_file.specs.Relocations.{is_relocation_section};
     ghost use Rattle.elfobj_file.specs.SectionHeaders.{file_bytes};
+    ghost use Rattle.elfobj_file.specs.Spans.{IsInside, bytes_at};
     ghost use Rattle.elfobj_file.specs.Symbols.{is_symbol_table};
     ghost use Rattle.elfobj_file.specs.TableOf.{table_of};
 
@@ -121,6 +124,25 @@ impl SectionHeader {
         } else {
             None
         }
+    }
+
+    /// What its section holds, and where its name lies in the file, if the section is linked and within the profile, with
+    /// the table of names of this header. Each call looks through the name.
+    pub fn looked_section(&self, file: &[u8], names: &SectionHeader) -> Option<(SectionKind, Span)>
+        requires { names.now.sh_offset + names.now.sh_size ≤ length file.now }
+        ensures kind { IfSome result (λ s. linked_kind self.now ≡ Some s.0) }
+        ensures right { IfSome result (λ s. is_outside_profile_by
+            (file_bytes file.now names.now) self.now ≡ false) }
+        ensures within { IfSome result (λ s. IsInside (length file.now) s.1) }
+        ensures name { IfSome result (λ s. bytes_at file.now s.1 ≡ unwrap_or
+            (string_at (file_bytes file.now names.now) self.now.sh_name) []) }
+    {
+        let kind = self.linked_kind()?;
+        if self.sh_flags | PROFILE_FLAGS != PROFILE_FLAGS {
+            return None;
+        }
+        let name = looked_name(file, names, self.sh_name)?;
+        Some((kind, name))
     }
 
     /// The bytes that it names.

@@ -4,6 +4,7 @@ pub mod Refusals
 pub mod Stars
 pub mod Fronts
 pub mod Reading
+pub mod PlainRuns
 pub mod Exact
 pub mod Testing
 pub mod Patterns

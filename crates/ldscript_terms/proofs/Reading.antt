@@ -12,7 +12,7 @@ use Rattle.ldscript_terms.specs.Forms.{with_rest, spelled_within, spelled}
 use Rattle.ldscript_terms.specs.Trying.{IsSpelled, EndsHere, BeginsWith}
 use Rattle.ldscript_terms.proofs.Fronts.{front_same, front_of_spelled, spelled_at_front, nothing_in_front, empty_front}
 
-none_left : {word : List ℕ} {ps : List Part} → word ≡ [] → SpellsPattern ps word → ps ≡ []
+pub none_left : {word : List ℕ} {ps : List Part} → word ≡ [] → SpellsPattern ps word → ps ≡ []
 none_left e nothing = refl
 none_left e (part {p = p} bytes more s eq others) = absurd (nothing_in_front bytes more p s (sym e ∙ eq))
 

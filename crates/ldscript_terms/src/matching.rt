@@ -1,12 +1,13 @@
 //! Matching of a name.
 
-ghost use Rattle.std.specs.Prelude.{◌≡◌, ◌↔◌, ◌∷◌, [], IsTrue, List, MatchOption, length};
+ghost use Rattle.std.specs.Prelude.{◌≡◌, ◌↔◌, ◌≤◌, ◌∷◌, [], IsTrue, List, MatchOption, drop, length};
 ghost use Rattle.ldscript_terms.specs.Parts.{AnyRun, Part};
 ghost use Rattle.ldscript_terms.specs.Matching.{Matches};
 ghost use Rattle.ldscript_terms.specs.Spelling.{SpellsPattern};
-ghost use Rattle.ldscript_terms.specs.Trying.{IsWithin, TriedAs};
+ghost use Rattle.ldscript_terms.specs.Trying.{IsWithin, Passed, TriedAs};
 
-use crate::word::first_part;
+use crate::bytes::is_plain;
+use crate::word::{first_part, is_at_end};
 
 /// What trying parts at the front of a name came to.
 #[derive(Clone, Copy)]
@@ -27,13 +28,32 @@ fn split(bytes: &[u8]) -> Option<(u8, &[u8])>
     Some((*first, rest))
 }
 
+/// How many bytes at the front of a word spell themselves, and are those at the front of a name.
+fn plain_run(word: &[u8], name: &[u8]) -> usize
+    ensures word { result ≤ length word.now }
+    ensures name { result ≤ length name.now }
+    ensures passed { (ps : List Part) → SpellsPattern ps word.now → (qs : List Part) × Spells qs (drop result word.now)
+        × Passed ps qs name.now (drop result name.now) }
+{
+    let mut count = 0;
+    while count < word.len() && count < name.len() {
+        let byte = word[count];
+        if byte != name[count] || !is_plain(byte) {
+            return count;
+        }
+        count += 1;
+    }
+    count
+}
+
 /// Lets each part of a word take a byte of the name's front, up to the first `*`.
 fn try_front<'w, 'n>(word: &'w [u8], name: &'n [u8]) -> Tried<'w, 'n>
     ensures value { (ps : List Part) → SpellsPattern ps word.now → TriedAs ps name.now result }
     ensures within { IsWithin (length word.now) (length name.now) result }
 {
-    let mut rest = word;
-    let mut left = name;
+    let count = plain_run(word, name);
+    let mut rest = &word[count..];
+    let mut left = &name[count..];
     while let Some((part, more)) = first_part(rest) {
         if part.is_any_run() {
             return Tried::Star(more, left);
@@ -53,13 +73,16 @@ fn try_front<'w, 'n>(word: &'w [u8], name: &'n [u8]) -> Tried<'w, 'n>
     }
 }
 
-/// Whether a name is matched by `*` and then the parts of a word.
+/// Whether a name is matched by `*` and then the parts of a word. A `*` at the end of a word takes all that is left.
 fn matches_behind_star(word: &[u8], name: &[u8]) -> bool
     ensures { (ps : List Part) → SpellsPattern ps word.now → IsTrue result ↔ Matches (AnyRun ∷ ps) name.now }
 {
     let mut after = word;
     let mut left = name;
     loop {
+        if is_at_end(after) {
+            return true;
+        }
         match try_front(after, left) {
             Tried::Whole => return true,
             Tried::Star(rest, behind) => {

@@ -33,6 +33,14 @@ pub fn first_part(word: &[u8]) -> Option<(CodePart, &[u8])>
     }
 }
 
+/// Whether a word has ended.
+#[tactic(auto, using(crate::proofs::Reading::empty_test))]
+pub fn is_at_end(word: &[u8]) -> bool
+    ensures { IsTrue result → word.now ≡ [] }
+{
+    word.is_empty()
+}
+
 /// Whether these are the same bytes.
 pub fn is_same(left: &[u8], right: &[u8]) -> bool
     ensures { IsTrue result ↔ left.now ≡ right.now }

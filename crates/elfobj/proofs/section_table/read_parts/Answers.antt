@@ -1,9 +1,9 @@
-use Rattle.std.proofs.Common.{◌≡◌, ◌⊎◌, ◌++◌, ◌∙◌, sym, inr, find, Some, None, true}
+use Rattle.std.proofs.Common.{◌≡◌, ◌⊎◌, ◌++◌, ◌∙◌, sym, inr, find, Some, None}
 use Rattle.std.proofs.lemmas.Result.{IfErr-weaker, IfOk-weaker}
 use Rattle.elfobj_file.specs.Refusal.{header_refusals, holds, object_refusal, relocation_refusals, symbol_refusals}
 use Rattle.elfobj_file.specs.declared.refusal.ObjectRefusal.TheVariants.{NoMemory}
-use Rattle.elfobj.proofs.Refusals.{no_memory_found, bounds_refused, passes_told, profile_refused, profile_told}
-use Rattle.elfobj.proofs.Refusals.{refused_by_header, refused_by_sections, refused_by_tables, tables_told}
+use Rattle.elfobj.proofs.Refusals.{no_memory_found, bounds_refused, refused_by_header, refused_by_sections}
+use Rattle.elfobj.proofs.Refusals.{refused_by_tables, sections_told, tables_told}
 use Rattle.elfobj.proofs.section_table.read_parts.Goals as goal
 
 pub returns-in-Some-clause-refused : goal.returns-in-Some-clause-refused
@@ -15,50 +15,42 @@ returns-then-has_wrong_bounds-clause-refused c =
     inr (refused_by_sections c.args.bytes.now _ (sym c.header_refusal.ensures.value ∙ c.in_default.is)
     (bounds_refused c.args.bytes.now (sym c.has_wrong_bounds.ensures.value ∙ c.if-has_wrong_bounds.true)))
 
-pub returns-then-is_any_outside_profile-clause-refused : goal.returns-then-is_any_outside_profile-clause-refused
-returns-then-is_any_outside_profile-clause-refused c =
-    inr (refused_by_sections c.args.bytes.now _ (sym c.header_refusal.ensures.value ∙ c.in_default.is)
-    (profile_refused c.args.bytes.now (sym c.has_wrong_bounds.ensures.value ∙ c.if-has_wrong_bounds.false)
-    (profile_told c.args.bytes.now c.in-Ok-of_header.table.file.now c.in-Ok-of_header.table.header _
-    c.is_any_outside_profile.result true c.in-Ok-of_header.ensures.file
-    (c.in-Ok-of_header.ensures.header ∙ c.name_table_header-names.ensures)
-    (c.deref-3.ensures.value ∙ c.in-Ok.ensures) c.is_any_outside_profile.ensures c.if-is_any_outside_profile.true)))
+pub returns-clause-refused : goal.returns-clause-refused
+returns-clause-refused c =
+    sections_told c.args.bytes.now _ (sym c.header_refusal.ensures.value ∙ c.in_default.is)
+    (sym c.has_wrong_bounds.ensures.value ∙ c.if-has_wrong_bounds.false) c.in-Err.ensures.refused
 
 pub read_tables-requires-clause-tests : goal.read_tables-requires-clause-tests
-read_tables-requires-clause-tests c =
-    passes_told c.args.bytes.now c.in-Ok-of_header.table.file.now c.in-Ok-of_header.table.header _
-    c.has_wrong_bounds.result c.is_any_outside_profile.result c.has_wrong_bounds.ensures.value
-    c.if-has_wrong_bounds.false c.in-Ok-of_header.ensures.file
-    (c.in-Ok-of_header.ensures.header ∙ c.name_table_header-names.ensures)
-    (c.deref-3.ensures.value ∙ c.in-Ok.ensures) c.is_any_outside_profile.ensures c.if-is_any_outside_profile.false
+read_tables-requires-clause-tests c = record {
+  bounds = sym c.has_wrong_bounds.ensures.value ∙ c.if-has_wrong_bounds.false;
+  profile = c.in-Ok-read_sections.ensures.passes;
+}
 
 pub returns-in-Some-clause-memory : goal.returns-in-Some-clause-memory
 returns-in-Some-clause-memory c =
     λ e. no_memory_found c.args.bytes.now header_refusals c.in-Some.refusal
     (sym c.header_refusal.ensures.value ∙ c.in-Some.is) e
 
-pub returns-clause-ok : goal.returns-clause-ok
-returns-clause-ok c =
+pub returns-in-Ok-read_sections-clause-ok : goal.returns-in-Ok-read_sections-clause-ok
+returns-in-Ok-read_sections-clause-ok c =
     IfOk-weaker c.read_tables.result
     (λ p. find (holds c.args.bytes.now) (symbol_refusals ++ relocation_refusals) ≡ None)
     (λ p. object_refusal c.args.bytes.now ≡ None)
     (λ p h. refused_by_tables c.args.bytes.now None (sym c.header_refusal.ensures.value ∙ c.in_default.is)
-    (passes_told c.args.bytes.now c.in-Ok-of_header.table.file.now c.in-Ok-of_header.table.header _
-    c.has_wrong_bounds.result c.is_any_outside_profile.result c.has_wrong_bounds.ensures.value
-    c.if-has_wrong_bounds.false c.in-Ok-of_header.ensures.file
-    (c.in-Ok-of_header.ensures.header ∙ c.name_table_header-names.ensures)
-    (c.deref-3.ensures.value ∙ c.in-Ok.ensures) c.is_any_outside_profile.ensures c.if-is_any_outside_profile.false)
+    (record {
+      bounds = sym c.has_wrong_bounds.ensures.value ∙ c.if-has_wrong_bounds.false;
+      profile = c.in-Ok-read_sections.ensures.passes;
+    })
     h) c.read_tables.ensures.ok
 
-pub returns-clause-refused : goal.returns-clause-refused
-returns-clause-refused c =
+pub returns-in-Ok-read_sections-clause-refused : goal.returns-in-Ok-read_sections-clause-refused
+returns-in-Ok-read_sections-clause-refused c =
     IfErr-weaker c.read_tables.result
     (λ e. (e ≡ NoMemory) ⊎ (find (holds c.args.bytes.now) (symbol_refusals ++ relocation_refusals) ≡ Some e))
     (λ e. (e ≡ NoMemory) ⊎ (object_refusal c.args.bytes.now ≡ Some e))
     (λ e h. tables_told c.args.bytes.now e (sym c.header_refusal.ensures.value ∙ c.in_default.is)
-    (passes_told c.args.bytes.now c.in-Ok-of_header.table.file.now c.in-Ok-of_header.table.header _
-    c.has_wrong_bounds.result c.is_any_outside_profile.result c.has_wrong_bounds.ensures.value
-    c.if-has_wrong_bounds.false c.in-Ok-of_header.ensures.file
-    (c.in-Ok-of_header.ensures.header ∙ c.name_table_header-names.ensures)
-    (c.deref-3.ensures.value ∙ c.in-Ok.ensures) c.is_any_outside_profile.ensures c.if-is_any_outside_profile.false)
+    (record {
+      bounds = sym c.has_wrong_bounds.ensures.value ∙ c.if-has_wrong_bounds.false;
+      profile = c.in-Ok-read_sections.ensures.passes;
+    })
     h) c.read_tables.ensures.refused

@@ -1,5 +1,5 @@
-use Rattle.std.proofs.Common.{◌<◌, ap, sym, ◌∙◌, arith, rules, inr, true, false, get_or, length, refl}
-use Rattle.elfobj_file.specs.SectionHeaders.{header, null_header}
+use Rattle.std.proofs.Common.{◌<◌, sym, ◌∙◌, arith, rules, inr, true, false, get_or, length, refl}
+use Rattle.elfobj_file.specs.SectionHeaders.{null_header}
 use Rattle.elfobj_file.specs.TableOf.{table_of}
 use Rattle.elfobj_file.proofs.Headers.{count_of, header_of}
 use Rattle.elfobj.proofs.SymbolTables.{count_told, entry_told, named_all, named_same, names_told, right_header}
@@ -38,8 +38,8 @@ overflow_cast-count c =
     let below : length c.args.headers.now < 65536 = omega arith in
     search rules
 
-pub symbol_names-requires-clause-within : goal.symbol_names-requires-clause-within
-symbol_names-requires-clause-within c =
+pub of_header-requires : goal.of_header-requires
+of_header-requires c =
     let strings = (right_header c.args.headers.now c.args.table.now c.requires.right).strings in
     let below = string_table_below c.args.headers.now c.args.table.now.sh_link strings in
     (strings_in_file c.args.bytes.now c.args.table.now.sh_link
@@ -47,14 +47,6 @@ symbol_names-requires-clause-within c =
     (omega (arith, count_of c.args.bytes.now c.args.headers.now c.requires.headers))
     (header_of c.args.bytes.now c.args.headers.now c.args.table.now.sh_link null_header c.requires.headers below)
     (string_table_type c.args.headers.now c.args.table.now.sh_link null_header strings)).end
-
-pub symbol_names-requires-clause-same : goal.symbol_names-requires-clause-same
-symbol_names-requires-clause-same c = λ e.
-    let below = string_table_below c.args.headers.now c.args.table.now.sh_link
-    (right_header c.args.headers.now c.args.table.now c.requires.right).strings in
-    c.requires.names.header ∙ ap (header c.args.bytes.now) (sym e)
-    ∙ sym (header_of c.args.bytes.now c.args.headers.now c.args.table.now.sh_link null_header
-    c.requires.headers below)
 
 pub is_any_wrong-requires : goal.is_any_wrong-requires
 is_any_wrong-requires c =
@@ -76,12 +68,12 @@ returns-then-is_any_wrong-clause-refused c =
     (sym c.has_misplaced_entry.ensures ∙ c.if-has_misplaced_entry.false)))
     (wrong_symbol c.args.bytes.now c.args.table.now true c.requires.found
     (entry_told c.args.bytes.now c.args.table.now (get_or c.args.headers.now c.args.table.now.sh_link null_header)
-    (length c.args.headers.now) (table_of c.in-Ok-symbol_names.names) c.deref-2.result.now true
+    (length c.args.headers.now) (table_of c.in-Ok-of_header.names) c.deref-2.result.now true
     (count_of c.args.bytes.now c.args.headers.now c.requires.headers)
     (header_of c.args.bytes.now c.args.headers.now c.args.table.now.sh_link null_header c.requires.headers below)
-    (table_same c.args.bytes.now c.in-Ok-symbol_names.names.file.now c.in-Ok-symbol_names.names.header
-    (get_or c.args.headers.now c.args.table.now.sh_link null_header) c.in-Ok-symbol_names.ensures.file
-    c.in-Ok-symbol_names.ensures.header)
+    (table_same c.args.bytes.now c.in-Ok-of_header.names.file.now c.in-Ok-of_header.names.header
+    (get_or c.args.headers.now c.args.table.now.sh_link null_header) c.in-Ok-of_header.ensures.file
+    c.in-Ok-of_header.ensures.header)
     (c.deref-2.ensures.value ∙ c.in-Ok.ensures) (sym c.is_any_wrong.ensures ∙ c.if-is_any_wrong.true))))
 
 pub named_symbols-requires-clause-some : goal.named_symbols-requires-clause-some
@@ -93,8 +85,8 @@ named_symbols-requires-clause-some c =
 
 pub named_symbols-requires-clause-names : goal.named_symbols-requires-clause-names
 named_symbols-requires-clause-names c =
-    names_told (length c.args.headers.now) (table_of c.in-Ok-symbol_names.names)
-    (table_of c.in-Ok-symbol_names.names) c.deref-2.result.now c.deref-3.result.now refl
+    names_told (length c.args.headers.now) (table_of c.in-Ok-of_header.names)
+    (table_of c.in-Ok-of_header.names) c.deref-2.result.now c.deref-3.result.now refl
     (c.deref-2.ensures.value ∙ sym c.deref-3.ensures.value)
     (sym c.is_any_wrong.ensures ∙ c.if-is_any_wrong.false)
 
@@ -111,12 +103,12 @@ returns-in-Ok-named_symbols-clause-ok c =
     (sym c.has_misplaced_entry.ensures ∙ c.if-has_misplaced_entry.false)))
     (wrong_symbol c.args.bytes.now c.args.table.now false c.requires.found
     (entry_told c.args.bytes.now c.args.table.now (get_or c.args.headers.now c.args.table.now.sh_link null_header)
-    (length c.args.headers.now) (table_of c.in-Ok-symbol_names.names) c.deref-2.result.now false
+    (length c.args.headers.now) (table_of c.in-Ok-of_header.names) c.deref-2.result.now false
     (count_of c.args.bytes.now c.args.headers.now c.requires.headers)
     (header_of c.args.bytes.now c.args.headers.now c.args.table.now.sh_link null_header c.requires.headers below)
-    (table_same c.args.bytes.now c.in-Ok-symbol_names.names.file.now c.in-Ok-symbol_names.names.header
-    (get_or c.args.headers.now c.args.table.now.sh_link null_header) c.in-Ok-symbol_names.ensures.file
-    c.in-Ok-symbol_names.ensures.header)
+    (table_same c.args.bytes.now c.in-Ok-of_header.names.file.now c.in-Ok-of_header.names.header
+    (get_or c.args.headers.now c.args.table.now.sh_link null_header) c.in-Ok-of_header.ensures.file
+    c.in-Ok-of_header.ensures.header)
     (c.deref-2.ensures.value ∙ c.in-Ok.ensures) (sym c.is_any_wrong.ensures ∙ c.if-is_any_wrong.false)))
 
 pub returns-in-Ok-named_symbols-clause-symbols : goal.returns-in-Ok-named_symbols-clause-symbols
@@ -127,6 +119,6 @@ returns-in-Ok-named_symbols-clause-symbols c =
     (get_or c.args.headers.now c.args.table.now.sh_link null_header) c.deref-3.result.now _ _ c.requires.found
     (header_of c.args.bytes.now c.args.headers.now c.args.table.now.sh_link null_header c.requires.headers below)
     (c.deref-3.ensures.value ∙ c.in-Ok.ensures)
-    (named_same c.args.bytes.now c.in-Ok-symbol_names.names.file.now c.in-Ok-symbol_names.names.header
+    (named_same c.args.bytes.now c.in-Ok-of_header.names.file.now c.in-Ok-of_header.names.header
     (get_or c.args.headers.now c.args.table.now.sh_link null_header) c.deref-3.result.now _ _
-    c.in-Ok-symbol_names.ensures.file c.in-Ok-symbol_names.ensures.header c.in-Ok-named_symbols.ensures)
+    c.in-Ok-of_header.ensures.file c.in-Ok-of_header.ensures.header c.in-Ok-named_symbols.ensures)

@@ -1,5 +1,4 @@
-use Rattle.ldscript_terms.proofs.Reading.{empty_test, spelled_end, spelled_step}
-use Rattle.std.proofs.Common.{◌↔◌}
+use Rattle.ldscript_terms.proofs.Reading.{empty_test, spelled_end}
 use Rattle.ldscript_terms.proofs.word.is_spelled.Goals as goal
 
 pub returns : goal.returns

@@ -1,4 +1,4 @@
-use Rattle.std.proofs.Common.{◌≡◌, Some, sym, ◌∙◌, ap}
+use Rattle.std.proofs.Common.{Some, sym, ◌∙◌, ap}
 use Rattle.ldscript_terms.specs.Forms.{parts_in}
 use Rattle.ldscript_terms.specs.CodeTerms.{exact_name}
 use Rattle.ldscript_terms.proofs.Exact.{exact_of_bytes, only_exact}
