@@ -182,9 +182,9 @@ unfolding escape_front
 escape_spelled b [] q m s e = absurd (no_front q m e)
 escape_spelled b (x ∷ rest) q m s e = elim (split_cond (is_escapable x) (front_part (Byte x) 2) None
     (front_part q m) e) [
-  | inl (g, h) ↦ spell_as (Byte x) q 2 m (b ∷ x ∷ rest) h (inr (g, ap (λ v. v ∷ x ∷ []) s))
-  | inr (g, h) ↦ absurd (no_front q m h)
-]
+      | inl (g, h) ↦ spell_as (Byte x) q 2 m (b ∷ x ∷ rest) h (inr (g, ap (λ v. v ∷ x ∷ []) s))
+      | inr (g, h) ↦ absurd (no_front q m h)
+    ]
 
 set_spelled_at : (b : ℕ) (rest : List ℕ) → b ≡ 91 → 0 < set_length (b ∷ rest)
     → get_or (b ∷ rest) (1 + set_length (b ∷ rest)) 0 ≡ 93
