@@ -1,4 +1,4 @@
-//! Values and ASSERT, two phases of a link: what names and the entry symbol are worth, which symbols the output has,
+//! Values and ASSERT, two passes of a link: what names and the entry symbol are worth, which symbols the output has,
 //! and which assertions fail. Takes the names of a project, its layout and its script; gives values, symbols and
 //! faults.
 //!
