@@ -11,15 +11,15 @@ ghost use Rattle.ldmodel_project.specs.ByPlace.{rows_in};
 ghost use Rattle.emit_values.specs.Values.{AreValues};
 
 use crate::by_place::ByPlace;
-use ldmodel_laws::layout::placed_are_rows;
-use place::laying::Laying;
-use ldmodel::memory::NoMemory;
-use ldmodel::rows::Piece;
-use ldmodel_project::view::ProjectView;
 use emit_text::maps;
 use emit_text::maps::MapParts;
 use emit_text::symbols::MapSymbol;
 use emit_values::values::{OutputSymbol, Values};
+use ldmodel::memory::NoMemory;
+use ldmodel::rows::Piece;
+use ldmodel_laws::layout::placed_are_rows;
+use ldmodel_project::view::ProjectView;
+use place::Laying;
 use place::sections::law::outputs_are_of_script;
 use std::alloc::Global;
 

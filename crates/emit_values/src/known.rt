@@ -13,14 +13,14 @@ ghost use Rattle.emit_values.specs.LinkView.{IsLinkView};
 ghost use Rattle.emit_values.specs.Seen.{is_seen};
 
 use crate::link_view::LinkView;
-use elfobj::object::Object;
+use elfobj::Object;
 use elfobj::relocation::SymbolIndex;
-use place::starts::Starts;
+use emit_relocate::known::Known;
 use ldmodel::names::{Case, NameKey, ObjectPlace};
 use ldmodel::sections::SectionKey;
 use ldmodel_project::view::ProjectView;
+use place::starts::Starts;
 use symres::declaring::declares;
-use emit_relocate::known::Known;
 
 /// Whether there is a symbol that isn't local.
 fn sees(project: &ProjectView<'_>, object: ObjectPlace, symbol: SymbolIndex) -> bool

@@ -15,13 +15,13 @@ ghost use Rattle.emit_values.specs.Values.{shown_symbol};
 use crate::candidate::Candidate;
 use crate::script_values::ScriptValues;
 use crate::values::OutputSymbol;
+use emit_relocate::value::SymbolValue;
 use ldmodel::impossible::impossible;
 use ldmodel::memory::NoMemory;
 use ldmodel::names::{Case, NameKey};
-use symres::naming::Naming;
-use ldscript::script::Script;
-use emit_relocate::value::SymbolValue;
+use ldscript::Script;
 use std::alloc::Global;
+use symres::Naming;
 
 /// What the symbols of the output are made of.
 #[derive(Clone, Copy)]

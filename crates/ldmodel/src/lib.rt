@@ -9,8 +9,8 @@
 pub mod edit;
 pub mod fault;
 pub mod given;
-pub mod laid;
 pub mod impossible;
+pub mod laid;
 pub mod linker;
 pub mod names;
 pub mod options;

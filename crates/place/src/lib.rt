@@ -2,7 +2,7 @@
 //! the numbers of its input sections, and perhaps an earlier layout; gives the layout or its faults, and where an input
 //! section stands, by its key.
 //!
-//! - `laying`: the phase, over `place`;
+//! - `laying`: the phase, over `place_sections`;
 //! - `segments` over `group`: what is loaded as one, and its offset in the file; `offsets`: where output sections begin
 //!   in the file; `length`: how long the image is;
 //! - `starts` over `collected` and `entry`: where each input section stands; `numbered`: the sections of an object have

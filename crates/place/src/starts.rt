@@ -15,18 +15,18 @@ use crate::collected::collect;
 use crate::entry::Entry;
 use crate::laying::Laying;
 use crate::numbered::are_numbered;
+use gather::sections::law::sections_of_objects;
+use gather::sections::section_table::{SectionId, SectionTable};
 use ldmodel::impossible::impossible;
-use ldmodel_laws::gathering::{live_by_path, once_in_rows};
-use ldmodel_laws::layout::{nothing_meets, placed_are_rows};
 use ldmodel::laid::OutputIndex;
 use ldmodel::memory::NoMemory;
 use ldmodel::names::ObjectPlace;
 use ldmodel::rows::Piece;
 use ldmodel::sections::{Part, SectionKey};
+use ldmodel_laws::gathering::{live_by_path, once_in_rows};
+use ldmodel_laws::layout::{nothing_meets, placed_are_rows};
 use ldmodel_project::input::InputObject;
 use ldmodel_project::view::ProjectView;
-use gather::sections::law::sections_of_objects;
-use gather::sections::section_table::{SectionId, SectionTable};
 use std::alloc::Global;
 
 /// Where an input section stands.

@@ -1,9 +1,9 @@
 //! What is kept of a link without faults.
 
 use crate::symbol_table::SymbolTable;
-use place::laying::Laying;
-use place::starts::Starts;
 use ldmodel::rows::Piece;
+use place::Laying;
+use place::starts::Starts;
 
 /// What is kept of a link without faults: its rows, its layout, where its input sections stand, and what its symbols
 /// are worth, by its own places.
