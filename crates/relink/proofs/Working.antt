@@ -14,7 +14,8 @@ use Rattle.elfobj.specs.Counts.{Counts, capped}
 use Rattle.elfobj.specs.Raised.{raised}
 use Rattle.elfobj.specs.declared.meter.Count.TheVariants as counts
 use Rattle.ldmodel.specs.Edits.{Add, After, Change, InUse, Move, PastEnd, Refusal, Remove, Replace, SetScript, Unknown}
-use Rattle.ldmodel.specs.Edits.{early_refusal, has_name, is_in_use, moved, named, place_of, removed, replaced, unnamed}
+use Rattle.ldmodel.specs.Edits.{early_refusal, has_name, is_in_use, moved, new_object, place_of, removed, replaced}
+use Rattle.ldmodel.specs.Edits.{unnamed}
 use Rattle.ldmodel.specs.Names.{distinct, names_in_objects, symbol_tables}
 use Rattle.ldmodel.specs.Project.{NamedObject, Project}
 use Rattle.ldmodel.specs.SessionWork.{Rises, named_by, names_by_script, names_of, objects_read, touched_names}
@@ -232,7 +233,7 @@ same_added : One → (h : Holding) (s : Staged) (key at : ℕ) (name bytes : Lis
     → s.objects.places.before ≡ None → s.objects.places.after ≡ Some at
     → is_in_use (objects_of h.contents.entries) name ≡ false → at ≤ length (objects_of h.contents.entries)
     → objects_of (next_entries h.contents.entries s.objects)
-    ≡ insert (objects_of h.contents.entries) at (named name bytes)
+    ≡ insert (objects_of h.contents.entries) at (new_object name bytes)
     → names_of_step h.contents.entries s.objects (Some key)
     ≡ names_found (find (has_name name) (objects_of h.contents.entries))
     ++ names_found (find (has_name name) (objects_of (next_entries h.contents.entries s.objects)))
@@ -242,8 +243,8 @@ same_added one h s key at name bytes d before after unused within made =
     let among : IsAmong (Some key) (Some at) new =
     subst (λ (q : Option ℕ). IsAmong (Some key) q new) after (among_after h s key d) in
     let rest : List NamedObject = objects_of (untouched (Some key) new) in
-    let here : named_under new key ≡ named name bytes =
-    same_inserted rest (objects_of old) at (named_under new key) (named name bytes)
+    let here : named_under new key ≡ new_object name bytes =
+    same_inserted rest (objects_of old) at (named_under new key) (new_object name bytes)
     (below at (untouched (Some key) new) among.0) within (sym (here_at key at new among) ∙ made) in
     let none : names_found (find (has_name name) (objects_of old)) ≡ [] =
     ap names_found (any_none (has_name name) (objects_of old) unused) in
@@ -298,7 +299,7 @@ same_of one h (Replace name bytes) s key d after stands =
     let objects : List NamedObject = objects_of h.contents.entries in
     same_named one h s key name d stands
     (ap (λ (p : Project). length p.objects) after.1.1
-    ∙ many_replaced objects (named name bytes) (place_of objects name))
+    ∙ many_replaced objects (new_object name bytes) (place_of objects name))
 same_of one h (Move name to) s key d after stands =
     let objects : List NamedObject = objects_of h.contents.entries in
     let known = not_refused (not (is_in_use objects name)) Unknown _ after.0 in
