@@ -10,6 +10,20 @@ use std::marker::Model;
 /// Why a canvas can't have more room: there is no memory.
 pub type NoMemory = AllocError;
 
+/// Copies bytes over as many others. Four of them, as most fields have, are copied as one word.
+#[inline(always)]
+fn copy_over(to: &mut [u8], from: &[u8])
+    requires { length to.old ≡ length from.now }
+    ensures { to.new ≡ from.now }
+{
+    if let [first, second, third, fourth] = from {
+        let word = [*first, *second, *third, *fourth];
+        to.copy_from_slice(&word);
+    } else {
+        to.copy_from_slice(from);
+    }
+}
+
 /// A list of bytes, and room for a number of them: up to that length it grows without more memory. Its
 /// bytes change by [`Canvas::resize_reserved`] and [`Canvas::write`] alone.
 #[derive(Drop)]
@@ -104,7 +118,7 @@ impl Canvas {
         let len = self.bytes.len();
         prove!(at <= len);
         let end = at + bytes.len();
-        self.bytes[at..end].copy_from_slice(bytes);
+        copy_over(&mut self.bytes[at..end], bytes);
         meter.raise(Count::Bytes, bytes.len() as u64);
     }
 }

@@ -1,7 +1,7 @@
 -- The names that symbol tables declare.
 use Rattle.std.proofs.Common.{◌≡◌, ◌∙◌, ◌≤◌, ◌+◌, ℕ, Bool, true, false, cond, not, List, [], ◌∷◌, ◌++◌, length, map}
 use Rattle.std.proofs.Common.{filter}
-use Rattle.std.proofs.Common.{refl, ap, sym, subst, arith}
+use Rattle.std.proofs.Common.{refl, ap, sym, subst}
 use Rattle.std.specs.Prelude.{Option, bytes_eq, nat_lt, ◌||◌}
 use Rattle.std.specs.List.{AllByRecursion, IsDistinct, enumerate_from}
 use Rattle.std.specs.Set.{is_member}

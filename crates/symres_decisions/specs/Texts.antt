@@ -1,5 +1,5 @@
 -- Symbol tables of objects, and the cases of the names that they declare.
-use Rattle.std.specs.Prelude.{ℕ, ◌≡◌, ◌+◌, ◌<◌, ◌≤◌, ◌++◌, ◌⊎◌, Bool, true, false, List, Option, Some, None, length}
+use Rattle.std.specs.Prelude.{ℕ, ◌≡◌, ◌+◌, ◌<◌, ◌++◌, ◌⊎◌, Bool, true, false, List, Option, Some, None, length}
 use Rattle.std.specs.Prelude.{slice_set}
 use Rattle.std.specs.Prelude.{bytes_eq, if◌then◌else◌, slice_index_or}
 use Rattle.std.specs.List.{All}
