@@ -4,7 +4,7 @@
 use Rattle.std.specs.Prelude.{◌≡◌, ℕ, ◌≤◌, ◌%◌, List, [], ◌∷◌, length, flat_map, map, true, false}
 use Rattle.ldmodel.specs.Each.{Each}
 use Rattle.ldmodel.specs.Layout.{PlacedSection}
-use Rattle.ldmodel.specs.Segments.{Group, Segment, sections_of_group, nonempty, shares_segment, segment_start, file_end}
+use Rattle.ldmodel.specs.Segments.{Group, Segment, group_sections, nonempty, shares_segment, segment_start, file_end}
 use Rattle.ldmodel.specs.Segments.{headers_end, page_size}
 
 -- each member and the one after it
@@ -26,7 +26,7 @@ Shares p q = shares_segment p q ≡ true
 
 -- the sections of a group share a segment, each with the one before it
 abbrev pub IsTogether : Group → Type 0
-IsTogether g = Neighbours Shares (sections_of_group g)
+IsTogether g = Neighbours Shares (group_sections g)
 
 -- the last section of a group and the first of the next one do not
 abbrev pub AreApart : Group → Group → Type 0
@@ -34,7 +34,7 @@ AreApart g h = shares_segment (last_of g) h.first ≡ false
 
 -- a list of sections in groups
 pub record IsGrouping (sections : List PlacedSection) (gs : List Group) : Type 0 where
-  pub parts : flat_map sections_of_group gs ≡ sections
+  pub parts : flat_map group_sections gs ≡ sections
   pub together : Each IsTogether gs
   pub apart : Neighbours AreApart gs
 
