@@ -9,7 +9,7 @@ from client.adapt.notes import CHANGED, DROPPED, LEFT, REWRITTEN, SEGMENTS, Left
 from client.adapt.objects import NOBITS
 from client.adapt.patterns import is_name
 from client.adapt.statements import needs_writing
-from client.adapt.taking import OWN_ALIGN, flags_of, inputs, row, takes_own
+from client.adapt.taking import OWN_ALIGN, flags_of, inputs, row, takes_others, takes_own
 from client.adapt.tree import Assign, Command, Data, Expr, Input, Part, Region, Section
 from client.adapt.values import Place
 
@@ -118,7 +118,8 @@ class Sections(Heads):
         if not takes_own(model, section) or any(item.align >= OWN_ALIGN for item in row(model, section)):
             return False
         stays = any(isinstance(node, (Assign, Data)) for node in section.body) \
-            or any(item.size for item in row(model, section))
+            or any(item.size for item in row(model, section)) \
+            or model.objects is None and takes_others(section)
         head = 1 if align is None or align.value is None else ex.constant(align.value)
         if not stays or head is None or head >= OWN_ALIGN:
             return False

@@ -79,6 +79,13 @@ class AdaptTest(unittest.TestCase):
             with self.assertRaisesRegex(NoParse, message):
                 adapt(text)
 
+    def test_discard(self) -> None:
+        """What lld takes in /DISCARD/, and GNU ld does not, stands before it."""
+        result = adapt('SECTIONS { /DISCARD/ : { *(.x) a = 1; . = 4; BYTE(2) ASSERT(a == 1, "m"); *(.y) } }')
+        self.assertEqual(" ".join(result.text.decode().split()),
+                         'SECTIONS { a = 1; ASSERT(a == 1, "m"); /DISCARD/ : { *(.x) *(.y) } }')
+        self.assertEqual([note.kind for note in result.report], ["rewritten", "dropped", "dropped", "rewritten"])
+
     def test_defsym(self) -> None:
         """--defsym is an assignment, and decides DEFINED."""
         result = adapt("x = DEFINED(x) ? x : 4;\ny = x;", [("x", "0x10")])
