@@ -17,7 +17,7 @@ use Rattle.emit_values.specs.Values.{AreValues}
 use Rattle.emit_values.specs.declared.values.Values.{Values}
 use Rattle.emit.specs.Output.{IsOutput}
 use Rattle.emit.specs.Runs.{AreRunsUnless}
-use Rattle.emit.specs.declared.output.Output.{Output}
+use Rattle.emit.specs.declared.output.OutputDrawing.{OutputDrawing}
 
 -- the places, the values, and the fields of what does not stay, of a project at a layout whose image is not too long
 pub record IsDrawableAt (p : Project) (s : Layout) (a : NamingState) (l : Laying) (t : Starts) (v : Values)
@@ -37,7 +37,7 @@ pub record IsDrawable (p : Project) (l : Laying) (t : Starts) (v : Values) (r : 
 
 -- the same, and these are its output sections, of which these input sections stay
 pub record AreOutputs (p : Project) (l : Laying) (t : Starts) (v : Values) (s : Layout) (stays : SectionKey → Bool)
-    (xs : List Output) : Type 0 where
+    (xs : List OutputDrawing) : Type 0 where
   pub names : NamingState
   pub laying : IsLaying p s l
   pub starts : AreStarts p s t
@@ -46,7 +46,7 @@ pub record AreOutputs (p : Project) (l : Laying) (t : Starts) (v : Values) (s : 
   pub outputs : AllZip (IsOutput p s stays) s.sections xs
 
 -- it has a layout with these output sections
-pub record HasOutputs (p : Project) (l : Laying) (t : Starts) (v : Values) (xs : List Output) : Type 0 where
+pub record HasOutputs (p : Project) (l : Laying) (t : Starts) (v : Values) (xs : List OutputDrawing) : Type 0 where
   pub layout : Layout
   pub stays : SectionKey → Bool
   pub are : AreOutputs p l t v layout stays xs

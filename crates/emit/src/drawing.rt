@@ -24,7 +24,7 @@ ghost use Rattle.emit_values.specs.LinkView.{known_link};
 ghost use Rattle.emit.specs.Drawable.{AreOutputs, HasOutputs, IsDrawable, IsDrawableAt};
 ghost use Rattle.emit.specs.Kept.{AreKept, HaveStayed, IsSound};
 
-use crate::output::{Output, outputs};
+use crate::output::{OutputDrawing, outputs};
 use crate::parts::drawing_parts;
 use crate::pieces::image_pieces;
 use crate::relocated::Relocated;
@@ -35,15 +35,15 @@ use emit_image::law::{drawing_is_image, drawing_stands, joined_is_whole, placeme
 use emit_image::redraw::redraw;
 use emit_image::section::{Drawing, ImagePart, ImagePiece};
 use emit_image::tail::{TailPart, TailParts};
-use ldmodel_laws::segments::sections_in_file;
-use ldmodel_laws::stayed::stayed_in_both;
-use place::laying::Laying;
-use place::starts::Starts;
-use ldmodel::memory::NoMemory;
-use ldmodel::rows::Piece;
-use ldmodel_project::view::ProjectView;
 use emit_relocate::earlier::Earlier;
 use emit_values::values::Values;
+use ldmodel::memory::NoMemory;
+use ldmodel::rows::Piece;
+use ldmodel_laws::segments::sections_in_file;
+use ldmodel_laws::stayed::stayed_in_both;
+use ldmodel_project::view::ProjectView;
+use place::laying::Laying;
+use place::starts::Starts;
 use std::alloc::Global;
 
 /// A part of the tail, lent.
@@ -78,7 +78,7 @@ fn draw_outputs(
     laying: &Laying,
     starts: &Starts,
     values: &Values<'_>,
-    outputs: &[Output<'_>],
+    outputs: &[OutputDrawing<'_>],
     patches: &[Patch],
     meter: &mut Meter,
 ) -> Result<(), NoMemory>

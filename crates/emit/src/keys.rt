@@ -16,10 +16,12 @@ use std::alloc::Global;
 fn as_read(object: &Object)
     ensures { IsRead object.now }
 {
+    // so that it is known that the bytes of an object fit
     let _data = object.data();
     if object.sections().is_empty() {
         return;
     }
+    // so that what an object says of its relocations is known
     let _relocations = object.relocations(LinkedIndex(0));
 }
 

@@ -14,9 +14,10 @@ use crate::relocated::Relocated;
 use elfobj::object::Object;
 use elfobj::section::LinkedIndex;
 use emit_fields::patch::Patch;
+use ldmodel::impossible::impossible;
 use ldmodel::memory::NoMemory;
 use ldmodel_project::input::InputObject;
-use std::alloc::{AllocError, Global};
+use std::alloc::Global;
 
 /// How many sections an object has.
 fn count(object: &Object) -> usize
@@ -44,7 +45,8 @@ pub(crate) fn first_sections(
         firsts.push(next)?;
         match next.checked_add(count(input.object)) {
             Some(sum) => next = sum,
-            None => return Err(AllocError),
+            // The headers of all objects are fewer than 2^64
+            None => return Err(impossible()),
         }
     }
     Ok(firsts)

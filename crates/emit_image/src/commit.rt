@@ -119,6 +119,7 @@ fn write_patches(canvas: &mut Canvas, patches: &[Patch], end: usize, meter: &mut
     ensures counted { (n : ℕ) → raised meter.new Bytes n
         ≡ raised meter.old Bytes (patch_bytes patches.now + n) }
 {
+    // so that the length of the canvas is known to fit
     let _len = canvas.len();
     for patch in patches {
         let field = patch.field.bytes();

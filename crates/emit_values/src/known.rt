@@ -1,11 +1,10 @@
 //! What the evaluation of relocations asks of a link.
 
-ghost use Rattle.std.specs.Prelude.{◌≡◌, ◌<◌, ℕ, List, Some, not, option_copied};
+ghost use Rattle.std.specs.Prelude.{◌≡◌, ◌<◌, ℕ, List, Some, option_copied};
 ghost use Rattle.std.specs.Option.{option_map};
 ghost use Rattle.ldmodel.specs.Layout.{Layout, PlacedPiece};
 ghost use Rattle.ldmodel.specs.Live.{symbol_at};
 ghost use Rattle.ldmodel.specs.NameFaults.{object_name};
-ghost use Rattle.ldmodel.specs.Names.{is_local};
 ghost use Rattle.ldmodel.specs.Project.{Project};
 ghost use Rattle.ldmodel.specs.SymbolValues.{placed_part};
 ghost use Rattle.place.specs.Starts.{AreStarts};
@@ -16,22 +15,12 @@ ghost use Rattle.emit_values.specs.Seen.{is_seen};
 use crate::link_view::LinkView;
 use elfobj::object::Object;
 use elfobj::relocation::SymbolIndex;
-use elfobj::symbol::Binding;
-use place::starts::Starts;
+use emit_relocate::known::Known;
 use ldmodel::names::{Case, NameKey, ObjectPlace};
 use ldmodel::sections::SectionKey;
 use ldmodel_project::view::ProjectView;
-use emit_relocate::known::Known;
-
-/// Whether a symbol declares its name to other objects.
-fn declares(binding: Binding) -> bool
-    ensures { result ≡ not (is_local binding) }
-{
-    match binding {
-        Binding::Local => false,
-        Binding::Global | Binding::Weak => true,
-    }
-}
+use place::starts::Starts;
+use symres::declaring::declares;
 
 /// Whether there is a symbol that isn't local.
 fn sees(project: &ProjectView<'_>, object: ObjectPlace, symbol: SymbolIndex) -> bool

@@ -15,8 +15,8 @@ use elfobj::relocation::{Relocation, SymbolIndex};
 use elfobj::symbol::SymbolPlace;
 use ldmodel::names::{Case, Entry, ObjectPlace};
 use ldmodel::sections::{Part, SectionKey};
-use symres::naming::Naming;
 use ldmodel_project::view::ProjectView;
+use symres::naming::Naming;
 
 /// The section that a symbol of the object at a place is defined in, if it is in one.
 fn section_at(place: usize, at: SymbolPlace) -> Option<SectionKey>

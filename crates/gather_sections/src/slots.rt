@@ -6,9 +6,10 @@ ghost use Rattle.gather_sections.specs.Slots.{AreLaid, AreLinkedCounted};
 
 use elfobj::object::Object;
 use elfobj::section::SectionIndex;
+use ldmodel::impossible::impossible;
 use ldmodel::memory::NoMemory;
 use ldmodel_project::view::ProjectView;
-use std::alloc::{AllocError, Global};
+use std::alloc::Global;
 
 /// The header numbers of an object that a table has: those from 0 to that of its last linked section.
 #[derive(Clone, Copy)]
@@ -66,8 +67,8 @@ pub(crate) fn lay_slots(alloc: Global, project: &ProjectView<'_>) -> Result<AllS
         })?;
         match slots.checked_add(count) {
             Some(sum) => slots = sum,
-            // Unreachable: 2^32 section headers take 256 GiB
-            None => return Err(AllocError),
+            // 2^32 section headers take 256 GiB
+            None => return Err(impossible()),
         }
     }
     Ok(AllSlots { objects, slots })

@@ -79,6 +79,7 @@ impl<'a> ProjectView<'a> {
         ensures { AreObjectsRead self.now.objects }
     {
         for input in self.inputs {
+            // so that it is known that the bytes of an object fit
             let _bytes = input.object.data();
         }
     }

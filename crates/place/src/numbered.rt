@@ -12,6 +12,7 @@ use ldmodel_project::view::ProjectView;
 fn sections_differ(object: &Object)
     ensures { EachLater (λ (x y : LinkedSection). (x.number.0 == y.number.0) ≡ false) object.now.sections }
 {
+    // so that what an object says of its sections is known
     let _sections = object.sections();
 }
 

@@ -2,11 +2,11 @@
 
 use crate::why::explain::explain;
 use crate::why::lto::is_slim;
+use elfobj::meter::Meter;
 use elfobj::object::Object;
 use elfobj::refusal::ObjectRefusal;
 use elfobj::section::LinkedIndex;
 use filearg::file::{NamedFile, print_too_long};
-use elfobj::meter::Meter;
 use std::alloc::Global;
 use std::io;
 use std::io::{ErrorKind, Write};

@@ -12,13 +12,13 @@ ghost use Rattle.relink.specs.Last.{replaced_in, without};
 
 use crate::answer::Answer;
 use elfobj::object::Object;
-use relink_kept::good::Good;
-use relink_kept::stays::{Last, Replaced};
 use ldmodel::memory::NoMemory;
 use ldmodel::names::{ObjectKey, ObjectPlace};
 use ldmodel_project::named::NamedObject;
 use ldmodel_project::project::{Next, Project};
 use ldmodel_project::staged::Staged;
+use relink_kept::good::Good;
+use relink_kept::stays::{Last, Replaced};
 use std::alloc::Global;
 
 /// What is kept of the last link without faults.

@@ -10,8 +10,8 @@ ghost use Rattle.place.specs.sections.Kept.{IsKept};
 
 use crate::same::first_changed;
 use crate::stays::Last;
-use ldmodel_laws::layout::placed_are_rows;
 use ldmodel::rows::Piece;
+use ldmodel_laws::layout::placed_are_rows;
 use ldmodel_project::view::ProjectView;
 use place::sections::placement::Placement;
 

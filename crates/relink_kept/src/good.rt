@@ -1,9 +1,9 @@
 //! What is kept of a link without faults.
 
 use crate::symbol_table::SymbolTable;
+use ldmodel::rows::Piece;
 use place::laying::Laying;
 use place::starts::Starts;
-use ldmodel::rows::Piece;
 
 /// What is kept of a link without faults: its rows, its layout, where its input sections stand, and what its symbols
 /// are worth, by its own places.

@@ -3,11 +3,11 @@
 ghost use Rattle.std.specs.Prelude.{◌≡◌};
 ghost use Rattle.relink_kept.specs.Standing.{range_at, range_from, standing_in};
 
-use place::laying::Laying;
-use place::starts::{PartPlace, Starts};
+use emit::relocate::earlier::FileRange;
 use ldmodel::laid::Placed;
 use ldmodel::sections::SectionKey;
-use emit::relocate::earlier::FileRange;
+use place::laying::Laying;
+use place::starts::{PartPlace, Starts};
 
 /// Where an input section stands.
 #[derive(Clone, Copy, Debug, PartialEq, Eq)]

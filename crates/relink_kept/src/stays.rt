@@ -12,13 +12,13 @@ use crate::standing::{Standing, find_standing};
 use elfobj::object::Object;
 use elfobj::relocation::SymbolIndex;
 use elfobj::symbol::Symbol;
+use emit::relocate::earlier::{Earlier, FileRange};
+use emit::relocate::value::SymbolValue;
+use ldmodel::names::ObjectPlace;
+use ldmodel::sections::SectionKey;
 use ldmodel_laws::segments::{files_in_order, sections_in_file};
 use place::laying::Laying;
 use place::starts::Starts;
-use ldmodel::names::ObjectPlace;
-use ldmodel::sections::SectionKey;
-use emit::relocate::earlier::{Earlier, FileRange};
-use emit::relocate::value::SymbolValue;
 
 /// An object of the earlier link in whose place another of its name came.
 #[derive(Clone, Copy)]

@@ -13,11 +13,11 @@ ghost use Rattle.symres_table.specs.State.{Forgets, IsNamed};
 
 use crate::naming::Naming;
 use elfobj::meter::Meter;
-use symres_decisions::change::ObjectChange;
 use ldmodel::memory::NoMemory;
 use ldmodel_project::order::Order;
 use ldscript::script::Script;
 use std::mem;
+use symres_decisions::change::ObjectChange;
 
 impl Naming {
     /// Takes all memory that a change needs, but for the order after it.

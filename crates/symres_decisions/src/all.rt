@@ -35,6 +35,7 @@ pub fn decide_all(names: &Names, script: &Script, cases: &mut Cases, meter: &mut
     ensures complete { (k : ℕ) → HasName names.now.names k → HasCase cases.new k }
     ensures counted { CountsNames meter.old meter.new (declared_names names.now.objects) }
 {
+    // so that the range of the count is known
     let _names = meter.names();
     let count = names.known();
     for number in 0..count {

@@ -76,6 +76,7 @@ fn number_of(known: &NameTable, guess: Option<usize>, name: &[u8]) -> Option<usi
         IsNamed known.now.slots n name.now) }
     ensures distinct { AreDistinct known.now.slots }
 {
+    // so that the number of known names is known to fit
     let _known = known.len();
     if let Some(number) = guess {
         if let Some(guessed) = known.name_of(number) {
