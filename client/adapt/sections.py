@@ -10,7 +10,7 @@ from client.adapt.objects import NOBITS
 from client.adapt.patterns import is_name
 from client.adapt.statements import needs_writing
 from client.adapt.taking import OWN_ALIGN, flags_of, inputs, row, takes_others, takes_own
-from client.adapt.tree import Assign, Command, Data, Expr, Input, Part, Region, Section
+from client.adapt.tree import Assert, Assign, Command, Data, Expr, Input, Part, Region, Section
 from client.adapt.values import Place
 
 
@@ -98,6 +98,8 @@ class Sections(Heads):
                 place.notes = place.notes or ["as " + ex.short(folded)]
             self.report(section.start, f"the address of {section.name}:", place)
             known = folded
+            if self._empty(section) and not (address.kind == "name" and address.word == "."):
+                self._after_empty(step, section)
         if align is not None and address is None and self._empty(section):
             self.blank(align, REWRITTEN, f"ALIGN of {section.name}: it takes nothing of these objects, so that GNU ld "
                        "leaves it out")
@@ -130,6 +132,23 @@ class Sections(Heads):
         model.note(REWRITTEN, section.start, f"{section.name} is aligned by {OWN_ALIGN}, as sections are that GNU ld "
                    "makes itself and places there, without contents in a static link")
         return True
+
+    def _after_empty(self, step: Step, section: Section) -> None:
+        """Says where `.` is the address of a section that takes nothing, which GNU ld has for the next section alone."""
+        model = self.model
+        for later in model.steps[step.index + 1:]:
+            node = later.node
+            if later.kind in ("gone", "close", "input", "other"):
+                continue
+            if later.kind == "open" and isinstance(node, Section) and self._empty(node):
+                continue
+            if not isinstance(node, (Assign, Assert)):
+                return
+            if ex.uses_dot(node.value) or isinstance(node, Assign) and node.name == "." and node.op != "=":
+                model.note(CHANGED, node.start, f"{model.text(node)}: `.` is the address of {section.name}, which takes "
+                           "nothing of these objects; to GNU ld it is the place before that")
+            if isinstance(node, Assign) and node.name == "." and not ex.uses_dot(node.value):
+                return
 
     def _empty(self, section: Section) -> bool:
         """Whether a section has nothing but input statements, and these take nothing of the objects."""

@@ -154,6 +154,6 @@ def _run(words: list[str], folder: str) -> str:
     environment = {name: value for name, value in os.environ.items() if name != "LDI_FALLBACK"}
     done = subprocess.run(words, cwd=folder, env=environment, capture_output=True, text=True, timeout=1800, check=False)
     if done.returncode:
-        reasons = re.sub(r"(?m)^.*(warning|NOTE|changed): .*\n?", "", done.stderr)
+        reasons = re.sub(r"(?m)^.*(warning|NOTE|changed|no entry symbol): .*\n?", "", done.stderr)
         raise LinkFailed(reasons or f"status {done.returncode}")
     return done.stderr

@@ -125,6 +125,8 @@ HEADS = [
     _row("ALIGN and an address", ".text 0x400003 : ALIGN(64) { *(.text) } REST " + TAIL, "r"),
     _row("ALIGN of an empty section", ".e : ALIGN(4096) { *(.none) } a = .; .f : ALIGN(64) { k = .; } b = .; REST "
          + TAIL, "r", known=True),
+    _row("the address of an empty section", ".t : { *(.text) } .none 0x401000 : { *(.none) } .no : { *(.no) } e = .; "
+         ".d : { *(.data) } f = .; .e . : { *(.none) } g = .; REST " + TAIL, "c", known=True, different=("symbol e",)),
     _row("SUBALIGN", ".t : SUBALIGN(8) { *(.data) } REST " + TAIL, "c", different=("section", "symbol", "load")),
     _row("ONLY_IF_RO", ".x : ONLY_IF_RO { *(.rodata) } .x : ONLY_IF_RW { *(.rodata) q = .; } .y : ONLY_IF_RO { "
          "*(.data) } .y : ONLY_IF_RW { *(.data) r = .; } REST " + TAIL, "rd", known=True),
