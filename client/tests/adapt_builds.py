@@ -101,6 +101,8 @@ def linked(link: Noted, folder: Path) -> tuple[Placed, Placed, str]:
 
     GNU ld links copies of the objects whose sections have no flags MERGE and STRINGS: `ldi` merges no strings.
     """
+    for name in ("gnu.out", "ldi.out", "ldi.map"):
+        (folder / name).unlink(missing_ok=True)  # of an earlier link
     gnu = [_unmerged(word, link.folder, folder / "unmerged") for word in link.again(str(folder / "gnu.out"))]
     _run(["/usr/bin/ld.bfd", *gnu], link.folder)
     with open(folder / "gnu.out", "rb") as file:
