@@ -134,7 +134,7 @@ class Sections(Heads):
         return True
 
     def _after_empty(self, step: Step, section: Section) -> None:
-        """Says where `.` is the address of a section that takes nothing, which GNU ld has for the next section alone."""
+        """Says where `.` is the address of a section that takes nothing: GNU ld has it for the next section alone."""
         model = self.model
         for later in model.steps[step.index + 1:]:
             node = later.node
@@ -145,8 +145,8 @@ class Sections(Heads):
             if not isinstance(node, (Assign, Assert)):
                 return
             if ex.uses_dot(node.value) or isinstance(node, Assign) and node.name == "." and node.op != "=":
-                model.note(CHANGED, node.start, f"{model.text(node)}: `.` is the address of {section.name}, which takes "
-                           "nothing of these objects; to GNU ld it is the place before that")
+                model.note(CHANGED, node.start, f"{model.text(node)}: `.` is the address of {section.name}, which "
+                           "takes nothing of these objects; to GNU ld it is the place before that")
             if isinstance(node, Assign) and node.name == "." and not ex.uses_dot(node.value):
                 return
 

@@ -97,8 +97,8 @@ class AdaptRowsTest(unittest.TestCase):
 
     def test_binary(self) -> None:
         """OUTPUT_FORMAT(binary): `objcopy -O binary` makes of the image the file that GNU ld writes."""
-        row = Row("binary", f"OUTPUT_FORMAT(binary) SECTIONS {{ . = 0x1000; .t : {{ *(.text .data) }} =0x90909090 {REST} "
-                            f"=0x90909090 {TAIL} }}", "c")
+        script = f". = 0x1000; .t : {{ *(.text .data) }} =0x90909090 {REST} =0x90909090 {TAIL}"
+        row = Row("binary", f"OUTPUT_FORMAT(binary) SECTIONS {{ {script} }}", "c")
         result = self.adapted(row)
         self.assertEqual([note.text.partition(":")[0] for note in result.report], ["OUTPUT_FORMAT(binary)"])
         Path("original.ld").write_text(row.text(), encoding="ascii")

@@ -111,8 +111,8 @@ class KernelTest(LinkTest):
     def test_symbol_that_is_left_out(self) -> None:
         """A symbol whose section --gc-sections leaves out has no value: that is said, and there is no image."""
         object_ = self.compile("two.c", "long start(void) { return 1; } long other(void) { return 2; }")
-        script = """ENTRY(start) SECTIONS { . = 0x401000; .text : { *(.text.start) *(.text.other) } /DISCARD/ : { *(*) } }
-                    copy = other;"""
+        script = """ENTRY(start) copy = other;
+            SECTIONS { . = 0x401000; .text : { *(.text.start) *(.text.other) } /DISCARD/ : { *(*) } }"""
         self.write("t.ld", script)
         self.links("-T", "t.ld", "-o", "image", object_)
         done = self.ld("--gc-sections", "-T", "t.ld", "-o", "none", object_)
