@@ -151,8 +151,8 @@ class Sections(Heads):
                 return
 
     def _empty(self, section: Section) -> bool:
-        """Whether a section has nothing but input statements, and these take nothing of the objects."""
-        return (self.model.objects is not None and not row(self.model, section)
+        """Whether a section has nothing but input statements, and these take no byte of the objects."""
+        return (self.model.objects is not None and not any(item.size for item in row(self.model, section))
                 and all(isinstance(node, (Input, Command)) for node in section.body))
 
     def _type(self, section: Section) -> None:
