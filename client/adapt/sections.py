@@ -10,7 +10,7 @@ from client.adapt.objects import NOBITS
 from client.adapt.patterns import is_name
 from client.adapt.statements import needs_writing
 from client.adapt.taking import OWN_ALIGN, flags_of, inputs, row, takes_others, takes_own
-from client.adapt.tree import Assert, Assign, Command, Data, Expr, Input, Part, Region, Section
+from client.adapt.tree import Assert, Assign, Command, Data, Expr, Input, Node, Part, Region, Section
 from client.adapt.values import Place
 
 
@@ -151,9 +151,17 @@ class Sections(Heads):
                 return
 
     def _empty(self, section: Section) -> bool:
-        """Whether a section has nothing but input statements, and these take no byte of the objects."""
+        """Whether a section has nothing but input statements, which take no byte of the objects, and idle PROVIDEs."""
         return (self.model.objects is not None and not any(item.size for item in row(self.model, section))
-                and all(isinstance(node, (Input, Command)) for node in section.body))
+                and all(isinstance(node, (Input, Command)) or self._is_idle(node) for node in section.body))
+
+    def _is_idle(self, node: Node) -> bool:
+        """Whether a statement is a PROVIDE that does not count, as nothing uses its symbol."""
+        objects = self.model.objects
+        if not (isinstance(node, Assign) and node.wrapper.startswith("PROVIDE") and objects is not None):
+            return False
+        return not objects.refers(node.name) and not any(
+            d.plain for d in self.model.definitions.get(node.name, ()) if d.step.node is node)
 
     def _type(self, section: Section) -> None:
         """NOLOAD and its like."""

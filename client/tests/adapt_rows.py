@@ -128,7 +128,8 @@ HEADS = [
     _row("the address of an empty section", ".t : { *(.text) } .none 0x401000 : { *(.none) } .no : { *(.no) } e = .; "
          ".d : { *(.data) } f = .; .e . : { *(.none) } g = .; REST " + TAIL, "c", known=True, different=("symbol e",)),
     _row("input sections without bytes", ".t : { *(.text) } .e : ALIGN(4096) { *c.o(.data) } a = .; .f 0x410000 : { "
-         "*c.o(.data) } b = .; .g : { *(.data) } REST " + TAIL, "rc", known=True, different=("symbol b",)),
+         "PROVIDE(idle = .); *c.o(.data) } b = .; .g : { *(.data) } REST " + TAIL, "rc", known=True,
+         different=("symbol b",)),
     _row("SUBALIGN", ".t : SUBALIGN(8) { *(.data) } REST " + TAIL, "c", different=("section", "symbol", "load")),
     _row("ONLY_IF_RO", ".x : ONLY_IF_RO { *(.rodata) } .x : ONLY_IF_RW { *(.rodata) q = .; } .y : ONLY_IF_RO { "
          "*(.data) } .y : ONLY_IF_RW { *(.data) r = .; } REST " + TAIL, "rd", known=True),
