@@ -148,6 +148,7 @@ def _rules(model: Model) -> None:
     unused(model)
     _order_of_files(model)
     _starts_and_stops(model)
+    _linkonce(model)
     _entry(model)
 
 
@@ -193,6 +194,17 @@ def _starts_and_stops(model: Model) -> None:
                     and model.objects.definition(name) is None:
                 model.edits.insert(at, f" PROVIDE({name} = .) ", order=-5 if at == section.open + 1 else 10 ** 7)
                 model.note(REWRITTEN, section.start, f"{name}, which GNU ld defines by itself, is PROVIDEd")
+
+
+def _linkonce(model: Model) -> None:
+    """Says which sections of one name GNU ld links once: the older form of COMDAT."""
+    if model.objects is None:
+        return
+    first: dict[str, str] = {}
+    for item in model.objects.sections():
+        if item.name.startswith(".gnu.linkonce.") and first.setdefault(item.name, item.object) != item.object:
+            model.note(CHANGED, max(len(model.source.text) - 1, 0), f"{item.name} of {item.object} is linked, beside "
+                       f"that of {first[item.name]}; GNU ld links the first of these alone")
 
 
 def _orphans(model: Model) -> None:

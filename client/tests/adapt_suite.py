@@ -11,7 +11,7 @@ from pathlib import Path
 from client.tests.adapt_builds import Noted, linked
 from client.tests.adapt_compare import LinkFailed, differences
 
-OTHER_LINKS = re.compile(r"-shared|-r\b|-Ur|-pie|-q\b|--emit-relocs|i386|elf32|x32|l1om|k1om|--32|tmpdir|\$|bndplt")
+OTHER_LINKS = re.compile(r"-shared|-r\b|-Ur|-pie|-q\b|--emit-relocs|i386|elf32|x32|l1om|k1om|--32|tmpdir|\$|bndplt|-b ")
 """In the words of a test: a link of another kind, or for another machine."""
 
 

@@ -105,6 +105,17 @@ class AdaptTest(unittest.TestCase):
         self.assertEqual(result.status, 2)
         self.assertTrue(any("no statement takes .rodata of" in note.text for note in result.report))
 
+    def test_linkonce(self) -> None:
+        """Sections that GNU ld links once."""
+        with tempfile.TemporaryDirectory() as folder:
+            paths = [os.path.join(folder, name) for name in ("a.o", "b.o", "c.o")]
+            for path, name in zip(paths, ("f", "g", "f")):
+                text = f'.section .gnu.linkonce.t.{name},"ax"\nret'
+                subprocess.run(["as", "-o", path, "-"], input=text, text=True, check=True, timeout=60)
+            result = adapt("SECTIONS { .text : { *(.text .gnu.linkonce.t.*) } }", objects=paths)
+        wanted = f".gnu.linkonce.t.f of {paths[2]} is linked, beside that of {paths[0]}; GNU ld links the first of these"
+        self.assertEqual([note.text for note in result.report], [f"{wanted} alone"])
+
     def test_left_says_what_to_do(self) -> None:
         """An object's symbol outside of ASSERT."""
         report = adapt("SECTIONS { .text : { *(.text) } }\njiffies = jiffies_64;").report
