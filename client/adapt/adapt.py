@@ -48,7 +48,8 @@ class Adapted:
 def adapt(script: os.PathLike[str] | str | bytes, defsyms: Sequence[tuple[str, str]] = (),
           objects: Objects | Mapping[str, bytes] | Iterable[str] | None = None,
           include_path: Sequence[str] = (), path: str = "script", orphans: bool = True,
-          values: Mapping[str, int] | None = None) -> Adapted:
+          values: Mapping[str, int] | None = None, later: Sequence[tuple[str, str]] = (),
+          undefined: Iterable[str] = ()) -> Adapted:
     """Rewrites `script` into the profile.
 
     `script` is a file's path as a `Path`, or a text (`str` or `bytes`), whose name in the report is then `path`.
@@ -58,8 +59,9 @@ def adapt(script: os.PathLike[str] | str | bytes, defsyms: Sequence[tuple[str, s
     `include_path` are the folders where INCLUDE looks after the current one. With `orphans`, and objects, input
     sections that no statement takes are reported as left. `values` are addresses of objects' symbols that an earlier
     link of the same objects gave: where an expression outside of ASSERT names one, which is left otherwise, its number
-    is written (0 where there is none); the caller links again until the numbers stay (`Adapted.valued`). Raises
-    `NoParse`, and `OSError` where a file cannot be read.
+    is written (0 where there is none); the caller links again until the numbers stay (`Adapted.valued`). `later` are
+    pairs as `defsyms`, whose assignments stand after the script; `undefined` are names that are wanted as by EXTERN.
+    Raises `NoParse`, and `OSError` where a file cannot be read.
     """
     if isinstance(script, os.PathLike):
         path = os.fspath(script)
@@ -67,23 +69,34 @@ def adapt(script: os.PathLike[str] | str | bytes, defsyms: Sequence[tuple[str, s
             script = file.read()
     data = script.encode() if isinstance(script, str) else script
     try:
-        return _adapted(data, defsyms, objects, include_path, path, orphans, values)
+        source = _source(data, defsyms, later, path, include_path)
+        return _adapted(source, [*defsyms, *later], objects, orphans, values, undefined)
     except RecursionError:
         reason = "an expression of the script has hundreds of signs: use symbols for its parts"
         raise NoParse(path, 1, reason) from None
 
 
-def _adapted(data: bytes, defsyms: Sequence[tuple[str, str]],
-             objects: Objects | Mapping[str, bytes] | Iterable[str] | None,
-             include_path: Sequence[str], path: str, orphans: bool, values: Mapping[str, int] | None) -> Adapted:
+def _source(data: bytes, defsyms: Sequence[tuple[str, str]], later: Sequence[tuple[str, str]], path: str,
+            include_path: Sequence[str]) -> Source:
+    """The text with the assignments of --defsym before it and after it."""
+    front, back = (" ".join(f"{_checked(name, value)} = {value};" for name, value in pairs).encode("latin-1", "replace")
+                   for pairs in (defsyms, later))
+    text = b"%s %s" % (front, data) if front else data
+    if back:
+        text += (b"" if text.endswith(b"\n") else b"\n") + back
+    return Source(path, text, tuple(include_path))
+
+
+def _adapted(source: Source, defsyms: Sequence[tuple[str, str]],
+             objects: Objects | Mapping[str, bytes] | Iterable[str] | None, orphans: bool,
+             values: Mapping[str, int] | None, undefined: Iterable[str]) -> Adapted:
     """The same, of a text."""
     if objects is not None and not isinstance(objects, Objects):
         objects = Objects(objects)
-    front = "".join(f"{_checked(name, value)} = {value}; " for name, value in defsyms)
-    source = Source(path, front.encode("latin-1", "replace") + data, tuple(include_path))
     nodes, hashes = parse(source)
     model = Model(source, nodes, objects)
     model.values = values
+    model.externs.update(undefined)
     for start, end in hashes:
         inside = source.text[start + 1:end].strip().replace("*/", "* /")
         model.edits.replace(start, end, f"/* {inside} */")
@@ -135,6 +148,7 @@ def _rules(model: Model) -> None:
     unused(model)
     _order_of_files(model)
     _starts_and_stops(model)
+    _linkonce(model)
     _entry(model)
 
 
@@ -180,6 +194,17 @@ def _starts_and_stops(model: Model) -> None:
                     and model.objects.definition(name) is None:
                 model.edits.insert(at, f" PROVIDE({name} = .) ", order=-5 if at == section.open + 1 else 10 ** 7)
                 model.note(REWRITTEN, section.start, f"{name}, which GNU ld defines by itself, is PROVIDEd")
+
+
+def _linkonce(model: Model) -> None:
+    """Says which sections of one name GNU ld links once: the older form of COMDAT."""
+    if model.objects is None:
+        return
+    first: dict[str, str] = {}
+    for item in model.objects.sections():
+        if item.name.startswith(".gnu.linkonce.") and first.setdefault(item.name, item.object) != item.object:
+            model.note(CHANGED, max(len(model.source.text) - 1, 0), f"{item.name} of {item.object} is linked, beside "
+                       f"that of {first[item.name]}; GNU ld links the first of these alone")
 
 
 def _orphans(model: Model) -> None:

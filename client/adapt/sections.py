@@ -9,8 +9,8 @@ from client.adapt.notes import CHANGED, DROPPED, LEFT, REWRITTEN, SEGMENTS, Left
 from client.adapt.objects import NOBITS
 from client.adapt.patterns import is_name
 from client.adapt.statements import needs_writing
-from client.adapt.taking import OWN_ALIGN, flags_of, inputs, row, takes_own
-from client.adapt.tree import Assign, Command, Data, Expr, Input, Part, Region, Section
+from client.adapt.taking import OWN_ALIGN, flags_of, inputs, row, takes_others, takes_own
+from client.adapt.tree import Assert, Assign, Command, Data, Expr, Input, Node, Part, Region, Section
 from client.adapt.values import Place
 
 
@@ -98,6 +98,8 @@ class Sections(Heads):
                 place.notes = place.notes or ["as " + ex.short(folded)]
             self.report(section.start, f"the address of {section.name}:", place)
             known = folded
+            if self._empty(section) and not (address.kind == "name" and address.word == "."):
+                self._after_empty(step, section)
         if align is not None and address is None and self._empty(section):
             self.blank(align, REWRITTEN, f"ALIGN of {section.name}: it takes nothing of these objects, so that GNU ld "
                        "leaves it out")
@@ -118,7 +120,8 @@ class Sections(Heads):
         if not takes_own(model, section) or any(item.align >= OWN_ALIGN for item in row(model, section)):
             return False
         stays = any(isinstance(node, (Assign, Data)) for node in section.body) \
-            or any(item.size for item in row(model, section))
+            or any(item.size for item in row(model, section)) \
+            or model.objects is None and takes_others(section)
         head = 1 if align is None or align.value is None else ex.constant(align.value)
         if not stays or head is None or head >= OWN_ALIGN:
             return False
@@ -130,10 +133,35 @@ class Sections(Heads):
                    "makes itself and places there, without contents in a static link")
         return True
 
+    def _after_empty(self, step: Step, section: Section) -> None:
+        """Says where `.` is the address of a section that takes nothing: GNU ld has it for the next section alone."""
+        model = self.model
+        for later in model.steps[step.index + 1:]:
+            node = later.node
+            if later.kind in ("gone", "close", "input", "other"):
+                continue
+            if later.kind == "open" and isinstance(node, Section) and self._empty(node):
+                continue
+            if not isinstance(node, (Assign, Assert)):
+                return
+            if ex.uses_dot(node.value) or isinstance(node, Assign) and node.name == "." and node.op != "=":
+                model.note(CHANGED, node.start, f"{model.text(node)}: `.` is the address of {section.name}, which "
+                           "takes nothing of these objects; to GNU ld it is the place before that")
+            if isinstance(node, Assign) and node.name == "." and not ex.uses_dot(node.value):
+                return
+
     def _empty(self, section: Section) -> bool:
-        """Whether a section has nothing but input statements, and these take nothing of the objects."""
-        return (self.model.objects is not None and not row(self.model, section)
-                and all(isinstance(node, (Input, Command)) for node in section.body))
+        """Whether a section has nothing but input statements, which take no byte of the objects, and idle PROVIDEs."""
+        return (self.model.objects is not None and not any(item.size for item in row(self.model, section))
+                and all(isinstance(node, (Input, Command)) or self._is_idle(node) for node in section.body))
+
+    def _is_idle(self, node: Node) -> bool:
+        """Whether a statement is a PROVIDE that does not count, as nothing uses its symbol."""
+        objects = self.model.objects
+        if not (isinstance(node, Assign) and node.wrapper.startswith("PROVIDE") and objects is not None):
+            return False
+        return not objects.refers(node.name) and not any(
+            d.plain for d in self.model.definitions.get(node.name, ()) if d.step.node is node)
 
     def _type(self, section: Section) -> None:
         """NOLOAD and its like."""

@@ -338,10 +338,11 @@ class Structure:
                     model.add("close", inner, None, section)
             return
         model.opened[id(section)] = model.add("open", section, None, section).index
+        discard = section.name == "/DISCARD/"
         for node in section.body:
-            if isinstance(node, (Assign, Assert)):
+            if isinstance(node, (Assign, Assert)) and not (discard and getattr(node, "name", "") == "."):
                 kind = "assign" if isinstance(node, Assign) else "assert"
-                model.add(kind, node, section, section)
+                model.add(kind, node, None if discard else section, section)  # what stands in /DISCARD/ goes before it
             else:
                 model.add("input" if isinstance(node, Input) else "data" if hasattr(node, "value") else "other",
                           node, section, section)

@@ -160,6 +160,8 @@ def alignment_of(model: Model, section: Section) -> int:
 OWN_ALIGN = 8
 _OWN = (".got", ".got.plt", ".igot.plt", ".rela.got", ".rela.iplt")
 """Sections that GNU ld makes in every link, with that alignment; without contents in a static link."""
+_MADE = (".got", ".igot", ".rel", ".plt", ".iplt")
+"""What the names of such sections begin with."""
 
 
 def takes_own(model: Model, section: Section) -> bool:
@@ -176,6 +178,12 @@ def takes_own(model: Model, section: Section) -> bool:
             if names and output.name != "/DISCARD/":
                 model.own.add(id(output))
     return id(section) in model.own
+
+
+def takes_others(section: Section) -> bool:
+    """Whether a section has patterns for more than what GNU ld itself makes for links with shared objects."""
+    return any(node.patterns is None for node in inputs(section)) \
+        or any(not word.startswith(_MADE) for word in words(section))
 
 
 def inputs(section: Section) -> list[Input]:

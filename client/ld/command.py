@@ -51,6 +51,8 @@ class Command:
     print_memory_usage: bool = False
     orphan_handling: str | None = None
     defsyms: list[str] = field(default_factory=list)
+    later_defsyms: list[str] = field(default_factory=list)
+    """Those after `-T`, but not `-dT`: their assignments stand after the script's."""
     undefined: list[str] = field(default_factory=list)
     required: list[str] = field(default_factory=list)
     folders: list[str] = field(default_factory=list)
@@ -108,12 +110,16 @@ class Reader:
         self.flags = Flags()
         self.pushed: list[Flags] = []
         self.groups = 0
+        self.word = ""
+        """The word that is read."""
+        self.has_script = False
+        """Whether there was a `-T`; a script of `-dT` is read after all words."""
 
     def read(self, words: list[str]) -> Command:
         """The command of these words."""
         at = 0
         while at < len(words):
-            word = words[at]
+            word = self.word = words[at]
             at += 1
             if not word.startswith("-") or word == "-":
                 self.command.inputs.append(Input("file", word, self.flags))
@@ -167,7 +173,7 @@ class Reader:
             "L": command.folders,
             "u": command.undefined,
             "require-defined": command.required,
-            "defsym": command.defsyms,
+            "defsym": command.later_defsyms if self.has_script else command.defsyms,
         }
         if name in values:
             setattr(command, *values[name])
@@ -175,6 +181,7 @@ class Reader:
             lists[name].append(value)
             if name == "T":
                 command.inputs.append(Input("script", value, self.flags))
+                self.has_script |= not self.word.lstrip("-").startswith("d")
         return name in values or name in lists
 
     def input_flag(self, name: str, value: str) -> bool:

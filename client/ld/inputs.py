@@ -95,7 +95,7 @@ class Loader:
         ]
         for name in (*wanted, *command.undefined, *command.required, *self.script.undefined):
             self.names.want(os.fsencode(name))
-        for defsym in command.defsyms:
+        for defsym in (*command.defsyms, *command.later_defsyms):
             self.names.define(os.fsencode(defsym.partition("=")[0]))
 
     def load(self) -> list[Object]:

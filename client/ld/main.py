@@ -174,7 +174,14 @@ class Link:
         if not script.valued:
             return script
         self.valued = Valued(self.source, self.command, self.objects, known, script)
-        return self.valued.guess() or write_script(self.source, self.command, known)
+        guessed = self.valued.guess()
+        if guessed is not None:
+            return guessed
+        script = write_script(self.source, self.command, known)
+        for name in sorted(self.valued.without_value) if script.left else ():
+            say(f"{self.source.path}: the section of {name} is not in the image, so that its value cannot be written: "
+                "take it in, under KEEP where --gc-sections leaves it out")
+        return script
 
     def _wants_map(self) -> bool:
         """Whether the map is written, or something is printed from it."""

@@ -104,23 +104,28 @@ def adapt_source(
     source: Source, command: Command, known: Known, values: Mapping[str, int] | None = None
 ) -> Adapted:
     """The script as `ldi-adapt` writes it; BadInput where it is no script."""
-    defsyms = []
-    for defsym in command.defsyms:
-        name, equals, value = defsym.partition("=")
-        if not equals:
-            raise BadInput(f"--defsym {defsym}: no NAME=EXPRESSION")
-        defsyms.append((name.strip(), value.strip()))
     text = source.text
     if command.page_size is not None:
         text = MAX_PAGE_SIZE.sub(f"0x{command.page_size:x}", text)
     data = text.encode(errors="surrogateescape")
     try:
-        return adapt(data, defsyms, known, command.folders, source.path, orphans=False,
-                     values=values)
+        return adapt(data, _assignments(command.defsyms), known, command.folders, source.path, orphans=False,
+                     values=values, later=_assignments(command.later_defsyms), undefined=command.undefined)
     except NoParse as fault:
         raise BadInput(str(fault)) from fault
     except OSError as fault:
         raise MissingInput(f"{source.path}: {fault.filename}: {fault.strerror}") from fault
+
+
+def _assignments(defsyms: list[str]) -> list[tuple[str, str]]:
+    """The symbols of --defsym and their expressions."""
+    result = []
+    for defsym in defsyms:
+        name, equals, value = defsym.partition("=")
+        if not equals:
+            raise BadInput(f"--defsym {defsym}: no NAME=EXPRESSION")
+        result.append((name.strip(), value.strip()))
+    return result
 
 
 def write_script(

@@ -64,6 +64,8 @@ class Valued:
         self._write: Callable[[dict[str, int]], Script] = partial(write_script, source, command, known)
         self._script = script
         self._values: dict[str, int] = {}
+        self.without_value: frozenset[str] = frozenset()
+        """The symbols that a link gave no value, as their sections are not in the image."""
         self._opened = Opened(options_of(command, script.entry), _linked_beforehand(command, objects))
 
     def guess(self) -> Script | None:
@@ -91,14 +93,16 @@ class Valued:
         self._values, self._script = values, self._write(values)
 
     def _linked(self) -> dict[str, int] | None:
-        """The values that a link under the script gives; None where it gives no image."""
+        """The values that a link under the script gives; None where it gives no image, or not each of them a value."""
         if self._script.left:
             return None
         session = self._opened.session
         answer = session.script(self._script.text)
         if not isinstance(answer, Linked) or answer.status:
             return None
-        return values_in(session.map(), self._script.valued)
+        found = values_in(session.map(), self._script.valued)
+        self.without_value = self._script.valued - found.keys()
+        return None if self.without_value else found
 
 
 def _linked_beforehand(command: Command, objects: Sequence[Object]) -> list[Object]:

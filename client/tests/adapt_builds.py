@@ -101,6 +101,8 @@ def linked(link: Noted, folder: Path) -> tuple[Placed, Placed, str]:
 
     GNU ld links copies of the objects whose sections have no flags MERGE and STRINGS: `ldi` merges no strings.
     """
+    for name in ("gnu.out", "ldi.out", "ldi.map"):
+        (folder / name).unlink(missing_ok=True)  # of an earlier link
     gnu = [_unmerged(word, link.folder, folder / "unmerged") for word in link.again(str(folder / "gnu.out"))]
     _run(["/usr/bin/ld.bfd", *gnu], link.folder)
     with open(folder / "gnu.out", "rb") as file:
@@ -154,6 +156,6 @@ def _run(words: list[str], folder: str) -> str:
     environment = {name: value for name, value in os.environ.items() if name != "LDI_FALLBACK"}
     done = subprocess.run(words, cwd=folder, env=environment, capture_output=True, text=True, timeout=1800, check=False)
     if done.returncode:
-        reasons = re.sub(r"(?m)^.*(warning|NOTE|changed): .*\n?", "", done.stderr)
+        reasons = re.sub(r"(?m)^.*(warning|NOTE|changed|no entry symbol): .*\n?", "", done.stderr)
         raise LinkFailed(reasons or f"status {done.returncode}")
     return done.stderr

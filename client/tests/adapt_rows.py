@@ -58,7 +58,6 @@ COMMANDS = [
          "PROVIDE(__stack = 3);", "r"),
     _row("REGION_ALIAS", 'MEMORY { ram : ORIGIN = 0x1000, LENGTH = 1M } REGION_ALIAS("all", ram); SECTIONS { REST >all '
          + TAIL + " s = ORIGIN(all) + LENGTH(all); }", "r"),
-    _row("OUTPUT_FORMAT(binary)", "OUTPUT_FORMAT(elf64-x86-64) SECTIONS { REST " + TAIL + " }", "d"),
     _row("MEMORY after SECTIONS", "SECTIONS { REST >ram " + TAIL + " } MEMORY { ram : ORIGIN = 0x1000, LENGTH = 1M }"),
     _row("two MEMORYs", "MEMORY { rom : ORIGIN = 0x1000, LENGTH = 4K } MEMORY { ram : ORIGIN = 0x9000, LENGTH = 1M } "
          "SECTIONS { .text : { *(.text) } >rom REST >ram " + TAIL + " }"),
@@ -80,6 +79,8 @@ MEMORY = [
     _row("GNU ld's own sections, loaded elsewhere", "MEMORY { rom : ORIGIN = 0x1001, LENGTH = 4K ram : ORIGIN = "
          "0x8001, LENGTH = 1M } SECTIONS { .b : { BYTE(1) } >ram AT>rom .got : { BYTE(2) *(.got*) } >ram AT>rom .c : { "
          "BYTE(3) } >ram REST >ram " + TAIL + " }", known=True),
+    _row("GNU ld's own sections beside others", ".b : { BYTE(1) } .d : { *(.data.c) *(.got) } .e : { *(.rodata.c) "
+         "*(.got.plt) a = .; } .f : { BYTE(2) } .rela : { *(.rela.*) } b = .; REST " + TAIL),
     _row("AT> goes on", "MEMORY { rom : ORIGIN = 0x1001, LENGTH = 4K ram : ORIGIN = 0x8000, LENGTH = 1M } SECTIONS { "
          ".text : { *(.text) } >rom .data : { *(.data) } >ram AT>rom .more : { *(.data.*) } >ram a = LOADADDR(.data); "
          "b = LOADADDR(.more); .tail : { *(.rodata) } >rom REST >ram " + TAIL + " }", "r", known=True),
@@ -124,6 +125,11 @@ HEADS = [
     _row("ALIGN and an address", ".text 0x400003 : ALIGN(64) { *(.text) } REST " + TAIL, "r"),
     _row("ALIGN of an empty section", ".e : ALIGN(4096) { *(.none) } a = .; .f : ALIGN(64) { k = .; } b = .; REST "
          + TAIL, "r", known=True),
+    _row("the address of an empty section", ".t : { *(.text) } .none 0x401000 : { *(.none) } .no : { *(.no) } e = .; "
+         ".d : { *(.data) } f = .; .e . : { *(.none) } g = .; REST " + TAIL, "c", known=True, different=("symbol e",)),
+    _row("input sections without bytes", ".t : { *(.text) } .e : ALIGN(4096) { *c.o(.data) } a = .; .f 0x410000 : { "
+         "PROVIDE(idle = .); *c.o(.data) } b = .; .g : { *(.data) } REST " + TAIL, "rc", known=True,
+         different=("symbol b",)),
     _row("SUBALIGN", ".t : SUBALIGN(8) { *(.data) } REST " + TAIL, "c", different=("section", "symbol", "load")),
     _row("ONLY_IF_RO", ".x : ONLY_IF_RO { *(.rodata) } .x : ONLY_IF_RW { *(.rodata) q = .; } .y : ONLY_IF_RO { "
          "*(.data) } .y : ONLY_IF_RW { *(.data) r = .; } REST " + TAIL, "rd", known=True),
@@ -151,7 +157,7 @@ INPUTS = [
     _row("the first file by its name", ".t : { a.o(.text) b.o(.data) } REST " + TAIL, "", known=True),
     _row("another file by its name", ".t : { b.o(.text) } REST " + TAIL, "c", known=True, different=("symbol",)),
     _row("all of a file", ".t : { *b.o } REST " + TAIL, "cr", known=True, different=("section", "symbol")),
-    _row("all sections", ".t : { *(*) } " + TAIL, "c", different=("section", "symbol")),
+    _row("all sections", ".t : { *(*) } " + TAIL, "cr", different=("section", "symbol")),
     _row("commas in lists", ".t : { *(.data.*, .text) } REST " + TAIL),
     _row(":file and lib:file", ".t : { :*b.o(.text) *nolib.a:x.o(.text) } REST " + TAIL, "rc"),
     _row("other characters", ".t : { *(.tab+*) *x+y.o(.a~b) } REST " + TAIL),
@@ -229,6 +235,9 @@ VALUES = [
          'SEGMENT_START("text-segment", 0x400000); . = SEGMENT_START("data-segment", .); REST ' + TAIL),
     _row("DATA_SEGMENT without RELRO", ".t : { *(.text) } . = DATA_SEGMENT_ALIGN(0x1000, 0x1000); REST . = "
          "DATA_SEGMENT_END(.); " + TAIL, "cr", different=("section", "symbol", "load")),
+    _row("DATA_SEGMENT with RELRO", ".t : { *(.text) } . = DATA_SEGMENT_ALIGN(0x1000, 0x1000); .d : { *(.data) } . = "
+         "DATA_SEGMENT_RELRO_END(0, .); REST . = DATA_SEGMENT_END(.); " + TAIL, "cr",
+         different=("section", "symbol", "load")),
     _row("NEXT, BLOCK, LOG2CEIL", ". = NEXT(0x2000); a = BLOCK(64); b = LOG2CEIL(100); .t : { *(.text) c = NEXT(32); } "
          "REST " + TAIL),
     _row("ALIGNOF", "REST a = ALIGNOF(.rest); " + TAIL, "r", known=True),
@@ -258,6 +267,8 @@ VALUES = [
     _row("PROVIDE and an assignment", "PROVIDE(provided = 3); provided = 4; REST _end = .; end = .; __stack = 2;", "d"),
     _row("many signs", 'REST ' + TAIL + " " + " ".join(f'ASSERT((_end > {n}) && (_end != {n}), "m")'
                                                       for n in range(12)), ""),
+    _row("SIZEOF_HEADERS", ". = 0x400000 + SIZEOF_HEADERS; a = SIZEOF_HEADERS; REST " + TAIL, "cr",
+         different=("section .rest 0x40", "symbol", "load")),
     _row("SIZEOF_HEADERS with PHDRS", "PHDRS { t PT_LOAD FILEHDR PHDRS; d PT_LOAD; } SECTIONS { . = 0x400000 + "
          "SIZEOF_HEADERS; a = SIZEOF_HEADERS; REST :t " + TAIL + " }", "cr"),
 ]

@@ -79,6 +79,13 @@ class AdaptTest(unittest.TestCase):
             with self.assertRaisesRegex(NoParse, message):
                 adapt(text)
 
+    def test_discard(self) -> None:
+        """What lld takes in /DISCARD/, and GNU ld does not, stands before it."""
+        result = adapt('SECTIONS { /DISCARD/ : { *(.x) a = 1; . = 4; BYTE(2) ASSERT(a == 1, "m"); *(.y) } }')
+        self.assertEqual(" ".join(result.text.decode().split()),
+                         'SECTIONS { a = 1; ASSERT(a == 1, "m"); /DISCARD/ : { *(.x) *(.y) } }')
+        self.assertEqual([note.kind for note in result.report], ["rewritten", "dropped", "dropped", "rewritten"])
+
     def test_defsym(self) -> None:
         """--defsym is an assignment, and decides DEFINED."""
         result = adapt("x = DEFINED(x) ? x : 4;\ny = x;", [("x", "0x10")])
@@ -97,6 +104,17 @@ class AdaptTest(unittest.TestCase):
         self.assertIn("x = 1;", result.text.decode())
         self.assertEqual(result.status, 2)
         self.assertTrue(any("no statement takes .rodata of" in note.text for note in result.report))
+
+    def test_linkonce(self) -> None:
+        """Sections that GNU ld links once."""
+        with tempfile.TemporaryDirectory() as folder:
+            paths = [os.path.join(folder, name) for name in ("a.o", "b.o", "c.o")]
+            for path, name in zip(paths, ("f", "g", "f")):
+                text = f'.section .gnu.linkonce.t.{name},"ax"\nret'
+                subprocess.run(["as", "-o", path, "-"], input=text, text=True, check=True, timeout=60)
+            result = adapt("SECTIONS { .text : { *(.text .gnu.linkonce.t.*) } }", objects=paths)
+        wanted = f".gnu.linkonce.t.f of {paths[2]} is linked, beside that of {paths[0]}; GNU ld links the first of these"
+        self.assertEqual([note.text for note in result.report], [f"{wanted} alone"])
 
     def test_left_says_what_to_do(self) -> None:
         """An object's symbol outside of ASSERT."""

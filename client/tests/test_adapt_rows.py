@@ -2,14 +2,16 @@
 from __future__ import annotations
 
 import os
+import subprocess
 import tempfile
 import unittest
+from pathlib import Path
 
 from client.adapt.adapt import Adapted, adapt
 from client.protocol import Linked, Session
 from client.tests.adapt_compare import LinkFailed, differences, link_gnu, read_map
 from client.tests.adapt_objects import NAMES, make
-from client.tests.adapt_rows import LEFT, ROWS, Row
+from client.tests.adapt_rows import LEFT, REST, ROWS, TAIL, Row
 
 
 class AdaptRowsTest(unittest.TestCase):
@@ -78,3 +80,30 @@ class AdaptRowsTest(unittest.TestCase):
         for row in LEFT:
             with self.subTest(row.name):
                 self.adapted(row)
+
+    def test_include(self) -> None:
+        """INCLUDE at each of its places: what GNU ld has of the files."""
+        for name, text in {
+            "mem.ld": "ram : ORIGIN = 0x8000, LENGTH = 1M\n",
+            "top.ld": "top = ORIGIN(ram) + LENGTH(ram);\n",
+            "in.ld": "*(.text)\nINCLUDE deep.ld\n",
+            "deep.ld": "mark = ABSOLUTE(.);\n. = mark + 0x20;\n",
+            "more.ld": f".more : {{ *(.data) }} >ram {REST} >ram {TAIL}\n",
+        }.items():
+            Path(name).write_text(text, encoding="ascii")
+        script = ("MEMORY {\nINCLUDE mem.ld\n}\nINCLUDE top.ld\nSECTIONS {\n.text : {\n*(.rodata)\nINCLUDE in.ld\n"
+                  "after = .;\n} >ram\nINCLUDE more.ld\n}\n")
+        self.one(Row("INCLUDE", script, "r"))
+
+    def test_binary(self) -> None:
+        """OUTPUT_FORMAT(binary): `objcopy -O binary` makes of the image the file that GNU ld writes."""
+        script = f". = 0x1000; .t : {{ *(.text .data) }} =0x90909090 {REST} =0x90909090 {TAIL}"
+        row = Row("binary", f"OUTPUT_FORMAT(binary) SECTIONS {{ {script} }}", "c")
+        result = self.adapted(row)
+        self.assertEqual([note.text.partition(":")[0] for note in result.report], ["OUTPUT_FORMAT(binary)"])
+        Path("original.ld").write_text(row.text(), encoding="ascii")
+        subprocess.run(["ld.bfd", "-T", "original.ld", "-o", "gnu.bin", *NAMES], check=True, timeout=60)
+        self.assertEqual(self.session.script(result.text), Linked(0, len(self.session.image())))
+        Path("image").write_bytes(self.session.image())
+        subprocess.run(["objcopy", "-O", "binary", "image", "ldi.bin"], check=True, timeout=60)
+        self.assertEqual(Path("ldi.bin").read_bytes(), Path("gnu.bin").read_bytes())

@@ -108,6 +108,22 @@ class KernelTest(LinkTest):
         self.assertIn("jiffies_64 moved", done.stderr)
         self.assertFalse((self.folder / "never").exists())
 
+    def test_symbol_that_is_left_out(self) -> None:
+        """A symbol whose section --gc-sections leaves out has no value: that is said, and there is no image."""
+        object_ = self.compile("two.c", "long start(void) { return 1; } long other(void) { return 2; }")
+        script = """ENTRY(start) copy = other;
+            SECTIONS { . = 0x401000; .text : { *(.text.start) *(.text.other) } /DISCARD/ : { *(*) } }"""
+        self.write("t.ld", script)
+        self.links("-T", "t.ld", "-o", "image", object_)
+        done = self.ld("--gc-sections", "-T", "t.ld", "-o", "none", object_)
+        self.assertEqual(done.returncode, 2, done.stderr)
+        self.assertIn("the section of other is not in the image", done.stderr)
+        self.assertFalse((self.folder / "none").exists())
+        self.write("t.ld", script.replace("*(.text.other)", "KEEP(*(.text.other))"))
+        self.links("--gc-sections", "-T", "t.ld", "-o", "kept", object_)
+        symbols = self._symbols("kept")
+        self.assertEqual(symbols["copy"], symbols["other"])
+
     def test_symbol_of_no_object(self) -> None:
         """A name that nothing defines is left, and there is no image."""
         self.write("kernel.ld", KERNEL.replace("jiffies_64;", "nothing;"))

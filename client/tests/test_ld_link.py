@@ -143,6 +143,22 @@ class SettingTest(LinkTest):
         self.assertEqual(done.returncode, 2)
         self.assertIn("required symbol `nothing' not defined", done.stderr)
 
+    @needs("ld.bfd")
+    def test_defsym_and_undefined(self) -> None:
+        """--defsym before -T and after it, and -u of what the script PROVIDEs, as GNU ld has them."""
+        self.compile("one.c", "int _start;")
+        self.write("t.ld", """base = DEFINED(base) ? base : 0x9000; PROVIDE(low = base - 1); PROVIDE(high = base + 1);
+                              SECTIONS { . = base; .data : { *(.bss .bss.*) _end = .; } /DISCARD/ : { *(*) } }""")
+        for number, line in enumerate(("-T t.ld --defsym=base=0x8000", "--defsym base=0x8000 -T t.ld",
+                                       "-dT t.ld --defsym=base=0x8000", "-T t.ld -u low")):
+            words = line.split()
+            self.links(*words, "-o", "own", "-Map=own.map", "one.o")
+            self.run_tool("ld.bfd", "--no-warn-rwx-segments", *words, "-o", "gnu", "one.o")
+            lines = [line.split() for line in self.run_tool("nm", "gnu").splitlines()]
+            theirs = {(int(found[0], 16), found[2].encode()) for found in lines if len(found) == 3}
+            ours = {(symbol.value, symbol.name) for symbol in self.map().symbols if symbol.value is not None}
+            self.assertEqual({one for one in ours if not one[1].startswith(b"ldi.")}, theirs, number)
+
     def map(self) -> LinkMap:
         """The map of the last link."""
         return read_map((self.folder / "own.map").read_bytes())
