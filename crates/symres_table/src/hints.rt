@@ -220,9 +220,9 @@ impl Hints {
         self.count = self.count.saturating_add(1);
     }
 
-    /// Forgets all places.
+    /// Forgets all places, and gives their memory back.
     pub fn clear(&mut self) {
-        self.lines.clear();
+        self.lines = Vec::new(*self.lines.allocator());
         self.count = 0;
     }
 
