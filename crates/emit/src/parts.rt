@@ -18,8 +18,7 @@ use emit_image::section::ImageSection;
 use emit_image::sections::TableSection;
 use emit_image::tail::{TailParts, tail};
 use ldmodel_laws::segments::segments_by_neighbours;
-use place::laying::Laying;
-use place::starts::Starts;
+use place::arranged::Arranged;
 use ldmodel::memory::NoMemory;
 use ldmodel_project::view::ProjectView;
 use emit_values::values::Values;
@@ -125,17 +124,16 @@ pub(crate) struct Parts<'a> {
 pub(crate) fn drawing_parts<'a>(
     alloc: Global,
     project: &ProjectView<'_>,
-    laying: &Laying,
-    starts: &Starts,
+    arranged: &Arranged,
     values: &Values<'_>,
     outputs: &[Output<'a>],
 ) -> Result<Parts<'a>, NoMemory>
     ensures { IfOk result (λ x. (s : Layout) (stays : SectionKey → Bool)
-        → AreOutputs project.now laying.now starts.now values.now s stays outputs.now
+        → AreOutputs project.now arranged.now values.now s stays outputs.now
         → ArePartsOf project.now s stays x) }
 {
-    let segments = laying.segments.as_slice();
-    let symbols = table_symbols(alloc, project, starts, values)?;
+    let segments = arranged.laying.segments.as_slice();
+    let symbols = table_symbols(alloc, project, arranged, values)?;
     let headings = table_sections(alloc, outputs)?;
     let end = loaded_end(segments)?;
     let tail = tail(alloc, end, &symbols, &headings)?;

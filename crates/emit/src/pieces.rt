@@ -7,10 +7,9 @@ ghost use Rattle.std.specs.Vec.{vec_items};
 ghost use Rattle.emit_image.specs.Joined.{StandFor};
 ghost use Rattle.emit_image.specs.declared.section.ImagePiece.{ImagePiece as Drawn};
 ghost use Rattle.elfobj.specs.Sections.{LinkedSection, section_of};
-ghost use Rattle.place.specs.Laying.{IsLaying};
+ghost use Rattle.place.specs.Arranged.{IsArranged};
 ghost use Rattle.ldmodel.specs.Layout.{Layout, PlacedPiece, PlacedSection};
 ghost use Rattle.ldmodel.specs.Project.{NamedObject};
-ghost use Rattle.ldmodel.specs.Rows as model;
 ghost use Rattle.ldmodel.specs.SymbolValues.{placed_part};
 ghost use Rattle.ldmodel.specs.declared.sections.Part.TheVariants as part;
 ghost use Rattle.ldmodel.specs.declared.sections.SectionKey.{SectionKey as KeyOf};
@@ -24,14 +23,15 @@ ghost use Rattle.emit.specs.Pieces.{IsSectionPiece};
 ghost use Rattle.emit.specs.Runs.{AreRunsUnless};
 
 use crate::relocated::Relocated;
-use crate::section_numbers::{fields_of, first_sections};
+use crate::section_fields::fields_of;
 use elfobj::object::Object;
 use elfobj::section::{LinkedIndex, Section, SectionKind};
 use emit_image::row::{add_drawn, add_kept};
 use emit_image::section::ImagePiece;
 use ldmodel_laws::gathering::{live_by_path, once_in_rows};
 use ldmodel_laws::layout::placed_are_rows;
-use place::laying::Laying;
+use place::arranged::Arranged;
+use place::numbered::are_numbered;
 use ldmodel::memory::NoMemory;
 use ldmodel::names::ObjectPlace;
 use ldmodel::rows::Piece;
@@ -66,7 +66,7 @@ fn section_at(object: &Object, index: LinkedIndex) -> Section
 /// among those whose fields are known.
 fn section_piece<'a>(
     relocated: &'a Relocated,
-    firsts: &[usize],
+    arranged: &Arranged,
     key: ObjectPlace,
     object: &'a Object,
     index: LinkedIndex,
@@ -76,7 +76,7 @@ fn section_piece<'a>(
     requires { index.0 < length object.now.sections }
     ensures { IfOk result (λ y. (l : KnownLink) (stays : KeyOf → Bool) (o : NamedObject) (x : LinkedSection)
         (w : PlacedPiece)
-        → AreSources l stays firsts.now relocated.now → slice_get l.project.objects key.0 ≡ Some o
+        → AreSources l stays arranged.now relocated.now → slice_get l.project.objects key.0 ≡ Some o
         → o.object ≡ object.now
         → slice_get o.object.sections index.0 ≡ Some x
         → stays (record { object = key; part = part.InTable x.number }) ≡ false
@@ -89,7 +89,7 @@ fn section_piece<'a>(
     let bytes = object.section_bytes(index);
     match section.kind {
         SectionKind::Nobits => Ok(zeros(size, start)),
-        _ => match fields_of(relocated, firsts, key.0, index) {
+        _ => match fields_of(relocated, arranged, key, index) {
             None => Err(AllocError),
             Some(fields) => Ok(ImagePiece {
                 start,
@@ -106,12 +106,12 @@ fn section_piece<'a>(
 fn drawn_piece<'a>(
     project: &'a ProjectView<'_>,
     relocated: &'a Relocated,
-    firsts: &[usize],
+    arranged: &Arranged,
     piece: &Piece,
     start: u64,
 ) -> Result<ImagePiece<'a>, NoMemory>
     ensures { IfOk result (λ y. (l : KnownLink) (stays : KeyOf → Bool) (w : PlacedPiece)
-        → l.project ≡ project.now → AreSources l stays firsts.now relocated.now → stays piece.now.section ≡ false
+        → l.project ≡ project.now → AreSources l stays arranged.now relocated.now → stays piece.now.section ≡ false
         → IsPlacedAt project.now l.layout (piece_in project.now piece.now) start w
         → IsDrawnPiece l.project l.layout w y) }
 {
@@ -125,7 +125,7 @@ fn drawn_piece<'a>(
                 None => Ok(zeros(piece.size, start)),
                 Some(index) => {
                     let _sections = object.sections();
-                    section_piece(relocated, firsts, key, object, index, piece.size, start)
+                    section_piece(relocated, arranged, key, object, index, piece.size, start)
                 }
             },
         },
@@ -138,13 +138,13 @@ fn add_entry<'a, E: Earlier>(
     pieces: &mut Vec<ImagePiece<'a>>,
     project: &'a ProjectView<'_>,
     relocated: &'a Relocated,
-    firsts: &[usize],
+    arranged: &Arranged,
     earlier: &E,
     piece: &Piece,
     start: u64,
 ) -> Result<(), NoMemory>
     ensures { OnOk result ((l : KnownLink) (w : PlacedPiece) (whole : List Drawn) → l.project ≡ project.now
-        → AreSources l (λ k. is_some (E.range earlier.now k)) firsts.now relocated.now
+        → AreSources l (λ k. is_some (E.range earlier.now k)) arranged.now relocated.now
         → IsPlacedAt project.now l.layout (piece_in project.now piece.now) start w → StandFor whole pieces.old.items
         → (y : Drawn) × IsRowPiece l.project l.layout (λ k. is_some (E.range earlier.now k)) w y
         × StandFor (whole ++ y ∷ []) pieces.new.items) }
@@ -152,7 +152,7 @@ fn add_entry<'a, E: Earlier>(
     match earlier.stayed(piece.section) {
         Some(_) => add_kept(pieces, piece.size, start),
         None => {
-            let drawn = drawn_piece(project, relocated, firsts, piece, start)?;
+            let drawn = drawn_piece(project, relocated, arranged, piece, start)?;
             add_drawn(pieces, drawn)
         }
     }
@@ -164,13 +164,13 @@ fn image_row<'a, E: Earlier>(
     alloc: Global,
     project: &'a ProjectView<'_>,
     relocated: &'a Relocated,
-    firsts: &[usize],
+    arranged: &Arranged,
     earlier: &E,
     row: &[Piece],
     starts: &[u64],
 ) -> Result<Vec<ImagePiece<'a>>, NoMemory>
     ensures { IfOk result (λ v. (l : KnownLink) (q : PlacedSection) → l.project ≡ project.now
-        → AreSources l (λ k. is_some (E.range earlier.now k)) firsts.now relocated.now
+        → AreSources l (λ k. is_some (E.range earlier.now k)) arranged.now relocated.now
         → IsRowAt project.now l.layout (map (piece_in project.now) row.now) starts.now q
         → IsJoinedRow l.project l.layout (λ k. is_some (E.range earlier.now k)) q v.items) }
 {
@@ -183,7 +183,7 @@ fn image_row<'a, E: Earlier>(
                     &mut pieces,
                     project,
                     relocated,
-                    firsts,
+                    arranged,
                     earlier,
                     piece,
                     *start,
@@ -194,26 +194,26 @@ fn image_row<'a, E: Earlier>(
     Ok(pieces)
 }
 
-/// The entries of rows at these addresses, row by row. Fails where memory runs out.
+/// The entries of all rows, row by row. Fails where memory runs out.
 fn image_rows<'a, E: Earlier>(
     alloc: Global,
     project: &'a ProjectView<'_>,
     relocated: &'a Relocated,
-    firsts: &[usize],
+    arranged: &Arranged,
     earlier: &E,
-    rows: &[Vec<Piece>],
     starts: &[u64],
 ) -> Result<Vec<Vec<ImagePiece<'a>>>, NoMemory>
     ensures { IfOk result (λ v. (l : KnownLink) → l.project ≡ project.now
-        → AreSources l (λ k. is_some (E.range earlier.now k)) firsts.now relocated.now
-        → AreRowsAt project.now l.layout (rows_in project.now rows.now) starts.now
+        → AreSources l (λ k. is_some (E.range earlier.now k)) arranged.now relocated.now
+        → AreRowsAt project.now l.layout (rows_in project.now arranged.now.rows) starts.now
         → AllZip (IsJoinedRow l.project l.layout (λ k. is_some (E.range earlier.now k))) l.layout.sections
         (map vec_items v.items)) }
 {
+    let rows = &arranged.rows;
     let mut pieces = Vec::with_capacity(alloc, rows.len())?;
     let mut at: usize = 0;
-    for row in rows {
-        let row = row.as_slice();
+    for number in 0..rows.len() {
+        let row = rows.row(number);
         if starts.len() - at < row.len() {
             return Err(AllocError);
         }
@@ -221,7 +221,7 @@ fn image_rows<'a, E: Earlier>(
             alloc,
             project,
             relocated,
-            firsts,
+            arranged,
             earlier,
             row,
             &starts[at..],
@@ -241,13 +241,11 @@ fn image_rows<'a, E: Earlier>(
 pub(crate) fn image_pieces<'a, E: Earlier>(
     alloc: Global,
     project: &'a ProjectView<'_>,
-    rows: &[Vec<Piece>],
-    laying: &Laying,
+    arranged: &Arranged,
     relocated: &'a Relocated,
     earlier: &E,
 ) -> Result<Vec<Vec<ImagePiece<'a>>>, NoMemory>
-    requires { rows_in project.now rows.now ≡ model.rows project.now }
-    ensures { IfOk result (λ v. (s : Layout) (a : NamingState) → IsLaying project.now s laying.now
+    ensures { IfOk result (λ v. (s : Layout) (a : NamingState) → IsArranged project.now s arranged.now
         → AreRunsUnless (known_link project.now s a) (λ k. is_some (E.range earlier.now k))
         relocated.now.patches.items relocated.now.ends.items
         → AllZip (IsJoinedRow project.now s (λ k. is_some (E.range earlier.now k))) s.sections
@@ -256,15 +254,8 @@ pub(crate) fn image_pieces<'a, E: Earlier>(
     live_by_path();
     once_in_rows();
     placed_are_rows();
-    let firsts = first_sections(alloc, project.inputs())?;
-    let laid = laying.placement.laid();
-    image_rows(
-        alloc,
-        project,
-        relocated,
-        &firsts,
-        earlier,
-        rows,
-        laid.starts,
-    )
+    are_numbered(project);
+    let _inputs = project.inputs();
+    let starts = arranged.laying.placement.pieces();
+    image_rows(alloc, project, relocated, arranged, earlier, starts)
 }

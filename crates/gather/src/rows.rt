@@ -1,15 +1,16 @@
 //! The rows of the output sections.
 
 ghost use Rattle.std.specs.Prelude.{◌≡◌, ◌++◌, IfOk, OnOk, length, map};
+ghost use Rattle.std.specs.Vec.{vec_items};
 ghost use Rattle.ldscript.specs.statements.Numbered.{shown_inputs};
 ghost use Rattle.ldmodel.specs.Project.{Project};
 ghost use Rattle.ldmodel.specs.Rows.{rows};
-ghost use Rattle.gather.specs.RowPieces.{AddsTo, AreBuckets, AreEmpty, AreTaken, Naming, shown_row};
+ghost use Rattle.gather.specs.RowPieces.{AddsTo, AreBuckets, AreEmpty, AreTaken, Naming, shown};
 
 pub use crate::sorting::NamedPiece;
 use crate::sorting::order;
 use ldmodel::memory::NoMemory;
-use ldmodel::rows::Piece;
+use ldmodel::rows::{Piece, Rows};
 use ldscript::script::Script;
 use ldscript::tree::{InputPlace, InputStatementAt, Sort};
 use std::alloc::Global;
@@ -78,6 +79,17 @@ fn empty_rows(alloc: Global, count: usize) -> Result<Vec<Vec<Piece>>, NoMemory>
     Ok(rows)
 }
 
+/// These rows as one list.
+fn joined(alloc: Global, rows: &[Vec<Piece>]) -> Result<Rows, NoMemory>
+    ensures { IfOk result (λ joined. joined ≡ map vec_items rows.now) }
+{
+    let mut joined = Rows::new(alloc);
+    for row in rows {
+        joined.push(row)?;
+    }
+    Ok(joined)
+}
+
 /// The row of each output section, in the order of the script: statement by statement the pieces that the statement
 /// takes, which are those of `pieces` in their order or, where the statement has a sort, as this orders them.
 /// `pieces` are the live sections that statements take, in object order and then section order.
@@ -89,9 +101,9 @@ pub fn rows(
     alloc: Global,
     script: &Script,
     pieces: &[NamedPiece<'_>],
-) -> Result<Vec<Vec<Piece>>, NoMemory>
+) -> Result<Rows, NoMemory>
     ensures { IfOk result (λ found. (p : Project) (n : Naming) → p.script ≡ script.now → AreTaken p n pieces.now
-        → map (shown_row n) found.items ≡ rows p) }
+        → map (map (shown n)) found ≡ rows p) }
 {
     let statements = script.input_statements(alloc)?;
     let mut buckets = buckets(alloc, pieces, statements.len())?;
@@ -101,5 +113,6 @@ pub fn rows(
         let sort = statement.input.sort;
         add_statement(&mut found, place, sort, &mut buckets[number])?;
     }
-    Ok(found)
+    let rows = joined(alloc, &found)?;
+    Ok(rows)
 }

@@ -8,5 +8,4 @@ pub mod Offsets
 pub mod Entries
 pub mod InPlace
 pub mod Columns
-pub mod Starts
-pub mod Cut
+pub mod Arranged

@@ -4,10 +4,10 @@ ghost use Rattle.std.specs.Prelude.{◌≡◌, ◌++◌, IfOk, OnOk};
 ghost use Rattle.place.specs.Entries.{all_entries, row_entries};
 
 use crate::entry::Entry;
-use crate::starts::PartPlace;
+use crate::arranged::PartPlace;
 use ldmodel::laid::OutputIndex;
 use ldmodel::memory::NoMemory;
-use ldmodel::rows::Piece;
+use ldmodel::rows::{Piece, Rows};
 use std::alloc::{AllocError, Global};
 
 /// Adds the input sections of a row, which start at these addresses.
@@ -41,19 +41,20 @@ fn add_row(
 /// Where memory runs out.
 pub(crate) fn collect(
     alloc: Global,
-    rows: &[Vec<Piece>],
+    rows: &Rows,
     starts: &[u64],
 ) -> Result<Vec<Entry>, NoMemory>
     ensures { IfOk result (λ v. v.items ≡ all_entries 0 rows.now starts.now) }
 {
     let mut entries = Vec::with_capacity(alloc, starts.len())?;
     let mut left = starts;
-    for (number, row) in rows.iter().enumerate() {
-        let Ok(number) = u32::try_from(number) else {
+    for number in 0..rows.len() {
+        let Ok(section) = u32::try_from(number) else {
             // Unreachable: no script has 2^32 output sections
             return Err(AllocError);
         };
-        add_row(&mut entries, OutputIndex(number), row, left)?;
+        let row = rows.row(number);
+        add_row(&mut entries, OutputIndex(section), row, left)?;
         left = &left[row.len().min(left.len())..];
     }
     Ok(entries)

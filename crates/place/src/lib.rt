@@ -5,10 +5,11 @@
 //! - `laying`: the phase, over `place`;
 //! - `segments` over `group`: what is loaded as one, and its offset in the file; `offsets`: where output sections begin
 //!   in the file; `length`: how long the image is;
-//! - `starts` over `collected` and `entry`: where each input section stands; `numbered`: the sections of an object have
-//!   different numbers; `rows`: rows as one list.
+//! - `arranged` over `collected` and `entry`: all of that, and where each input section stands; `numbered`: the sections of an object have
+//!   different numbers.
 #![tactic(auto)]
 
+pub mod arranged;
 mod collected;
 mod entry;
 mod group;
@@ -16,8 +17,6 @@ pub mod laying;
 pub mod length;
 pub mod numbered;
 mod offsets;
-pub mod rows;
 pub mod segments;
-pub mod starts;
 pub use place_sections as sections;
 pub use place_terms as terms;

@@ -7,4 +7,5 @@ mod Symbols
 mod Unmarked
 mod FoundSections
 mod SameRows
+mod Changed
 mod Resumed

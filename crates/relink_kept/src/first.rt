@@ -11,7 +11,7 @@ ghost use Rattle.place.specs.sections.Kept.{IsKept};
 use crate::same::first_changed;
 use crate::stays::Last;
 use ldmodel_laws::layout::placed_are_rows;
-use ldmodel::rows::Piece;
+use ldmodel::rows::Rows;
 use ldmodel_project::view::ProjectView;
 use place::sections::placement::Placement;
 
@@ -20,7 +20,7 @@ use place::sections::placement::Placement;
 pub fn resumed<'a>(
     last: Option<Last<'a>>,
     project: &ProjectView<'_>,
-    rows: &[Vec<Piece>],
+    rows: &Rows,
 ) -> Option<(&'a Placement, usize)>
     requires rows { rows_in project.now rows.now ≡ model.rows project.now }
     ensures kept { (old : GoodLink) → IfSome (last_of last.entry) (IsLastOf old project.now)
@@ -39,7 +39,7 @@ pub fn resumed<'a>(
     if !last.same_script {
         return None;
     }
-    let good = last.good;
-    let first = first_changed(&last, project, &good.rows, rows);
-    Some((&good.laying.placement, first))
+    let before = &last.good.arranged;
+    let first = first_changed(&last, project, &before.rows, rows);
+    Some((&before.laying.placement, first))
 }

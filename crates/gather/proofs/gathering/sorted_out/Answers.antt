@@ -2,7 +2,6 @@ use Rattle.std.proofs.Common.{◌∙◌, sym, subst}
 use Rattle.gather.specs.RowPieces.{AreTaken}
 use Rattle.gather.specs.ProjectMembers.{by_place}
 use Rattle.gather.proofs.Named.{orphan_faults}
-use Rattle.gather.proofs.NamedRows.{same_rows}
 use Rattle.gather.proofs.gathering.sorted_out.Goals as goal
 
 pub returns : goal.returns
@@ -11,8 +10,7 @@ returns c =
     let in_order = c.live_by_path.ensures.in_order p in
     record {
       table = c.requires.table;
-      rows = same_rows p c.in_ok-rows.rows.items
-          ∙ c.in_ok-rows.ensures p (by_place p).naming (sym c.script.ensures)
+      rows = c.in_ok-rows.ensures p (by_place p).naming (sym c.script.ensures)
           (subst (AreTaken p (by_place p).naming) (sym c.deref.ensures.value)
           (c.in_ok-pieces.ensures p (by_place p) c.requires.sections c.requires.marks));
       orphans = orphan_faults p c.requires.ascending in_order.0
