@@ -1,5 +1,4 @@
-use Rattle.std.proofs.Common.{◌∙◌, sym, subst}
-use Rattle.gather.specs.RowPieces.{AreTaken}
+use Rattle.std.proofs.Common.{sym}
 use Rattle.gather.specs.ProjectMembers.{by_place}
 use Rattle.gather.proofs.Named.{orphan_faults}
 use Rattle.gather.proofs.gathering.sorted_out.Goals as goal
@@ -10,9 +9,7 @@ returns c =
     let in_order = c.live_by_path.ensures.in_order p in
     record {
       table = c.requires.table;
-      rows = c.in_ok-rows.ensures p (by_place p).naming (sym c.script.ensures)
-          (subst (AreTaken p (by_place p).naming) (sym c.deref.ensures.value)
-          (c.in_ok-pieces.ensures p (by_place p) c.requires.sections c.requires.marks));
+      rows = c.in_ok-rows.ensures p (by_place p) (sym c.script.ensures) c.requires.sections c.requires.marks;
       orphans = orphan_faults p c.requires.ascending in_order.0
           c.in_ok-orphans.orphans.items in_order.1
           (c.in_ok-orphans.ensures p (by_place p) c.requires.sections c.requires.marks);

@@ -1,5 +1,6 @@
-use Rattle.std.proofs.Common.{◌≡◌, ◌≢◌, ◌<◌, ◌+◌, ◌∷◌, [], length, drop, get_or, map, arith, ap, sym, ◌∙◌, get_or-set_other}
+use Rattle.std.proofs.Common.{◌≡◌, ◌≢◌, ◌<◌, ◌+◌, ◌∷◌, [], length, drop, get_or, map, arith, ap, refl, sym, ◌∙◌, get_or-set_other}
 use Rattle.std.specs.List.{enumerate_from}
+use Rattle.gather.specs.Gathered.{taken_in}
 use Rattle.std.proofs.Math.ListN.{length-set}
 use Rattle.std.proofs.lemmas.List.{drop_more, drop_all}
 use Rattle.ldscript.specs.statements.Numbering.{InputStatementAt, input_statements}
@@ -7,6 +8,7 @@ use Rattle.ldscript.specs.statements.Numbered.{shown_inputs}
 use Rattle.std.specs.Prelude.{flat_map}
 use Rattle.std.specs.Vec.{vec_items}
 use Rattle.gather.specs.RowPieces.{pieces_at, shown, shown_row}
+use Rattle.gather.proofs.GatheredLists.{taken_are}
 use Rattle.gather.proofs.RowSteps.{map_twice, rows_step, rows_end, rows_are}
 use Rattle.gather.proofs.rows.rows.Goals as goal
 
@@ -36,7 +38,7 @@ loop-number-preserved c =
           ∙ inv.left k d (omega (arith, h)) l;
       rows = λ n named k d h.
           (let before : k < length c.loop-number.found.items = omega (arith, h, added.long) in
-          rows_step n c.args.pieces.now c.index_mut.result.now.items k i (shown_inputs (drop i items))
+          rows_step n (taken_in c.args.marks.now c.args.sections.now) c.index_mut.result.now.items k i (shown_inputs (drop i items))
           (shown_inputs (drop (i + 1) items)) st
           (shown_row n (get_or c.loop-number.found.items k d))
           (shown_row n (get_or c.add_statement.new.rows.items k d)) _
@@ -44,7 +46,9 @@ loop-number-preserved c =
     }
 
 pub returns : goal.returns
-returns c = λ p n is taken.
+returns c = λ p keys is gathered lives.
+    let n = keys.naming in
+    let taken = taken_are p keys c.args.marks.now c.args.sections.now _ refl gathered lives in
     let i = c.loop-number.number in
     let inv = c.loop-number.invariant in
     let items = c.deref-statement-items.result.now in
@@ -53,7 +57,7 @@ returns c = λ p n is taken.
     ap shown_inputs c.deref-statement-items.ensures.value ∙ c.in_ok-statements.ensures in
     ap (map (map (shown n))) (c.in_ok-rows.ensures ∙ ap (map vec_items) c.deref.ensures.value)
     ∙ map_twice (map (shown n)) vec_items c.loop-number.found.items
-    ∙ rows_are p n c.args.script.now c.args.pieces.now c.loop-number.found.items is taken inv.long
-    (λ k d l. rows_end n c.args.pieces.now k i (shown_inputs (drop i items)) _ _ (ap shown_inputs none)
+    ∙ rows_are p n c.args.script.now (taken_in c.args.marks.now c.args.sections.now) c.loop-number.found.items is taken inv.long
+    (λ k d l. rows_end n (taken_in c.args.marks.now c.args.sections.now) k i (shown_inputs (drop i items)) _ _ (ap shown_inputs none)
     (inv.rows n taken.named k d l)
-    ∙ ap (λ s. flat_map (pieces_at n c.args.pieces.now k) (enumerate_from 0 s)) all)
+    ∙ ap (λ s. flat_map (pieces_at n (taken_in c.args.marks.now c.args.sections.now) k) (enumerate_from 0 s)) all)
