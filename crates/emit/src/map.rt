@@ -14,7 +14,7 @@ use crate::by_place::ByPlace;
 use ldmodel_laws::layout::placed_are_rows;
 use place::laying::Laying;
 use ldmodel::memory::NoMemory;
-use ldmodel::rows::Rows;
+use ldmodel::rows::Piece;
 use ldmodel_project::view::ProjectView;
 use emit_relocate::value::SymbolValue;
 use emit_text::maps;
@@ -60,7 +60,7 @@ fn map_symbols<'a>(
 pub fn map_text(
     alloc: Global,
     project: &ProjectView<'_>,
-    rows: &Rows,
+    rows: &[Vec<Piece>],
     laying: &Laying,
     values: &Values<'_>,
 ) -> Result<Vec<u8>, NoMemory>

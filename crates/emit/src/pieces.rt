@@ -205,15 +205,14 @@ fn image_rows<'a, E: Earlier>(
 ) -> Result<Vec<Vec<ImagePiece<'a>>>, NoMemory>
     ensures { IfOk result (λ v. (l : KnownLink) → l.project ≡ project.now
         → AreSources l (λ k. is_some (E.range earlier.now k)) arranged.now relocated.now
-        → AreRowsAt project.now l.layout (rows_in project.now arranged.now.rows) starts.now
+        → AreRowsAt project.now l.layout (rows_in project.now arranged.now.rows.items) starts.now
         → AllZip (IsJoinedRow l.project l.layout (λ k. is_some (E.range earlier.now k))) l.layout.sections
         (map vec_items v.items)) }
 {
-    let rows = &arranged.rows;
-    let mut pieces = Vec::with_capacity(alloc, rows.len())?;
+    let mut pieces = Vec::with_capacity(alloc, arranged.rows.len())?;
     let mut at: usize = 0;
-    for number in 0..rows.len() {
-        let row = rows.row(number);
+    for row in &arranged.rows {
+        let row = row.as_slice();
         if starts.len() - at < row.len() {
             return Err(AllocError);
         }

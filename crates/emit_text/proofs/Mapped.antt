@@ -3,6 +3,7 @@ use Rattle.std.proofs.Common.{◌≡◌, ℕ, List, [], ◌∷◌, ◌++◌, dro
 use Rattle.std.proofs.Common.{◌∙◌, subst, Bool, true, false, cond, Option, codes}
 use Rattle.std.proofs.Common.{append_assoc}
 use Rattle.std.specs.Prelude.{Contains}
+use Rattle.std.specs.Vec.{vec_items}
 use Rattle.ldscript.specs.Numbering.{OutputSectionAt, output_sections}
 use Rattle.ldscript.specs.Numbered.{shown_sections}
 use Rattle.ldmodel.specs.Layout.{Layout, PlacedPiece, PlacedSection}
@@ -196,17 +197,17 @@ pub map_is_shown : (p : Project) (number : ℕ → ℕ) (s : Layout) (m : MapPar
 unfolding shown_map map_text
 map_is_shown p number s m h =
     let sections : sections_text p number m.laid.sections.now (shown_sections m.sections.now)
-    m.rows.now m.laid.starts.now ≡ flat_map section_lines s.sections =
-    ap (λ qs. sections_text p number qs (shown_sections m.sections.now) m.rows.now m.laid.starts.now)
+    (map vec_items m.rows.now) m.laid.starts.now ≡ flat_map section_lines s.sections =
+    ap (λ qs. sections_text p number qs (shown_sections m.sections.now) (map vec_items m.rows.now) m.laid.starts.now)
     h.laid.sections
     ∙ ap (λ ss. sections_text p number (map placed_of s.sections) (shown_sections m.sections.now)
-    m.rows.now ss) h.laid.starts
-    ∙ ap (λ os. sections_text p number (map placed_of s.sections) os m.rows.now
+    (map vec_items m.rows.now) ss) h.laid.starts
+    ∙ ap (λ os. sections_text p number (map placed_of s.sections) os (map vec_items m.rows.now)
     (flat_map starts_of s.sections)) h.sections
-    ∙ sections_same p number s.sections (output_sections p.script) m.rows.now h.names h.rows in
+    ∙ sections_same p number s.sections (output_sections p.script) (map vec_items m.rows.now) h.names h.rows in
     let symbols = all_symbols p number s m.named.now m.given.now h.named h.given h.complete in
     ap (λ e. line_of (codes "entry" ∷ hex e ∷ [])
-    ++ (sections_text p number m.laid.sections.now (shown_sections m.sections.now) m.rows.now
+    ++ (sections_text p number m.laid.sections.now (shown_sections m.sections.now) (map vec_items m.rows.now)
     m.laid.starts.now ++ symbols_text p number (merged m.named.now m.given.now))) h.entry
     ∙ ap (λ t. entry_line p s ++ (t ++ symbols_text p number (merged m.named.now m.given.now))) sections
     ∙ ap (λ t. entry_line p s ++ (flat_map section_lines s.sections ++ t)) symbols

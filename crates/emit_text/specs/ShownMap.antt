@@ -4,6 +4,7 @@ use Rattle.std.specs.Prelude.{if◌then◌else◌}
 use Rattle.std.specs.Prelude.{Option, Some, None}
 use Rattle.std.specs.Cmp.Lexicographic.{slice_cmp}
 use Rattle.std.specs.Ordering.{nat_cmp}
+use Rattle.std.specs.Vec.{vec_items}
 use Rattle.std.specs.declared.cmp.Ordering.{Ordering}
 use Rattle.std.specs.declared.cmp.Ordering.TheVariants.{Less, Equal, Greater}
 use Rattle.ldscript.specs.Numbered.{shown_sections}
@@ -89,6 +90,6 @@ merged (x ∷ xs) ys = before x ys ++ x ∷ merged xs (after x ys)
 unfoldable pub shown_map : Project → (number : ℕ → ℕ) → MapParts → List ℕ
 shown_map p number m =
     line_of (codes "entry" ∷ hex m.entry ∷ [])
-    ++ (sections_text p number m.laid.sections.now (shown_sections m.sections.now) m.rows.now
+    ++ (sections_text p number m.laid.sections.now (shown_sections m.sections.now) (map vec_items m.rows.now)
     m.laid.starts.now
     ++ symbols_text p number (merged m.named.now m.given.now))

@@ -1,6 +1,7 @@
 //! The map.
 
-ghost use Rattle.std.specs.Prelude.{◌≡◌, OnOk, IfOk, length, drop};
+ghost use Rattle.std.specs.Prelude.{◌≡◌, OnOk, IfOk, length, drop, map};
+ghost use Rattle.std.specs.Vec.{vec_items};
 ghost use Rattle.ldscript.specs.Numbered.{shown_sections};
 ghost use Rattle.ldmodel.specs.Layout.{Layout};
 ghost use Rattle.ldmodel.specs.MapText.{map_text};
@@ -15,7 +16,7 @@ use crate::named::next_part_name;
 use crate::symbols::{MapSymbol, put_symbols};
 use ldmodel::laid::{Laid, Placed};
 use ldmodel::memory::NoMemory;
-use ldmodel::rows::{Piece, Rows};
+use ldmodel::rows::Piece;
 use ldscript::tree::OutputSectionAt;
 use std::alloc::Global;
 
@@ -29,7 +30,7 @@ pub struct MapParts<'a> {
     /// Where they stand.
     pub laid: Laid<'a>,
     /// The input sections in each.
-    pub rows: &'a Rows,
+    pub rows: &'a [Vec<Piece>],
     /// Names in byte order, among them all that objects declare and that stand for something.
     pub named: &'a [MapSymbol<'a>],
     /// Names in byte order, among them all others that the script gives a value.
@@ -104,7 +105,7 @@ fn put_sections<M: Members>(
 ) -> Result<(), NoMemory>
     ensures { OnOk result (draft.new
         ≡ added draft.old (sections_text (M.project members.now) (M.number members.now) parts.now.laid.sections.now
-        (shown_sections parts.now.sections.now) parts.now.rows.now parts.now.laid.starts.now)) }
+        (shown_sections parts.now.sections.now) (map vec_items parts.now.rows.now) parts.now.laid.starts.now)) }
 {
     let mut starts = parts.laid.starts;
     // three tables side by side
@@ -112,10 +113,9 @@ fn put_sections<M: Members>(
         let Some(section) = parts.sections.get(k) else {
             return Ok(());
         };
-        if k >= parts.rows.len() {
+        let Some(row) = parts.rows.get(k) else {
             return Ok(());
-        }
-        let row = parts.rows.row(k);
+        };
         let placed = &parts.laid.sections[k];
         put_section(draft, section.section.name.as_bytes(), placed)?;
         starts = put_pieces(draft, members, row, starts)?;
@@ -142,12 +142,13 @@ const SECTION_ROOM: usize = 96;
 
 /// Room for the lines of the map, if names are of common length. What is not written of it is not touched.
 fn likely_size(parts: &MapParts<'_>) -> usize {
+    let mut pieces = 0usize;
+    for row in parts.rows {
+        pieces = pieces.saturating_add(row.len());
+    }
     let symbols = parts.named.len().saturating_add(parts.given.len());
     let sections = parts.sections.len().saturating_add(1);
-    parts
-        .rows
-        .pieces()
-        .len()
+    pieces
         .saturating_mul(PIECE_ROOM)
         .saturating_add(symbols.saturating_mul(SYMBOL_ROOM))
         .saturating_add(sections.saturating_mul(SECTION_ROOM))

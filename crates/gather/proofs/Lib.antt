@@ -19,6 +19,7 @@ pub mod Collecting
 pub mod ByNumber
 pub mod Named
 pub mod Preparing
+pub mod NamedRows
 pub mod PlacesUnder
 pub mod Keyed
 pub mod Refers

@@ -26,7 +26,7 @@ use Rattle.gather.specs.RowPieces.{shown_named, shown_row, taken_piece}
 use Rattle.gather.specs.declared.sorting.NamedPiece.{NamedPiece}
 use Rattle.gather.proofs.Sorts.{filter_of_map}
 
-pub map_twice : {X Y Z : Type 0} (g : Y → Z) (f : X → Y) (xs : List X) → map g (map f xs) ≡ map (λ x. g (f x)) xs
+map_twice : {X Y Z : Type 0} (g : Y → Z) (f : X → Y) (xs : List X) → map g (map f xs) ≡ map (λ x. g (f x)) xs
 map_twice g f [] = refl
 map_twice g f (x ∷ xs) = ap (λ l. g (f x) ∷ l) (map_twice g f xs)
 

@@ -23,7 +23,7 @@ use crate::members::members;
 use crate::rows::rows;
 use ldmodel_laws::gathering::live_by_path;
 use ldmodel::memory::NoMemory;
-use ldmodel::rows::Rows;
+use ldmodel::rows::Piece;
 use ldmodel::sections::SectionKey;
 use symres::naming::Naming;
 use ldmodel_project::view::ProjectView;
@@ -36,7 +36,7 @@ pub struct Gathering {
     /// The numbers of the input sections.
     pub table: SectionTable,
     /// One row for each output section, in the order of the script.
-    pub rows: Rows,
+    pub rows: Vec<Vec<Piece>>,
     /// The live input sections that no statement takes, in object order and then section order. Each is a fault.
     pub orphans: Vec<SectionKey>,
 }

@@ -2,7 +2,6 @@
 
 ghost use Rattle.std.specs.Prelude.{◌≡◌, ◌++◌, ◌∷◌, [], ℕ, IfOk, List, OnOk, length, map, if◌then◌else◌};
 ghost use Rattle.std.specs.List.{filter_map};
-ghost use Rattle.std.specs.Vec.{vec_items};
 ghost use Rattle.ldscript.specs.statements.Numbered.{shown_inputs};
 ghost use Rattle.ldmodel.specs.Project.{Project};
 ghost use Rattle.ldmodel.specs.Rows.{rows};
@@ -10,7 +9,7 @@ ghost use Rattle.ldmodel.specs.InputSections.{input_sections};
 ghost use Rattle.ldmodel.specs.Live.{live};
 ghost use Rattle.gather.specs.Gathered.{AreGathered, Keys, taken_in, taken_named};
 ghost use Rattle.gather.specs.LiveMarks.{marked};
-ghost use Rattle.gather.specs.RowPieces.{AddsTo, AreBuckets, AreEmpty, shown};
+ghost use Rattle.gather.specs.RowPieces.{AddsTo, AreBuckets, AreEmpty, shown_row};
 ghost use Rattle.gather.specs.declared.sorting.NamedPiece.{NamedPiece as Named};
 
 use crate::gathered::Gathered;
@@ -18,7 +17,7 @@ use crate::live_sections::is_marked;
 pub use crate::sorting::NamedPiece;
 use crate::sorting::order;
 use ldmodel::memory::NoMemory;
-use ldmodel::rows::{Piece, Rows};
+use ldmodel::rows::Piece;
 use ldscript::script::Script;
 use ldscript::tree::{InputPlace, InputStatementAt, Sort};
 use std::alloc::Global;
@@ -127,17 +126,6 @@ fn empty_rows(alloc: Global, count: usize) -> Result<Vec<Vec<Piece>>, NoMemory>
     Ok(rows)
 }
 
-/// These rows as one list.
-fn joined(alloc: Global, rows: &[Vec<Piece>]) -> Result<Rows, NoMemory>
-    ensures { IfOk result (λ joined. joined ≡ map vec_items rows.now) }
-{
-    let mut joined = Rows::new(alloc);
-    for row in rows {
-        joined.push(row)?;
-    }
-    Ok(joined)
-}
-
 /// The row of each output section, in the order of the script: statement by statement the live sections that the
 /// statement takes, in object order and then section order or, where the statement has a sort, as this orders them.
 /// `marks` says of each section whether it is live.
@@ -150,10 +138,10 @@ pub fn rows(
     script: &Script,
     sections: &[Gathered<'_>],
     marks: &[bool],
-) -> Result<Rows, NoMemory>
+) -> Result<Vec<Vec<Piece>>, NoMemory>
     ensures { IfOk result (λ found. (p : Project) (keys : Keys) → p.script ≡ script.now
         → AreGathered p keys sections.now → marked marks.now (input_sections p) ≡ live p
-        → map (map (shown keys.naming)) found ≡ rows p) }
+        → map (shown_row keys.naming) found.items ≡ rows p) }
 {
     let statements = script.input_statements(alloc)?;
     let mut buckets = buckets(alloc, sections, marks, statements.len())?;
@@ -163,6 +151,5 @@ pub fn rows(
         let sort = statement.input.sort;
         add_statement(&mut found, place, sort, &mut buckets[number])?;
     }
-    let rows = joined(alloc, &found)?;
-    Ok(rows)
+    Ok(found)
 }

@@ -15,7 +15,6 @@ pub mod Reach
 pub mod Live
 pub mod Sorting
 pub mod Rows
-pub mod Cut
 pub mod HandedOver
 pub mod Chain
 pub mod Arithmetic

@@ -1,5 +1,7 @@
 -- What the values of the code stand for in a link from scratch, where the key of an object is its place in the project.
 use Rattle.std.specs.Prelude.{ℕ, List, map}
+use Rattle.std.specs.Vec.{vec_items}
+use Rattle.std.proofs.Common.{Vec, Global}
 use Rattle.ldmodel.specs.Fault.{Fault}
 use Rattle.ldmodel.specs.FaultCode.{fault_of, name_of_part}
 use Rattle.ldmodel.specs.HandedOver.{piece_of}
@@ -19,8 +21,8 @@ abbrev pub piece_in : Project → code.Piece → Piece
 piece_in p x = piece_of (object_name p) (name_of_section p) x
 
 -- rows
-abbrev pub rows_in : Project → List (List code.Piece) → List (List Piece)
-rows_in p rows = map (λ (row : List code.Piece). map (piece_in p) row) rows
+abbrev pub rows_in : Project → List (Vec code.Piece Global) → List (List Piece)
+rows_in p rows = map (λ (row : List code.Piece). map (piece_in p) row) (map vec_items rows)
 
 -- faults
 abbrev pub faults_in : Project → List code_fault.Fault → List Fault

@@ -1,6 +1,6 @@
 -- All entries of the rows of a project have numbers.
 use Rattle.std.proofs.Common.{◌≡◌, ◌<◌, ◌+◌, ◌∙◌, ℕ, zero, suc, sym, ap, subst, arith, List, [], ◌∷◌, length, drop, map}
-use Rattle.std.proofs.Common.{flat_map, Option}
+use Rattle.std.proofs.Common.{flat_map, Option, Vec, Global}
 use Rattle.std.proofs.lemmas.Bool.{eqb-true}
 use Rattle.std.proofs.lemmas.Slice.Eq.{bytes_eq-Decides}
 use Rattle.std.specs.List.{All, Contains}
@@ -63,20 +63,20 @@ module _ (p : Project) (t : SectionTable) (distinct : AreNamesDistinct p.objects
     row_numbered n row starts h.1 k.1,
   )
 
-  rows_numbered : (n : ℕ) (rows : List (List Piece)) (starts : List ℕ)
+  rows_numbered : (n : ℕ) (rows : List (Vec Piece Global)) (starts : List ℕ)
       → Each (IsOwned p) (flat_map (λ (row : List model.Piece). row) (rows_in p rows))
       → Each OfInput (flat_map (λ (row : List model.Piece). row) (rows_in p rows))
       → Each IsNumbered (all_entries n rows starts)
   rows_numbered n [] starts h k = tt
   rows_numbered n (row ∷ rows) starts h k =
       let rest : List model.Piece = flat_map (λ (r : List model.Piece). r) (rows_in p rows) in
-      let owned = each_append (IsOwned p) (map (piece_in p) row) rest h in
-      let parts = each_append OfInput (map (piece_in p) row) rest k in
-      each_join IsNumbered (row_entries n row starts)
-      (all_entries (n + 1) rows (drop (length row) starts)) (row_numbered n row starts owned.0 parts.0)
-      (rows_numbered (n + 1) rows (drop (length row) starts) owned.1 parts.1)
+      let owned = each_append (IsOwned p) (map (piece_in p) row.items) rest h in
+      let parts = each_append OfInput (map (piece_in p) row.items) rest k in
+      each_join IsNumbered (row_entries n row.items starts)
+      (all_entries (n + 1) rows (drop (length row.items) starts)) (row_numbered n row.items starts owned.0 parts.0)
+      (rows_numbered (n + 1) rows (drop (length row.items) starts) owned.1 parts.1)
 
-  pub all_numbered : (rows : List (List Piece)) (starts : List ℕ) (collected : List Entry)
+  pub all_numbered : (rows : List (Vec Piece Global)) (starts : List ℕ) (collected : List Entry)
       → rows_in p rows ≡ model.rows p → Each (IsOwned p) (flat_map (λ (row : List model.Piece). row) (model.rows p))
       → Each OfInput (flat_map (λ (row : List model.Piece). row) (model.rows p))
       → collected ≡ all_entries 0 rows starts → HaveNumbers t collected

@@ -1,5 +1,5 @@
 -- Entries that are collected one by one and row by row.
-use Rattle.std.proofs.Common.{◌≡◌, ◌<◌, ◌≤◌, ◌+◌, ◌⊎◌, inl, inr, ℕ, suc, refl, sym, ap, ◌∙◌, arith, min}
+use Rattle.std.proofs.Common.{◌≡◌, ◌<◌, ◌≤◌, ◌+◌, ◌⊎◌, inl, inr, ℕ, suc, refl, sym, ap, ◌∙◌, arith, min, Vec, Global}
 use Rattle.std.proofs.Common.{List, [], ◌∷◌, ◌++◌, length, get_or, drop, map}
 use Rattle.std.proofs.Math.ListN.{drop_of_length-le}
 use Rattle.std.proofs.Math.Seq.{drop-cons}
@@ -63,20 +63,20 @@ drop_at_most n xs = go (cases_lt n (length xs))
         drop_of_length-le xs e ∙ sym (drop_of_length-le xs h)
 
 -- one more row
-pub rows_more : (i : ℕ) (rows : List (List Piece)) (left : List ℕ) (xs all : List Entry)
-    (row : List Piece) → i < length rows → row ≡ get_or rows i []
+pub rows_more : (i : ℕ) (rows : List (Vec Piece Global)) (left : List ℕ) (xs all : List Entry)
+    (row : Vec Piece Global) → i < length rows → row ≡ get_or rows i row
     → xs ++ all_entries i (drop i rows) left ≡ all
-    → (xs ++ row_entries i row left)
-    ++ all_entries (i + 1) (drop (i + 1) rows) (drop (min (length row) (length left)) left) ≡ all
+    → (xs ++ row_entries i row.items left)
+    ++ all_entries (i + 1) (drop (i + 1) rows) (drop (min (length row.items) (length left)) left) ≡ all
 rows_more i rows left xs all row h e before =
-    append_assoc xs (row_entries i row left)
-    (all_entries (i + 1) (drop (i + 1) rows) (drop (min (length row) (length left)) left))
-    ∙ ap (λ l. xs ++ (row_entries i row left ++ all_entries (i + 1) (drop (i + 1) rows) l))
-    (drop_at_most (length row) left)
+    append_assoc xs (row_entries i row.items left)
+    (all_entries (i + 1) (drop (i + 1) rows) (drop (min (length row.items) (length left)) left))
+    ∙ ap (λ l. xs ++ (row_entries i row.items left ++ all_entries (i + 1) (drop (i + 1) rows) l))
+    (drop_at_most (length row.items) left)
     ∙ ap (λ r. xs ++ all_entries i r left) (sym first) ∙ before
   where
     next : (i + 1) ≡ suc i
     next = omega arith
 
     first : drop i rows ≡ row ∷ drop (i + 1) rows
-    first = drop-cons rows i [] h ∙ ap (λ y. y ∷ drop (suc i) rows) (sym e) ∙ ap (λ j. row ∷ drop j rows) (sym next)
+    first = drop-cons rows i row h ∙ ap (λ y. y ∷ drop (suc i) rows) (sym e) ∙ ap (λ j. row ∷ drop j rows) (sym next)

@@ -14,4 +14,5 @@ mod Numbers
 mod AllNumbered
 mod Collecting
 mod Column
+mod Cutting
 mod Placing

@@ -1,12 +1,14 @@
 -- The entries of all rows say where input sections stand.
 use Rattle.std.proofs.Common.{◌≡◌, ◌+◌, ◌&&◌, ◌||◌, ℕ, Bool, true, false, cond, refl, sym, ap, subst, bytes_eq}
 use Rattle.std.proofs.Common.{◌<◌, ◌∙◌}
+use Rattle.std.proofs.Common.{Vec, Global}
 use Rattle.std.proofs.Common.{List, [], ◌∷◌, ◌++◌, length, drop, map, flat_map, find, Option, Some, None}
 use Rattle.std.proofs.lemmas.List.{drop_at, length-map}
 use Rattle.std.proofs.lemmas.Iterator.Adapters.{position_from-zero}
 use Rattle.std.proofs.lemmas.List.Folds.{find-append}
 use Rattle.std.specs.List.{list_any, position_from}
 use Rattle.std.specs.Option.{is_some, option_map, option_or}
+use Rattle.std.specs.Vec.{vec_items}
 use Rattle.ldmodel.specs.Edits.{AreNamesDistinct}
 use Rattle.ldmodel.specs.FileLayout.{Each}
 use Rattle.ldmodel.specs.Layout.{Layout, PlacedPiece, PlacedSection}
@@ -106,8 +108,8 @@ module _ (p : Project) (distinct : AreNamesDistinct p.objects) (k : SectionKey) 
       go false e = e
 
   -- the first entry of all rows
-  in_rows : (n : ℕ) (rows : List (List Piece)) (qs : List PlacedSection)
-      → map entries_in qs ≡ map (λ (row : List Piece). map (piece_in p) row) rows
+  in_rows : (n : ℕ) (rows : List (Vec Piece Global)) (qs : List PlacedSection)
+      → map entries_in qs ≡ map (λ (row : List Piece). map (piece_in p) row) (map vec_items rows)
       → Each (IsOwned p) (flat_map (λ (row : List model.Piece). row) (map entries_in qs))
       → option_map place_of (find sought (all_entries n rows (flat_map starts_of qs))) ≡ place_from n qs
   in_rows n [] [] e owned = refl
@@ -116,25 +118,25 @@ module _ (p : Project) (distinct : AreNamesDistinct p.objects) (k : SectionKey) 
   in_rows n (row ∷ rows) (q ∷ qs) e owned =
       let owns = each_append (IsOwned p) (entries_in q)
       (flat_map (λ (r : List model.Piece). r) (map entries_in qs)) owned in
-      let here : entries_in q ≡ map (piece_in p) row = cc in
-      let later : map entries_in qs ≡ map (λ (row : List Piece). map (piece_in p) row) rows = cc in
+      let here : entries_in q ≡ map (piece_in p) row.items = cc in
+      let later : map entries_in qs ≡ map (λ (row : List Piece). map (piece_in p) row) (map vec_items rows) = cc in
       let more : List ℕ = flat_map starts_of qs in
-      let own : List Entry = row_entries n row (starts_of q ++ more) in
+      let own : List Entry = row_entries n row.items (starts_of q ++ more) in
       let others : List Entry =
-      all_entries (n + 1) rows (drop (length row) (starts_of q ++ more)) in
+      all_entries (n + 1) rows (drop (length row.items) (starts_of q ++ more)) in
       ap (option_map place_of) (find-append sought own others)
       ∙ map_or (find sought own) (find sought others)
-      ∙ ap (λ o. option_or o (option_map place_of (find sought others))) (in_row n row q.pieces more here owns.0)
+      ∙ ap (λ o. option_or o (option_map place_of (find sought others))) (in_row n row.items q.pieces more here owns.0)
       ∙ ap (λ l. option_or (option_map (place_at n) (find test q.pieces))
       (option_map place_of (find sought (all_entries (n + 1) rows l))))
-      (drop_at (starts_of q) more (length row) (as_long q row here))
+      (drop_at (starts_of q) more (length row.items) (as_long q row here))
       ∙ ap (option_or (option_map (place_at n) (find test q.pieces))) (in_rows (n + 1) rows qs later owns.1)
     where
-      as_long : (q : PlacedSection) (row : List Piece) → entries_in q ≡ map (piece_in p) row
-          → length (starts_of q) ≡ length row
+      as_long : (q : PlacedSection) (row : Vec Piece Global) → entries_in q ≡ map (piece_in p) row.items
+          → length (starts_of q) ≡ length row.items
       as_long q row e =
           length-map q.pieces (λ (y : PlacedPiece). y.start) ∙ sym (length-map q.pieces (λ (y : PlacedPiece). y.piece))
-          ∙ ap length e ∙ length-map row (piece_in p)
+          ∙ ap length e ∙ length-map row.items (piece_in p)
 
   abbrev all_pieces : List PlacedSection → List PlacedPiece
   all_pieces qs = flat_map (λ (q : PlacedSection). q.pieces) qs
@@ -170,7 +172,7 @@ module _ (p : Project) (distinct : AreNamesDistinct p.objects) (k : SectionKey) 
       go (Some y) later r h = (refl, refl, refl)
 
   -- the first entry is where the part stands
-  pub is_place : (s : Layout) (rows : List (List Piece)) → map entries_in s.sections ≡ rows_in p rows
+  pub is_place : (s : Layout) (rows : List (Vec Piece Global)) → map entries_in s.sections ≡ rows_in p rows
       → Each (IsOwned p) (entries_of s)
       → IsPartPlace p s k
       (option_map place_of (find sought (all_entries 0 rows (flat_map starts_of s.sections))))
@@ -187,8 +189,8 @@ module _ (p : Project) (distinct : AreNamesDistinct p.objects) (k : SectionKey) 
 
 -- where all entries have their numbers, everything is arranged
 pub all_places : (p : Project) (s : Layout) (starts : List ℕ) (x : Arranged) → AreNamesDistinct p.objects
-    → AreInPlace p s → map entries_in s.sections ≡ rows_in p x.rows → starts ≡ flat_map starts_of s.sections
-    → x.entries.items ≡ all_entries 0 x.rows starts → IsTableOf p x.table → rows_in p x.rows ≡ model.rows p
+    → AreInPlace p s → map entries_in s.sections ≡ rows_in p x.rows.items → starts ≡ flat_map starts_of s.sections
+    → x.entries.items ≡ all_entries 0 x.rows.items starts → IsTableOf p x.table → rows_in p x.rows.items ≡ model.rows p
     → IsLaying p s x.laying → HaveNumbers x.table x.entries.items
     → AreOwners x.table x.entries.items x.owners.items → IsArranged p s x
 all_places p s starts x distinct apart placed begin all table rows laying numbers owned =
@@ -196,14 +198,14 @@ all_places p s starts x distinct apart placed begin all table rows laying number
       table = table;
       rows = rows;
       laying = laying;
-      places = λ k. subst (IsPartPlace p s k) (sym (same k)) (is_place p distinct k s x.rows placed apart.owned);
+      places = λ k. subst (IsPartPlace p s k) (sym (same k)) (is_place p distinct k s x.rows.items placed apart.owned);
       apart = apart;
     }
   where
     same : (k : SectionKey) → place_in x k
         ≡ option_map (λ (e : Entry). e.place)
-        (find (is_part_of k.object.0 k.part) (all_entries 0 x.rows (flat_map starts_of s.sections)))
+        (find (is_part_of k.object.0 k.part) (all_entries 0 x.rows.items (flat_map starts_of s.sections)))
     same k =
         has_first p x.entries.items x.table x.owners.items table numbers owned k.object.0 k.part
         ∙ ap (λ xs. option_map (λ (e : Entry). e.place) (find (is_part_of k.object.0 k.part) xs))
-        (all ∙ ap (all_entries 0 x.rows) begin)
+        (all ∙ ap (all_entries 0 x.rows.items) begin)

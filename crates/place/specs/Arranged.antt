@@ -45,7 +45,7 @@ place_in x k = part_in x k.object.0 k.part
 -- stands once
 pub record IsArranged (p : Project) (s : Layout) (x : Arranged) : Type 0 where
   pub table : IsTableOf p x.table
-  pub rows : rows_in p x.rows ≡ model.rows p
+  pub rows : rows_in p x.rows.items ≡ model.rows p
   pub laying : IsLaying p s x.laying
   pub places : (k : SectionKey) → IsPartPlace p s k (place_in x k)
   pub apart : AreInPlace p s

@@ -1,6 +1,7 @@
 -- Input sections with their places.
 use Rattle.std.specs.Prelude.{ℕ, ◌+◌, ◌&&◌, ◌==◌, List, [], ◌∷◌, ◌++◌, map, length, drop, Bool}
 use Rattle.std.specs.List.{zip}
+use Rattle.std.proofs.Common.{Vec, Global}
 use Rattle.ldmodel.specs.Sections.{is_same_part}
 use Rattle.ldmodel.specs.declared.rows.Piece.{Piece}
 use Rattle.ldmodel.specs.declared.sections.Part.{Part}
@@ -22,7 +23,7 @@ abbrev pub row_entries : ℕ → List Piece → List ℕ → List Entry
 row_entries section row starts = map (entry_of section) (zip row starts)
 
 -- those of all rows, the first of which is that of this output section
-abbrev pub all_entries : ℕ → List (List Piece) → List ℕ → List Entry
+abbrev pub all_entries : ℕ → List (Vec Piece Global) → List ℕ → List Entry
 all_entries section [] starts = []
 all_entries section (row ∷ rows) starts =
-    row_entries section row starts ++ all_entries (section + 1) rows (drop (length row) starts)
+    row_entries section row.items starts ++ all_entries (section + 1) rows (drop (length row.items) starts)

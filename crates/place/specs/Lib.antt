@@ -9,3 +9,4 @@ pub mod Entries
 pub mod InPlace
 pub mod Columns
 pub mod Arranged
+pub mod Cut

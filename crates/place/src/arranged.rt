@@ -20,7 +20,7 @@ use ldmodel_laws::layout::{nothing_meets, placed_are_rows};
 use ldmodel::laid::OutputIndex;
 use ldmodel::memory::NoMemory;
 use ldmodel::names::ObjectPlace;
-use ldmodel::rows::Rows;
+use ldmodel::rows::Piece;
 use ldmodel::sections::{Part, SectionKey};
 use ldmodel_project::input::InputObject;
 use ldmodel_project::view::ProjectView;
@@ -45,7 +45,7 @@ pub struct Arranged {
     /// The numbers of the input sections.
     table: SectionTable,
     /// The row of each output section.
-    pub rows: Rows,
+    pub rows: Vec<Vec<Piece>>,
     /// Where they stand, in memory and in the file.
     pub laying: Laying,
     /// All input sections in the output with their places, in the order of the rows.
@@ -95,11 +95,11 @@ impl Arranged {
         alloc: Global,
         project: &ProjectView<'_>,
         table: SectionTable,
-        rows: Rows,
+        rows: Vec<Vec<Piece>>,
         laying: Laying,
     ) -> Result<Arranged, NoMemory>
         requires table { IsTableOf project.now table }
-        requires rows { rows_in project.now rows ≡ model.rows project.now }
+        requires rows { rows_in project.now rows.items ≡ model.rows project.now }
         ensures laying { IfOk result (λ x. x.laying ≡ laying) }
         ensures arranged { IfOk result (λ x. (s : Layout) → IsLaying project.now s x.laying
             → IsArranged project.now s x) }

@@ -7,7 +7,7 @@ use crate::entry::Entry;
 use crate::arranged::PartPlace;
 use ldmodel::laid::OutputIndex;
 use ldmodel::memory::NoMemory;
-use ldmodel::rows::{Piece, Rows};
+use ldmodel::rows::Piece;
 use std::alloc::{AllocError, Global};
 
 /// Adds the input sections of a row, which start at these addresses.
@@ -41,20 +41,19 @@ fn add_row(
 /// Where memory runs out.
 pub(crate) fn collect(
     alloc: Global,
-    rows: &Rows,
+    rows: &[Vec<Piece>],
     starts: &[u64],
 ) -> Result<Vec<Entry>, NoMemory>
     ensures { IfOk result (λ v. v.items ≡ all_entries 0 rows.now starts.now) }
 {
     let mut entries = Vec::with_capacity(alloc, starts.len())?;
     let mut left = starts;
-    for number in 0..rows.len() {
-        let Ok(section) = u32::try_from(number) else {
+    for (number, row) in rows.iter().enumerate() {
+        let Ok(number) = u32::try_from(number) else {
             // Unreachable: no script has 2^32 output sections
             return Err(AllocError);
         };
-        let row = rows.row(number);
-        add_row(&mut entries, OutputIndex(section), row, left)?;
+        add_row(&mut entries, OutputIndex(number), row, left)?;
         left = &left[row.len().min(left.len())..];
     }
     Ok(entries)

@@ -1,6 +1,6 @@
 //! The layout of a project, or its faults.
 
-ghost use Rattle.std.specs.Prelude.{◌≡◌, IfErr, IfOk, IfSome};
+ghost use Rattle.std.specs.Prelude.{◌≡◌, IfErr, IfOk, IfSome, map};
 ghost use Rattle.ldmodel.specs.Names.{provided};
 ghost use Rattle.ldmodel.specs.Project.{Project};
 ghost use Rattle.ldmodel.specs.Rows as model;
@@ -17,7 +17,7 @@ use crate::offsets::offsets;
 use crate::segments::segments;
 use elfobj::meter::Meter;
 use ldmodel::fault::Fault;
-use ldmodel::rows::Rows;
+use ldmodel::rows::Piece;
 use ldmodel::segment::Segment;
 use symres::naming::Naming;
 use ldmodel_project::view::ProjectView;
@@ -86,7 +86,7 @@ fn place_rows(
     alloc: Global,
     project: &ProjectView<'_>,
     naming: &Naming,
-    rows: &Rows,
+    rows: &[Vec<Piece>],
     kept: Option<(&Placement, usize)>,
     meter: &mut Meter,
 ) -> Result<Placement, LayFault>
@@ -97,9 +97,9 @@ fn place_rows(
     requires kept { IfSome kept (λ k. IsKept lent.script (model.rows lent) k.0.now k.1) }
     ensures good { IfOk result (λ l. HasPlaces lent l) }
     ensures faulty { IfErr result (λ f. IsWhy lent f) }
-    ensures counted { CountsPieces meter.old meter.new (entries 0 rows.now) }
+    ensures counted { CountsPieces meter.old meter.new (entries 0 (map (λ v. v.items) rows.now)) }
     ensures resumed { IfOk result (λ _. IfSome kept.entry (λ k.
-        CountsPieces meter.old meter.new (entries k.1 rows.now))) }
+        CountsPieces meter.old meter.new (entries k.1 (map (λ v. v.items) rows.now)))) }
     ensures exact { IfOk result (λ p. meter.new ≡ raised meter.old Pieces (placed_from (first_of kept.entry) p.counts)) }
 {
     let script = project.script();
@@ -125,7 +125,7 @@ impl Laying {
         alloc: Global,
         project: &ProjectView<'_>,
         naming: &Naming,
-        rows: &Rows,
+        rows: &[Vec<Piece>],
         kept: Option<(&Placement, usize)>,
         meter: &mut Meter,
     ) -> Result<Laying, LayFault>
@@ -134,9 +134,9 @@ impl Laying {
         requires kept { IfSome kept (λ k. IsKept project.now.script (model.rows project.now) k.0.now k.1) }
         ensures good { IfOk result (λ l. HasLayout project.now l) }
         ensures faulty { IfErr result (λ f. IsWhy project.now f) }
-        ensures counted { CountsPieces meter.old meter.new (entries 0 rows.now) }
+        ensures counted { CountsPieces meter.old meter.new (entries 0 (map (λ v. v.items) rows.now)) }
         ensures resumed { IfOk result (λ _. IfSome kept.entry (λ k.
-            CountsPieces meter.old meter.new (entries k.1 rows.now))) }
+            CountsPieces meter.old meter.new (entries k.1 (map (λ v. v.items) rows.now)))) }
         ensures exact { IfOk result (λ l. meter.new
             ≡ raised meter.old Pieces (placed_from (first_of kept.entry) l.placement.counts)) }
     {

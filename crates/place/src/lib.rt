@@ -6,7 +6,7 @@
 //! - `segments` over `group`: what is loaded as one, and its offset in the file; `offsets`: where output sections begin
 //!   in the file; `length`: how long the image is;
 //! - `arranged` over `collected` and `entry`: all of that, and where each input section stands; `numbered`: the sections of an object have
-//!   different numbers.
+//!   different numbers; `rows`: rows as one list.
 #![tactic(auto)]
 
 pub mod arranged;
@@ -17,6 +17,7 @@ pub mod laying;
 pub mod length;
 pub mod numbered;
 mod offsets;
+pub mod rows;
 pub mod segments;
 pub use place_sections as sections;
 pub use place_terms as terms;

@@ -88,12 +88,12 @@ module _ (n : Naming) (i : Input) (script : List Statement) (s : Layout) (x : It
       by_command (item.Discard inputs) e = tt
       by_command (item.Section o) e = λ starts other below at.
           let k : ℕ = length sections in
-          let row : List rows.Piece = get_or i.rows.now k [] in
+          let row : List rows.Piece = get_or (map (λ v. v.items) i.rows.now) k [] in
           let own : a.state.sections ≡ map (section_of n) sections = ap (λ (z : Layout). z.sections) (sym a.alike.same)
           ∙ is in
           let row_is : next_row a.rows a.state ≡ row_named n row =
           ap (λ j. get_or a.rows j []) (ap length own ∙ length-map sections (section_of n))
-          ∙ (a.same k below ∙ get_or-map (row_named n) i.rows.now k []) in
+          ∙ (a.same k below ∙ get_or-map (row_named n) (map (λ v. v.items) i.rows.now) k []) in
           let step : section_step a.provided (row_named n row) (noted a.state) x.line o ≡ Ok first.value =
           ap (λ z. section_step a.provided z (noted a.state) x.line o) (sym row_is) ∙ section_is o e in
           let l = leads_before script i.kept first.value a.leads.layout
@@ -106,7 +106,7 @@ module _ (n : Naming) (i : Input) (script : List Statement) (s : Layout) (x : It
           let are = starts_are n script i.kept a.provided row (noted a.state) x.line o sections own l (length starts)
           count in
           subst (λ z. SectionAlongside z (noted s) x.line o starts)
-          (sym (get_or-map (row_named n) i.rows.now k [])) (record {
+          (sym (get_or-map (row_named n) (map (λ v. v.items) i.rows.now) k [])) (record {
             provided = a.provided;
             names = names_given (items_commons xs) ++ a.names;
             state = noted a.state;

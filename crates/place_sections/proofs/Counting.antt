@@ -27,12 +27,12 @@ entries_more (suc k) (row ∷ rows) = let h = entries_more k rows in let e : suc
 placed_resumes : {T : Type 0} (r : Result T Stop) (i : Input) (old new : Here) (before after : List KeyedSection)
     (row : List Piece)
     → OnOk r (length after ≡ length before + 1) → new.anew ≤ old.anew + length row
-    → row ≡ get_or i.rows.now (length before) []
+    → row ≡ get_or (map (λ v. v.items) i.rows.now) (length before) []
     → i.kept.first ≤ length before → OnOk r (Resumes i old new before after)
 unfolding left_after
 placed_resumes (Err e) i old new before after row one few same past = tt
 placed_resumes (Ok u) i old new before after row one few same past =
-    let rows : List (List Piece) = i.rows.now in
+    let rows : List (List Piece) = map (λ v. v.items) i.rows.now in
     let a : max i.kept.first (length before) ≡ length before = omega (arith, past) in
     let b : max i.kept.first (length after) ≡ length before + 1 = omega (arith, past, one) in
     let here : entries (max i.kept.first (length before)) rows ≡ entries (length before) rows =
@@ -50,7 +50,7 @@ kept_resumes : {T : Type 0} (r : Result T Stop) (i : Input) (old new : Here) (be
 unfolding left_after
 kept_resumes (Err e) i old new before after one none first = tt
 kept_resumes (Ok u) i old new before after one none first =
-    let rows : List (List Piece) = i.rows.now in
+    let rows : List (List Piece) = map (λ v. v.items) i.rows.now in
     let a : max i.kept.first (length before) ≡ i.kept.first = omega (arith, first) in
     let b : max i.kept.first (length after) ≡ i.kept.first = omega (arith, first, one) in
     let here : entries (max i.kept.first (length before)) rows ≡ entries i.kept.first rows = ap
@@ -63,7 +63,7 @@ kept_resumes (Ok u) i old new before after one none first =
 pub section_resumes : {T K : Type 0} (starts : Option K) (r : Result T Stop) (i : Input) (old new : Here)
     (before after : List KeyedSection) (row : List Piece)
     → OnOk r (length after ≡ length before + 1) → new.anew ≤ old.anew + length row
-    → row ≡ get_or i.rows.now (length before) []
+    → row ≡ get_or (map (λ v. v.items) i.rows.now) (length before) []
     → IfSome starts (λ k. new.anew ≡ old.anew) → IfSome starts (λ k. length before < i.kept.first)
     → IfNone starts (i.kept.first ≤ length before) → OnOk r (Resumes i old new before after)
 section_resumes (Some k) r i old new before after row one few same none first past =
@@ -79,11 +79,11 @@ entries_fewer (suc k) (row ∷ rows) = let h = entries_fewer k rows in omega (ar
 
 -- what is left after no more output sections than are taken over, and after all
 pub left_at_first : (i : Input) (sections : List KeyedSection) → length sections ≤ i.kept.first
-    → left_after i sections ≡ entries i.kept.first i.rows.now
+    → left_after i sections ≡ entries i.kept.first (map (λ v. v.items) i.rows.now)
 unfolding left_after
 left_at_first i sections few =
     let m : max i.kept.first (length sections) ≡ i.kept.first = omega (arith, few) in
-    ap (λ k. entries k i.rows.now) m
+    ap (λ k. entries k (map (λ v. v.items) i.rows.now)) m
 
 -- ---- counts that go along
 

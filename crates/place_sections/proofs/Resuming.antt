@@ -180,7 +180,7 @@ module _ (n : Naming) (i : Input) (script : List Statement) (s : Layout) (items 
   reached_on next there_next l old new r t =
       let provided : List (List ℕ) = i.provided.now in
       let o : OutputSection = t.output in
-      let row : List rows.Piece = get_or i.rows.now (length old.sections.list) [] in
+      let row : List rows.Piece = get_or (map (λ v. v.items) i.rows.now) (length old.sections.list) [] in
       let long : length r.state.sections ≡ length at.state.sections =
       (let p = ap length r.sections in let q = length-map old.sections.list (section_of n) in
       let z = r.many in let w = at.many in omega (arith, p, q, z, w)) in
@@ -188,8 +188,8 @@ module _ (n : Naming) (i : Input) (script : List Statement) (s : Layout) (items 
       let row_is : next_row e.rows at.state ≡ row_named n row =
       ap (λ j. get_or e.rows j []) at.many
       ∙ (e.same k l
-      ∙ (get_or-map (row_named n) i.rows.now k []
-      ∙ ap (λ j. row_named n (get_or i.rows.now j [])) (sym r.many))) in
+      ∙ (get_or-map (row_named n) (map (λ v. v.items) i.rows.now) k []
+      ∙ ap (λ j. row_named n (get_or (map (λ v. v.items) i.rows.now) j [])) (sym r.many))) in
       let st = stepped t.at.line o t.at.there (row_named n row) row_is in
       let same : st.leads.layout ≡ st.after = given_is st.leads.layout st.after (sym st.leads.comes ∙ st.step) in
       let sections : at.state.sections ≡ map (section_of n) old.sections.list = sym (r.sections ∙ two.0) in

@@ -53,7 +53,7 @@ entries (suc k) (row ∷ rows) = entries k rows
 
 -- the entries of the rows that differ, from the next output section on
 unfoldable pub left_after : Input → List KeyedSection → ℕ
-left_after i sections = entries (max i.kept.first (length sections)) i.rows.now
+left_after i sections = entries (max i.kept.first (length sections)) (map (λ v. v.items) i.rows.now)
 
 -- at most those of them that have their places now are placed anew
 abbrev pub Resumes : Input → Here → Here → List KeyedSection → List KeyedSection → Type 0

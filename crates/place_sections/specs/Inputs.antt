@@ -5,4 +5,4 @@ use Rattle.place_terms.specs.Naming.{Naming, rows_named}
 use Rattle.place_sections.specs.declared.script.Input.{Input}
 
 abbrev pub rows_of : Naming → Input → List (List Piece)
-rows_of n i = rows_named n i.rows.now
+rows_of n i = rows_named n (map (λ v. v.items) i.rows.now)

@@ -22,7 +22,7 @@ pub record Takes (i : Input) (items : List Item) (b next : Boundary) (old new : 
   pub at : IsSection items b.items output
   pub section : KeyedSection
   pub taken : IsTaken (earlier_of i.kept.earlier) old.sections.list
-      (slice_index_or i.rows.now (length old.sections.list) []) output next.data_commands section
+      (slice_index_or (map (λ v. v.items) i.rows.now) (length old.sections.list) []) output next.data_commands section
   pub pushed : new.sections.list ≡ old.sections.list ++ section ∷ []
   pub regions : new.regions
       ≡ freed_from (load_region output.load) (section.placed.load + section.placed.load_size)

@@ -1,6 +1,6 @@
 //! The statements of SECTIONS.
 
-ghost use Rattle.std.specs.Prelude.{◌≡◌, ◌≤◌, ◌<◌, ◌+◌, [], length, IfErr, IfOk, OnOk};
+ghost use Rattle.std.specs.Prelude.{◌≡◌, ◌≤◌, ◌<◌, ◌+◌, [], map, slice_index_or, length, IfErr, IfOk, OnOk};
 ghost use Rattle.std.specs.Prelude.{IfNone, IfSome, false, true};
 ghost use Rattle.std.specs.Prelude.{if◌then◌else◌};
 ghost use Rattle.ldscript.specs.statements.Numbering.{sections_of};
@@ -24,7 +24,18 @@ use crate::script::Input;
 use crate::state::{Done, Here};
 use crate::stop::Stop;
 use ldmodel_laws::layout::steps_stay_alike;
+use ldmodel::rows::Piece;
 use ldscript::tree::{DotCommand, Item, ItemCommand};
+
+/// The row of the output section of a number.
+pub(crate) fn row_at(rows: &[Vec<Piece>], section: usize) -> &[Piece]
+    ensures { result.now ≡ slice_index_or (map (λ v. v.items) rows.now) section [] }
+{
+    match rows.get(section) {
+        Some(row) => row,
+        None => &[],
+    }
+}
 
 /// Whether a statement of SECTIONS is an output section.
 fn is_output(item: &Item) -> bool
@@ -118,10 +129,10 @@ impl<'i, 'a> Input<'i, 'a> {
             command.now }
         ensures script { here.new.symbols.script ≡ here.old.symbols.script }
         ensures anew { here.new.anew ≤ here.old.anew + entries (length done.old.sections.list)
-            self.now.rows.now }
+            (map (λ v. v.items) self.now.rows.now) }
         ensures left { OnOk result
-            (here.new.anew + entries (length done.new.sections.list) self.now.rows.now
-            ≤ here.old.anew + entries (length done.old.sections.list) self.now.rows.now) }
+            (here.new.anew + entries (length done.new.sections.list) (map (λ v. v.items) self.now.rows.now)
+            ≤ here.old.anew + entries (length done.old.sections.list) (map (λ v. v.items) self.now.rows.now)) }
         ensures resumed { OnOk result
             (Resumes self.now here.old here.new done.old.sections.list done.new.sections.list) }
         ensures added { OnOk result
@@ -136,7 +147,7 @@ impl<'i, 'a> Input<'i, 'a> {
             ItemCommand::Common(command) => here.common(done, self.provided, line, command),
             ItemCommand::Section(output) => {
                 let starts = self.kept_starts(done)?;
-                let row = self.rows.row(done.sections.len());
+                let row = row_at(self.rows, done.sections.len());
                 let output = output.get();
                 here.place_section(self.alloc, done, self.provided, row, starts, line, output)
             }
@@ -164,10 +175,10 @@ impl<'i, 'a> Input<'i, 'a> {
             done.now.sections.list item.now.line item.now.command }
         ensures script { here.new.symbols.script ≡ here.old.symbols.script }
         ensures anew { here.new.anew ≤ here.old.anew + entries (length done.old.sections.list)
-            self.now.rows.now }
+            (map (λ v. v.items) self.now.rows.now) }
         ensures left { OnOk result
-            (here.new.anew + entries (length done.new.sections.list) self.now.rows.now
-            ≤ here.old.anew + entries (length done.old.sections.list) self.now.rows.now) }
+            (here.new.anew + entries (length done.new.sections.list) (map (λ v. v.items) self.now.rows.now)
+            ≤ here.old.anew + entries (length done.old.sections.list) (map (λ v. v.items) self.now.rows.now)) }
         ensures resumed { OnOk result
             (Resumes self.now here.old here.new done.old.sections.list done.new.sections.list) }
         ensures added { OnOk result
@@ -198,9 +209,9 @@ impl<'i, 'a> Input<'i, 'a> {
         requires alongside { self.now.kept.same_provided ≡ false → 0 < self.now.kept.first
             → ItemsAlongside naming self.now here.now.symbols.script (layout_of naming here.now done.now) items.now }
         ensures script { here.new.symbols.script ≡ here.old.symbols.script }
-        ensures anew { here.new.anew ≤ here.old.anew + entries 0 self.now.rows.now }
+        ensures anew { here.new.anew ≤ here.old.anew + entries 0 (map (λ v. v.items) self.now.rows.now) }
         ensures resumed { OnOk result (here.new.anew ≤ here.old.anew
-            + entries self.now.kept.first self.now.rows.now) }
+            + entries self.now.kept.first (map (λ v. v.items) self.now.rows.now)) }
         ensures added { OnOk result (CountsAlong here.old.anew here.new.anew 0
             (placed_from self.now.kept.first (counts_in done.new.sections.list))) }
         ensures gives { Gives

@@ -1,6 +1,6 @@
 //! The layout of a script.
 
-ghost use Rattle.std.specs.Prelude.{◌≡◌, [], IfErr, IfOk, IfSome};
+ghost use Rattle.std.specs.Prelude.{◌≡◌, [], map, IfErr, IfOk, IfSome};
 ghost use Rattle.elfobj.specs.Raised.{raised};
 ghost use Rattle.place_terms.specs.Naming.{Naming, rows_named};
 ghost use Rattle.place_terms.specs.ProvidedTable.{provided_names};
@@ -18,7 +18,7 @@ use crate::state::{Done, Here};
 use crate::whole::whole;
 use ldmodel_laws::layout::steps_stay_alike;
 use ldmodel::meter::{Count, Meter};
-use ldmodel::rows::Rows;
+use ldmodel::rows::Piece;
 use ldmodel::script_symbol::CommonIndex;
 use place_terms::provided::Provided;
 use place_terms::regions::Regions;
@@ -77,25 +77,25 @@ fn nowhere<'a>(
 fn lay_out(
     alloc: Global,
     script: &Script,
-    rows: &Rows,
+    rows: &[Vec<Piece>],
     provided: &[CommonIndex],
     kept: Option<(&Placement, usize)>,
     meter: &mut Meter,
 ) -> Result<Placement, PlaceFault>
     ghost naming: { Naming }
     requires kept { IfSome kept (λ k.
-        IsKept script.now (rows_named naming rows.now) k.0.now k.1) }
-    ensures counted { CountsPieces meter.old meter.new (entries 0 rows.now) }
+        IsKept script.now (rows_named naming (map (λ v. v.items) rows.now)) k.0.now k.1) }
+    ensures counted { CountsPieces meter.old meter.new (entries 0 (map (λ v. v.items) rows.now)) }
     ensures resumed { IfOk result (λ _. IfSome kept.entry (λ k.
-        IsKept script.now (rows_named naming rows.now) k.0.now k.1
-        → CountsPieces meter.old meter.new (entries k.1 rows.now))) }
+        IsKept script.now (rows_named naming (map (λ v. v.items) rows.now)) k.0.now k.1
+        → CountsPieces meter.old meter.new (entries k.1 (map (λ v. v.items) rows.now)))) }
     ensures exact { IfOk result (λ p. meter.new
         ≡ raised meter.old Count.Pieces (placed_from (first_of kept.entry) p.counts)) }
     ensures placed { IfOk result (λ p.
-        IsPlacement script.now (rows_named naming rows.now)
+        IsPlacement script.now (rows_named naming (map (λ v. v.items) rows.now))
         (provided_names script.now provided.now) p) }
     ensures faulty { IfErr result (λ f.
-        Stops script.now (rows_named naming rows.now) (provided_names script.now provided.now) f) }
+        Stops script.now (rows_named naming (map (λ v. v.items) rows.now)) (provided_names script.now provided.now) f) }
 {
     steps_stay_alike();
     let in_force = Provided::new(alloc, script, provided)?;
@@ -138,28 +138,28 @@ fn lay_out(
 pub fn place(
     alloc: Global,
     script: &Script,
-    rows: &Rows,
+    rows: &[Vec<Piece>],
     provided: &[CommonIndex],
     kept: Option<(&Placement, usize)>,
     meter: &mut Meter,
 ) -> Result<Placement, PlaceFault>
     ghost naming: { Naming }
     requires kept { IfSome kept (λ k.
-        IsKept script.now (rows_named naming rows.now) k.0.now k.1) }
-    ensures counted { CountsPieces meter.old meter.new (entries 0 rows.now) }
+        IsKept script.now (rows_named naming (map (λ v. v.items) rows.now)) k.0.now k.1) }
+    ensures counted { CountsPieces meter.old meter.new (entries 0 (map (λ v. v.items) rows.now)) }
     ensures resumed { IfOk result (λ _. IfSome kept.entry (λ k.
-        IsKept script.now (rows_named naming rows.now) k.0.now k.1
-        → CountsPieces meter.old meter.new (entries k.1 rows.now))) }
+        IsKept script.now (rows_named naming (map (λ v. v.items) rows.now)) k.0.now k.1
+        → CountsPieces meter.old meter.new (entries k.1 (map (λ v. v.items) rows.now)))) }
     ensures exact { IfOk result (λ p. meter.new
         ≡ raised meter.old Count.Pieces (placed_from (first_of kept.entry) p.counts)) }
     ensures placed { IfOk result (λ p.
-        IsPlacement script.now (rows_named naming rows.now)
+        IsPlacement script.now (rows_named naming (map (λ v. v.items) rows.now))
         (provided_names script.now provided.now) p) }
     ensures good { IfOk result (λ p.
-        IsGood script.now (rows_named naming rows.now)
+        IsGood script.now (rows_named naming (map (λ v. v.items) rows.now))
         (provided_names script.now provided.now) p) }
     ensures faulty { IfErr result (λ f.
-        IsWhy script.now (rows_named naming rows.now) (provided_names script.now provided.now) f) }
+        IsWhy script.now (rows_named naming (map (λ v. v.items) rows.now)) (provided_names script.now provided.now) f) }
 {
     let placement = lay_out(alloc, script, rows, provided, kept, meter)?;
     let meeting = overlaps(alloc, placement.sections())?;

@@ -1,6 +1,6 @@
 //! The statements of a script.
 
-ghost use Rattle.std.specs.Prelude.{◌≡◌, ◌≤◌, ◌<◌, ◌+◌, [], length, OnOk, IfOk, false, true};
+ghost use Rattle.std.specs.Prelude.{◌≡◌, ◌≤◌, ◌<◌, ◌+◌, [], length, map, OnOk, IfOk, false, true};
 ghost use Rattle.ldmodel.specs.Chain.{run};
 ghost use Rattle.ldmodel.specs.Placement.{statement_step};
 ghost use Rattle.place_terms.specs.Earlier.{earlier_of};
@@ -19,7 +19,7 @@ use crate::parts::Parts;
 use crate::state::{Done, Here};
 use crate::stop::Stop;
 use ldmodel_laws::layout::steps_stay_alike;
-use ldmodel::rows::Rows;
+use ldmodel::rows::Piece;
 use place_terms::provided::Provided;
 use ldscript::tree::{Command, Statement};
 use std::alloc::Global;
@@ -32,7 +32,7 @@ pub(crate) struct Input<'i, 'a> {
     /// The PROVIDEs that are in force.
     pub provided: &'i Provided<'a>,
     /// The rows of the output sections.
-    pub rows: &'a Rows,
+    pub rows: &'a [Vec<Piece>],
     /// What is kept of an earlier layout.
     pub kept: Kept<'a>,
 }
@@ -106,9 +106,9 @@ impl<'i, 'a> Input<'i, 'a> {
             → ScriptAlongside naming self.now here.now.symbols.script (layout_of naming here.now done.now)
             statements.now }
         ensures script { here.new.symbols.script ≡ here.old.symbols.script }
-        ensures anew { here.new.anew ≤ here.old.anew + entries 0 self.now.rows.now }
+        ensures anew { here.new.anew ≤ here.old.anew + entries 0 (map (λ v. v.items) self.now.rows.now) }
         ensures resumed { OnOk result (here.new.anew ≤ here.old.anew
-            + entries self.now.kept.first self.now.rows.now) }
+            + entries self.now.kept.first (map (λ v. v.items) self.now.rows.now)) }
         ensures added { OnOk result (CountsAlong here.old.anew here.new.anew 0
             (placed_from self.now.kept.first (counts_in done.new.sections.list))) }
         ensures gives { Gives

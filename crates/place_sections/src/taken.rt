@@ -17,6 +17,7 @@ ghost use Rattle.place_sections.specs.declared.stop.Stop.TheVariants.{NoMemory};
 use crate::boundary::Boundary;
 use crate::end::{free, load_region_name};
 use crate::head::region_name;
+use crate::items::row_at;
 use crate::kept::Kept;
 use crate::script::Input;
 use crate::state::{Done, Here};
@@ -119,7 +120,7 @@ impl<'i, 'a> Input<'i, 'a> {
         };
         free(&mut done.regions, region_name(output), end);
         free(&mut done.regions, load_region_name(output), load_end);
-        let row = self.rows.row(number);
+        let row = row_at(self.rows, number);
         done.sections.take(output, row, next.data_commands)?;
         Ok(())
     }

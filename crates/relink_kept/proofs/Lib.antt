@@ -7,5 +7,4 @@ mod Symbols
 mod Unmarked
 mod FoundSections
 mod SameRows
-mod Changed
 mod Resumed

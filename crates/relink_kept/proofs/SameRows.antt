@@ -1,13 +1,15 @@
 -- Rows that the code finds to be the same are the same, and rows that are the same are found to be.
-use Rattle.std.proofs.Common.{◌≡◌, ◌<◌, ◌≤◌, ℕ, zero, suc, ◌+◌, ◌==◌, Bool, true, false, cond, refl, sym, ap}
+use Rattle.std.proofs.Common.{◌≡◌, ◌<◌, ◌≤◌, ℕ, zero, suc, ◌+◌, ◌==◌, Bool, true, false, cond, not, refl, sym, ap}
 use Rattle.std.proofs.Common.{List, [], ◌∷◌, length, map, flat_map, take, drop, get_or, subst, arith, ◌∙◌}
 use Rattle.std.proofs.Common.{Option, Some, None, slice_get, eq-eqb, length-append}
-use Rattle.std.specs.List.{Contains, slice_index_or}
+use Rattle.std.specs.Global.{Vec}
+use Rattle.std.specs.List.{Contains, position_or_len, slice_index_or}
 use Rattle.std.specs.Option.{option_and_then, option_map_or}
-use Rattle.std.specs.Prelude.{IfSome}
-use Rattle.std.proofs.lemmas.Bool.{eqb-true, false≢true}
+use Rattle.std.specs.Prelude.{IfSome, nat_lt, position, unwrap_or}
+use Rattle.std.specs.Vec.{vec_items}
+use Rattle.std.proofs.lemmas.Bool.{eqb-true, false≢true, ltb-false}
 use Rattle.std.proofs.lemmas.List.{length-map}
-use Rattle.std.proofs.lemmas.List.Sums.{sum_by-cons}
+use Rattle.std.proofs.lemmas.List.Sums.{prefix_len-le-length, sum_by-cons}
 use Rattle.std.proofs.lemmas.Option.{same_Some}
 use Rattle.std.proofs.lemmas.Slice.Eq.{bytes_eq-Decides}
 use Rattle.elfobj.specs.Sections.{LinkedSection}
@@ -39,6 +41,19 @@ use Rattle.place.proofs.Members.{both_of, each_split, got, of_both}
 use Rattle.relink_kept.proofs.Once.{own_part}
 
 -- ---- lists
+
+pub first_or_len : {X : Type 0} (test : X → Bool) (xs : List X) (r : Option ℕ) (n : ℕ) → r ≡ position test xs
+    → n ≡ length xs → unwrap_or r n ≡ position_or_len test xs
+first_or_len {X} test xs r n e long =
+    ap (λ m. unwrap_or m n) e ∙ go (nat_lt (position_or_len test xs) (length xs)) refl
+  where
+    go : (b : Bool) → nat_lt (position_or_len test xs) (length xs) ≡ b
+        → unwrap_or (cond b (Some (position_or_len test xs)) None) n ≡ position_or_len test xs
+    go true f = refl
+    go false f =
+        let past = ltb-false (position_or_len test xs) (length xs) f in
+        let most = prefix_len-le-length (λ (x : X). not (test x)) xs in
+        omega (arith, past, most, long)
 
 head_is : {X : Type 0} (x y : X) (xs ys : List X) → x ∷ xs ≡ y ∷ ys → x ≡ y
 head_is x y xs ys e = ap (λ l. get_or l 0 x) e
@@ -295,18 +310,20 @@ module _ (old new : Project) (x : LastState) (origins : AreOrigins old new x.fro
       sound_pieces before now (eqb-true (length before) (length now) both.0) both.1
 
   -- no row differs before the first that the code finds to
-  pub same_before : (before now : List (List Piece)) (k : ℕ) → k < first_changed x new before now
+  pub same_before : (before now : List (Vec Piece)) (k : ℕ) → k < first_changed x new before now
       → slice_index_or (rows_in old before) k [] ≡ slice_index_or (rows_in new now) k []
   same_before [] now k l = absurd (omega (arith, l))
   same_before (a ∷ rest) [] k l = absurd (omega (arith, l))
-  same_before (a ∷ rest) (b ∷ bs) k l = go (is_same_row x new a b) refl k l (same_before rest bs)
+  same_before (a ∷ rest) (b ∷ bs) k l =
+      go (is_same_row x new (vec_items a) (vec_items b)) refl k l (same_before rest bs)
     where
-      go : (t : Bool) → is_same_row x new a b ≡ t → (k : ℕ) → k < cond t (1 + first_changed x new rest bs) 0
+      go : (t : Bool) → is_same_row x new (vec_items a) (vec_items b) ≡ t → (k : ℕ)
+          → k < cond (not (not t)) (1 + first_changed x new rest bs) 0
           → ((j : ℕ) → j < first_changed x new rest bs
           → slice_index_or (rows_in old rest) j [] ≡ slice_index_or (rows_in new bs) j [])
           → slice_index_or (rows_in old (a ∷ rest)) k [] ≡ slice_index_or (rows_in new (b ∷ bs)) k []
       go false e k l next = absurd (omega (arith, l))
-      go true e zero l next = sound_row a b e
+      go true e zero l next = sound_row (vec_items a) (vec_items b) e
       go true e (suc k) l next = next k (omega (arith, l))
 
   module _ (distinct : AreNamesDistinct old.objects)
@@ -360,7 +377,7 @@ module _ (old new : Project) (x : LastState) (origins : AreOrigins old new x.fro
         omega (arith, more, fewer rs k)
 
     -- from the first row that the code finds to differ, there are no more entries than from any before which none does
-    pub fewest : (before now : List (List Piece)) (n : ℕ) → take n (rows_in old before) ≡ take n (rows_in new now)
+    pub fewest : (before now : List (Vec Piece)) (n : ℕ) → take n (rows_in old before) ≡ take n (rows_in new now)
         → Each (IsOwned old) (flat_map (λ (row : List model.Piece). row) (rows_in old before))
         → entries_from (first_changed x new before now) (rows_in new now) ≤ entries_from n (rows_in new now)
     fewest before now zero e owned = fewer (rows_in new now) (first_changed x new before now)
@@ -368,11 +385,11 @@ module _ (old new : Project) (x : LastState) (origins : AreOrigins old new x.fro
     fewest [] (b ∷ bs) (suc n) e owned = absurd (let none : ⊥ = cc in none)
     fewest (a ∷ rest) [] (suc n) e owned = absurd (let none : ⊥ = cc in none)
     fewest (a ∷ rest) (b ∷ bs) (suc n) e owned =
-        let parts = each_split (IsOwned old) (map (piece_in old) a)
+        let parts = each_split (IsOwned old) (map (piece_in old) (vec_items a))
         (flat_map (λ (row : List model.Piece). row) (rows_in old rest)) owned in
-        let same = found_row a b (head_is _ _ _ _ e) parts.0 in
+        let same = found_row (vec_items a) (vec_items b) (head_is _ _ _ _ e) parts.0 in
         let next : 1 + first_changed x new rest bs ≡ suc (first_changed x new rest bs) = omega arith in
         let first : first_changed x new (a ∷ rest) (b ∷ bs) ≡ suc (first_changed x new rest bs) =
-        ap (λ t. cond t (1 + first_changed x new rest bs) 0) same ∙ next in
+        ap (λ t. cond (not (not t)) (1 + first_changed x new rest bs) 0) same ∙ next in
         subst (λ k. entries_from k (rows_in new (b ∷ bs)) ≤ entries_from (suc n) (rows_in new (b ∷ bs))) (sym first)
         (fewest rest bs n (tail_is _ _ _ _ e) parts.1)

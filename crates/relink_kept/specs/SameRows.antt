@@ -1,8 +1,10 @@
 -- Which input sections of a link are those of an earlier one, as the code finds them.
-use Rattle.std.specs.Prelude.{ℕ, Bool, false, List, [], ◌∷◌, ◌+◌, if◌then◌else◌, codes, find, length, zip, bytes_eq, slice_get, Option}
+use Rattle.std.specs.Prelude.{ℕ, Bool, false, not, List, [], codes, find, length, zip, bytes_eq, slice_get, Option}
 use Rattle.std.specs.Prelude.{Some, None, ◌==◌, ◌&&◌}
-use Rattle.std.specs.List.{list_all}
+use Rattle.std.specs.List.{list_all, position_or_len}
 use Rattle.std.specs.Option.{option_map_or}
+use Rattle.std.specs.Vec.{vec_items}
+use Rattle.std.specs.Global.{Vec}
 use Rattle.elfobj.specs.Object.{ObjectData}
 use Rattle.elfobj.specs.Sections.{LinkedSection}
 use Rattle.elfobj.specs.declared.section.SectionIndex.{SectionIndex}
@@ -71,9 +73,10 @@ are_same_pieces x p before now = list_all (λ (c : Piece × Piece). is_same_piec
 abbrev pub is_same_row : LastState → Project → List Piece → List Piece → Bool
 is_same_row x p before now = (length before == length now) && are_same_pieces x p before now
 
+-- a row and the earlier one of its number
+abbrev pub is_changed : LastState → Project → Vec Piece × Vec Piece → Bool
+is_changed x p rows = not (is_same_row x p (vec_items rows.0) (vec_items rows.1))
+
 -- the number of the first row that differs; how many both have, where none does
-abbrev pub first_changed : LastState → Project → List (List Piece) → List (List Piece) → ℕ
-first_changed x p [] now = 0
-first_changed x p (a ∷ before) [] = 0
-first_changed x p (a ∷ before) (b ∷ now) =
-    if is_same_row x p a b then 1 + first_changed x p before now else 0
+abbrev pub first_changed : LastState → Project → List (Vec Piece) → List (Vec Piece) → ℕ
+first_changed x p before now = position_or_len (is_changed x p) (zip before now)

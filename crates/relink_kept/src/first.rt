@@ -11,7 +11,7 @@ ghost use Rattle.place.specs.sections.Kept.{IsKept};
 use crate::same::first_changed;
 use crate::stays::Last;
 use ldmodel_laws::layout::placed_are_rows;
-use ldmodel::rows::Rows;
+use ldmodel::rows::Piece;
 use ldmodel_project::view::ProjectView;
 use place::sections::placement::Placement;
 
@@ -20,7 +20,7 @@ use place::sections::placement::Placement;
 pub fn resumed<'a>(
     last: Option<Last<'a>>,
     project: &ProjectView<'_>,
-    rows: &Rows,
+    rows: &[Vec<Piece>],
 ) -> Option<(&'a Placement, usize)>
     requires rows { rows_in project.now rows.now ≡ model.rows project.now }
     ensures kept { (old : GoodLink) → IfSome (last_of last.entry) (IsLastOf old project.now)

@@ -1,7 +1,7 @@
 //! Which input sections of a link are those of an earlier one.
 
-ghost use Rattle.std.specs.Prelude.{◌≡◌, ◌==◌};
-ghost use Rattle.relink_kept.specs.SameRows.{are_same_pieces, came_for, first_changed, is_of_same_object};
+ghost use Rattle.std.specs.Prelude.{◌≡◌, ◌==◌, position, zip};
+ghost use Rattle.relink_kept.specs.SameRows.{are_same_pieces, came_for, first_changed, is_changed, is_of_same_object};
 ghost use Rattle.relink_kept.specs.SameRows.{is_same_piece, is_same_row, is_same_section, kind_number};
 ghost use Rattle.relink_kept.specs.Stays.{last_place, last_state, replaced_state};
 ghost use Rattle.ldmodel.specs.Sections as model;
@@ -9,7 +9,7 @@ ghost use Rattle.ldmodel.specs.Sections as model;
 use crate::names::part_name;
 use crate::stays::{Last, Replaced};
 use elfobj::section::SectionKind;
-use ldmodel::rows::{Piece, Rows};
+use ldmodel::rows::Piece;
 use ldmodel::sections::{Part, SectionKey};
 use ldmodel_project::view::ProjectView;
 
@@ -112,21 +112,29 @@ fn is_same_row(last: &Last<'_>, project: &ProjectView<'_>, before: &[Piece], now
     before.len() == now.len() && are_same_pieces(last, project, before, now)
 }
 
-/// The number of the first row that differs from the earlier one; where none does, the number of the rows that both
-/// links have.
+/// The number of the first row that differs from the earlier one, among those that both links have.
+fn find_changed(
+    last: &Last<'_>,
+    project: &ProjectView<'_>,
+    before: &[Vec<Piece>],
+    now: &[Vec<Piece>],
+) -> Option<usize>
+    ensures { result ≡ position (is_changed (last_state last.now) project.now) (zip before.now now.now) }
+{
+    before
+        .iter()
+        .zip(now)
+        .position(|(before, now)| !is_same_row(last, project, before, now))
+}
+
+/// Like `find_changed`, but where no row differs, the number of the rows that both links have.
 pub(crate) fn first_changed(
     last: &Last<'_>,
     project: &ProjectView<'_>,
-    before: &Rows,
-    now: &Rows,
+    before: &[Vec<Piece>],
+    now: &[Vec<Piece>],
 ) -> usize
     ensures { result ≡ first_changed (last_state last.now) project.now before.now now.now }
 {
-    let both = before.len().min(now.len());
-    for number in 0..both {
-        if !is_same_row(last, project, before.row(number), now.row(number)) {
-            return number;
-        }
-    }
-    both
+    find_changed(last, project, before, now).unwrap_or(before.len().min(now.len()))
 }

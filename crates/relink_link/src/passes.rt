@@ -31,7 +31,7 @@ use place::length::length_fault;
 use ldmodel::fault::Fault;
 use ldmodel::memory::NoMemory;
 use ldmodel::meter::Meter;
-use ldmodel::rows::Rows;
+use ldmodel::rows::Piece;
 use ldmodel::sections::SectionKey;
 use emit::fault_lines::fault_text;
 use emit::good::is_good;
@@ -93,7 +93,7 @@ pub(crate) fn gathered(lent: Lent<'_, '_>) -> Result<Gathering, Stop>
 /// first row that differs.
 pub(crate) fn laid(
     lent: Lent<'_, '_>,
-    rows: &Rows,
+    rows: &[Vec<Piece>],
     meter: &mut Meter,
 ) -> Result<Laying, Stop>
     requires lent { IsLent lent }

@@ -6,8 +6,8 @@ use Rattle.ldmodel_project.specs.ByPlace.{rows_in}
 use Rattle.emit.proofs.AllRows.{RowsSoFar}
 use Rattle.emit.proofs.pieces.image_rows.Given as goal
 
-abbrev pub invariant-loop-number : goal.invariant-loop-number
-invariant-loop-number g l =
+abbrev pub invariant-loop-row : goal.invariant-loop-row
+invariant-loop-row g l =
     RowsSoFar l.project (λ k. is_some (g.E.Earlier.range l.earlier k)) l.arranged l.relocated
-    (rows_in l.project l.arranged.rows) l.starts l.number l.at
+    (rows_in l.project l.arranged.rows.items) l.starts l.row-index l.at
     (map vec_items l.pieces.items)

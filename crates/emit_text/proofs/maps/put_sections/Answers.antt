@@ -1,7 +1,8 @@
 -- Output sections with their rows.
 use Rattle.std.proofs.Common.{◌≡◌, ◌∙◌, ◌∷◌, [], ◌+◌, ◌++◌, ◌<◌, ap, sym, drop, get_or, length, map, ℕ, List, refl}
-use Rattle.std.proofs.Common.{append_assoc, arith}
-use Rattle.std.proofs.lemmas.List.{at_drop_more, at_drop_all, drop_all, drop_more}
+use Rattle.std.proofs.Common.{append_assoc}
+use Rattle.std.proofs.lemmas.List.{at_drop_more, at_drop_all}
+use Rattle.std.specs.Vec.{vec_items}
 use Rattle.ldscript.specs.Numbering.{OutputSectionAt}
 use Rattle.ldscript.specs.Numbered.{shown_sections}
 use Rattle.ldscript.specs.statements.declared.numbering.OutputSectionAt as code_section
@@ -75,15 +76,15 @@ loop-k-preserved g c =
     sections_lent (g.M.Members.project c.args.members.now) (g.M.Members.number c.args.members.now) c.loop-k.draft
     c.put_section.new.draft c.put_pieces.new.draft _
     c.args.parts.now.laid.sections.now (shown_sections c.args.parts.now.sections.now)
-    c.args.parts.now.rows.now c.loop-k.starts.now
-    c.in_ok-starts.starts.now c.loop-k.k _ (shown_one c.in-Some.section.now) c.row.result.now
-    c.as_bytes.result.now c.row.result.now
+    (map vec_items c.args.parts.now.rows.now) c.loop-k.starts.now
+    c.in_ok-starts.starts.now c.loop-k.k _ (shown_one c.in-Some.section.now) (vec_items c.in-Some-get.row.now)
+    c.as_bytes.result.now c.deref.result.now
     c.loop-k-test.true
     (some_left shown_one c.args.parts.now.sections.now c.loop-k.k c.in-Some.section.now c.in-Some.ensures.lookup.3.0
     c.in-Some.ensures.lookup.1)
-    (drop_more c.args.parts.now.rows.now c.loop-k.k [] (omega (arith, c.if-k-len.false, c.len-rows.ensures))
-    ∙ ap (λ r. r ∷ drop (c.loop-k.k + 1) c.args.parts.now.rows.now) (sym c.row.ensures))
-    c.as_bytes.ensures refl c.in_ok-put_section.ensures c.in_ok-starts.ensures.text
+    (some_left vec_items c.args.parts.now.rows.now c.loop-k.k c.in-Some-get.row.now c.in-Some-get.ensures.lookup.3.0
+    c.in-Some-get.ensures.lookup.1)
+    c.as_bytes.ensures c.deref.ensures.value c.in_ok-put_section.ensures c.in_ok-starts.ensures.text
     c.in_ok-starts.ensures.rest c.loop-k.invariant
 
 pub returns-in_default : goal.returns-in_default
@@ -92,18 +93,18 @@ returns-in_default g c =
     (no_sections (g.M.Members.project c.args.members.now) (g.M.Members.number c.args.members.now)
     (drop c.loop-k.k c.args.parts.now.laid.sections.now)
     (drop c.loop-k.k (shown_sections c.args.parts.now.sections.now))
-    (drop c.loop-k.k c.args.parts.now.rows.now) c.loop-k.starts.now
+    (drop c.loop-k.k (map vec_items c.args.parts.now.rows.now)) c.loop-k.starts.now
     (none_left shown_one c.args.parts.now.sections.now c.loop-k.k c.in_default.ensures.lookup.3))
     c.loop-k.invariant
 
-pub returns-then-k-len : goal.returns-then-k-len
-returns-then-k-len g c =
+pub returns-in_default-get : goal.returns-in_default-get
+returns-in_default-get g c =
     added_end _ _ _
     (no_rows (g.M.Members.project c.args.members.now) (g.M.Members.number c.args.members.now)
     (drop c.loop-k.k c.args.parts.now.laid.sections.now)
     (drop c.loop-k.k (shown_sections c.args.parts.now.sections.now))
-    (drop c.loop-k.k c.args.parts.now.rows.now) c.loop-k.starts.now
-    (drop_all c.loop-k.k c.args.parts.now.rows.now (omega (arith, c.if-k-len.true, c.len-rows.ensures))))
+    (drop c.loop-k.k (map vec_items c.args.parts.now.rows.now)) c.loop-k.starts.now
+    (none_left vec_items c.args.parts.now.rows.now c.loop-k.k c.in_default-get.ensures.lookup.3))
     c.loop-k.invariant
 
 pub returns : goal.returns
@@ -112,6 +113,6 @@ returns g c =
     (at_drop_all (λ qs. sections_text (g.M.Members.project c.args.members.now) (g.M.Members.number c.args.members.now)
     qs
     (drop c.loop-k.k (shown_sections c.args.parts.now.sections.now))
-    (drop c.loop-k.k c.args.parts.now.rows.now) c.loop-k.starts.now)
+    (drop c.loop-k.k (map vec_items c.args.parts.now.rows.now)) c.loop-k.starts.now)
     c.args.parts.now.laid.sections.now c.loop-k.k c.loop-k-test.false)
     c.loop-k.invariant

@@ -1,4 +1,4 @@
-use Rattle.std.proofs.Common.{◌≡◌, ◌≢◌, ◌<◌, ◌+◌, ◌∷◌, [], length, drop, get_or, map, arith, ap, refl, sym, ◌∙◌, get_or-set_other}
+use Rattle.std.proofs.Common.{◌≡◌, ◌≢◌, ◌<◌, ◌+◌, ◌∷◌, [], length, drop, get_or, arith, ap, refl, sym, ◌∙◌, get_or-set_other}
 use Rattle.std.specs.List.{enumerate_from}
 use Rattle.gather.specs.Gathered.{taken_in}
 use Rattle.std.proofs.Math.ListN.{length-set}
@@ -6,10 +6,9 @@ use Rattle.std.proofs.lemmas.List.{drop_more, drop_all}
 use Rattle.ldscript.specs.statements.Numbering.{InputStatementAt, input_statements}
 use Rattle.ldscript.specs.statements.Numbered.{shown_inputs}
 use Rattle.std.specs.Prelude.{flat_map}
-use Rattle.std.specs.Vec.{vec_items}
-use Rattle.gather.specs.RowPieces.{pieces_at, shown, shown_row}
+use Rattle.gather.specs.RowPieces.{pieces_at, shown_row}
 use Rattle.gather.proofs.GatheredLists.{taken_are}
-use Rattle.gather.proofs.RowSteps.{map_twice, rows_step, rows_end, rows_are}
+use Rattle.gather.proofs.RowSteps.{rows_step, rows_end, rows_are}
 use Rattle.gather.proofs.rows.rows.Goals as goal
 
 pub loop-number-preserved : goal.loop-number-preserved
@@ -55,9 +54,7 @@ returns c = λ p keys is gathered lives.
     let none : drop i items ≡ [] = drop_all i items (omega (arith, c.loop-number-test.false)) in
     let all : shown_inputs items ≡ input_statements c.args.script.now =
     ap shown_inputs c.deref-statement-items.ensures.value ∙ c.in_ok-statements.ensures in
-    ap (map (map (shown n))) (c.in_ok-rows.ensures ∙ ap (map vec_items) c.deref.ensures.value)
-    ∙ map_twice (map (shown n)) vec_items c.loop-number.found.items
-    ∙ rows_are p n c.args.script.now (taken_in c.args.marks.now c.args.sections.now) c.loop-number.found.items is taken inv.long
+    rows_are p n c.args.script.now (taken_in c.args.marks.now c.args.sections.now) c.loop-number.found.items is taken inv.long
     (λ k d l. rows_end n (taken_in c.args.marks.now c.args.sections.now) k i (shown_inputs (drop i items)) _ _ (ap shown_inputs none)
     (inv.rows n taken.named k d l)
     ∙ ap (λ s. flat_map (pieces_at n (taken_in c.args.marks.now c.args.sections.now) k) (enumerate_from 0 s)) all)

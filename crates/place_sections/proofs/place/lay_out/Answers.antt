@@ -17,22 +17,22 @@ use Rattle.place_sections.specs.declared.state.Done.{Done}
 
 pub returns-clause-faulty : goal.returns-clause-faulty
 returns-clause-faulty g c =
-    stops_at c.args.script.now (rows_named g.naming c.args.rows.now)
+    stops_at c.args.script.now (rows_named g.naming (map (λ v. v.items) c.args.rows.now))
     (provided_names c.args.script.now c.args.provided.now) c.in-Err.stop c.reported.result
     (elim c.in-Err.ensures.gives [
       | inl h ↦ inl (sym (begins g.naming c.in_ok-here.here
           (record { sections = c.in_ok-sections.sections; regions = c.new-regions.result })
-          (rows_named g.naming c.args.rows.now)
+          (rows_named g.naming (map (λ v. v.items) c.args.rows.now))
           (provided_names c.args.script.now c.args.provided.now) c.args.script.now
           c.in_ok-here.ensures.dot c.in_ok-here.ensures.dots c.in_ok-here.ensures.inputs c.in_ok-here.ensures.symbols
           c.in_ok-sections.ensures.none c.new-regions.ensures)
           ∙ (ap (λ (ps : List (List ℕ)).
-          run (statement_step (rows_named g.naming c.args.rows.now) ps)
+          run (statement_step (rows_named g.naming (map (λ v. v.items) c.args.rows.now)) ps)
           (layout_of g.naming c.in_ok-here.here
           (record { sections = c.in_ok-sections.sections; regions = c.new-regions.result })) c.args.script.now)
           (sym c.in_ok-in_force.ensures)
           ∙ (ap (λ (xs : List Statement).
-          run (statement_step (rows_named g.naming c.args.rows.now) c.in_ok-in_force.in_force)
+          run (statement_step (rows_named g.naming (map (λ v. v.items) c.args.rows.now)) c.in_ok-in_force.in_force)
           (layout_of g.naming c.in_ok-here.here
           (record { sections = c.in_ok-sections.sections; regions = c.new-regions.result })) xs)
           (sym c.statements.ensures.value)
@@ -46,7 +46,7 @@ returns-in-Ok-clause-resumed g c =
     for_some c.args.kept _ _ c.new-kept.ensures.some
     (λ k keeps kept. inr (
       c.place_script-laid.new.here.anew,
-      (let e = ap (λ j. entries j c.args.rows.now) keeps.first_is in
+      (let e = ap (λ j. entries j (map (λ v. v.items) c.args.rows.now)) keeps.first_is in
           omega (arith, e, c.in-Ok.ensures.resumed, c.in_ok-here.ensures.anew)),
       c.raise.ensures,
     ))

@@ -33,6 +33,6 @@ returns-clause-arranged c = λ s laid.
     (placed ∙ sym c.requires.rows)
     (c.pieces.ensures ∙ laid.places.starts) are c.requires.table c.requires.rows laid
     (all_numbered p c.args.table c.inputs.ensures.distinct c.requires.table (c.sections_of_objects.ensures p)
-    c.args.rows c.pieces.result.now c.in_ok-entries.entries.items c.requires.rows owned inputs are)
+    c.args.rows.items c.pieces.result.now c.in_ok-entries.entries.items c.requires.rows owned inputs are)
     (subst (λ (l : List Entry). AreOwners c.args.table l c.in_ok-owners.owners.items) c.deref.ensures.value
     c.in_ok-owners.ensures)

@@ -6,8 +6,8 @@ pub returns-in_ok-starts-in-Section-clause-resumed : goal.returns-in_ok-starts-i
 returns-in_ok-starts-in-Section-clause-resumed g c =
     section_resumes c.in_ok-starts-in-Section.starts c.place_section.result c.args.self.now c.args.here.now
     c.place_section.new.self c.args.done.now.sections.list c.place_section.new.done.sections.list
-    c.row.result.now c.place_section.ensures.one c.place_section.ensures.anew
-    (c.row.ensures ∙ ap (λ k. get_or c.args.self.now.rows.now k []) c.len.ensures)
+    c.row_at-row.result.now c.place_section.ensures.one c.place_section.ensures.anew
+    (c.row_at-row.ensures ∙ ap (λ k. get_or (map (λ v. v.items) c.args.self.now.rows.now) k []) c.len.ensures)
     c.place_section.ensures.none c.in_ok-starts-in-Section.ensures.first c.in_ok-starts-in-Section.ensures.past
 
 pub returns-in_ok-starts-in-Section-clause-added : goal.returns-in_ok-starts-in-Section-clause-added

@@ -22,7 +22,7 @@ loop-number-init g c = record {
   outputs = c.resume.ensures.outputs;
   script = c.resume.ensures.script;
   anew =
-      let f = entries_fewer (length c.resume.new.done.sections.list) c.args.self.now.rows.now in
+      let f = entries_fewer (length c.resume.new.done.sections.list) (map (λ v. v.items) c.args.self.now.rows.now) in
       omega (arith, f, c.resume.ensures.anew);
   resumed =
       let f = left_at_first c.args.self.now c.resume.new.done.sections.list c.in_ok-resumed.ensures.few in

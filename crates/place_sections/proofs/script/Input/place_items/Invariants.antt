@@ -26,10 +26,10 @@ invariant-loop-number g l = record {
       l.boundaries.items (length l.done.sections.list);
   outputs : l.done.sections.script ≡ l.fn.done.sections.script;
   script : l.here.symbols.script ≡ l.fn.here.symbols.script;
-  anew : l.here.anew + entries (length l.done.sections.list) l.self.rows.now
-      ≤ l.fn.here.anew + entries 0 l.self.rows.now;
+  anew : l.here.anew + entries (length l.done.sections.list) (map (λ v. v.items) l.self.rows.now)
+      ≤ l.fn.here.anew + entries 0 (map (λ v. v.items) l.self.rows.now);
   resumed : l.here.anew + left_after l.self l.done.sections.list
-      ≤ l.fn.here.anew + entries l.self.kept.first l.self.rows.now;
+      ≤ l.fn.here.anew + entries l.self.kept.first (map (λ v. v.items) l.self.rows.now);
   added : CountsAlong l.fn.here.anew l.here.anew 0 (placed_from l.self.kept.first (counts_in l.done.sections.list));
   alongside : l.self.kept.same_provided ≡ false → 0 < l.self.kept.first
       → length l.done.sections.list ≤ l.self.kept.first

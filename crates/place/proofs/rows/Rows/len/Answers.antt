@@ -1,7 +1,7 @@
 use Rattle.std.proofs.Common.{◌≡◌, ap, arith, length}
-use Rattle.ldmodel.specs.Cut.{cut}
-use Rattle.ldmodel.proofs.Cutting.{length_cut}
-use Rattle.ldmodel.proofs.rows.Rows.len.Goals as goal
+use Rattle.place.specs.Cut.{cut}
+use Rattle.place.proofs.Cutting.{length_cut}
+use Rattle.place.proofs.rows.Rows.len.Goals as goal
 
 pub returns : goal.returns
 returns c =

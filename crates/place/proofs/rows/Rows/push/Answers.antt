@@ -1,9 +1,9 @@
 use Rattle.std.proofs.Common.{◌≡◌, ◌++◌, ◌∷◌, [], ◌∙◌, ℕ, List, ap, arith, length, subst, sym}
 use Rattle.std.proofs.lemmas.List.{length-append}
 use Rattle.ldmodel.specs.declared.rows.Piece.{Piece}
-use Rattle.ldmodel.specs.Cut.{AreEnds, cut}
-use Rattle.ldmodel.proofs.Cutting.{cut_more, ends_more}
-use Rattle.ldmodel.proofs.rows.Rows.push.Goals as goal
+use Rattle.place.specs.Cut.{AreEnds, cut}
+use Rattle.place.proofs.Cutting.{cut_more, ends_more}
+use Rattle.place.proofs.rows.Rows.push.Goals as goal
 
 pub invariant_of-self-2 : goal.invariant_of-self-2
 invariant_of-self-2 c =

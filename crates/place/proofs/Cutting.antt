@@ -1,12 +1,10 @@
 -- Lists that lie in one, found by where they end.
 use Rattle.std.proofs.Common.{◌≡◌, ◌<◌, ◌≤◌, ℕ, zero, suc, refl, sym, ap, arith, ◌∙◌}
-use Rattle.std.proofs.Common.{List, [], ◌∷◌, ◌++◌, length, get_or, drop, flat_map}
-use Rattle.std.proofs.Math.Seq.{drop-length}
-use Rattle.std.proofs.lemmas.List.Folds.{drop_split}
+use Rattle.std.proofs.Common.{List, [], ◌∷◌, ◌++◌, length, get_or, drop}
 use Rattle.std.proofs.lemmas.List.{drop_at, take-append-le}
 use Rattle.std.proofs.lemmas.Slice.{between_is, between_to_end}
 use Rattle.std.specs.Prelude.{slice_range}
-use Rattle.ldmodel.specs.Cut.{AreEnds, begin_of, cut}
+use Rattle.place.specs.Cut.{AreEnds, begin_of, cut}
 
 pub length_cut : {X : Type 0} (from : ℕ) (es : List ℕ) (xs : List X) → length (cut from es xs) ≡ length es
 length_cut from [] xs = refl
@@ -18,13 +16,6 @@ row_is from [] xs k l = absurd (omega (arith, l))
 row_is from (e ∷ es) xs zero l = refl
 row_is from (e ∷ es) xs (suc zero) l = row_is e es xs zero (omega (arith, l))
 row_is from (e ∷ es) xs (suc (suc k)) l = row_is e es xs (suc k) (omega (arith, l))
-
--- one after another they are the list from where the first begins
-pub flat_cut : {X : Type 0} (from : ℕ) (es : List ℕ) (xs : List X) → AreEnds from es (length xs)
-    → drop from xs ≡ flat_map (λ (row : List X). row) (cut from es xs)
-flat_cut from [] xs h = ap (λ n. drop n xs) h ∙ drop-length xs
-flat_cut from (e ∷ es) xs h =
-    drop_split xs from e h.0 ∙ ap (λ l. slice_range xs from e ++ l) (flat_cut e es xs h.1)
 
 low : (from : ℕ) (es : List ℕ) (len : ℕ) → AreEnds from es len → from ≤ len
 low from [] len h = omega (arith, h)

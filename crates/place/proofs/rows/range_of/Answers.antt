@@ -1,9 +1,9 @@
 use Rattle.std.proofs.Common.{◌<◌, [], ap, arith, length, sym, ◌∙◌, ⊎_elim}
 use Rattle.std.specs.Prelude.{slice_range}
 use Rattle.std.proofs.lemmas.List.{get_or_past, get_or_default}
-use Rattle.ldmodel.specs.Cut.{begin_of, cut}
-use Rattle.ldmodel.proofs.Cutting.{length_cut, row_is, within}
-use Rattle.ldmodel.proofs.rows.range_of.Goals as goal
+use Rattle.place.specs.Cut.{begin_of, cut}
+use Rattle.place.proofs.Cutting.{length_cut, row_is, within}
+use Rattle.place.proofs.rows.range_of.Goals as goal
 
 pub returns-in_default : goal.returns-in_default
 returns-in_default c =
