@@ -84,7 +84,8 @@ fn owners(alloc: Global, table: &SectionTable, entries: &[Entry]) -> Result<Vec<
 }
 
 impl Arranged {
-    ghost use Rattle.place.specs.Arranged.{IsArranged, IsPartPlace, linked_in, linked_of, part_in, place_in, place_under};
+    ghost use Rattle.place.specs.Arranged.{IsArranged, IsPartPlace, linked_in, linked_of, part_in, place_in};
+    ghost use Rattle.place.specs.Arranged.{place_under};
 
     /// Where the input sections of these rows stand, by their numbers and their layout.
     ///

@@ -5,8 +5,8 @@
 //! - `laying`: the phase, over `place`;
 //! - `segments` over `group`: what is loaded as one, and its offset in the file; `offsets`: where output sections begin
 //!   in the file; `length`: how long the image is;
-//! - `arranged` over `collected` and `entry`: all of that, and where each input section stands; `numbered`: the sections of an object have
-//!   different numbers; `rows`: rows as one list.
+//! - `arranged` over `collected` and `entry`: all of that, and where each input section stands; `numbered`: the sections
+//!   of an object have different numbers; `rows`: rows as one list.
 #![tactic(auto)]
 
 pub mod arranged;

@@ -16,7 +16,8 @@ invariant-loop-number l = record {
   buckets : length l.buckets.items ≡ length l.statement-items;
   left : (k : ℕ) (d : Vec NamedPiece Global) → l.number ≤ k → k < length l.statement-items
       → (get_or l.buckets.items k d).items ≡ of_statement (taken_in l.marks l.sections) k;
-  rows : (n : Naming) → All (IsNamed n) (taken_in l.marks l.sections) → (k : ℕ) (d : Vec code.Piece Global) → k < length l.found.items
+  rows : (n : Naming) → All (IsNamed n) (taken_in l.marks l.sections) → (k : ℕ) (d : Vec code.Piece Global)
+      → k < length l.found.items
       → shown_row n (get_or l.found.items k d)
       ++ flat_map (pieces_at n (taken_in l.marks l.sections) k)
       (enumerate_from l.number (shown_inputs (drop l.number l.statement-items)))

@@ -13,5 +13,5 @@ returns-in-None c = λ old l o x h kept is.
 pub returns-in-Some : goal.returns-in-Some
 returns-in-Some c = λ old l o x h kept is.
     ap value_of c.value.ensures
-    ∙ worth_of old l (λ k. ap (λ (m : KnownLink). m.number k) h.link) c.args.self.now.arranged.now c.args.self.now.last c.in-Some.last c.in-Some.is h.last c.args.object c.args.index
-    c.args._symbol.now o x is kept
+    ∙ worth_of old l (λ k. ap (λ (m : KnownLink). m.number k) h.link) c.args.self.now.arranged.now
+    c.args.self.now.last c.in-Some.last c.in-Some.is h.last c.args.object c.args.index c.args._symbol.now o x is kept
