@@ -45,9 +45,10 @@ test-client: ## the tests of the client's programs, over the program that `make 
 soak-client: ## runs ldi-watch over 2,000 rounds of random rewrites, and judges every image: half an hour
 	@/usr/bin/python3 -m client.tests.soak 2000
 
-fmt: ## lays out the files of every crate, and prints those that changed, and what crates.txt names without need
+fmt: ## lays out every crate; prints what changed, needless names in crates.txt, and ways past a face
 	@tools/fmt
 	@tools/unnamed
+	@tools/faces
 
 examples: ## builds the examples with gcc and ldi, checks them by readelf, runs linux, boots kernel if QEMU is there
 	@tools/examples

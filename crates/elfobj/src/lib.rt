@@ -7,7 +7,9 @@
 //! - `section_table`, `symbol_table`, `relocation_table`: the tests of all headers and entries, in their order;
 //! - `relocation_fault` over `entry_test` and `field_marks`: entries tested before any is kept; whether fields share a
 //!   byte;
-//! - `field`, `relocation_run`, `linked`, `place`, `span`: what an object keeps of its sections and relocations.
+//! - `field`, `relocation_run`, `linked`, `place`, `span`: what an object keeps of its sections and relocations;
+//! - `meter`, `memory`: what all crates share: the counts of work, which only rise, and the error for refused memory;
+//! - the part `file`: a file's tables and entries as its bytes spell them. Other families name this crate alone.
 #![tactic(auto)]
 
 mod entry_test;
@@ -30,4 +32,11 @@ pub mod span;
 pub mod symbol;
 mod symbol_table;
 mod symbols;
+
+pub use crate::meter::{Count, Meter};
+pub use crate::object::Object;
+pub use crate::refusal::ObjectRefusal;
+pub use crate::relocation::Relocation;
+pub use crate::section::Section;
+pub use crate::symbol::Symbol;
 pub use elfobj_file as file;

@@ -9,6 +9,7 @@ ghost use Rattle.elfobj.specs.declared.meter.Count.TheVariants.{Objects};
 ghost use Rattle.elfobj_file.specs.declared.refusal.ObjectRefusal.TheVariants.{NoMemory};
 
 use crate::field::put_in_order;
+use crate::meter::{Count, Meter};
 use crate::place::Place;
 use crate::refusal::ObjectRefusal;
 use crate::relocation::{Relocation, SymbolIndex};
@@ -16,7 +17,6 @@ use crate::section::{LinkedIndex, Section, SectionIndex, find_number};
 use crate::section_table::{Parts, read_parts};
 use crate::span::Span;
 use crate::symbol::Symbol;
-use crate::meter::{Count, Meter};
 use std::alloc::{AllocError, Global};
 use std::marker::Model;
 

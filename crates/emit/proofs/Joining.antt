@@ -30,7 +30,7 @@ use Rattle.emit.specs.DataRuns.{AreDataOf}
 use Rattle.emit.specs.Joined.{AreJoined, IsAt}
 use Rattle.emit.specs.Output.{AreDrawn, AreDrawnOf, IsDrawn, IsOutput, IsJoinedRow, IsSectionKept}
 use Rattle.emit.specs.Output.{in_file_at, with_bytes}
-use Rattle.emit.specs.declared.output.Output.{Output}
+use Rattle.emit.specs.declared.output.OutputDrawing.{OutputDrawing}
 
 zip_map : {X Y : Type 0} (f : X → Y) (xs : List X) → AllZip (λ x y. y ≡ f x) xs (map f xs)
 zip_map f [] = tt
@@ -79,7 +79,7 @@ module _ (p : Project) (s : Layout) (stays : SectionKey → Bool) (places : List
       }
 
   -- one output section more
-  pub one_joined : (k : ℕ) (place : Placed) (x : Output) (old new : List Output)
+  pub one_joined : (k : ℕ) (place : Placed) (x : OutputDrawing) (old new : List OutputDrawing)
       → AreJoined p s stays places os offsets rows runs → k < length places → get_or places k place ≡ place
       → ((q : PlacedSection) → IsAt p s stays q k place os offsets rows runs → IsOutput p s stays q x)
       → new ≡ old ++ x ∷ []
@@ -91,7 +91,7 @@ module _ (p : Project) (s : Layout) (stays : SectionKey → Bool) (places : List
       (subst (λ xs. AllZip (IsOutput p s stays) (take k s.sections ++ j.member ∷ []) xs) (sym pushed)
       (zip_more (IsOutput p s stays) (take k s.sections) old j.member x so_far (make j.member j.is)))
 
-  pub all_joined : (k : ℕ) (xs : List Output) → AreJoined p s stays places os offsets rows runs → length places ≤ k
+  pub all_joined : (k : ℕ) (xs : List OutputDrawing) → AreJoined p s stays places os offsets rows runs → length places ≤ k
       → AllZip (IsOutput p s stays) (take k s.sections) xs → AllZip (IsOutput p s stays) s.sections xs
   all_joined k xs h past so_far =
       let long : length s.sections ≡ length places = sym (length-map s.sections placed_of) ∙ ap length h.placed in

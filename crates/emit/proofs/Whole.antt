@@ -18,14 +18,14 @@ use Rattle.ldmodel.specs.SectionHeaders.{FilePart, header_part, image_length, ta
 use Rattle.ldmodel.specs.Segments.{nonempty}
 use Rattle.ldmodel.specs.declared.sections.SectionKey.{SectionKey}
 use Rattle.emit.specs.Parts.{ArePartsOf}
-use Rattle.emit.specs.declared.parts.Parts.{Parts}
+use Rattle.emit.specs.declared.parts.ImageParts.{ImageParts}
 
 -- the last part of the tail are the section headers
 pub last_part : (p : Project) (s : Layout) (a b c e : FilePart) → a ∷ b ∷ c ∷ e ∷ [] ≡ tail p s → e ≡ header_part p s
 last_part p s a b c e h = cc
 
 -- a drawing of these parts
-pub record IsMade (x : Parts) (d : Drawing) : Type 0 where
+pub record IsMade (x : ImageParts) (d : Drawing) : Type 0 where
   pub headers : d.headers.now ≡ x.headers.items
   pub sections : d.sections.now ≡ x.sections.items
   pub tail : AllZip IsImagePart (x.tail.symbols ∷ x.tail.symbol_names ∷ x.tail.header_names ∷ x.tail.headers ∷ [])
@@ -34,7 +34,7 @@ pub record IsMade (x : Parts) (d : Drawing) : Type 0 where
 below_64 : (n : ℕ) → n ≤ 2 ^ 28 → n < 2 ^ 64
 below_64 n h = omega (arith, h)
 
-module _ (p : Project) (s : Layout) (stays : SectionKey → Bool) (x : Parts) (d : Drawing) (made : IsMade x d)
+module _ (p : Project) (s : Layout) (stays : SectionKey → Bool) (x : ImageParts) (d : Drawing) (made : IsMade x d)
     (are : ArePartsOf p s stays x) where
   -- the drawing that has each input section
   abbrev pub whole : Drawing
@@ -61,7 +61,7 @@ module _ (p : Project) (s : Layout) (stays : SectionKey → Bool) (x : Parts) (d
       law whole drawing_of memory are.drawn.filled (below_64 (image_length p s) short)
 
 -- what ends by the image ends by the drawing of these parts
-pub ends_in : (p : Project) (s : Layout) (stays : SectionKey → Bool) (x : Parts) (headers : Bor (List ℕ))
+pub ends_in : (p : Project) (s : Layout) (stays : SectionKey → Bool) (x : ImageParts) (headers : Bor (List ℕ))
     (sections : Bor (List ImageSection)) (parts : List ImagePart) (patches : List Patch)
     → ((d : Drawing) → IsDrawingOf p s d → drawing_end d ≡ image_length p s)
     → ((w d : Drawing) → IsJoined w d → AreAlike w d) → headers.now ≡ x.headers.items

@@ -15,7 +15,7 @@ use Rattle.emit_values.specs.Values.{AreValues}
 use Rattle.emit_values.specs.declared.values.Values.{Values}
 use Rattle.emit.specs.Output.{IsOutput}
 use Rattle.emit.specs.Runs.{AreRunsUnless}
-use Rattle.emit.specs.declared.output.Output.{Output}
+use Rattle.emit.specs.declared.output.OutputDrawing.{OutputDrawing}
 
 -- the places, the values, and the fields of what does not stay, of a project at a layout whose image is not too long
 pub record IsDrawableAt (p : Project) (s : Layout) (a : NamingState) (x : Arranged) (v : Values) (r : Relocated)
@@ -34,7 +34,7 @@ pub record IsDrawable (p : Project) (x : Arranged) (v : Values) (r : Relocated)
 
 -- the same, and these are its output sections, of which these input sections stay
 pub record AreOutputs (p : Project) (x : Arranged) (v : Values) (s : Layout) (stays : SectionKey → Bool)
-    (xs : List Output) : Type 0 where
+    (xs : List OutputDrawing) : Type 0 where
   pub names : NamingState
   pub arranged : IsArranged p s x
   pub values : AreValues p s names v
@@ -42,7 +42,7 @@ pub record AreOutputs (p : Project) (x : Arranged) (v : Values) (s : Layout) (st
   pub outputs : AllZip (IsOutput p s stays) s.sections xs
 
 -- it has a layout with these output sections
-pub record HasOutputs (p : Project) (x : Arranged) (v : Values) (xs : List Output) : Type 0 where
+pub record HasOutputs (p : Project) (x : Arranged) (v : Values) (xs : List OutputDrawing) : Type 0 where
   pub layout : Layout
   pub stays : SectionKey → Bool
   pub are : AreOutputs p x v layout stays xs

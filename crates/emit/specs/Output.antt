@@ -15,7 +15,7 @@ use Rattle.emit_image.specs.declared.section.ImagePiece.{ImagePiece}
 use Rattle.emit_image.specs.declared.section.ImageSection.{ImageSection}
 use Rattle.place.specs.Offsets.{IsOffset}
 use Rattle.emit.specs.Kept.{IsKeptBy}
-use Rattle.emit.specs.declared.output.Output.{Output}
+use Rattle.emit.specs.declared.output.OutputDrawing.{OutputDrawing}
 
 -- the input sections of an output section, each of which stays if its key does; bytes and fields fill each
 pub record IsRow (p : Project) (s : Layout) (stays : SectionKey → Bool) (q : PlacedSection) (ys : List ImagePiece)
@@ -32,7 +32,7 @@ pub record IsJoinedRow (p : Project) (s : Layout) (stays : SectionKey → Bool) 
   pub joined : StandFor whole ys
 
 -- all that is drawn of an output section
-pub record IsOutput (p : Project) (s : Layout) (stays : SectionKey → Bool) (q : PlacedSection) (x : Output)
+pub record IsOutput (p : Project) (s : Layout) (stays : SectionKey → Bool) (q : PlacedSection) (x : OutputDrawing)
     : Type 0 where
   pub name : x.name.now ≡ q.name
   pub placed : x.placed ≡ placed_of q

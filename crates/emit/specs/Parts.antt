@@ -6,9 +6,9 @@ use Rattle.ldmodel.specs.Project.{Project}
 use Rattle.ldmodel.specs.SectionHeaders as headings
 use Rattle.ldmodel.specs.declared.sections.SectionKey.{SectionKey}
 use Rattle.emit.specs.Output.{AreDrawn}
-use Rattle.emit.specs.declared.parts.Parts.{Parts}
+use Rattle.emit.specs.declared.parts.ImageParts.{ImageParts}
 
-pub record ArePartsOf (p : Project) (s : Layout) (stays : SectionKey → Bool) (x : Parts) : Type 0 where
+pub record ArePartsOf (p : Project) (s : Layout) (stays : SectionKey → Bool) (x : ImageParts) : Type 0 where
   pub headers : x.headers.items ≡ image.headers p s
   pub drawn : AreDrawn p s stays x.sections.items
   pub tail : x.tail.symbols ∷ x.tail.symbol_names ∷ x.tail.header_names ∷ x.tail.headers ∷ [] ≡ headings.tail p s

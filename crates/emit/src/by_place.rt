@@ -1,9 +1,9 @@
 //! The objects of a project by their places.
 
-use elfobj::object::Object;
+use elfobj::Object;
+use emit_text::members::Members;
 use ldmodel::names::ObjectPlace;
 use ldmodel_project::view::ProjectView;
-use emit_text::members::Members;
 
 /// The objects of a project, whose keys are their places.
 #[derive(Drop)]

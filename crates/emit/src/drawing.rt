@@ -22,24 +22,24 @@ ghost use Rattle.emit_values.specs.LinkView.{known_link};
 ghost use Rattle.emit.specs.Drawable.{AreOutputs, HasOutputs, IsDrawable, IsDrawableAt};
 ghost use Rattle.emit.specs.Kept.{AreKept, HaveStayed, IsSound};
 
-use crate::output::{Output, outputs};
+use crate::output::{OutputDrawing, outputs};
 use crate::parts::drawing_parts;
 use crate::pieces::image_pieces;
 use crate::relocated::Relocated;
-use elfobj::meter::Meter;
+use elfobj::Meter;
 use emit_fields::canvas::Canvas;
 use emit_fields::patch::Patch;
 use emit_image::law::{drawing_is_image, drawing_stands, joined_is_whole, placement_is_in_memory};
 use emit_image::redraw::redraw;
 use emit_image::section::{Drawing, ImagePart, ImagePiece};
 use emit_image::tail::{TailPart, TailParts};
-use ldmodel_laws::segments::sections_in_file;
-use ldmodel_laws::stayed::stayed_in_both;
-use place::arranged::Arranged;
-use ldmodel::memory::NoMemory;
-use ldmodel_project::view::ProjectView;
 use emit_relocate::earlier::Earlier;
 use emit_values::values::Values;
+use ldmodel::memory::NoMemory;
+use ldmodel_laws::segments::sections_in_file;
+use ldmodel_laws::stayed::stayed_in_both;
+use ldmodel_project::view::ProjectView;
+use place::arranged::Arranged;
 use std::alloc::Global;
 
 /// A part of the tail, lent.
@@ -73,7 +73,7 @@ fn draw_outputs(
     project: &ProjectView<'_>,
     arranged: &Arranged,
     values: &Values<'_>,
-    outputs: &[Output<'_>],
+    outputs: &[OutputDrawing<'_>],
     patches: &[Patch],
     meter: &mut Meter,
 ) -> Result<(), NoMemory>

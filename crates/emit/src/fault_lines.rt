@@ -5,13 +5,13 @@ ghost use Rattle.ldmodel.specs.FaultText as definition;
 ghost use Rattle.ldmodel_project.specs.ByPlace.{faults_in};
 
 use crate::by_place::ByPlace;
+use emit_text::assertion::assertions;
+use emit_text::faults;
+use emit_text::script_names::ScriptNames;
 use ldmodel::fault::Fault;
 use ldmodel::memory::NoMemory;
 use ldmodel_project::view::ProjectView;
 use place::terms::mentioned::mentioned_names;
-use emit_text::assertion::assertions;
-use emit_text::faults;
-use emit_text::script_names::ScriptNames;
 use std::alloc::Global;
 
 /// The lines of these faults of the link of a project, in their order.

@@ -9,9 +9,9 @@ ghost use Rattle.ldmodel.specs.Relocations.{relocation_faults};
 ghost use Rattle.ldmodel.specs.SectionHeaders.{image_length};
 
 use ldmodel_laws::stayed::faultless_is_good;
-use place::laying::Laying;
-use place::numbered::are_numbered;
 use ldmodel_project::view::ProjectView;
+use place::Laying;
+use place::numbered::are_numbered;
 
 /// A link whose image is not too long and whose relocations have no faults is good. The call looks at each object once,
 /// and changes nothing.
@@ -20,6 +20,7 @@ pub fn is_good(project: &ProjectView<'_>, laying: &Laying)
         → relocation_faults project.now s ≡ [] → IsGood (record { project = project.now; layout = s }) }
 {
     faultless_is_good();
+    // so that what a project says of its objects is known
     let _inputs = project.inputs();
     project.objects_are_read();
     are_numbered(project);

@@ -5,7 +5,7 @@ ghost use Rattle.ldmodel.specs.Edits.{AreNamesDistinct};
 ghost use Rattle.ldmodel.specs.Project.{NamedObject};
 ghost use Rattle.emit.specs.Numbered.{AreKeysOf, IsRead};
 
-use elfobj::object::Object;
+use elfobj::Object;
 use elfobj::section::LinkedIndex;
 use ldmodel::memory::NoMemory;
 use ldmodel::names::ObjectPlace;
@@ -16,10 +16,12 @@ use std::alloc::Global;
 fn as_read(object: &Object)
     ensures { IsRead object.now }
 {
+    // so that it is known that the bytes of an object fit
     let _data = object.data();
     if object.sections().is_empty() {
         return;
     }
+    // so that what an object says of its relocations is known
     let _relocations = object.relocations(LinkedIndex(0));
 }
 

@@ -11,13 +11,13 @@ ghost use Rattle.ldscript.specs.statements.Numbering.{OutputSectionAt as Section
 ghost use Rattle.emit_values.specs.Values.{AreValues};
 ghost use Rattle.emit.specs.Sizes.{names_size, plus_symbol, plus_symbols};
 
-use place::laying::Laying;
-use place::length::{TailSizes, image_length as length_of};
+use emit_relocate::value::SymbolValue;
+use emit_values::values::{OutputSymbol, Values};
 use ldmodel::memory::NoMemory;
 use ldmodel_project::view::ProjectView;
 use ldscript::tree::OutputSectionAt;
-use emit_relocate::value::SymbolValue;
-use emit_values::values::{OutputSymbol, Values};
+use place::Laying;
+use place::length::{TailSizes, image_length as length_of};
 use place::sections::law::outputs_are_of_script;
 use std::alloc::{AllocError, Global};
 

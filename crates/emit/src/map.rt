@@ -2,7 +2,7 @@
 
 ghost use Rattle.std.specs.Prelude.{◌≡◌, IfOk, map};
 ghost use Rattle.place.specs.Laying.{IsLaying};
-ghost use Rattle.emit.specs.Listed.{map_symbol, number_of};
+ghost use Rattle.emit.specs.Listed.{map_symbol};
 ghost use Rattle.ldmodel.specs.Layout.{Layout};
 ghost use Rattle.ldmodel.specs.MapText as definition;
 ghost use Rattle.ldmodel.specs.Rows as model;
@@ -11,28 +11,17 @@ ghost use Rattle.ldmodel_project.specs.ByPlace.{rows_in};
 ghost use Rattle.emit_values.specs.Values.{AreValues};
 
 use crate::by_place::ByPlace;
-use ldmodel_laws::layout::placed_are_rows;
-use place::laying::Laying;
-use ldmodel::memory::NoMemory;
-use ldmodel::rows::Piece;
-use ldmodel_project::view::ProjectView;
-use emit_relocate::value::SymbolValue;
 use emit_text::maps;
 use emit_text::maps::MapParts;
 use emit_text::symbols::MapSymbol;
 use emit_values::values::{OutputSymbol, Values};
+use ldmodel::memory::NoMemory;
+use ldmodel::rows::Piece;
+use ldmodel_laws::layout::placed_are_rows;
+use ldmodel_project::view::ProjectView;
+use place::Laying;
 use place::sections::law::outputs_are_of_script;
 use std::alloc::Global;
-
-/// The number of a value, if it has one.
-fn number_of(value: SymbolValue) -> Option<u64>
-    ensures { result ≡ number_of value }
-{
-    match value {
-        SymbolValue::Number(number) => Some(number),
-        SymbolValue::NotDefined | SymbolValue::NotInOutput => None,
-    }
-}
 
 /// The symbols of the output as the map takes them.
 fn map_symbols<'a>(
@@ -46,7 +35,7 @@ fn map_symbols<'a>(
         list.push(MapSymbol {
             name: symbol.name,
             case: symbol.case,
-            value: number_of(symbol.value),
+            value: symbol.value.number(),
         })?;
     }
     Ok(list)

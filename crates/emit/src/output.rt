@@ -14,18 +14,19 @@ ghost use Rattle.emit.specs.Output.{IsJoinedRow, IsOutput};
 
 use crate::data_runs::data_runs;
 use emit_image::section::ImagePiece;
-use ldmodel_laws::layout::layout_by_effects;
-use place::laying::Laying;
+use ldmodel::impossible::impossible;
 use ldmodel::laid::{Placed, PlacedData};
 use ldmodel::memory::NoMemory;
+use ldmodel_laws::layout::layout_by_effects;
 use ldmodel_project::view::ProjectView;
 use ldscript::tree::{OutputSection, OutputSectionAt};
+use place::Laying;
 use place::sections::law::outputs_are_of_script;
-use std::alloc::{AllocError, Global};
+use std::alloc::Global;
 
 /// An output section, with all that is drawn of it.
 #[derive(Clone, Copy)]
-pub(crate) struct Output<'a> {
+pub(crate) struct OutputDrawing<'a> {
     /// The name.
     pub(crate) name: &'a [u8],
     /// What its gaps are filled with, over and over: 1 to 8 bytes; one zero byte where the script says nothing.
@@ -64,7 +65,7 @@ fn output_at<'a>(
     offsets: &[u128],
     pieces: &'a [Vec<ImagePiece<'a>>],
     runs: &[&'a [PlacedData]],
-) -> Option<Output<'a>>
+) -> Option<OutputDrawing<'a>>
     ensures { IfSome result (λ x. (p : Project) (s : Layout) (stays : SectionKey → Bool) (q : PlacedSection)
         → IsAt p s stays q number placed.now (shown_sections sections.now) offsets.now (map vec_items pieces.now)
         (map (λ run. run.now) runs.now) → IsOutput p s stays q x) }
@@ -74,7 +75,7 @@ fn output_at<'a>(
     let row = pieces.get(number)?;
     let run = *runs.get(number)?;
     let section = at.section;
-    Some(Output {
+    Some(OutputDrawing {
         name: section.name.as_bytes(),
         fill: fill_of(section),
         placed: *placed,
@@ -93,7 +94,7 @@ fn join<'a>(
     offsets: &[u128],
     pieces: &'a [Vec<ImagePiece<'a>>],
     runs: &[&'a [PlacedData]],
-) -> Result<Vec<Output<'a>>, NoMemory>
+) -> Result<Vec<OutputDrawing<'a>>, NoMemory>
     ensures { IfOk result (λ v. (p : Project) (s : Layout) (stays : SectionKey → Bool)
         → AreJoined p s stays placed.now (shown_sections sections.now) offsets.now (map vec_items pieces.now)
         (map (λ run. run.now) runs.now) → AllZip (IsOutput p s stays) s.sections v.items) }
@@ -102,7 +103,8 @@ fn join<'a>(
     for (number, place) in placed.iter().enumerate() {
         match output_at(number, place, sections, offsets, pieces, runs) {
             Some(output) => outputs.push(output)?,
-            None => return Err(AllocError),
+            // Each placed section has a row and an offset
+            None => return Err(impossible()),
         }
     }
     Ok(outputs)
@@ -118,7 +120,7 @@ pub(crate) fn outputs<'a>(
     project: &'a ProjectView<'_>,
     laying: &'a Laying,
     pieces: &'a [Vec<ImagePiece<'a>>],
-) -> Result<Vec<Output<'a>>, NoMemory>
+) -> Result<Vec<OutputDrawing<'a>>, NoMemory>
     ensures { IfOk result (λ v. (s : Layout) (stays : SectionKey → Bool) → IsLaying project.now s laying.now
         → AllZip (IsJoinedRow project.now s stays) s.sections (map vec_items pieces.now)
         → AllZip (IsOutput project.now s stays) s.sections v.items) }

@@ -11,24 +11,25 @@ ghost use Rattle.emit.specs.Drawable.{AreOutputs};
 ghost use Rattle.emit.specs.Output.{AreDrawn, AreDrawnOf, IsDrawn, IsOutput};
 ghost use Rattle.emit.specs.Parts.{ArePartsOf};
 
-use crate::output::Output;
+use crate::output::OutputDrawing;
 use crate::symbols::table_symbols;
 use emit_image::headers::{headers, loaded_end};
 use emit_image::section::ImageSection;
 use emit_image::sections::TableSection;
 use emit_image::tail::{TailParts, tail};
-use ldmodel_laws::segments::segments_by_neighbours;
-use place::arranged::Arranged;
-use ldmodel::memory::NoMemory;
-use ldmodel_project::view::ProjectView;
 use emit_values::values::Values;
-use std::alloc::{AllocError, Global};
+use ldmodel::impossible::impossible;
+use ldmodel::memory::NoMemory;
+use ldmodel_laws::segments::segments_by_neighbours;
+use ldmodel_project::view::ProjectView;
+use place::arranged::Arranged;
+use std::alloc::Global;
 
 /// One more than the greatest offset that a section header can state.
 const PAST_OFFSETS: u128 = 1 << 64;
 
 /// An output section, with what its header is made of.
-fn table_section<'a>(output: &Output<'a>) -> TableSection<'a>
+fn table_section<'a>(output: &OutputDrawing<'a>) -> TableSection<'a>
     ensures { (p : Project) (s : Layout) (stays : SectionKey → Bool) (q : PlacedSection)
         → IsOutput p s stays q output.now → IsTableSection s q result }
 {
@@ -42,7 +43,7 @@ fn table_section<'a>(output: &Output<'a>) -> TableSection<'a>
 /// The output sections, with what their headers are made of. Fails where memory runs out.
 fn table_sections<'a>(
     alloc: Global,
-    outputs: &[Output<'a>],
+    outputs: &[OutputDrawing<'a>],
 ) -> Result<Vec<TableSection<'a>>, NoMemory>
     ensures { IfOk result (λ v. (p : Project) (s : Layout) (stays : SectionKey → Bool)
         → AllZip (IsOutput p s stays) s.sections outputs.now → AllZip (IsTableSection s) s.sections v.items) }
@@ -55,12 +56,13 @@ fn table_sections<'a>(
 }
 
 /// An output section as it is drawn. Fails where it begins past any file.
-fn image_section<'a>(output: &Output<'a>) -> Result<ImageSection<'a>, NoMemory>
+fn image_section<'a>(output: &OutputDrawing<'a>) -> Result<ImageSection<'a>, NoMemory>
     ensures { IfOk result (λ y. (p : Project) (s : Layout) (stays : SectionKey → Bool) (q : PlacedSection)
         → IsOutput p s stays q output.now → IsDrawn p s stays q y) }
 {
     match u64::try_from(output.offset) {
-        Err(_too_great) => Err(AllocError),
+        // No file is longer than 2^64 bytes
+        Err(_too_great) => Err(impossible()),
         Ok(offset) => Ok(ImageSection {
             offset,
             start: output.placed.start,
@@ -75,7 +77,7 @@ fn image_section<'a>(output: &Output<'a>) -> Result<ImageSection<'a>, NoMemory>
 /// Adds an output section to those that are drawn, if it has bytes in the file.
 fn add_section<'a>(
     sections: &mut Vec<ImageSection<'a>>,
-    output: &Output<'a>,
+    output: &OutputDrawing<'a>,
 ) -> Result<(), NoMemory>
     ensures { OnOk result ((p : Project) (s : Layout) (stays : SectionKey → Bool) (q : PlacedSection)
         (qs : List PlacedSection) → IsOutput p s stays q output.now → AreDrawnOf p s stays qs sections.old.items
@@ -92,7 +94,7 @@ fn add_section<'a>(
 /// The output sections with bytes in the file, as they are drawn. Fails where memory runs out.
 fn image_sections<'a>(
     alloc: Global,
-    outputs: &[Output<'a>],
+    outputs: &[OutputDrawing<'a>],
 ) -> Result<Vec<ImageSection<'a>>, NoMemory>
     ensures { IfOk result (λ v. (p : Project) (s : Layout) (stays : SectionKey → Bool) → AreNamed s.sections
         → AllZip (IsOutput p s stays) s.sections outputs.now → AreDrawn p s stays v.items) }
@@ -107,7 +109,7 @@ fn image_sections<'a>(
 
 /// All that an image is drawn from.
 #[derive(Drop)]
-pub(crate) struct Parts<'a> {
+pub(crate) struct ImageParts<'a> {
     /// The ELF header and the program headers.
     pub(crate) headers: Vec<u8>,
     /// The output sections with bytes in the file.
@@ -126,8 +128,8 @@ pub(crate) fn drawing_parts<'a>(
     project: &ProjectView<'_>,
     arranged: &Arranged,
     values: &Values<'_>,
-    outputs: &[Output<'a>],
-) -> Result<Parts<'a>, NoMemory>
+    outputs: &[OutputDrawing<'a>],
+) -> Result<ImageParts<'a>, NoMemory>
     ensures { IfOk result (λ x. (s : Layout) (stays : SectionKey → Bool)
         → AreOutputs project.now arranged.now values.now s stays outputs.now
         → ArePartsOf project.now s stays x) }
@@ -141,7 +143,7 @@ pub(crate) fn drawing_parts<'a>(
     let table = tail.headers.offset();
     let headers = headers(alloc, entry, segments, table, headings.len())?;
     let sections = image_sections(alloc, outputs)?;
-    Ok(Parts {
+    Ok(ImageParts {
         headers,
         sections,
         tail,

@@ -24,21 +24,22 @@ ghost use Rattle.emit.specs.Runs.{AreRunsUnless};
 
 use crate::relocated::Relocated;
 use crate::section_fields::fields_of;
-use elfobj::object::Object;
+use elfobj::Object;
 use elfobj::section::{LinkedIndex, Section, SectionKind};
 use emit_image::row::{add_drawn, add_kept};
 use emit_image::section::ImagePiece;
-use ldmodel_laws::gathering::{live_by_path, once_in_rows};
-use ldmodel_laws::layout::placed_are_rows;
-use place::arranged::Arranged;
-use place::numbered::are_numbered;
+use emit_relocate::earlier::Earlier;
+use ldmodel::impossible::impossible;
 use ldmodel::memory::NoMemory;
 use ldmodel::names::ObjectPlace;
 use ldmodel::rows::Piece;
 use ldmodel::sections::Part;
+use ldmodel_laws::gathering::{live_by_path, once_in_rows};
+use ldmodel_laws::layout::placed_are_rows;
 use ldmodel_project::view::ProjectView;
-use emit_relocate::earlier::Earlier;
-use std::alloc::{AllocError, Global};
+use place::arranged::Arranged;
+use place::numbered::are_numbered;
+use std::alloc::Global;
 
 /// An input section of this number of bytes at an address, all of which are 0.
 fn zeros<'a>(size: u64, start: u64) -> ImagePiece<'a>
@@ -84,13 +85,15 @@ fn section_piece<'a>(
         → IsSectionPiece l o x size start y) }
 {
     let section = section_at(object, index);
+    // so that what an object says of its sections is known
     let _sections = object.sections();
     let _relocations = object.relocations(index);
     let bytes = object.section_bytes(index);
     match section.kind {
         SectionKind::Nobits => Ok(zeros(size, start)),
         _ => match fields_of(relocated, arranged, key, index) {
-            None => Err(AllocError),
+            // Each object that an entry names is one of the project
+            None => Err(impossible()),
             Some(fields) => Ok(ImagePiece {
                 start,
                 size,
@@ -115,15 +118,18 @@ fn drawn_piece<'a>(
         → IsPlacedAt project.now l.layout (piece_in project.now piece.now) start w
         → IsDrawnPiece l.project l.layout w y) }
 {
+    // so that what a project says of its objects is known
     let _inputs = project.inputs();
     let key = piece.section.object;
     match piece.section.part {
         Part::InCommon(_) => Ok(zeros(piece.size, start)),
         Part::InTable(number) => match project.object(key) {
-            None => Err(AllocError),
+            // The project has the object
+            None => Err(impossible()),
             Some(object) => match object.section_at(number) {
                 None => Ok(zeros(piece.size, start)),
                 Some(index) => {
+                    // so that what an object says of its sections is known
                     let _sections = object.sections();
                     section_piece(relocated, arranged, key, object, index, piece.size, start)
                 }
@@ -177,7 +183,8 @@ fn image_row<'a, E: Earlier>(
     let mut pieces = Vec::with_capacity(alloc, row.len())?;
     for (k, piece) in row.iter().enumerate() {
         match starts.get(k) {
-            None => return Err(AllocError),
+            // A row has as many starts as entries
+            None => return Err(impossible()),
             Some(start) => {
                 add_entry(
                     &mut pieces,
@@ -214,7 +221,8 @@ fn image_rows<'a, E: Earlier>(
     for row in &arranged.rows {
         let row = row.as_slice();
         if starts.len() - at < row.len() {
-            return Err(AllocError);
+            // The starts are those of all rows
+            return Err(impossible());
         }
         let drawn = image_row(
             alloc,

@@ -18,13 +18,9 @@ ghost use Rattle.emit_values.specs.Values.{AreValues};
 
 use crate::keys::keys_of;
 use crate::law::{pieces_are_sized, sections_end_below};
-use elfobj::meter::Meter;
+use elfobj::Meter;
 use emit_fields::patch::Patch;
 use emit_image::law::patches_are_few;
-use ldmodel_laws::stayed::{fields_in_image, pieces_in_image, stayed_in_both};
-use ldmodel::fault::Fault;
-use ldmodel::memory::NoMemory;
-use ldmodel_project::view::ProjectView;
 use emit_relocate::changed_fields::{ChangedFields, changed_fields};
 use emit_relocate::earlier::Earlier;
 use emit_relocate::law::{
@@ -36,6 +32,10 @@ use emit_relocate::symbol_table::SymbolTable;
 use emit_relocate::value::SymbolValue;
 use emit_values::link_view::LinkView;
 use emit_values::values::Values;
+use ldmodel::fault::Fault;
+use ldmodel::memory::NoMemory;
+use ldmodel_laws::stayed::{fields_in_image, pieces_in_image, stayed_in_both};
+use ldmodel_project::view::ProjectView;
 use std::alloc::Global;
 
 /// The fields of a link that change, and the faults of its relocations.

@@ -20,14 +20,14 @@ use elfobj::file::constants::SHN_ABS;
 use elfobj::relocation::SymbolIndex;
 use elfobj::symbol::{Symbol, SymbolKind, SymbolPlace};
 use emit_image::symbols::TableSymbol;
-use place::arranged::Arranged;
+use emit_relocate::value::SymbolValue;
+use emit_values::values::{OutputSymbol, Values};
 use ldmodel::laid::OutputIndex;
 use ldmodel::memory::NoMemory;
 use ldmodel::names::{Case, Entry, ObjectPlace};
 use ldmodel::sections::{Part, SectionKey};
 use ldmodel_project::view::ProjectView;
-use emit_relocate::value::SymbolValue;
-use emit_values::values::{OutputSymbol, Values};
+use place::arranged::Arranged;
 use std::alloc::{AllocError, Global};
 
 /// What the symbol table says of a name, beside the name and its value.

@@ -7,7 +7,7 @@ ghost use Rattle.emit_fields.specs.Patches.{AreApart, AreInOrder, IsWithin, patc
 
 use crate::canvas::Canvas;
 use crate::field::Field;
-use elfobj::meter::{Count, Meter};
+use elfobj::{Count, Meter};
 use std::alloc::AllocError;
 
 /// A field and where it lies.
@@ -73,6 +73,7 @@ fn write_up_to(
     ensures room { canvas.new.room ≡ canvas.old.room }
     ensures counted { meter.new ≡ raised meter.old Count.Bytes (patch_end patch.now - done) }
 {
+    // so that the length of the canvas is known to fit
     let _len = canvas.len();
     let field = patch.field.bytes();
     canvas.write(at + done, &bytes[done..patch.offset], meter);
@@ -99,6 +100,7 @@ pub fn write_patched(
     ensures room { canvas.new.room ≡ canvas.old.room }
     ensures counted { meter.new ≡ raised meter.old Count.Bytes (length bytes.now) }
 {
+    // so that the length of the canvas is known to fit
     let _len = canvas.len();
     let mut done = 0;
     for patch in patches {

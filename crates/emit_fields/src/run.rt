@@ -5,7 +5,7 @@ ghost use Rattle.elfobj.specs.Raised.{raised};
 ghost use Rattle.elfobj.specs.declared.meter.Count.TheVariants.{Bytes};
 
 use crate::canvas::Canvas;
-use elfobj::meter::Meter;
+use elfobj::Meter;
 
 /// How many bytes are written at a time: a multiple of each length that a pattern may have.
 const CHUNK: usize = 840;
@@ -55,6 +55,7 @@ fn write_short_run(canvas: &mut Canvas, at: usize, n: usize, pattern: &[u8], met
     ensures room { canvas.new.room ≡ canvas.old.room }
     ensures counted { meter.new ≡ raised meter.old Bytes n }
 {
+    // so that the length of the canvas is known to fit
     let _len = canvas.len();
     let short = short_run_of(pattern, n);
     canvas.write(at, &short[..n], meter);
@@ -73,6 +74,7 @@ fn write_chunks(canvas: &mut Canvas, at: usize, n: usize, pattern: &[u8], meter:
     ensures room { canvas.new.room ≡ canvas.old.room }
     ensures counted { meter.new ≡ raised meter.old Bytes n }
 {
+    // so that the length of the canvas is known to fit
     let _len = canvas.len();
     let chunk = chunk_of(pattern, n.min(CHUNK));
     for k in 0..n / CHUNK {

@@ -7,7 +7,7 @@ ghost use Rattle.emit_image.specs.Stretches.{EndsBy, Fills, IsPatchOf, IsPlanFor
 ghost use Rattle.emit_image.specs.Stretches.{is_patched, patch_bytes, stays_at, written, written_in};
 
 use crate::stretch::{Content, Stretch};
-use elfobj::meter::Meter;
+use elfobj::Meter;
 use emit_fields::canvas::Canvas;
 use emit_fields::patch::{Patch, write_patched};
 use emit_fields::run::write_run;
@@ -119,6 +119,7 @@ fn write_patches(canvas: &mut Canvas, patches: &[Patch], end: usize, meter: &mut
     ensures counted { (n : ℕ) → raised meter.new Bytes n
         ≡ raised meter.old Bytes (patch_bytes patches.now + n) }
 {
+    // so that the length of the canvas is known to fit
     let _len = canvas.len();
     for patch in patches {
         let field = patch.field.bytes();

@@ -15,6 +15,7 @@ ghost use Rattle.emit_image.specs.SegmentBytes.{file_end_of, flags_number, segme
 
 use crate::number::{put_low_u64, put_u16, put_u32, put_u64};
 use elfobj::file::constants::EM_X86_64;
+use ldmodel::impossible::impossible;
 use ldmodel::memory::NoMemory;
 use ldmodel::segment::Segment;
 use std::alloc::{AllocError, Global};
@@ -190,6 +191,7 @@ pub fn loaded_end(segments: &[Segment]) -> Result<u64, NoMemory>
     }
     match u64::try_from(end) {
         Ok(end) => Ok(end),
-        Err(_too_great) => Err(AllocError),
+        // No file is longer than 2^64 bytes
+        Err(_too_great) => Err(impossible()),
     }
 }

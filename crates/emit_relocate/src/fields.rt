@@ -10,12 +10,13 @@ ghost use Rattle.emit_relocate.specs.KnownLink.{KnownLink};
 ghost use Rattle.emit_relocate.specs.Sites.{IsPlaced};
 
 use crate::site::{PlacedSection, evaluate, is_evaluated};
-use elfobj::relocation::Relocation;
+use elfobj::Relocation;
 use emit_fields::patch::{Patch, in_order};
 use ldmodel::fault::Fault;
+use ldmodel::impossible::impossible;
 use ldmodel::memory::NoMemory;
 use ldmodel::meter::Meter;
-use std::alloc::{AllocError, Global};
+use std::alloc::Global;
 
 /// Evaluates the relocation of number `entry`: adds its field, or its fault.
 fn add_site(
@@ -39,7 +40,8 @@ fn add_site(
         return Ok(());
     }
     let Ok(entry) = u32::try_from(entry) else {
-        return Err(AllocError);
+        // No section has 2^32 relocations
+        return Err(impossible());
     };
     match evaluate(section, entry, relocation, meter) {
         Ok(field) => {

@@ -21,9 +21,9 @@ use crate::value::SymbolValue;
 use elfobj::relocation::{Relocation, SymbolIndex};
 use emit_fields::patch::Patch;
 use ldmodel::fault::Fault;
+use ldmodel::impossible::impossible;
 use ldmodel::memory::NoMemory;
 use ldmodel::meter::Meter;
-use std::alloc::AllocError;
 
 /// Whether two symbols have the same value. A number is the same as no missing value.
 fn is_same_value(one: SymbolValue, other: SymbolValue) -> bool
@@ -70,7 +70,8 @@ fn add_in_file(range: FileRange, field: Patch, patches: &mut Vec<Patch>) -> Resu
         return Ok(());
     }
     let Some(offset) = range.offset.checked_add(field.offset as u64) else {
-        return Err(AllocError);
+        // No file is longer than 2^64 bytes
+        return Err(impossible());
     };
     patches.push(Patch {
         offset: offset as usize,
@@ -108,7 +109,8 @@ fn add_moved_site<E: Earlier>(
         return Ok(());
     }
     let Ok(entry) = u32::try_from(entry) else {
-        return Err(AllocError);
+        // No section has 2^32 relocations
+        return Err(impossible());
     };
     match evaluate(section, entry, relocation, meter) {
         Ok(field) => {

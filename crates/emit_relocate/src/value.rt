@@ -1,6 +1,7 @@
 //! The value that a symbol has in the output.
 
 ghost use Rattle.std.specs.Prelude.{◌≡◌};
+ghost use Rattle.ldmodel.specs.Assertions.{number_if_any};
 ghost use Rattle.ldmodel.specs.SymbolValues.{number_or_0};
 ghost use Rattle.ldmodel.specs.Targets.{or_weak};
 ghost use Rattle.emit_relocate.specs.Values.{address_from, value_of};
@@ -24,6 +25,16 @@ impl SymbolValue {
         match self {
             SymbolValue::Number(value) => value,
             SymbolValue::NotDefined | SymbolValue::NotInOutput => 0,
+        }
+    }
+
+    /// The number, if there is one.
+    pub fn number(self) -> Option<u64>
+        ensures { result ≡ number_if_any (value_of self) }
+    {
+        match self {
+            SymbolValue::Number(value) => Some(value),
+            SymbolValue::NotDefined | SymbolValue::NotInOutput => None,
         }
     }
 

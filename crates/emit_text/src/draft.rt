@@ -5,8 +5,9 @@ ghost use Rattle.ldmodel.specs.Lines.{hex};
 ghost use Rattle.emit_text.specs.Drafts.{added};
 
 use crate::hex::hex_digits;
+use ldmodel::impossible::impossible;
 use ldmodel::memory::NoMemory;
-use std::alloc::{AllocError, Global};
+use std::alloc::Global;
 use std::marker::Model;
 
 /// A text that is made. The same calls measure it and write it.
@@ -79,7 +80,8 @@ impl Draft {
         ensures { OnOk result (self.new ≡ record self.old { size = self.old.size + more }) }
     {
         let Some(measured) = self.measured.checked_add(more) else {
-            return Err(AllocError);
+            // No text of lines that lie in memory is that long
+            return Err(impossible());
         };
         self.measured = measured;
         Ok(())

@@ -20,7 +20,7 @@ use Rattle.symres.specs.Decided.{HasCase}
 use Rattle.symres.specs.Naming.{NamingState}
 use Rattle.symres.specs.declared.sorted.NamedKey.{NamedKey}
 use Rattle.place.specs.sections.Places.{AreOf, Places}
-use Rattle.place.proofs.terms.Numbers.{symbol_at, symbol_named_by}
+use Rattle.place.proofs.TermNumbers.{symbol_at, symbol_named_by}
 use Rattle.place.specs.terms.SymbolTable.{AreValuesOf, value_of}
 use Rattle.place.specs.terms.Tables.{entry_under, symbol_number}
 use Rattle.symres.specs.table.State.{AreDistinct, IsNamed, slot}

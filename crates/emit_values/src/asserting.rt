@@ -13,16 +13,16 @@ ghost use Rattle.emit_values.specs.Values.{AreValues};
 use crate::final_scope::FinalScope;
 use crate::symbols_by_name::SymbolsByName;
 use crate::values::Values;
-use ldmodel_laws::layout::layout_by_effects;
-use place::laying::Laying;
-use ldmodel::fault::{AssertionIndex, Fault};
-use ldmodel::memory::NoMemory;
-use ldmodel_project::view::ProjectView;
-use place::terms::value::{ValueFault, value};
-use ldscript::tree::Assertion;
 use emit_text::assertion::assertions;
+use ldmodel::fault::{AssertionIndex, Fault};
+use ldmodel::impossible::impossible;
+use ldmodel::memory::NoMemory;
+use ldmodel_laws::layout::layout_by_effects;
+use ldmodel_project::view::ProjectView;
+use ldscript::tree::Assertion;
 use place::sections::law::outputs_are_of_script;
-use std::alloc::{AllocError, Global};
+use place::{Laying, ValueFault, value};
+use std::alloc::Global;
 
 /// Whether a value counts as true; where there is none, it does not.
 fn is_true(outcome: Result<u64, ValueFault<'_>>) -> bool
@@ -59,7 +59,8 @@ fn add_unless_holds(
             faults.push(Fault::AssertionFailed(AssertionIndex(number)))?;
             Ok(())
         }
-        Err(_) => Err(AllocError),
+        // No script has 2^32 assertions
+        Err(_) => Err(impossible()),
     }
 }
 

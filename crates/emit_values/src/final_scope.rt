@@ -6,9 +6,8 @@ ghost use Rattle.emit_relocate.specs.Values.{value_of};
 
 use crate::symbols_by_name::SymbolsByName;
 use ldmodel::laid::{Laid, Placed, PlacedRegion};
+use ldscript::Script;
 use place::terms::scope::Scope;
-use ldscript::script::Script;
-use emit_relocate::value::SymbolValue;
 
 /// What stands in the output at the end of a link: its symbols, output sections and memory regions.
 #[derive(Clone, Copy)]
@@ -21,16 +20,6 @@ pub struct FinalScope<'a, 'b> {
     pub symbols: SymbolsByName<'a, 'b>,
 }
 
-/// The number of a value, if it has one.
-fn number_of(value: SymbolValue) -> Option<u64>
-    ensures { result ≡ number_if_any (value_of value) }
-{
-    match value {
-        SymbolValue::Number(number) => Some(number),
-        SymbolValue::NotDefined | SymbolValue::NotInOutput => None,
-    }
-}
-
 impl<'a, 'b> Scope for FinalScope<'a, 'b> {
     ghost use Rattle.std.specs.Prelude.{⊤};
     ghost use Rattle.emit_values.specs.FinalScope.{meaning_of};
@@ -41,7 +30,7 @@ impl<'a, 'b> Scope for FinalScope<'a, 'b> {
 
     fn symbol(&self, name: &[u8]) -> Option<u64> {
         match self.symbols.find(name) {
-            Some(symbol) => number_of(symbol.value),
+            Some(symbol) => symbol.value.number(),
             None => None,
         }
     }

@@ -4,12 +4,12 @@
 ghost use Rattle.std.specs.Prelude.{IfOk};
 
 use crate::script_values::ScriptValues;
-use place::laying::Laying;
 use ldmodel::memory::NoMemory;
-use symres::naming::Naming;
-use symres::sorted::NamedKey;
 use ldmodel_project::view::ProjectView;
+use place::Laying;
 use std::alloc::Global;
+use symres::Naming;
+use symres::sorted::NamedKey;
 
 /// The values that the script gives names, and all names that objects declare in byte order.
 #[derive(Drop)]

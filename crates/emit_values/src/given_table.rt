@@ -6,8 +6,8 @@ ghost use Rattle.emit_values.specs.ScriptValues.{value_in};
 
 use crate::script_values::{ScriptValues, given_name};
 use ldmodel::memory::NoMemory;
-use symres::naming::Naming;
 use std::alloc::Global;
+use symres::Naming;
 
 /// A table of no values.
 fn no_values(alloc: Global, count: usize) -> Result<Vec<Option<u64>>, NoMemory>

@@ -1,11 +1,10 @@
 //! What the evaluation of relocations asks of a link.
 
-ghost use Rattle.std.specs.Prelude.{◌≡◌, ◌<◌, ℕ, List, Some, not, option_copied};
+ghost use Rattle.std.specs.Prelude.{◌≡◌, ◌<◌, ℕ, List, Some, option_copied};
 ghost use Rattle.std.specs.Option.{option_map};
 ghost use Rattle.ldmodel.specs.Layout.{Layout, PlacedPiece};
 ghost use Rattle.ldmodel.specs.Live.{symbol_at};
 ghost use Rattle.ldmodel.specs.NameFaults.{object_name};
-ghost use Rattle.ldmodel.specs.Names.{is_local};
 ghost use Rattle.ldmodel.specs.Project.{Project};
 ghost use Rattle.ldmodel.specs.SymbolValues.{placed_part};
 ghost use Rattle.place.specs.Arranged.{IsArranged};
@@ -14,24 +13,14 @@ ghost use Rattle.emit_values.specs.LinkView.{IsLinkView};
 ghost use Rattle.emit_values.specs.Seen.{is_seen};
 
 use crate::link_view::LinkView;
-use elfobj::object::Object;
+use elfobj::Object;
 use elfobj::relocation::SymbolIndex;
-use elfobj::symbol::Binding;
-use place::arranged::Arranged;
+use emit_relocate::known::Known;
 use ldmodel::names::{Case, NameKey, ObjectPlace};
 use ldmodel::sections::SectionKey;
 use ldmodel_project::view::ProjectView;
-use emit_relocate::known::Known;
-
-/// Whether a symbol declares its name to other objects.
-fn declares(binding: Binding) -> bool
-    ensures { result ≡ not (is_local binding) }
-{
-    match binding {
-        Binding::Local => false,
-        Binding::Global | Binding::Weak => true,
-    }
-}
+use place::arranged::Arranged;
+use symres::declaring::declares;
 
 /// Whether there is a symbol that isn't local.
 fn sees(project: &ProjectView<'_>, object: ObjectPlace, symbol: SymbolIndex) -> bool

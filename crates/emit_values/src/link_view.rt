@@ -8,11 +8,11 @@ ghost use Rattle.emit_values.specs.Seen.{AreSeen};
 
 use crate::given::GivenValues;
 use crate::given_table::given_table;
-use place::arranged::Arranged;
 use ldmodel::memory::NoMemory;
-use symres::naming::Naming;
 use ldmodel_project::view::ProjectView;
+use place::arranged::Arranged;
 use std::alloc::Global;
+use symres::Naming;
 
 /// A link whose names are decided and whose parts have their places: it is `Known` to the evaluation of relocations.
 #[derive(Drop)]

@@ -7,8 +7,8 @@ ghost use Rattle.emit_values.specs.Merged.{IsPlaceAmong, Merged, key_before};
 
 use crate::candidate::Candidate;
 use ldmodel::memory::NoMemory;
-use symres::sorted::NamedKey;
 use std::alloc::Global;
+use symres::sorted::NamedKey;
 
 /// How many of these names, which are in byte order, do not come after a name. The time is logarithmic.
 fn count_up_to(sorted: &[NamedKey<'_>], name: &[u8]) -> usize

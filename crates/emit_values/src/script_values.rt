@@ -8,31 +8,22 @@ ghost use Rattle.ldmodel.specs.Layout.{Layout, ScriptSymbol};
 ghost use Rattle.ldmodel.specs.Lent.{given_name, name_given_by};
 ghost use Rattle.place.specs.sections.Places.{AreOf};
 ghost use Rattle.place.specs.terms.SymbolTable.{AreValuesOf};
-ghost use Rattle.place.specs.terms.Tables.{symbol_number};
 ghost use Rattle.emit_values.specs.ScriptValues.{AreScriptValues, value_in};
 
+use ldmodel::impossible::impossible;
 use ldmodel::memory::NoMemory;
 use ldmodel::script_symbol::CommonIndex;
-use ldscript::script::Script;
-use ldscript::tree::{Common, CommonAt, Given};
-use place::sections::placement::Placement;
-use std::alloc::{AllocError, Global};
+use ldscript::Script;
+use ldscript::tree::{Common, CommonAt};
+use place::Placement;
+use place::terms::commands::number_in;
+use std::alloc::Global;
 
 /// The values that a script gives names, under the numbers of its commands.
 #[derive(Drop)]
 pub(crate) struct ScriptValues<'a> {
     pub(crate) script: &'a Script,
     values: Vec<Option<u64>>,
-}
-
-/// The number of the command that gives a name its value.
-fn command_number(script: &Script, name: &[u8]) -> Option<usize>
-    ensures { result ≡ symbol_number script.now name.now }
-{
-    match script.given(name) {
-        Some(Given::Assigned(number)) | Some(Given::Provided(number)) => Some(number),
-        None => None,
-    }
 }
 
 /// The name that a command gives a value to; no bytes where it gives none.
@@ -66,12 +57,13 @@ fn note_value(
     ensures { OnOk result ((xs : List ScriptSymbol) → AreValuesOf script.now values.old.items xs
         → AreValuesOf script.now values.new.items (xs ++ record { name = name.now; value = value } ∷ [])) }
 {
-    let Some(number) = command_number(script, name) else {
-        // Unreachable: each name of a layout is one that its script gives a value
-        return Err(AllocError);
+    let Some(number) = number_in(script, name) else {
+        // Each name of a layout is one that its script gives a value
+        return Err(impossible());
     };
     if number >= values.len() {
-        return Err(AllocError);
+        // There is a place for each command
+        return Err(impossible());
     }
     match values[number] {
         None => {
@@ -108,7 +100,7 @@ impl<'a> ScriptValues<'a> {
     pub fn value(&self, name: &[u8]) -> Option<u64>
         ensures { result ≡ value_in self.now name.now }
     {
-        let number = command_number(self.script, name)?;
+        let number = number_in(self.script, name)?;
         *self.values.get(number)?
     }
 }

@@ -15,12 +15,13 @@ ghost use Rattle.emit_values.specs.Values.{shown_symbol};
 use crate::candidate::Candidate;
 use crate::script_values::ScriptValues;
 use crate::values::OutputSymbol;
+use emit_relocate::value::SymbolValue;
+use ldmodel::impossible::impossible;
 use ldmodel::memory::NoMemory;
 use ldmodel::names::{Case, NameKey};
-use symres::naming::Naming;
-use ldscript::script::Script;
-use emit_relocate::value::SymbolValue;
-use std::alloc::{AllocError, Global};
+use ldscript::Script;
+use std::alloc::Global;
+use symres::Naming;
 
 /// What the symbols of the output are made of.
 #[derive(Clone, Copy)]
@@ -87,13 +88,13 @@ fn add_named<'a>(
         → IsNamed sources.now.naming.now.names key.0 name.now
         → AddsSymbols p s (name.now ∷ []) list.old.items list.new.items) }
 {
-    // Both errors are unreachable: each key of a name has a case and a value
+    // Each key of a name has a case and a value, so neither error comes up
     let naming = sources.naming;
     let Some(case) = naming.case_of(key) else {
-        return Err(AllocError);
+        return Err(impossible());
     };
     let Some(value) = sources.names.get(key.0) else {
-        return Err(AllocError);
+        return Err(impossible());
     };
     add_if_defined(
         list,
@@ -118,8 +119,8 @@ fn add_unnamed<'a>(
     let given = sources.given;
     let case = naming.case_named(sources.script, name);
     let Some(value) = value_by_script(case, given.value(name)) else {
-        // Unreachable: a name that an object defines has a key
-        return Err(AllocError);
+        // A name that an object defines has a key
+        return Err(impossible());
     };
     add_if_defined(list, OutputSymbol { name, case, value })
 }

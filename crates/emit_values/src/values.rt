@@ -15,13 +15,13 @@ use crate::given::GivenValues;
 use crate::link_view::LinkView;
 use crate::script_values::ScriptValues;
 use crate::symbols::{Sources, symbols_of};
-use ldmodel::memory::NoMemory;
-use ldmodel::names::Case;
-use symres::naming::Naming;
-use ldmodel_project::view::ProjectView;
 use emit_relocate::symbol::{entry_point, name_values};
 use emit_relocate::value::SymbolValue;
+use ldmodel::memory::NoMemory;
+use ldmodel::names::Case;
+use ldmodel_project::view::ProjectView;
 use std::alloc::Global;
+use symres::Naming;
 
 /// A symbol of the output: a name that stands for something.
 #[derive(Clone, Copy, Debug)]

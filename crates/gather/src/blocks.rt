@@ -9,12 +9,12 @@ ghost use Rattle.gather_sections.specs.SectionTable.{AreBlockRanks};
 
 use crate::member::CommonBlock;
 use elfobj::relocation::SymbolIndex;
+use gather_sections::rank::Rank;
 use ldmodel::memory::NoMemory;
 use ldmodel::names::{Case, NameKey};
-use symres::naming::Naming;
 use ldmodel_project::view::ProjectView;
-use gather_sections::rank::Rank;
 use std::alloc::Global;
+use symres::Naming;
 
 /// No common blocks, of this many objects.
 fn no_blocks(alloc: Global, count: usize) -> Result<Vec<Vec<CommonBlock>>, NoMemory>

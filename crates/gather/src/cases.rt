@@ -1,27 +1,16 @@
 //! What the names of symbols stand for.
 
-ghost use Rattle.std.specs.Prelude.{◌≡◌, ◌<◌, length, not, slice_index_or};
+ghost use Rattle.std.specs.Prelude.{◌≡◌, ◌<◌, length, slice_index_or};
 ghost use Rattle.elfobj.specs.Symbols.{NamedSymbol};
 ghost use Rattle.gather.specs.Symbols.{IsCaseOf, IsObjectAt};
-ghost use Rattle.ldmodel.specs.Names.{is_local};
 ghost use Rattle.symres.specs.Naming.{IsNaming};
 
-use elfobj::object::Object;
+use elfobj::Object;
 use elfobj::relocation::SymbolIndex;
-use elfobj::symbol::Binding;
 use ldmodel::names::Case;
-use symres::naming::Naming;
 use ldmodel_project::view::ProjectView;
-
-/// Whether a symbol declares its name to other objects.
-fn declares(binding: Binding) -> bool
-    ensures { result ≡ not (is_local binding) }
-{
-    match binding {
-        Binding::Local => false,
-        Binding::Global | Binding::Weak => true,
-    }
-}
+use symres::Naming;
+use symres::declaring::declares;
 
 /// What the name of a symbol of the object at a place stands for; nothing for a local symbol, which has no name. The
 /// time is constant.

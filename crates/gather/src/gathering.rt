@@ -21,14 +21,14 @@ use crate::matches::Matches;
 use crate::member::input_sections;
 use crate::members::members;
 use crate::rows::rows;
-use ldmodel_laws::gathering::live_by_path;
+use gather_sections::section_table::SectionTable;
 use ldmodel::memory::NoMemory;
 use ldmodel::rows::Piece;
 use ldmodel::sections::SectionKey;
-use symres::naming::Naming;
+use ldmodel_laws::gathering::live_by_path;
 use ldmodel_project::view::ProjectView;
-use gather_sections::section_table::SectionTable;
 use std::alloc::Global;
+use symres::Naming;
 
 /// What gathering finds: the numbers of the input sections, the row of each output section, and the orphans.
 #[derive(Drop)]

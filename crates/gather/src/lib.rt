@@ -7,7 +7,8 @@
 //! - `member`, `members`, `gathered`, `blocks`, `cases`: the input sections, common blocks among them; `left_out`;
 //! - `roots`, `marking`, `references`, and of a project `live`, `referring`, `targets`, `places`: which sections are
 //!   live;
-//! - `rows`, `sorting`, `live_sections`: rows and orphans; `gathering`: all of it, for a project; `law`.
+//! - `rows`, `sorting`, `live_sections`: rows and orphans; `gathering`: all of it, for a project; `law`;
+//! - the part `sections`: the table of input sections. Other families name this crate alone.
 #![tactic(auto)]
 
 mod blocks;
@@ -35,4 +36,8 @@ mod sorting;
 mod targets;
 mod word;
 mod word_table;
+
+pub use crate::gathering::Gathering;
+pub use crate::marking::mark;
+pub use crate::matcher::Matcher;
 pub use gather_sections as sections;

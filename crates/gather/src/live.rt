@@ -18,11 +18,11 @@ use crate::places::{Places, places_of};
 use crate::referring::ProjectReferences;
 use crate::roots::roots;
 use crate::targets::entry_section;
-use ldmodel::memory::NoMemory;
-use symres::naming::Naming;
-use ldmodel_project::view::ProjectView;
 use gather_sections::section_table::SectionTable;
+use ldmodel::memory::NoMemory;
+use ldmodel_project::view::ProjectView;
 use std::alloc::Global;
+use symres::Naming;
 
 /// Marks the sections that the program needs. `out` says of each whether it is left out. The relocations of the other
 /// sections are not gone through.

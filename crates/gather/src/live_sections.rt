@@ -12,9 +12,9 @@ ghost use Rattle.gather.specs.Gathered.{AreGathered, Keys, untaken};
 ghost use Rattle.gather.specs.LiveMarks.{marked};
 
 use crate::gathered::Gathered;
-use ldmodel_laws::gathering::live_by_path;
 use ldmodel::memory::NoMemory;
 use ldmodel::sections::SectionKey;
+use ldmodel_laws::gathering::live_by_path;
 use std::alloc::Global;
 
 /// The sections without those that are left out: the live ones where nothing is collected.

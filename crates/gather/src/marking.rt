@@ -8,8 +8,8 @@ ghost use Rattle.gather.specs.LiveMarks.{IsGraphOf, marked};
 ghost use Rattle.gather.specs.Graphs.{IsLive, IsMarked, IsVisit, graph_of};
 
 use crate::references::References;
-use ldmodel_laws::gathering::live_by_path;
 use ldmodel::memory::NoMemory;
+use ldmodel_laws::gathering::live_by_path;
 use std::alloc::Global;
 
 /// Marks a section and puts it on the stack, unless it is left out or marked.

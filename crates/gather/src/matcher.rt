@@ -8,12 +8,13 @@ ghost use Rattle.gather.specs.Matches.{matches_of, number_of};
 
 use crate::file_search::matches_by;
 use crate::file_tables::FileTables;
-use elfobj::object::Object;
+use elfobj::Object;
+use ldmodel::impossible::impossible;
 use ldmodel::memory::NoMemory;
 use ldmodel::rows::InputIndex;
-use ldscript::script::Script;
+use ldscript::Script;
 use ldscript::tree::InputStatementAt;
-use std::alloc::{AllocError, Global};
+use std::alloc::Global;
 use std::marker::Model;
 
 /// A script, prepared for finding the statements that take sections. Statements for other files, by their names, cost
@@ -55,7 +56,8 @@ fn tables_of<'a>(
     for (place, statement) in statements.iter().enumerate() {
         match u32::try_from(place) {
             Ok(number) => tables.add_statement(alloc, InputIndex(number), statement.input)?,
-            Err(_) => return Err(AllocError),
+            // No script has 2^32 input statements
+            Err(_) => return Err(impossible()),
         }
     }
     Ok(tables)
@@ -81,6 +83,7 @@ impl<'a> Matcher<'a> {
     pub fn first_match(&self, file: &[u8], section: &[u8]) -> Option<InputIndex>
         ensures { number_of result ≡ first_match self.now file.now section.now }
     {
+        // so that what a script says of its statements is known
         let _script = self.script;
         self.words.first_taker(&mut [], file, section)
     }
@@ -101,6 +104,7 @@ impl<'a> Matcher<'a> {
     ) -> Result<Vec<Option<InputIndex>>, NoMemory>
         ensures { IfOk result (λ found. map number_of found.items ≡ matches_of self.now file.now object.now.sections) }
     {
+        // so that what a script says of its statements is known
         let _script = self.script;
         matches_by(alloc, &self.words, file, object)
     }

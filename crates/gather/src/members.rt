@@ -29,6 +29,7 @@ fn member<'a>(
     ensures common { result.common ≡ matches.now.common }
     ensures ascending { IsAscending (shown_input input.now) }
 {
+    // so that what an object says of its sections is known
     let _sections = input.object.sections();
     Member {
         key: ObjectPlace(place),

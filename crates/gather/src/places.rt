@@ -9,10 +9,10 @@ ghost use Rattle.gather_sections.specs.SectionTable.{IsTableOf};
 
 use crate::gathered::Gathered;
 use crate::law::sections_apart;
+use gather_sections::section_table::{SectionId, SectionTable};
 use ldmodel::memory::NoMemory;
 use ldmodel::sections::SectionKey;
 use ldmodel_project::view::ProjectView;
-use gather_sections::section_table::{SectionId, SectionTable};
 use std::alloc::Global;
 
 /// The places of the input sections of a project, from 0 in their order: a column of their table.

@@ -14,13 +14,12 @@ use crate::gathered::Gathered;
 use crate::places::Places;
 use crate::references::References;
 use crate::targets::target_section;
-use elfobj::object::Object;
-use elfobj::relocation::Relocation;
 use elfobj::section::SectionIndex;
+use elfobj::{Object, Relocation};
 use ldmodel::memory::NoMemory;
 use ldmodel::sections::Part;
-use symres::naming::Naming;
 use ldmodel_project::view::ProjectView;
+use symres::Naming;
 
 /// Adds the number of a section, if there is one.
 fn add_number(targets: &mut Vec<usize>, number: Option<usize>) -> Result<(), NoMemory>
@@ -40,6 +39,7 @@ fn relocations_at(object: &Object, number: SectionIndex) -> &[Relocation]
     ensures { result.now ≡ option_map_or (λ (x : LinkedSection). x.relocations)
         (find (λ (x : LinkedSection). x.number.0 == number.0) object.now.sections) [] }
 {
+    // so that what an object says of its sections is known
     let _sections = object.sections();
     match object.section_at(number) {
         Some(place) => object.relocations(place),

@@ -3,9 +3,9 @@
 ghost use Rattle.std.specs.Prelude.{◌≡◌, OnOk, Some, max};
 ghost use Rattle.gather.specs.RowPieces.{Orders};
 
-use ldmodel_laws::gathering::row_by_order;
 use ldmodel::memory::NoMemory;
 use ldmodel::rows::Piece;
+use ldmodel_laws::gathering::row_by_order;
 use ldscript::tree::Sort;
 
 /// A live input section that a statement takes, with the name of the section.

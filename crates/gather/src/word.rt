@@ -8,8 +8,8 @@ ghost use Rattle.gather.specs.Matches.{number_of};
 ghost use Rattle.gather.specs.Words.{first_taker, shown_word, shown_words, takes_from};
 
 use ldmodel::rows::InputIndex;
-use ldscript::tree::{Input, Pattern, SectionWord, matches};
 use ldscript::terms::pattern_law::match_by_splitting;
+use ldscript::tree::{Input, Pattern, SectionWord, matches};
 
 /// A word of an input statement, with the statement.
 #[derive(Clone, Copy)]

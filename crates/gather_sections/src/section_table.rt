@@ -10,11 +10,12 @@ use crate::rank::{Rank, find_rank};
 use crate::slots::{Slots, lay_slots};
 use elfobj::relocation::SymbolIndex;
 use elfobj::section::SectionIndex;
+use ldmodel::impossible::impossible;
 use ldmodel::memory::NoMemory;
 use ldmodel::names::ObjectPlace;
 use ldmodel::sections::Part;
 use ldmodel_project::view::ProjectView;
-use std::alloc::{AllocError, Global};
+use std::alloc::Global;
 
 /// The number of an input section of a link, under which each phase has a column. The header numbers of all objects
 /// come first, those of each object after those of the one before, and then the common blocks, in the order of objects
@@ -58,7 +59,8 @@ impl SectionTable {
         let mut blocks = ranks;
         blocks.sort_unstable_by_key(|block| *block);
         if blocks.len() >= (u32::MAX - laid.slots) as usize {
-            return Err(AllocError);
+            // 2^32 common blocks do not lie in memory
+            return Err(impossible());
         }
         Ok(SectionTable {
             objects: laid.objects,

@@ -4,11 +4,12 @@ ghost use Rattle.std.specs.Prelude.{◌≡◌, ◌+◌, ◌<◌, All, IfOk};
 ghost use Rattle.elfobj.specs.Sections.{LinkedSection};
 ghost use Rattle.gather_sections.specs.Slots.{AreLaid, AreLinkedBefore, AreLinkedCounted};
 
-use elfobj::object::Object;
+use elfobj::Object;
 use elfobj::section::SectionIndex;
+use ldmodel::impossible::impossible;
 use ldmodel::memory::NoMemory;
 use ldmodel_project::view::ProjectView;
-use std::alloc::{AllocError, Global};
+use std::alloc::Global;
 
 /// The header numbers of an object that a table has: those from 0 to that of its last linked section.
 #[derive(Clone, Copy)]
@@ -69,11 +70,11 @@ pub(crate) fn lay_slots(alloc: Global, project: &ProjectView<'_>) -> Result<AllS
             count,
             linked,
         })?;
-        // Unreachable: 2^32 section headers take 256 GiB
-        slots = slots.checked_add(count).ok_or(AllocError)?;
+        // 2^32 section headers take 256 GiB
+        slots = slots.checked_add(count).ok_or(impossible())?;
         linked = linked
             .checked_add(input.object.sections().len())
-            .ok_or(AllocError)?;
+            .ok_or(impossible())?;
     }
     Ok(AllSlots { objects, slots })
 }

@@ -1,7 +1,7 @@
 //! Links of files, with the status, the text on standard error and the map that they must have.
 
 use crate::tests::OBJECT_A;
-use ldmodel::options::Options;
+use relink::Options;
 use relink::link::ending::{exit_status, message};
 use relink::link::file::ObjectFile;
 use relink::link::files_link::link;

@@ -2,10 +2,9 @@
 
 use crate::files::{MAP_MODE, read_file, read_objects, write_file, write_image};
 use crate::{DEVICE, NO_MEMORY};
-use ldmodel::options::Options;
 use relink::link::ending::{exit_status, message};
 use relink::link::files_link::link;
-use relink::link::output::Output;
+use relink::{Options, Output};
 use std::hash::RandomState;
 use std::io;
 

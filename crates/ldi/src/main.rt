@@ -14,11 +14,11 @@ ghost use Rattle.std.specs.Prelude.{◌≡◌};
 ghost use Rattle.ldi.specs.Exit.{exit_status};
 
 use crate::linking::{FileNames, link_files};
-use ldmodel::options::Options;
 use ldi_stream::Status;
 use ldi_stream::fault::RunFault;
 use ldi_words::call::Call;
 use ldi_words::{USAGE, words};
+use relink::Options;
 use std::hash::RandomState;
 use std::process::ExitCode;
 use std::{env, io};
@@ -28,6 +28,8 @@ mod files;
 mod link_tests;
 mod linking;
 mod session;
+#[cfg(test)]
+mod surface_tests;
 #[cfg(test)]
 mod testing;
 #[cfg(test)]

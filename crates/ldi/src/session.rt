@@ -7,12 +7,11 @@ ghost use Rattle.ldmodel.specs.Project.{Project, empty_project};
 ghost use Rattle.ldi_stream.specs.Ran.{status_of};
 ghost use Rattle.ldi.specs.Session.{Leaves};
 
-use ldmodel::memory::NoMemory;
-use ldmodel::options::Options;
-use relink::session::Session;
 use ldi_stream::devices::{AnswerWriter, CommandReader};
 use ldi_stream::fault::RunFault;
 use ldi_stream::{Status, run};
+use ldmodel::memory::NoMemory;
+use relink::{Options, Session};
 use std::alloc::Global;
 use std::hash::RandomState;
 use std::io::{Read, Write};

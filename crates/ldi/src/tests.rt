@@ -3,9 +3,9 @@
 
 use crate::session;
 use crate::testing::{Recorder, Scripted};
-use ldmodel::options::Options;
 use ldi_stream::Status;
 use ldi_stream::fault::RunFault;
+use relink::Options;
 use std::alloc::{AllocError, Global};
 use std::hash::RandomState;
 use std::process::Abort;

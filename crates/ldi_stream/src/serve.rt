@@ -17,10 +17,10 @@ use crate::fault::{RunFault, WriteFault};
 use crate::head::{Aim, CommandHead, EditHead, Query, read_head};
 use crate::line::{LineEnd, MAX_LINE, read_line};
 use crate::payload::{Payload, read_payload};
-use ldmodel_laws::streams::{lines_without_feed, one_first_command};
 use ldmodel::edit::{Edit, EditRefusal};
 use ldmodel::linker::Linker;
 use ldmodel::meter::Meter;
+use ldmodel_laws::streams::{lines_without_feed, one_first_command};
 use std::alloc::Global;
 
 /// What a step of a run comes to.

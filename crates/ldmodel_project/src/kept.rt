@@ -21,13 +21,13 @@ use std::marker::Model;
 
 /// The objects of a project, each under a key that it keeps, in their order.
 #[derive(Drop)]
-pub struct Kept {
+pub struct KeyedObjects {
     alloc: Global,
     objects: TaggedObjects,
     order: Vec<usize>,
 }
 
-impl Model for Kept {
+impl Model for KeyedObjects {
     ghost use Rattle.std.specs.Prelude.{◌-◌, map};
     ghost use Rattle.slab.specs.Slab.{slab_len};
     ghost use Rattle.ldmodel_project.specs.Listing.{Contents};
@@ -44,12 +44,12 @@ impl Model for Kept {
     ghost invariant = { λ k. IsOrdered k.objects k.order.items };
 }
 
-impl Kept {
+impl KeyedObjects {
     /// No object.
-    pub fn new(alloc: Global) -> Kept
+    pub fn new(alloc: Global) -> KeyedObjects
         ensures { result.entries ≡ [] }
     {
-        Kept {
+        KeyedObjects {
             alloc,
             objects: TaggedObjects::new(alloc),
             order: Vec::new(alloc),
@@ -118,6 +118,7 @@ impl Kept {
         ensures value { result.now ≡ keys_of self.now.entries }
         ensures distinct { AreKeysDistinct result.now }
     {
+        // so that the invariant of the field is known
         let _objects = &self.objects;
         &self.order
     }
@@ -126,6 +127,7 @@ impl Kept {
     pub(crate) fn names_differ(&self)
         ensures { AreNamesDistinct (objects_of self.now.entries) }
     {
+        // so that the invariant of the field is known
         let _objects = &self.objects;
     }
 

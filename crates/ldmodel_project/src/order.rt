@@ -6,9 +6,10 @@ ghost use Rattle.ldmodel.specs.declared.names.ObjectKey.{ObjectKey};
 ghost use Rattle.ldmodel_project.specs.Listing.{AreKeysDistinct};
 ghost use Rattle.ldmodel_project.specs.Order.{HasPlaces, IsNoted};
 
+use ldmodel::impossible::impossible;
 use ldmodel::memory::NoMemory;
 use ldmodel::names::ObjectKey;
-use std::alloc::{AllocError, Global};
+use std::alloc::Global;
 use std::marker::Model;
 
 /// The keys of objects in an order, each once, and where each stands: both are found in constant time.
@@ -36,7 +37,8 @@ fn note_place(places: &mut Vec<Option<usize>>, key: usize, place: usize) -> Resu
 {
     if places.len() <= key {
         let Some(len) = key.checked_add(1) else {
-            return Err(AllocError);
+            // No key is the greatest number
+            return Err(impossible());
         };
         places.resize(len, None)?;
     }
@@ -94,6 +96,7 @@ impl Order {
         ensures value { result.now ≡ self.now }
         ensures distinct { AreKeysDistinct self.now }
     {
+        // so that the invariant of the field is known
         let _places = &self.places;
         &self.keys
     }

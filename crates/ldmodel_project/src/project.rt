@@ -15,7 +15,7 @@ mod looking;
 mod staging;
 
 use crate::input::InputObject;
-use crate::kept::Kept;
+use crate::kept::KeyedObjects;
 use crate::named::NamedObject;
 use crate::staged::Staged;
 use ldmodel::edit::{Edit, EditRefusal};
@@ -23,7 +23,7 @@ use ldmodel::memory::NoMemory;
 use ldmodel::meter::Meter;
 use ldmodel::names::ObjectKey;
 use ldmodel::options::Options;
-use ldscript::script::Script;
+use ldscript::Script;
 use std::alloc::Global;
 use std::marker::Model;
 
@@ -32,7 +32,7 @@ use std::marker::Model;
 #[derive(Drop)]
 pub struct Project {
     alloc: Global,
-    kept: Kept,
+    kept: KeyedObjects,
     script: Script,
     options: Options,
 }
@@ -56,7 +56,7 @@ impl Project {
     {
         Project {
             alloc,
-            kept: Kept::new(alloc),
+            kept: KeyedObjects::new(alloc),
             script: Script::empty(alloc),
             options,
         }

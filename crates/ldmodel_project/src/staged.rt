@@ -5,10 +5,10 @@ ghost use Rattle.std.specs.Option.{option_copied, option_map};
 ghost use Rattle.ldmodel.specs.declared.names.ObjectKey.{ObjectKey};
 ghost use Rattle.ldmodel_project.specs.Next.{next_found, put_under, removed_key, touched_key};
 
-use crate::kept::Kept;
+use crate::kept::KeyedObjects;
 use crate::named::NamedObject;
 use ldmodel::names::ObjectKey;
-use ldscript::script::Script;
+use ldscript::Script;
 
 /// What an edit does to the objects under their keys.
 #[derive(Drop)]
@@ -68,7 +68,7 @@ impl StagedObjects {
     }
 
     /// The object that is under a key after the edit.
-    pub(crate) fn found<'a>(&'a self, kept: &'a Kept, key: usize) -> Option<&'a NamedObject>
+    pub(crate) fn found<'a>(&'a self, kept: &'a KeyedObjects, key: usize) -> Option<&'a NamedObject>
         ensures { option_copied result ≡ next_found kept.now.entries self.now.step key }
     {
         match &self.step {

@@ -3,7 +3,8 @@
 //!
 //! - `script`: the whole; `read_script`, `read_region`, `read_item`, `read_section`, `read_body`, `read_common`,
 //!   `read_input` over `steps`: a rule or two of the grammar each; `refusal`;
-//! - `tree`: the types of the crates below; `law`: no text has two trees.
+//! - `tree`: the types of the crates below; `law`: no text has two trees;
+//! - the parts `tokens`, `terms`, `statements`: the crates below. Other families name this crate alone.
 #![tactic(auto)]
 
 pub mod law;
@@ -18,6 +19,10 @@ pub mod refusal;
 pub mod script;
 mod steps;
 pub mod tree;
+
+pub use crate::refusal::ScriptRefusal;
+pub use crate::script::Script;
+pub use crate::tree::{Expr, Pattern, Region, Statement, matches};
 pub use ldscript_statements as statements;
 pub use ldscript_terms as terms;
 pub use ldscript_tokens as tokens;

@@ -8,12 +8,12 @@ ghost use Rattle.ldscript.specs.Readings.{Reads, Finds, data_part, width_part};
 use crate::read_common::{common, dot_command};
 use crate::read_input::input;
 use crate::steps::{after, after_key, in_parentheses};
-use ldscript_terms::reader::Parsed;
-use ldscript_tokens::cursor::Cursor;
-use ldscript_tokens::token::{Mark, Mode};
 use ldscript_statements::formula::Formula;
 use ldscript_statements::section::{BodyCommand, BodyStatement, Width};
 use ldscript_statements::sequence::Sequence;
+use ldscript_terms::reader::Parsed;
+use ldscript_tokens::cursor::Cursor;
+use ldscript_tokens::token::{Mark, Mode};
 use std::alloc::Global;
 
 /// The word of a data command, and what follows it.

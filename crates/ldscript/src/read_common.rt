@@ -11,12 +11,12 @@ ghost use Rattle.ldscript.specs.Grammar.{set_to as set_to_part};
 ghost use Rattle.ldscript.specs.Readings.{Reads, Finds};
 
 use crate::steps::{after, after_key, ended, front_name, plain_name};
+use ldscript_statements::common::{Assertion, Assignment, Common, DotCommand};
+use ldscript_statements::formula::Formula;
 use ldscript_terms::reader::Parsed;
 use ldscript_tokens::cursor::Cursor;
 use ldscript_tokens::name::ScriptName;
 use ldscript_tokens::token::{Mark, Mode};
-use ldscript_statements::common::{Assertion, Assignment, Common, DotCommand};
-use ldscript_statements::formula::Formula;
 use std::alloc::Global;
 
 /// `= e ;`

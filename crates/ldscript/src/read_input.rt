@@ -8,13 +8,13 @@ ghost use Rattle.ldscript.specs.Grammar.{input_statement};
 ghost use Rattle.ldscript.specs.Readings.{Reads, Finds, excluded_files as excluded_files_part, selected, word_part};
 
 use crate::steps::{after, after_key};
+use ldscript_statements::input::{Input, InputStatement, SectionWord, Sort};
+use ldscript_statements::sequence::Sequence;
 use ldscript_terms::pattern::Pattern;
 use ldscript_terms::reader::Parsed;
 use ldscript_tokens::cursor::Cursor;
 use ldscript_tokens::token::{Mark, Mode};
 use ldscript_tokens::words::is_free_word;
-use ldscript_statements::input::{Input, InputStatement, SectionWord, Sort};
-use ldscript_statements::sequence::Sequence;
 use std::alloc::Global;
 
 /// A word that spells a pattern.

@@ -10,13 +10,13 @@ use crate::read_common::{common, dot_command};
 use crate::read_input::inputs;
 use crate::read_section::section;
 use crate::steps::after;
-use ldscript_terms::reader::Parsed;
-use ldscript_tokens::cursor::Cursor;
-use ldscript_tokens::token::{Mark, Mode, TokenKind};
 use ldscript_statements::held::Held;
 use ldscript_statements::input::InputStatement;
 use ldscript_statements::sequence::Sequence;
 use ldscript_statements::statement::{Item, ItemCommand};
+use ldscript_terms::reader::Parsed;
+use ldscript_tokens::cursor::Cursor;
+use ldscript_tokens::token::{Mark, Mode, TokenKind};
 use std::alloc::Global;
 
 /// What follows `/DISCARD/`

@@ -8,13 +8,13 @@ ghost use Rattle.ldscript.specs.Readings.{Reads, ReadsOnly, Finds, Follows};
 ghost use Rattle.ldscript_terms.specs.Grammar.{Stops, Whole};
 
 use crate::steps::{after, after_key, ended, plain_name};
+use ldscript_statements::formula::Formula;
+use ldscript_statements::sequence::Sequence;
+use ldscript_statements::statement::Region;
 use ldscript_terms::reader::{Parsed, expr};
 use ldscript_tokens::cursor::Cursor;
 use ldscript_tokens::name::ScriptName;
 use ldscript_tokens::token::{Mark, Mode};
-use ldscript_statements::formula::Formula;
-use ldscript_statements::sequence::Sequence;
-use ldscript_statements::statement::Region;
 use std::alloc::Global;
 
 /// NAME `: ORIGIN =`

@@ -11,12 +11,12 @@ use crate::read_common::common;
 use crate::read_item::items;
 use crate::read_region::regions;
 use crate::steps::{after, after_key, name_in_parentheses};
+use ldscript_statements::sequence::Sequence;
+use ldscript_statements::statement::{Command, Item, Region, Statement};
 use ldscript_terms::reader::Parsed;
 use ldscript_tokens::cursor::Cursor;
 use ldscript_tokens::name::ScriptName;
 use ldscript_tokens::token::{Mark, Mode};
-use ldscript_statements::sequence::Sequence;
-use ldscript_statements::statement::{Command, Item, Region, Statement};
 use std::alloc::{AllocError, Global};
 
 /// `ENTRY ( NAME )`

@@ -9,13 +9,13 @@ ghost use Rattle.ldscript_statements.specs.declared.section.Load.{Load};
 
 use crate::read_body::body;
 use crate::steps::{after, after_key, ended, in_parentheses, plain_name};
+use ldscript_statements::fill::Fill;
+use ldscript_statements::formula::Formula;
+use ldscript_statements::section::{Load, OutputSection};
 use ldscript_terms::reader::Parsed;
 use ldscript_tokens::cursor::Cursor;
 use ldscript_tokens::name::ScriptName;
 use ldscript_tokens::token::{Mark, Mode};
-use ldscript_statements::fill::Fill;
-use ldscript_statements::formula::Formula;
-use ldscript_statements::section::{Load, OutputSection};
 use std::alloc::Global;
 
 /// [e] `:`

@@ -9,9 +9,6 @@ ghost use Rattle.ldscript_statements.specs.Numbered.{shown_commons, shown_inputs
 
 use crate::read_script::statements_of;
 use crate::refusal::ScriptRefusal;
-use ldscript_tokens::cursor::Cursor;
-use ldscript_tokens::lexer::tokens;
-use ldscript_tokens::refusal::TokenRefusal;
 use ldscript_statements::dots::has_misplaced_dot;
 use ldscript_statements::given::Given;
 use ldscript_statements::mentions::has_clash;
@@ -20,6 +17,9 @@ use ldscript_statements::numbering::{CommonAt, InputStatementAt, OutputSectionAt
 use ldscript_statements::sequence::Sequence;
 use ldscript_statements::statement::{Region, Statement};
 use ldscript_statements::tables::Tables;
+use ldscript_tokens::cursor::Cursor;
+use ldscript_tokens::lexer::tokens;
+use ldscript_tokens::refusal::TokenRefusal;
 use std::alloc::{AllocError, Global};
 use std::marker::Model;
 

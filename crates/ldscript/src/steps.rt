@@ -10,12 +10,12 @@ ghost use Rattle.ldscript.specs.Steps.{name_in, name as name_part, string, expre
 ghost use Rattle.ldscript.specs.Grammar.{ended as ended_part, in_parentheses as parenthesized};
 ghost use Rattle.ldscript.specs.Readings.{Reads, Finds, Follows};
 
+use ldscript_statements::formula::Formula;
 use ldscript_terms::reader::{Parsed, expr};
 use ldscript_tokens::bytes::{byte_at, is_name_byte, is_name_start};
 use ldscript_tokens::cursor::Cursor;
 use ldscript_tokens::token::{Mark, Mode};
 use ldscript_tokens::words::is_free_name;
-use ldscript_statements::formula::Formula;
 use std::alloc::Global;
 
 /// Whether a word has bytes of names alone.

@@ -1,10 +1,5 @@
 //! The parts of a script's tree: statements, expressions, patterns and names. A crate above names these alone.
 
-pub use ldscript_terms::dot_forms::DotForm;
-pub use ldscript_terms::expression::{Expr, RegionQuery, SectionQuery};
-pub use ldscript_terms::operator::{BinaryOperator, UnaryOperator};
-pub use ldscript_terms::pattern::{Pattern, matches};
-pub use ldscript_tokens::name::ScriptName;
 pub use ldscript_statements::common::{Assertion, Assignment, Common, DotCommand};
 pub use ldscript_statements::fill::Fill;
 pub use ldscript_statements::formula::Formula;
@@ -17,3 +12,8 @@ pub use ldscript_statements::section::{BodyCommand, BodyStatement, Load, OutputS
 pub use ldscript_statements::sequence::Sequence;
 pub use ldscript_statements::statement::{Command, Item, ItemCommand, Region, Statement};
 pub use ldscript_statements::symbols::add_symbols;
+pub use ldscript_terms::dot_forms::DotForm;
+pub use ldscript_terms::expression::{Expr, RegionQuery, SectionQuery};
+pub use ldscript_terms::operator::{BinaryOperator, UnaryOperator};
+pub use ldscript_terms::pattern::{Pattern, matches};
+pub use ldscript_tokens::name::ScriptName;

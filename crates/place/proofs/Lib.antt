@@ -1,4 +1,5 @@
-pub use Rattle.place_terms.proofs as terms
+pub use Rattle.place_terms.proofs.Numbers as TermNumbers
+pub use Rattle.place_terms.proofs.Tabled as TermTables
 pub mod Grouped
 pub mod Steps
 pub mod FileOffsets

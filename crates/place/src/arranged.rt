@@ -15,18 +15,19 @@ use crate::collected::collect;
 use crate::entry::Entry;
 use crate::laying::Laying;
 use crate::numbered::are_numbered;
-use ldmodel_laws::gathering::{live_by_path, once_in_rows};
-use ldmodel_laws::layout::{nothing_meets, placed_are_rows};
+use gather::sections::law::sections_of_objects;
+use gather::sections::section_table::{SectionId, SectionTable};
+use ldmodel::impossible::impossible;
 use ldmodel::laid::OutputIndex;
 use ldmodel::memory::NoMemory;
 use ldmodel::names::ObjectPlace;
 use ldmodel::rows::Piece;
 use ldmodel::sections::{Part, SectionKey};
+use ldmodel_laws::gathering::{live_by_path, once_in_rows};
+use ldmodel_laws::layout::{nothing_meets, placed_are_rows};
 use ldmodel_project::input::InputObject;
 use ldmodel_project::view::ProjectView;
-use gather::sections::law::sections_of_objects;
-use gather::sections::section_table::{SectionId, SectionTable};
-use std::alloc::{AllocError, Global};
+use std::alloc::Global;
 
 /// Where an input section stands.
 #[derive(Clone, Copy, Debug, PartialEq, Eq)]
@@ -67,8 +68,8 @@ fn owners(alloc: Global, table: &SectionTable, entries: &[Entry]) -> Result<Vec<
     ensures { IfOk result (λ v. AreOwners table.now entries.now v.items) }
 {
     let Ok(none) = u32::try_from(entries.len()) else {
-        // Unreachable: 2^32 input sections take 256 GiB
-        return Err(AllocError);
+        // 2^32 input sections take 256 GiB
+        return Err(impossible());
     };
     let mut owners = vec![in alloc; none; table.len() as usize]?;
     for (number, entry) in entries.iter().enumerate() {
@@ -112,8 +113,8 @@ impl Arranged {
         sections_of_objects();
         are_numbered(project);
         if has_unnamed(project.inputs()) {
-            // Unreachable: the name of an object has 1 to 255 bytes, but the contract of a project does not say so
-            return Err(AllocError);
+            // The name of an object has 1 to 255 bytes, but the contract of a project does not say so
+            return Err(impossible());
         }
         let entries = collect(alloc, &rows, laying.placement.pieces())?;
         let owners = owners(alloc, &table, &entries)?;

@@ -5,10 +5,11 @@ ghost use Rattle.place.specs.Entries.{all_entries, row_entries};
 
 use crate::entry::Entry;
 use crate::arranged::PartPlace;
+use ldmodel::impossible::impossible;
 use ldmodel::laid::OutputIndex;
 use ldmodel::memory::NoMemory;
 use ldmodel::rows::Piece;
-use std::alloc::{AllocError, Global};
+use std::alloc::Global;
 
 /// Adds the input sections of a row, which start at these addresses.
 fn add_row(
@@ -50,8 +51,8 @@ pub(crate) fn collect(
     let mut left = starts;
     for (number, row) in rows.iter().enumerate() {
         let Ok(number) = u32::try_from(number) else {
-            // Unreachable: no script has 2^32 output sections
-            return Err(AllocError);
+            // No script has 2^32 output sections
+            return Err(impossible());
         };
         add_row(&mut entries, OutputIndex(number), row, left)?;
         left = &left[row.len().min(left.len())..];

@@ -5,9 +5,10 @@ ghost use Rattle.std.specs.List.{All};
 ghost use Rattle.ldmodel.specs.Segments.{shares_segment};
 ghost use Rattle.place.specs.Grouping.{Ends, AreGroups, Takes, bare, begun, joined};
 
+use ldmodel::impossible::impossible;
 use ldmodel::laid::{OutputIndex, Placed};
 use ldmodel::memory::NoMemory;
-use std::alloc::{AllocError, Global};
+use std::alloc::Global;
 
 /// The size of a page.
 pub(crate) const PAGE_SIZE: u64 = 4096;
@@ -94,7 +95,8 @@ fn output_index(k: usize) -> Result<OutputIndex, NoMemory>
 {
     match u32::try_from(k) {
         Ok(k) => Ok(OutputIndex(k)),
-        Err(_) => Err(AllocError),
+        // No script has 2^32 output sections
+        Err(_) => Err(impossible()),
     }
 }
 

@@ -15,17 +15,17 @@ ghost use Rattle.place_sections.specs.Outcomes as outcomes;
 
 use crate::offsets::offsets;
 use crate::segments::segments;
-use elfobj::meter::Meter;
+use elfobj::Meter;
 use ldmodel::fault::Fault;
 use ldmodel::rows::Piece;
 use ldmodel::segment::Segment;
-use symres::naming::Naming;
 use ldmodel_project::view::ProjectView;
 use place_sections::fault::PlaceFault;
 use place_sections::law::outputs_are_of_script;
 use place_sections::place::place;
 use place_sections::placement::Placement;
 use std::alloc::{AllocError, Global};
+use symres::Naming;
 
 /// Where everything of a project stands.
 #[derive(Drop)]
@@ -141,6 +141,7 @@ impl Laying {
             ≡ raised meter.old Pieces (placed_from (first_of kept.entry) l.placement.counts)) }
     {
         outputs_are_of_script();
+        // so that what a script says of its statements is known
         let _statements = project.script().statements();
         let placement = place_rows(alloc, project, naming, rows, kept, meter)?;
         let segments = segments(alloc, placement.laid())?;

@@ -2,11 +2,13 @@
 //! the numbers of its input sections, and perhaps an earlier layout; gives the layout or its faults, and where an input
 //! section stands, by its key.
 //!
-//! - `laying`: the phase, over `place`;
+//! - `laying`: the phase, over `place_sections`;
 //! - `segments` over `group`: what is loaded as one, and its offset in the file; `offsets`: where output sections begin
 //!   in the file; `length`: how long the image is;
 //! - `arranged` over `collected` and `entry`: all of that, and where each input section stands; `numbered`: the sections
-//!   of an object have different numbers; `rows`: rows as one list.
+//!   of an object have different numbers; `rows`: rows as one list;
+//! - the parts `terms` (values of expressions, what a layout keeps) and `sections` (output sections placed). Other families
+//!   name this crate alone.
 #![tactic(auto)]
 
 pub mod arranged;
@@ -19,5 +21,12 @@ pub mod numbered;
 mod offsets;
 pub mod rows;
 pub mod segments;
+
+pub use crate::laying::Laying;
+pub use ldmodel::laid::Placed;
 pub use place_sections as sections;
+pub use place_sections::fault::PlaceFault;
+pub use place_sections::place::place;
+pub use place_sections::placement::Placement;
 pub use place_terms as terms;
+pub use place_terms::value::{ValueFault, value};

@@ -5,13 +5,14 @@ ghost use Rattle.elfobj.specs.Sections.{LinkedSection};
 ghost use Rattle.ldmodel_laws.specs.PlacedOnce.{AreNumbered};
 ghost use Rattle.ldmodel_laws.specs.Spread.{EachLater};
 
-use elfobj::object::Object;
+use elfobj::Object;
 use ldmodel_project::view::ProjectView;
 
 /// The sections of an object that was read have different numbers. The call does nothing.
 fn sections_differ(object: &Object)
     ensures { EachLater (λ (x y : LinkedSection). (x.number.0 == y.number.0) ≡ false) object.now.sections }
 {
+    // so that what an object says of its sections is known
     let _sections = object.sections();
 }
 

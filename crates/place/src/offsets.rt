@@ -9,10 +9,11 @@ ghost use Rattle.ldmodel.specs.Segments as model;
 ghost use Rattle.place.specs.Offsets.{is_last, offset_at, offsets_in};
 ghost use Rattle.place.specs.Offsets.{IsOffset};
 
-use ldmodel_laws::segments::segments_by_neighbours;
+use ldmodel::impossible::impossible;
 use ldmodel::laid::Placed;
 use ldmodel::memory::NoMemory;
 use ldmodel::segment::Segment;
+use ldmodel_laws::segments::segments_by_neighbours;
 use std::alloc::{AllocError, Global};
 
 /// Where an output section of a segment begins in the file. Fails where it is past any file.
@@ -36,29 +37,30 @@ fn is_last(segment: &Segment, section: &Placed) -> bool
 
 /// Where an output section begins in the file, and the number of the segment that the next one is looked for in.
 #[derive(Clone, Copy)]
-struct Place {
+struct FilePlace {
     offset: u128,
     segment: usize,
 }
 
 /// Where an output section begins in the file, where the next segment to be looked at has this number. Fails where
 /// there is none, or where it is past any file.
-fn step(segments: &[Segment], number: usize, section: &Placed) -> Result<Place, NoMemory>
+fn step(segments: &[Segment], number: usize, section: &Placed) -> Result<FilePlace, NoMemory>
     ensures { IfOk result (λ t. (qs : List Placed) → offsets_in (section.now ∷ qs) (drop number segments.now)
         ≡ t.offset ∷ offsets_in qs (drop t.segment segments.now)) }
 {
     if section.size == 0 {
-        return Ok(Place {
+        return Ok(FilePlace {
             offset: 0,
             segment: number,
         });
     }
     match segments.get(number) {
-        None => Err(AllocError),
+        // Each output section with file bytes is in a segment
+        None => Err(impossible()),
         Some(segment) => {
             let offset = offset_at(segment, section)?;
             let last = is_last(segment, section);
-            Ok(Place {
+            Ok(FilePlace {
                 offset,
                 segment: if last { number + 1 } else { number },
             })

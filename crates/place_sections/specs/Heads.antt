@@ -3,12 +3,12 @@ use Rattle.std.specs.Prelude.{◌≡◌, Result, Ok, Err, ◌⊎◌}
 use Rattle.ldmodel.specs.Fault.{Fault}
 use Rattle.ldmodel.specs.SectionHead.{Given, Head}
 use Rattle.place_sections.specs.State.{fault_of}
-use Rattle.place_sections.specs.declared.head.Given as code_given
+use Rattle.place_sections.specs.declared.head.GivenHead as code_given
 use Rattle.place_sections.specs.declared.head.Head as code_head
 use Rattle.place_sections.specs.declared.stop.Stop.{Stop}
 use Rattle.place_sections.specs.declared.stop.Stop.TheVariants as stop
 
-abbrev pub given_of : code_given.Given → Given
+abbrev pub given_of : code_given.GivenHead → Given
 given_of g = record { address = g.address; load = g.load; alignment = g.alignment }
 
 abbrev pub head_from : code_head.Head → Head

@@ -7,8 +7,8 @@ ghost use Rattle.place_sections.specs.State.{layout_of, Gives};
 
 use crate::state::{Done, Here};
 use crate::stop::Stop;
-use place_terms::provided::Provided;
 use ldscript::tree::{Assignment, Common};
+use place_terms::provided::Provided;
 
 impl<'a> Here<'a> {
     /// `NAME = e`.

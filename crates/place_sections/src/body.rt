@@ -13,10 +13,10 @@ ghost use Rattle.place_sections.specs.State.{body_of, Gives};
 
 use crate::state::{Frame, Here};
 use crate::stop::Stop;
-use ldmodel_laws::layout::steps_stay_alike;
 use ldmodel::rows::Piece;
-use place_terms::sections::{DataAt, PieceAt};
+use ldmodel_laws::layout::steps_stay_alike;
 use ldscript::tree::{BodyCommand, BodyStatement, DotCommand, DotForm, Expr, Formula, Width};
+use place_terms::sections::{DataAt, PieceAt};
 
 impl<'d, 'a> Frame<'d, 'a> {
     /// The next entry of the row takes its place, which starts there.

@@ -19,10 +19,10 @@ use crate::state::{Done, Here};
 use crate::stop::Stop;
 use elfobj::file::constants::{SHF_EXECINSTR, SHF_WRITE};
 use ldmodel::laid::Placed;
+use ldscript::tree::{Load, OutputSection};
 use place_terms::pieces::{any_in_file, any_with_flag};
 use place_terms::regions::{RegionState, Regions};
 use place_terms::sections::Closed;
-use ldscript::tree::{Load, OutputSection};
 use std::alloc::Global;
 
 /// The region of `AT>region`.

@@ -10,9 +10,9 @@ ghost use Rattle.place_sections.specs.declared.fault.PlaceFault.TheVariants.{NoM
 
 use crate::stop::Stop;
 use ldmodel::fault::{Fault, MentionIndex};
+use ldscript::Script;
 use place_terms::mentioned::{mention_of, mentioned_names};
 use place_terms::named::{output_named, region_named};
-use ldscript::script::Script;
 use std::alloc::{AllocError, Global};
 
 /// Why a script has no layout.

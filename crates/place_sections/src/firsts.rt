@@ -7,8 +7,9 @@ ghost use Rattle.place_sections.specs.Hulls.{Around, Kept};
 
 use crate::extent::Extent;
 use crate::hull::{Hull, mark};
+use ldmodel::impossible::impossible;
 use ldmodel::memory::NoMemory;
-use std::alloc::{AllocError, Global};
+use std::alloc::Global;
 
 /// A range and its number in the order of the script.
 #[derive(Clone, Copy, Debug)]
@@ -84,7 +85,8 @@ fn marks(
     ensures { IfOk result (λ v. AreFirst extents.now in_order.now v.items) }
 {
     let Some(count) = in_order.len().checked_mul(2) else {
-        return Err(AllocError);
+        // A list of half the greatest number of extents does not lie in memory
+        return Err(impossible());
     };
     let mut nodes = vec![in alloc; around_all(in_order); count]?;
     let mut firsts = vec![in alloc; None; in_order.len()]?;

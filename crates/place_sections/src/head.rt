@@ -17,7 +17,7 @@ use ldscript::tree::{Formula, Load, OutputSection};
 
 /// The numbers that the expressions of a head give.
 #[derive(Clone, Copy)]
-pub(crate) struct Given {
+pub(crate) struct GivenHead {
     address: Option<u64>,
     load: Option<u64>,
     alignment: u64,
@@ -133,7 +133,7 @@ impl<'a> Here<'a> {
         done: &Done<'a>,
         line: u32,
         section: &'a OutputSection,
-    ) -> Result<Given, Stop<'a>>
+    ) -> Result<GivenHead, Stop<'a>>
         ghost naming: { Naming }
         ensures given { Yields given_of (given (layout_of naming self.now done.now) line section.now) result }
         ensures positive { IfOk result (λ g. 0 < g.alignment) }
@@ -142,7 +142,7 @@ impl<'a> Here<'a> {
         let load = self.loaded_at(done, line, &section.load)?;
         let alignment = self.optional(done, line, &section.alignment)?;
         let alignment = alignment_of(line, alignment)?;
-        Ok(Given {
+        Ok(GivenHead {
             address,
             load,
             alignment,
@@ -203,7 +203,7 @@ impl<'a> Here<'a> {
         done: &Done<'a>,
         line: u32,
         section: &OutputSection,
-        given: Given,
+        given: GivenHead,
         alignment: u64,
         start: u64,
     ) -> Result<u64, Stop<'a>>

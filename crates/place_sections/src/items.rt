@@ -23,8 +23,8 @@ use crate::boundary::Boundary;
 use crate::script::Input;
 use crate::state::{Done, Here};
 use crate::stop::Stop;
-use ldmodel_laws::layout::steps_stay_alike;
 use ldmodel::rows::Piece;
+use ldmodel_laws::layout::steps_stay_alike;
 use ldscript::tree::{DotCommand, Item, ItemCommand};
 
 /// The row of the output section of a number.

@@ -9,9 +9,10 @@ ghost use Rattle.place_sections.specs.Found.{extent_in, extents_in, fault_in, fa
 use crate::extent::{Extent, are_ascending};
 use crate::firsts::firsts;
 use ldmodel::fault::Fault;
+use ldmodel::impossible::impossible;
 use ldmodel::laid::{OutputIndex, Placed};
 use ldmodel::memory::NoMemory;
-use std::alloc::{AllocError, Global};
+use std::alloc::Global;
 
 /// Where output sections may share addresses.
 #[derive(Clone, Copy, Debug)]
@@ -84,7 +85,8 @@ fn number(k: usize) -> Result<OutputIndex, NoMemory>
 {
     match u32::try_from(k) {
         Ok(k) => Ok(OutputIndex(k)),
-        Err(_) => Err(AllocError),
+        // No script has 2^32 output sections
+        Err(_) => Err(impossible()),
     }
 }
 

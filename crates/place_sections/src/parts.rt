@@ -7,7 +7,7 @@ use ldscript::tree::{Command, Item, Statement};
 
 /// A script before its SECTIONS, in it and after it.
 #[derive(Clone, Copy)]
-pub(crate) struct Parts<'a> {
+pub(crate) struct ScriptParts<'a> {
     /// The statements before SECTIONS: all, where there is none.
     pub before: &'a [Statement],
     /// The statements of SECTIONS.
@@ -16,23 +16,23 @@ pub(crate) struct Parts<'a> {
     pub after: &'a [Statement],
 }
 
-impl<'a> Parts<'a> {
+impl<'a> ScriptParts<'a> {
     /// The parts of these statements.
-    pub fn of(statements: &'a [Statement]) -> Parts<'a>
+    pub fn of(statements: &'a [Statement]) -> ScriptParts<'a>
         ensures before { result.before.now ≡ before_sections statements.now }
         ensures items { result.items.now ≡ items_within statements.now }
         ensures after { result.after.now ≡ after_sections statements.now }
     {
         for number in 0..statements.len() {
             if let Command::Sections(items) = &statements[number].command {
-                return Parts {
+                return ScriptParts {
                     before: &statements[..number],
                     items: items.as_slice(),
                     after: &statements[number + 1..],
                 };
             }
         }
-        Parts {
+        ScriptParts {
             before: statements,
             items: &[],
             after: &[],

@@ -16,15 +16,15 @@ use crate::placement::Placement;
 use crate::script::Input;
 use crate::state::{Done, Here};
 use crate::whole::whole;
-use ldmodel_laws::layout::steps_stay_alike;
 use ldmodel::meter::{Count, Meter};
 use ldmodel::rows::Piece;
 use ldmodel::script_symbol::CommonIndex;
+use ldmodel_laws::layout::steps_stay_alike;
+use ldscript::Script;
 use place_terms::provided::Provided;
 use place_terms::regions::Regions;
 use place_terms::sections::Sections;
 use place_terms::symbols::AssignedSymbols;
-use ldscript::script::Script;
 use std::alloc::{AllocError, Global};
 
 /// The symbols of a layout before any has a value. The layout has this many output sections, of which some are taken

@@ -9,9 +9,9 @@ ghost use Rattle.place_sections.specs.State.{layout_of, outcome};
 use crate::state::{Done, Here};
 use crate::stop::Stop;
 use ldmodel::laid::{Placed, PlacedRegion};
+use ldscript::tree::{Expr, Formula};
 use place_terms::scope::Scope;
 use place_terms::value::{ValueFault, value};
-use ldscript::tree::{Expr, Formula};
 
 /// What an expression may name where the layout has come to.
 #[derive(Clone, Copy)]

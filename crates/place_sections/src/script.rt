@@ -15,13 +15,13 @@ ghost use Rattle.place_sections.specs.State.{layout_of, Gives};
 
 use crate::boundary::Boundary;
 use crate::kept::Kept;
-use crate::parts::Parts;
+use crate::parts::ScriptParts;
 use crate::state::{Done, Here};
 use crate::stop::Stop;
-use ldmodel_laws::layout::steps_stay_alike;
 use ldmodel::rows::Piece;
-use place_terms::provided::Provided;
+use ldmodel_laws::layout::steps_stay_alike;
 use ldscript::tree::{Command, Statement};
+use place_terms::provided::Provided;
 use std::alloc::Global;
 
 /// What a layout is made from, beside the script.
@@ -120,7 +120,7 @@ impl<'i, 'a> Input<'i, 'a> {
         ensures many { IfOk result (λ bs. length bs.items ≡ length done.new.sections.list + 1) }
     {
         steps_stay_alike();
-        let parts = Parts::of(statements);
+        let parts = ScriptParts::of(statements);
         self.place_statements(here, done, parts.before)?;
         let boundaries = self.place_items(here, done, parts.items)?;
         self.place_statements(here, done, parts.after)?;

@@ -15,10 +15,10 @@ ghost use Rattle.place_sections.specs.declared.stop.Stop.TheVariants.{NoMemory};
 use crate::head::Head;
 use crate::state::{Done, Frame, Here};
 use crate::stop::Stop;
-use ldmodel_laws::layout::steps_stay_alike;
 use ldmodel::rows::Piece;
-use place_terms::provided::Provided;
+use ldmodel_laws::layout::steps_stay_alike;
 use ldscript::tree::OutputSection;
+use place_terms::provided::Provided;
 use std::alloc::Global;
 
 impl<'a> Here<'a> {

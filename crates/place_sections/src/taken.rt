@@ -22,6 +22,7 @@ use crate::kept::Kept;
 use crate::script::Input;
 use crate::state::{Done, Here};
 use crate::stop::Stop;
+use ldmodel::impossible::impossible;
 use ldscript::tree::{Item, ItemCommand, OutputSection};
 use std::alloc::{AllocError, Global};
 
@@ -48,7 +49,7 @@ impl<'a> Here<'a> {
         ensures refused { IfErr result (λ f. f ≡ NoMemory) }
     {
         let Some(dots) = kept.dots.get(..to.dots) else {
-            // Unreachable: the earlier layout has no fewer
+            // The earlier layout has no fewer
             return Err(Stop::NoMemory);
         };
         self.dots.clear();
@@ -81,8 +82,8 @@ fn copy_of(
     let mut list = Vec::with_capacity(alloc, boundaries.len())?;
     match boundaries.get(..count) {
         Some(first) => list.extend_from_slice(first)?,
-        // Unreachable: there are no fewer
-        None => return Err(AllocError),
+        // There are no fewer
+        None => return Err(impossible()),
     }
     Ok(list)
 }

@@ -1,5 +1,6 @@
 //! Guesses at the numbers of names.
 
+use ldmodel::impossible::impossible;
 use std::alloc::{AllocError, Global};
 
 /// How many slots may have the guess at a name, from one that its hash gives on.
@@ -60,7 +61,8 @@ impl Guesses {
     /// No guess yet, and slots for this many names.
     pub fn new(alloc: Global, count: usize) -> Result<Guesses, AllocError> {
         let Some(wanted) = count.saturating_mul(2).checked_next_power_of_two() else {
-            return Err(AllocError);
+            // No script has so many names
+            return Err(impossible());
         };
         let slots = vec![in alloc; Slot::FREE; wanted]?;
         Ok(Guesses { slots })

@@ -5,7 +5,8 @@ ghost use Rattle.ldmodel.specs.Layout.{MemoryRegion, region_named};
 ghost use Rattle.ldmodel.specs.SectionEnd.{freed_from};
 ghost use Rattle.place_terms.specs.RegionTable.{region_of};
 
-use ldscript::script::Script;
+use ldmodel::impossible::impossible;
+use ldscript::Script;
 use std::alloc::{AllocError, Global};
 use std::marker::Model;
 
@@ -83,8 +84,8 @@ impl<'a> Regions<'a> {
             ++ record { name = name.now; origin = origin; extent = extent; next = origin } ∷ []) }
     {
         if self.script.region_number(name) != Some(self.list.len()) {
-            // Unreachable: a script declares each of its regions once, in the order of their numbers
-            return Err(AllocError);
+            // A script declares each of its regions once, in the order of their numbers
+            return Err(impossible());
         }
         self.list.push(RegionState {
             name,

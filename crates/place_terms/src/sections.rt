@@ -14,9 +14,10 @@ ghost use Rattle.place_terms.specs.Wholes.{all_data_in, counts_in, placed_in, st
 
 use crate::earlier::{EarlierLayout, Taken, first};
 use crate::guesses::Guesses;
+use ldmodel::impossible::impossible;
 use ldmodel::laid::Placed;
 use ldmodel::rows::Piece;
-use ldscript::script::Script;
+use ldscript::Script;
 use ldscript::tree::{OutputSection, Width};
 use std::alloc::{AllocError, Global};
 use std::marker::Model;
@@ -158,8 +159,8 @@ fn kept_at(
         None => Ok(None),
         Some(region) => match script.region_number(region.as_bytes()) {
             Some(number) if number < count => Ok(Some(number)),
-            // Unreachable: the script declares the regions that it names
-            Some(_) | None => Err(AllocError),
+            // The script declares the regions that it names
+            Some(_) | None => Err(impossible()),
         },
     }
 }
@@ -170,7 +171,8 @@ fn sum(count: usize, more: usize) -> Result<usize, AllocError>
 {
     match count.checked_add(more) {
         Some(sum) => Ok(sum),
-        None => Err(AllocError),
+        // A list of so many does not lie in memory
+        None => Err(impossible()),
     }
 }
 
@@ -327,20 +329,23 @@ impl<'a> Sections<'a> {
         ensures taken { OnOk result
             (IsWithTaken self.old.earlier self.old.list row.now output.now data_end self.new.list) }
     {
+        // so that what a script says of its statements is known
         let _statements = self.script.statements();
         // Fails only where memory runs out: the first ones are taken over, and the earlier layout has them
         if !self.list.is_empty() {
-            return Err(AllocError);
+            return Err(impossible());
         }
         let Some(commands) = self.earlier.data_between(self.data_count, data_end) else {
-            return Err(AllocError);
+            // The earlier layout has these data commands
+            return Err(impossible());
         };
         let number = self.taken.len();
         let Some(section) = self
             .earlier
             .section(number, self.count, output, row, commands)
         else {
-            return Err(AllocError);
+            // The earlier layout has this section
+            return Err(impossible());
         };
         let kept_at = kept_at(self.script, self.differences.len(), output)?;
         let difference = section.placed.start.wrapping_sub(section.placed.load);

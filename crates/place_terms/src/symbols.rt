@@ -4,8 +4,9 @@ ghost use Rattle.std.specs.Prelude.{◌≡◌, [], ◌∷◌, ◌++◌, length, 
 ghost use Rattle.place_terms.specs.SymbolTable.{named, risen, value_of, value_under, AreFound, IsFound, Rises};
 
 use crate::commands::Commands;
+use ldmodel::impossible::impossible;
 use ldmodel::script_symbol::{CommonIndex, ScriptSymbol};
-use ldscript::script::Script;
+use ldscript::Script;
 use std::alloc::{AllocError, Global};
 use std::marker::Model;
 
@@ -128,8 +129,8 @@ impl<'a> AssignedSymbols<'a> {
     {
         let number = symbol.command.0 as usize;
         if number < self.next {
-            // Unreachable: a layout goes through the commands in their order
-            return Err(AllocError);
+            // A layout goes through the commands in their order
+            return Err(impossible());
         }
         self.list.push(symbol)?;
         self.next = number + 1;
@@ -148,8 +149,8 @@ impl<'a> AssignedSymbols<'a> {
         ensures taken { OnOk result (self.new.list ≡ take count symbols.now) }
     {
         let Some(first) = symbols.get(..count) else {
-            // Unreachable: an earlier layout has no fewer
-            return Err(AllocError);
+            // An earlier layout has no fewer
+            return Err(impossible());
         };
         self.list.clear();
         self.next = 0;
@@ -169,12 +170,12 @@ impl<'a> AssignedSymbols<'a> {
             ++ record { name = name.now; value = value } ∷ []) }
     {
         let Some(number) = self.commands.number_or(self.next, name) else {
-            // Unreachable: the name is one that the script gives a value
-            return Err(AllocError);
+            // The name is one that the script gives a value
+            return Err(impossible());
         };
         let Ok(number) = u32::try_from(number) else {
-            // Unreachable: a script is too short for 2^32 commands
-            return Err(AllocError);
+            // A script is too short for 2^32 commands
+            return Err(impossible());
         };
         self.push(ScriptSymbol {
             command: CommonIndex(number),

@@ -9,6 +9,7 @@ ghost use Rattle.place_terms.specs.Wholes.{all_data_in, counts_in, data_in, plac
 
 use crate::regions::RegionState;
 use crate::sections::{DataAt, PieceAt, SectionParts};
+use ldmodel::impossible::impossible;
 use ldmodel::laid::{OutputIndex, Placed, PlacedData, PlacedRegion};
 use std::alloc::{AllocError, Global};
 
@@ -68,8 +69,8 @@ fn index_of(number: usize) -> Result<OutputIndex, AllocError>
 {
     match u32::try_from(number) {
         Ok(number) => Ok(OutputIndex(number)),
-        // Unreachable: no script has 2^32 output sections
-        Err(_) => Err(AllocError),
+        // No script has 2^32 output sections
+        Err(_) => Err(impossible()),
     }
 }
 

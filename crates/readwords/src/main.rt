@@ -17,10 +17,10 @@
 //! It ends with status 1 where a device failed or memory ran out.
 #![tactic(auto)]
 
-use ldmodel::options::{Options, Orphans};
 use ldi_words::call::Call;
 use ldi_words::fault::WordsFault;
 use ldi_words::words;
+use ldmodel::options::{Options, Orphans};
 use std::alloc::Global;
 use std::io;
 

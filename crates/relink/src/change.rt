@@ -7,12 +7,12 @@ ghost use Rattle.ldmodel_project.specs.Next.{touched_key};
 ghost use Rattle.ldmodel_project.specs.Touched.{IsArranged};
 ghost use Rattle.relink.specs.Change.{IsChange, beside, place_at, shown_at};
 
-use elfobj::object::Object;
-use symres::decisions::change::{ObjectAt, ObjectChange, undone};
+use elfobj::Object;
 use ldmodel::names::ObjectKey;
 use ldmodel_project::law::{found_where_placed, tables_follow};
 use ldmodel_project::project::{Next, Project};
 use ldmodel_project::staged::Staged;
+use symres::decisions::change::{ObjectAt, ObjectChange, undone};
 
 /// An object at a place, where there are both.
 fn object_at<'a>(place: Option<usize>, object: Option<&'a Object>) -> Option<ObjectAt<'a>>

@@ -21,22 +21,22 @@ use crate::change::{object_change, place_of};
 use crate::last::Followed;
 use crate::linking::link_next;
 use crate::match_table::{exchange, match_under};
+use emit::Canvas;
 use gather::matches::{Matches, match_all};
-use symres::decisions::change::ObjectChange;
-use emit::fields::canvas::Canvas;
-use relink_kept::stays::Last;
 use ldmodel::memory::NoMemory;
 use ldmodel::meter::Meter;
 use ldmodel::names::ObjectKey;
-use symres::naming::Naming;
 use ldmodel_project::order::Order;
 use ldmodel_project::project::{Next, Project};
 use ldmodel_project::staged::Staged;
+use relink_kept::stays::Last;
 use std::alloc::Global;
+use symres::Naming;
+use symres::decisions::change::ObjectChange;
 
 /// What names stand for, under the keys of the objects, and which statements take the input sections of each object.
 #[derive(Drop)]
-pub(crate) struct Kept {
+pub(crate) struct LinkTables {
     pub(crate) naming: Naming,
     pub(crate) matches: Vec<Matches>,
 }
@@ -69,7 +69,7 @@ fn put_in_order_if(naming: &mut Naming, is_good: bool)
     }
 }
 
-impl Kept {
+impl LinkTables {
     /// Takes all memory that a change of one object needs. Fails where memory runs out: then what is kept is of the
     /// same objects.
     fn make_room(

@@ -11,14 +11,14 @@ ghost use Rattle.relink.specs.Last.{Knows, PutsNoneOf, changed_key, lent, lost_k
 ghost use Rattle.relink.specs.Last.{replaced_in, without};
 
 use crate::answer::Answer;
-use elfobj::object::Object;
-use relink_kept::good::Good;
-use relink_kept::stays::{Last, Replaced};
+use elfobj::Object;
 use ldmodel::memory::NoMemory;
 use ldmodel::names::{ObjectKey, ObjectPlace};
 use ldmodel_project::named::NamedObject;
 use ldmodel_project::project::{Next, Project};
 use ldmodel_project::staged::Staged;
+use relink_kept::good::Good;
+use relink_kept::stays::{Last, Replaced};
 use std::alloc::Global;
 
 /// What is kept of the last link without faults.

@@ -15,19 +15,19 @@ ghost use Rattle.relink_link.specs.Ended.{HasLast};
 ghost use Rattle.relink_link.specs.Reads.{ReadsNothing};
 
 use crate::last::{Followed, LastGood};
+use emit::Canvas;
 use gather::matches::{Matches, lend_all};
-use emit::fields::canvas::Canvas;
-use relink_kept::stays::Last;
 use ldmodel::memory::NoMemory;
 use ldmodel::meter::Meter;
-use symres::naming::Naming;
 use ldmodel_project::input::InputObject;
 use ldmodel_project::law::found_where_placed;
 use ldmodel_project::order::places_of;
 use ldmodel_project::project::{Next, Project};
 use ldmodel_project::view::ProjectView;
+use relink_kept::stays::Last;
 use relink_link::again::{Ended, relink};
 use std::alloc::Global;
+use symres::Naming;
 
 /// The names of these objects, in their order. Fails where memory runs out.
 fn names_of(alloc: Global, inputs: &[InputObject<'_>]) -> Result<Vec<Vec<u8>>, NoMemory>

@@ -10,23 +10,23 @@ ghost use Rattle.relink.specs.Work.{IsWholeWork};
 ghost use Rattle.relink_link.specs.Applied.{Applied};
 
 use crate::answer::Answer;
-use crate::keeping::Kept;
+use crate::keeping::LinkTables;
 use crate::last::{Effect, LastGood, effect_of, end, lend, origins_for};
 use crate::linking::link_first;
 use crate::unchanged::{is_unchanged, puts_same};
-use symres::decisions::law::{distinct_more, names_of_objects};
-use emit::fields::canvas::Canvas;
+use emit::Canvas;
 use ldmodel::edit::{Edit, EditRefusal, Linked};
 use ldmodel::linker::Linker;
 use ldmodel::memory::NoMemory;
 use ldmodel::meter::Meter;
 use ldmodel::options::Options;
-use symres::naming::Naming;
 use ldmodel_project::law::found_where_placed;
 use ldmodel_project::project::Project;
 use std::alloc::Global;
 use std::hash::RandomState;
 use std::marker::Model;
+use symres::Naming;
+use symres::decisions::law::{distinct_more, names_of_objects};
 
 /// A linker that keeps what names stand for, which statements take the input sections of each object, and the last link
 /// without faults. An edit of an object reads at most that object, and decides its names alone. Where the link before
@@ -36,7 +36,7 @@ use std::marker::Model;
 pub struct Session {
     alloc: Global,
     project: Project,
-    kept: Kept,
+    kept: LinkTables,
     // the last link without faults, whose image is on the canvas: the link of the project, where the answer has no
     // faults
     last: Option<LastGood>,
@@ -67,12 +67,12 @@ impl Model for Session {
 }
 
 /// What is kept of a project without objects. Fails where memory runs out.
-fn kept_of_none(alloc: Global, seed: RandomState, project: &Project) -> Result<Kept, NoMemory>
+fn kept_of_none(alloc: Global, seed: RandomState, project: &Project) -> Result<LinkTables, NoMemory>
     requires { (held project.now).objects ≡ [] }
     ensures { IfOk result (λ k. IsKept (listing_of project.now) k.naming k.matches.items) }
 {
     let naming = Naming::of(alloc, seed, &[], project.script(), &mut Meter::new())?;
-    Ok(Kept {
+    Ok(LinkTables {
         naming,
         matches: Vec::new(alloc),
     })
@@ -134,6 +134,7 @@ impl Session {
             return Ok(self.answer.summary(&self.canvas));
         }
         let next = self.project.next(&staged);
+        // so that it is known that each object has a key of its own
         let _keys = next.keys();
         let effect = effect_of(&self.last, &self.answer, &self.project, &staged, same);
         let from = match origins_for(self.alloc, &self.last, effect, &next) {

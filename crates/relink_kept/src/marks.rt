@@ -11,10 +11,10 @@ ghost use Rattle.emit.specs.relocate.declared.value.SymbolValue.TheVariants.{Not
 
 use crate::stays::Last;
 use crate::symbol_table::SymbolTable;
+use emit::relocate::value::SymbolValue;
 use ldmodel::memory::NoMemory;
 use ldmodel::names::ObjectPlace;
 use ldmodel_project::view::ProjectView;
-use emit::relocate::value::SymbolValue;
 use std::alloc::Global;
 
 /// Whether two objects have the same values, number by number.

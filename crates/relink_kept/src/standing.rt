@@ -3,11 +3,11 @@
 ghost use Rattle.std.specs.Prelude.{◌≡◌};
 ghost use Rattle.relink_kept.specs.Standing.{range_at, range_from, standing_in};
 
-use place::laying::Laying;
-use place::arranged::{Arranged, PartPlace};
+use emit::relocate::earlier::FileRange;
 use ldmodel::laid::Placed;
 use ldmodel::sections::SectionKey;
-use emit::relocate::earlier::FileRange;
+use place::Laying;
+use place::arranged::{Arranged, PartPlace};
 
 /// Where an input section stands.
 #[derive(Clone, Copy, Debug, PartialEq, Eq)]

@@ -10,16 +10,16 @@ ghost use Rattle.emit.specs.relocate.Values.{value_of};
 ghost use Rattle.emit.specs.values.LinkView.{IsLinkView, known_link};
 ghost use Rattle.relink_kept.specs.SymbolTable.{AreSymbolValues};
 
-use elfobj::object::Object;
+use elfobj::Object;
 use elfobj::relocation::SymbolIndex;
-use ldmodel::memory::NoMemory;
-use ldmodel::names::ObjectPlace;
-use ldmodel_project::input::InputObject;
-use ldmodel_project::view::ProjectView;
 pub use emit::relocate::symbol_table::SymbolTable;
 use emit::relocate::target::referenced_value;
 use emit::relocate::value::SymbolValue;
 use emit::values::link_view::LinkView;
+use ldmodel::memory::NoMemory;
+use ldmodel::names::ObjectPlace;
+use ldmodel_project::input::InputObject;
+use ldmodel_project::view::ProjectView;
 use std::alloc::{AllocError, Global};
 
 /// How many symbols these objects have. Fails where they are too many for any memory.

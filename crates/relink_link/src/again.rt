@@ -14,22 +14,21 @@ ghost use Rattle.relink_link.specs.Worked.{HasWorked};
 use crate::lent::Lent;
 use crate::passes::{asserted, drawn, gathered, laid, named, relocated, valued};
 use crate::stop::Stop;
-use gather::gathering::Gathering;
+use emit::values::given::GivenValues;
+use emit::values::link_view::LinkView;
+use emit::{Canvas, map_text};
+use gather::Gathering;
 use gather::matches::Matches;
-use emit::fields::canvas::Canvas;
+use ldmodel::memory::NoMemory;
+use ldmodel::meter::Meter;
+use ldmodel_project::view::ProjectView;
+use place::arranged::Arranged;
 use relink_kept::good::Good;
 use relink_kept::marks::marks_of;
 use relink_kept::stays::{Last, Stays};
 use relink_kept::symbol_table::symbol_values;
-use place::arranged::Arranged;
-use ldmodel::memory::NoMemory;
-use ldmodel::meter::Meter;
-use symres::naming::Naming;
-use emit::map::map_text;
-use ldmodel_project::view::ProjectView;
-use emit::values::given::GivenValues;
-use emit::values::link_view::LinkView;
 use std::alloc::{AllocError, Global};
+use symres::Naming;
 
 /// How a link over an earlier one ends.
 #[derive(Drop)]

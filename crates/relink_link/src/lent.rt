@@ -1,10 +1,10 @@
 //! What is lent to the passes of a link.
 
 use gather::matches::Matches;
-use relink_kept::stays::Last;
-use symres::naming::Naming;
 use ldmodel_project::view::ProjectView;
+use relink_kept::stays::Last;
 use std::alloc::Global;
+use symres::Naming;
 
 /// What each pass of a link is lent.
 #[derive(Clone, Copy)]

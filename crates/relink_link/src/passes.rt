@@ -20,28 +20,27 @@ ghost use Rattle.relink_link.specs.Stops.{IsStop};
 
 use crate::lent::Lent;
 use crate::stop::{Stop, end_if_faulty};
-use gather::gathering::Gathering;
-use emit::fields::canvas::Canvas;
-use relink_kept::first::resumed;
-use relink_kept::stays::Stays;
-use relink_kept::symbol_table::SymbolTable;
-use ldmodel_laws::layout::placed_are_rows;
-use place::laying::{LayFault, Laying};
-use place::length::length_fault;
-use ldmodel::fault::Fault;
-use ldmodel::memory::NoMemory;
-use ldmodel::meter::Meter;
-use ldmodel::rows::Piece;
-use ldmodel::sections::SectionKey;
-use emit::fault_lines::fault_text;
-use emit::good::is_good;
 use emit::drawing::draw_image;
+use emit::good::is_good;
 use emit::length::image_length;
 use emit::relocated::Relocated;
 use emit::values::asserting::assertion_faults;
 use emit::values::given::GivenValues;
 use emit::values::link_view::LinkView;
 use emit::values::values::Values;
+use emit::{Canvas, fault_text};
+use gather::Gathering;
+use ldmodel::fault::Fault;
+use ldmodel::memory::NoMemory;
+use ldmodel::meter::Meter;
+use ldmodel::rows::Piece;
+use ldmodel::sections::SectionKey;
+use ldmodel_laws::layout::placed_are_rows;
+use place::laying::{LayFault, Laying};
+use place::length::length_fault;
+use relink_kept::first::resumed;
+use relink_kept::stays::Stays;
+use relink_kept::symbol_table::SymbolTable;
 use std::alloc::Global;
 
 /// Names: no fault of names ends the link.
@@ -180,6 +179,7 @@ pub(crate) fn relocated(
 {
     stays.is_complete();
     is_good(lent.project, &stays.arranged.laying);
+    // so that what a project says of its objects is known
     let _inputs = lent.project.inputs();
     // so that the range of the count is known
     let _fields = meter.fields();

@@ -12,12 +12,12 @@ ghost use Rattle.symres.specs.Placed.{keys_of};
 ghost use Rattle.symres_table.specs.State.{Forgets, IsNamed};
 
 use crate::naming::Naming;
-use elfobj::meter::Meter;
-use symres_decisions::change::ObjectChange;
+use elfobj::Meter;
 use ldmodel::memory::NoMemory;
 use ldmodel_project::order::Order;
-use ldscript::script::Script;
+use ldscript::Script;
 use std::mem;
+use symres_decisions::change::ObjectChange;
 
 impl Naming {
     /// Takes all memory that a change needs, but for the order after it.

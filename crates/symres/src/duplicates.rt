@@ -16,15 +16,15 @@ ghost use Rattle.ldmodel_project.specs.ByPlace.{faults_in};
 ghost use Rattle.symres_table.specs.State.{AreDistinct};
 
 use crate::naming::Naming;
-use elfobj::object::Object;
+use elfobj::Object;
 use elfobj::relocation::SymbolIndex;
 use elfobj::symbol::{Binding, Symbol, SymbolPlace};
 use ldmodel::fault::{Definer, Fault};
+use ldmodel::given;
 use ldmodel::memory::NoMemory;
 use ldmodel::names::{Case, Entry, NameKey, ObjectPlace};
 use ldmodel_project::view::ProjectView;
-use ldscript::script::Script;
-use ldscript::tree::Given;
+use ldscript::Script;
 use std::alloc::Global;
 
 /// Whether a symbol is a strong definition: global, and in a section or a number.
@@ -42,10 +42,7 @@ fn is_strong(symbol: &Symbol) -> bool
 fn is_assigned(script: &Script, name: &[u8]) -> bool
     ensures { result ≡ script_names.is_assigned script.now name.now }
 {
-    match script.given(name) {
-        Some(Given::Assigned(_)) => true,
-        Some(Given::Provided(_)) | None => false,
-    }
+    given::is_assigned(script.given(name))
 }
 
 /// No entries, for this number of keys.
@@ -104,6 +101,7 @@ impl Naming {
     fn names_differ(&self)
         ensures { AreDistinct self.now.names }
     {
+        // so that it is known which names are listed
         let _names = self.decisions.listed();
     }
 
@@ -115,6 +113,7 @@ impl Naming {
         ensures { duplicates project.now ≡ [] }
     {
         self.decided_by_keys();
+        // so that the number of known names is known to fit
         let _count = self.decisions.known();
     }
 

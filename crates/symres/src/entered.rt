@@ -6,11 +6,11 @@ ghost use Rattle.symres_decisions.specs.Keyed.{AreApart};
 ghost use Rattle.symres_decisions.specs.declared.keyed.Keyed.{Keyed};
 ghost use Rattle.symres.specs.Entered.{tables_of};
 
-use symres_decisions::keyed::Keyed;
 use ldmodel::memory::NoMemory;
 use ldmodel::names::ObjectKey;
 use ldmodel_project::input::InputObject;
 use std::alloc::Global;
+use symres_decisions::keyed::Keyed;
 
 /// These objects, each under its place.
 ///

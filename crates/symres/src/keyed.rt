@@ -10,6 +10,7 @@ impl Naming {
     pub fn all_keyed(&self)
         ensures { AreKeyed self.now }
     {
+        // so that the number of known names is known to fit
         let _count = self.decisions.known();
         let _names = self.decisions.listed();
     }

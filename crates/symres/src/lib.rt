@@ -4,10 +4,13 @@
 //! - `naming` with `changing`: what is kept, and how it follows a change; `entered`: all objects, for a link from
 //!   scratch;
 //! - `placed`, `keyed`, `sorted`, `provided`: cases by place, symbols' keys, names in order, PROVIDEs;
-//! - `faults` over `duplicates`: names defined twice, and the entry symbol.
+//! - `faults` over `duplicates`: names defined twice, and the entry symbol; `declaring`: which symbols have names;
+//! - the parts `table` (which definition each name stands for) and `decisions` (kept while objects change). Other families
+//!   name this crate alone.
 #![tactic(auto)]
 
 mod changing;
+pub mod declaring;
 mod duplicates;
 mod entered;
 mod faults;
@@ -16,5 +19,9 @@ pub mod naming;
 mod placed;
 mod provided;
 pub mod sorted;
+
+pub use crate::naming::Naming;
+pub use ldmodel::names::{Case, Entry};
 pub use symres_decisions as decisions;
 pub use symres_table as table;
+pub use symres_table::names::{Decision, Names};

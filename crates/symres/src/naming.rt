@@ -17,19 +17,19 @@ ghost use Rattle.symres_table.specs.State.{AreDistinct, IsNamed};
 
 use crate::entered::{by_place, keys_of};
 use crate::placed::place_case;
+use elfobj::Meter;
 use elfobj::relocation::SymbolIndex;
-use elfobj::meter::Meter;
-use symres_decisions::decisions::Decisions;
-use ldmodel_laws::names::decision_by_keys;
 use ldmodel::memory::NoMemory;
 use ldmodel::names::{Case, NameKey};
+use ldmodel_laws::names::decision_by_keys;
 use ldmodel_project::input::InputObject;
 use ldmodel_project::law::tables_by_place;
 use ldmodel_project::order::Order;
-use ldscript::script::Script;
+use ldscript::Script;
 use std::alloc::Global;
 use std::hash::RandomState;
 use std::marker::Model;
+use symres_decisions::decisions::Decisions;
 
 /// What the names of the objects of a link stand for, kept under keys of objects while these change, and seen by place:
 /// the key of an object in a link is its place among all.
@@ -88,6 +88,7 @@ impl Naming {
     {
         decision_by_keys();
         tables_by_place();
+        // so that it is known that each object has a key of its own
         let _keys = self.order.keys();
     }
 
@@ -98,6 +99,7 @@ impl Naming {
             → symbol_tables p.objects ≡ map (λ (t : ℕ × List NamedSymbol). t.1) self.now.kept.names.objects
             → IsNaming p self.now }
     {
+        // so that the invariant of the field is known
         let _order = &self.order;
         self.decided_by_keys();
     }
@@ -107,6 +109,7 @@ impl Naming {
         ensures cases { (k : ℕ) (name : List ℕ) → IsNamed self.now.names k name → HasCase self.now.cases k }
         ensures distinct { AreDistinct self.now.names }
     {
+        // so that the invariant of the field is known
         let _order = &self.order;
         let _known = self.decisions.known();
     }

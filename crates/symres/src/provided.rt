@@ -10,12 +10,13 @@ ghost use Rattle.symres.specs.Naming.{IsNaming};
 ghost use Rattle.symres.specs.Provided.{in_force, AddsIfInForce};
 
 use crate::naming::Naming;
+use ldmodel::impossible::impossible;
 use ldmodel::memory::NoMemory;
 use ldmodel::names::Case;
 use ldmodel::script_symbol::CommonIndex;
-use ldscript::script::Script;
+use ldscript::Script;
 use ldscript::tree::Common;
-use std::alloc::{AllocError, Global};
+use std::alloc::Global;
 
 fn is_provided(case: Case) -> bool
     ensures { result ≡ is_provided_case (decision_of (λ key. key) case) }
@@ -63,7 +64,8 @@ impl Naming {
                 list.push(CommonIndex(number))?;
                 Ok(())
             }
-            Err(_) => Err(AllocError),
+            // No script has 2^32 statements
+            Err(_) => Err(impossible()),
         }
     }
 

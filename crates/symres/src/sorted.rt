@@ -5,11 +5,11 @@ ghost use Rattle.symres.specs.Sorted.{named_number, AreSorted};
 ghost use Rattle.symres_table.specs.State.{IsListing};
 
 use crate::naming::Naming;
-use symres_decisions::decisions::Decisions;
-use symres_decisions::law::names_of_objects;
 use ldmodel::memory::NoMemory;
 use ldmodel::names::NameKey;
 use std::alloc::Global;
+use symres_decisions::decisions::Decisions;
+use symres_decisions::law::names_of_objects;
 
 /// A name and its key.
 #[derive(Clone, Copy, Debug)]
@@ -46,6 +46,7 @@ impl Naming {
         ensures { IfOk result (λ list. AreSorted self.now list.items) }
     {
         names_of_objects();
+        // so that the number of known names is known to fit
         let _count = self.decisions.known();
         let mut list = listed(alloc, &self.decisions)?;
         if self.decisions.is_in_order() {

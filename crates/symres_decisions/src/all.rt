@@ -7,9 +7,9 @@ ghost use Rattle.symres_table.specs.State.{HasName};
 
 use crate::cases::Cases;
 use crate::single::case_for;
+use elfobj::Meter;
 use elfobj::memory::NoMemory;
-use elfobj::meter::Meter;
-use ldscript::script::Script;
+use ldscript::Script;
 use std::alloc::Global;
 use symres_table::names::Names;
 
@@ -35,6 +35,7 @@ pub fn decide_all(names: &Names, script: &Script, cases: &mut Cases, meter: &mut
     ensures complete { (k : ℕ) → HasName names.now.names k → HasCase cases.new k }
     ensures counted { CountsNames meter.old meter.new (declared_names names.now.objects) }
 {
+    // so that the range of the count is known
     let _names = meter.names();
     let count = names.known();
     for number in 0..count {

@@ -15,9 +15,9 @@ use crate::decisions::Decisions;
 use crate::exchange::{put_in, take_out};
 use crate::noted::note_keys;
 use crate::texts::{KeySource, clear_names, decide_names, have_entries};
-use elfobj::meter::Meter;
+use elfobj::Meter;
 use ldmodel::names::NameKey;
-use ldscript::script::Script;
+use ldscript::Script;
 use symres_table::law::entered_again;
 use symres_table::names::Names;
 
@@ -99,6 +99,7 @@ fn decide_gone(
         → AreDone names.now.names cases.old seen
         → DecidedFor script.now names.now cases.old cases.new meter.old meter.new seen (symbols_or out.entry) }
 {
+    // so that the range of the count is known
     let _names = meter.names();
     match out {
         Some(at) => decide_names(
@@ -129,6 +130,7 @@ fn decide_come(
         → AreDone names.now.names cases.old seen
         → DecidedFor script.now names.now cases.old cases.new meter.old meter.new seen (symbols_or into.entry) }
 {
+    // so that the range of the count is known
     let _names = meter.names();
     match into {
         Some(at) => decide_names(
@@ -159,6 +161,7 @@ impl Decisions {
             → case_at self.new.cases k ≡ case_at self.old.cases k }
     {
         entered_again();
+        // so that the number of known names is known to fit
         let _known = self.names.known();
         clear_names_of(&self.names, change.out, &mut self.cases);
         note_keys(&self.names, change.out, &mut self.noted);

@@ -15,10 +15,10 @@ use crate::change::ObjectChange;
 use crate::decisions::Decisions;
 use crate::noted::reserve_keys;
 use crate::single::given_case;
-use elfobj::object::Object;
+use elfobj::Object;
 use elfobj::memory::NoMemory;
 use ldmodel::names::NameKey;
-use ldscript::script::Script;
+use ldscript::Script;
 use symres_table::names::Names;
 
 /// Gives a name without entries the case that the script alone makes of it.
@@ -73,6 +73,7 @@ fn settle_new(
     ensures kept { (k : ℕ) → HasCase cases.old k → HasCase cases.new k }
     ensures ok { OnOk result (IsWhole names.now cases.new) }
 {
+    // so that the number of known names is known to fit
     let _known = names.known();
     add_all_given(names, script, from, cases)
 }
@@ -191,6 +192,7 @@ impl Decisions {
         ensures kept { (script : List Statement) → AreKept script self.old → AreKept script self.new }
         ensures frame { OnlyDrops self.old.names.names self.new.names.names self.old.cases self.new.cases }
     {
+        // so that the number of known names is known to fit
         let _known = self.names.known();
         if self.all_used {
             return;

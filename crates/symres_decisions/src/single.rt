@@ -5,25 +5,16 @@ ghost use Rattle.elfobj.specs.Raised.{raised};
 ghost use Rattle.elfobj.specs.declared.meter.Count.TheVariants as counts;
 ghost use Rattle.ldmodel.specs.HandedOver.{decision_of};
 ghost use Rattle.ldmodel.specs.Names.{decided};
-ghost use Rattle.ldmodel.specs.ScriptNames.{is_assigned, is_assignment, is_provided};
+ghost use Rattle.ldmodel.specs.ScriptNames.{is_assigned, is_provided};
 ghost use Rattle.symres_decisions.specs.Decided.{IsCase};
 ghost use Rattle.symres_decisions.specs.Counted.{uses};
 ghost use Rattle.symres_table.specs.State.{HasName, IsNamed};
 
-use elfobj::meter::Meter;
+use elfobj::Meter;
+use ldmodel::given::is_assigned;
 use ldmodel::names::{Case, NameKey};
-use ldscript::script::Script;
-use ldscript::statements::given::Given;
+use ldscript::Script;
 use symres_table::names::Names;
-
-fn is_assigned(given: Option<Given>) -> bool
-    ensures { result ≡ is_assignment given }
-{
-    match given {
-        Some(Given::Assigned(_)) => true,
-        Some(Given::Provided(_)) | None => false,
-    }
-}
 
 /// What the script alone makes of a name.
 pub fn given_case(script: &Script, name: &[u8]) -> Case
@@ -44,6 +35,7 @@ pub fn case_for(names: &Names, script: &Script, key: NameKey, meter: &mut Meter)
     ensures counted { (name : List ℕ) → IsNamed names.now.names key.0 name → meter.new
         ≡ raised meter.old counts.Names (uses names.now.objects name) }
 {
+    // so that the range of the count is known
     let _names = meter.names();
     if names.entries(key).len() > 0 {
         return *names.decide_key(script, key, meter).case();

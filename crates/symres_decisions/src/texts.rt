@@ -13,11 +13,10 @@ ghost use Rattle.symres_decisions.specs.Texts.{IsCleared, IsKeyOf};
 ghost use Rattle.symres_table.specs.State.{AreDistinct, HasName};
 
 use crate::cases::Cases;
-use elfobj::object::Object;
 use elfobj::relocation::SymbolIndex;
-use elfobj::meter::Meter;
+use elfobj::{Meter, Object};
 use ldmodel::names::NameKey;
-use ldscript::script::Script;
+use ldscript::Script;
 use symres_table::names::Names;
 use symres_table::symbol::is_visible;
 
@@ -177,6 +176,7 @@ pub fn decide_names(
         → AreDone names.now.names cases.old seen
         → DecidedFor script.now names.now cases.old cases.new meter.old meter.new seen object.now.symbols }
 {
+    // so that the range of the count is known
     let _names = meter.names();
     for number in 0..object.symbols().len() {
         decide_name(names, script, source, object, number, cases, meter);

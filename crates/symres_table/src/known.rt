@@ -253,6 +253,7 @@ impl NameTable {
         let places = &self.places;
         self.numbers
             .retain(|_name, number| has_place(places, *number));
+        // so that the number of known names is known to fit
         let _count = self.numbers.len();
         file_all(&mut self.places, &self.numbers);
     }

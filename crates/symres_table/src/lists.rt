@@ -17,10 +17,9 @@ use crate::hints::Hints;
 use crate::known::NameTable;
 use crate::repeats::{Repeats, is_long};
 use crate::symbol::{Numbered, is_visible};
-use elfobj::object::Object;
 use elfobj::relocation::SymbolIndex;
 use elfobj::span::Span;
-use elfobj::symbol::Symbol;
+use elfobj::{Object, Symbol};
 use std::alloc::AllocError;
 
 fn find(spare: &[Vec<Numbered>], count: usize) -> usize
@@ -76,6 +75,7 @@ fn number_of(known: &NameTable, guess: Option<usize>, name: &[u8]) -> Option<usi
         IsNamed known.now.slots n name.now) }
     ensures distinct { AreDistinct known.now.slots }
 {
+    // so that the number of known names is known to fit
     let _known = known.len();
     if let Some(number) = guess {
         if let Some(guessed) = known.name_of(number) {

@@ -30,13 +30,12 @@ use crate::objects::Objects;
 use crate::repeats::Repeats;
 use crate::symbol::{Declared, Numbered};
 use crate::tally::decide;
-use elfobj::object::Object;
-use elfobj::relocation::SymbolIndex;
-use indexmap::map::Iter;
 use elfobj::memory::NoMemory;
-use elfobj::meter::{Count, Meter};
+use elfobj::relocation::SymbolIndex;
+use elfobj::{Count, Meter, Object};
+use indexmap::map::Iter;
 use ldmodel::names::{Case, NameKey, ObjectKey};
-use ldscript::script::Script;
+use ldscript::Script;
 use std::alloc::Global;
 use std::hash::RandomState;
 use std::marker::Model;
@@ -159,6 +158,7 @@ fn make_ready_or_not(
         Ok(()) => Ok(()),
         Err(refused) => {
             known.drop_newer(count);
+            // so that the number of known names is known to fit
             let _known = known.len();
             Err(refused)
         }
@@ -250,6 +250,7 @@ impl Names {
         ensures counted { meter.new ≡ raised meter.old counts.Names 1 }
     {
         meter.raise(Count::Names, 1);
+        // so that the number of known names is known to fit
         let _known = self.known.len();
         let given = script.given(self.known.name_of(name.0).unwrap());
         Decision {
@@ -292,6 +293,7 @@ impl Names {
         ensures { (bytes : List ℕ) → IsNamed self.now.names name.0 bytes
             → map (declaration_of bytes) result.now ≡ entries_of bytes self.now.objects }
     {
+        // so that the number of known names is known to fit
         let _known = self.known.len();
         self.objects.row(name.0)
     }
@@ -377,6 +379,7 @@ impl Names {
         ensures refused { OnErr result (SameNames self.old.names self.new.names) }
         ensures order { OnErr result (self.new.order ≡ self.old.order) }
     {
+        // so that the number of known names is known to fit
         let _before = self.known.len();
         let reserved = reserve_fields(
             &mut self.known,
@@ -387,6 +390,7 @@ impl Names {
             &mut self.repeats,
             &mut self.hints,
         );
+        // so that the number of known names is known to fit
         let _known = self.known.len();
         reserved
     }
@@ -402,6 +406,7 @@ impl Names {
         ensures places { self.new.place_room + 1 ≡ self.old.place_room }
         ensures list { TakesList self.old self.new at (length object.now.symbols) }
     {
+        // so that the number of known names is known to fit
         let _known = self.known.len();
         let mut list = take_list(&mut self.spare, object.symbols().len());
         number_all(&self.known, object, &self.guesses, &self.repeats, &mut list);
@@ -421,6 +426,7 @@ impl Names {
         ensures joins { OnOk result (Joins self.old self.new key.0 at object.now.symbols) }
         ensures refused { OnErr result (IsRefused self.old self.new) }
     {
+        // so that the number of known names is known to fit
         let _before = self.known.len();
         reserve_fields(
             &mut self.known,
@@ -431,6 +437,7 @@ impl Names {
             &mut self.repeats,
             &mut self.hints,
         )?;
+        // so that the number of known names is known to fit
         let _known = self.known.len();
         let mut list = take_list(&mut self.spare, object.symbols().len());
         number_seen(object, &self.guesses, &mut list);
@@ -450,6 +457,7 @@ impl Names {
             self.old.objects }
         ensures others { (symbols : List NamedSymbol) → MayEnter self.old symbols → MayEnter self.new symbols }
     {
+        // so that the number of known names is known to fit
         let _known = self.known.len();
         let list = self.objects.withdraw(key.0);
         self.spare.push_reserved(list);
@@ -459,6 +467,7 @@ impl Names {
     pub fn forget(&mut self)
         ensures { Forgets self.old self.new }
     {
+        // so that the number of known names is known to fit
         let _known = self.known.len();
         self.hints.clear();
         self.known.forget_unused(&self.objects);

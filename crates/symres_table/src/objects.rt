@@ -18,12 +18,12 @@ use std::alloc::{AllocError, Global};
 use std::marker::Model;
 
 #[derive(Drop)]
-struct Placed {
+struct EnteredObject {
     key: usize,
     symbols: Vec<Numbered>,
 }
 
-impl Model for Placed {
+impl Model for EnteredObject {
     ghost use Rattle.std.specs.Prelude.{vec_capacity};
     ghost use Rattle.symres_table.specs.Numbers.{Entered};
 
@@ -35,7 +35,7 @@ impl Model for Placed {
 /// The entered objects, the rows of names under their numbers, and the places of keys.
 #[derive(Drop)]
 pub struct Objects {
-    order: Vec<Placed>,
+    order: Vec<EnteredObject>,
     rows: Vec<Vec<Declared>>,
     places: Vec<PlacedKey>,
 }
@@ -58,7 +58,7 @@ impl Model for Objects {
 
 fn reserve_fields(
     rows: &mut Vec<Vec<Declared>>,
-    order: &mut Vec<Placed>,
+    order: &mut Vec<EnteredObject>,
     places: &mut Vec<PlacedKey>,
     symbols: &[Numbered],
 ) -> Result<(), AllocError>
@@ -187,7 +187,9 @@ impl Objects {
         let number = count_below(&self.places, key);
         make_gap(&mut self.places, at, count);
         self.places.insert(number, PlacedKey { key, at }).unwrap();
-        self.order.insert(at, Placed { key, symbols }).unwrap();
+        self.order
+            .insert(at, EnteredObject { key, symbols })
+            .unwrap();
     }
 
     /// Takes an object out, and gives back its list. It takes no memory.
@@ -207,7 +209,7 @@ impl Objects {
         move_down(&mut self.places, place.at);
         let placed = self.order.remove(place.at);
         remove_all(&mut self.rows, key, &placed.symbols);
-        let Placed { key: _key, symbols } = placed;
+        let EnteredObject { key: _key, symbols } = placed;
         symbols
     }
 }

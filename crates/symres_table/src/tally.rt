@@ -8,6 +8,7 @@ ghost use Rattle.symres_table.specs.declared.symbol.Declared.{Declared};
 
 use crate::symbol::Declared;
 use elfobj::symbol::{Binding, SymbolPlace};
+use ldmodel::given::{is_assigned, is_provided};
 use ldmodel::names::{Case, Entry};
 use ldscript::tree::Given;
 
@@ -112,24 +113,6 @@ impl Tally {
         } else {
             Case::Undefined
         }
-    }
-}
-
-fn is_assigned(given: Option<Given>) -> bool
-    ensures { result ≡ is_assignment given }
-{
-    match given {
-        Some(Given::Assigned(_)) => true,
-        Some(Given::Provided(_)) | None => false,
-    }
-}
-
-fn is_provided(given: Option<Given>) -> bool
-    ensures { result ≡ is_provision given }
-{
-    match given {
-        Some(Given::Provided(_)) => true,
-        Some(Given::Assigned(_)) | None => false,
     }
 }
 

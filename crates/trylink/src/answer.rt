@@ -1,7 +1,7 @@
 //! Answers to commands: as a session spells them, and as they are printed here.
 
 use crate::printing::print_bytes;
-use ldmodel::edit::{EditRefusal, Linked};
+use relink::{EditRefusal, Linked};
 use std::io;
 use std::io::Write;
 

@@ -1,7 +1,7 @@
 //! The commands of a stream, cut from its bytes.
 
-use ldmodel::edit::Edit;
 use ldi_stream::head::{Aim, CommandHead, EditHead, Query, read_head};
+use relink::Edit;
 use std::alloc::{AllocError, Global};
 
 /// A command.

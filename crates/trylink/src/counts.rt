@@ -3,11 +3,8 @@
 use crate::answer::Answer;
 use crate::command::{Command, split_command};
 use crate::printing::print_command;
-use ldmodel::edit::Edit;
-use ldmodel::linker::Linker;
 use ldmodel::meter::Meter;
-use ldmodel::options::Options;
-use relink::session::Session;
+use relink::{Edit, Linker, Options, Session};
 use std::alloc::Global;
 use std::hash::RandomState;
 use std::io;

@@ -3,11 +3,10 @@
 use crate::answer::checksum;
 use crate::devices::{ByteReader, ShortWriter};
 use crate::session::status_of;
-use ldmodel::options::Options;
-use relink::session::Session;
 use ldi_stream::devices::{AnswerWriter, CommandReader};
 use ldi_stream::fault::RunFault;
 use ldi_stream::{Status, run};
+use relink::{Options, Session};
 use std::alloc::{AllocError, Global};
 use std::hash::RandomState;
 use std::io;

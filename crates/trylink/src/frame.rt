@@ -1,9 +1,9 @@
 //! Frames: a stream of commands with its name and the words of its session.
 
-use ldmodel::options::Options;
 use ldi_words::call::Call;
 use ldi_words::fault::WordsFault;
 use ldi_words::words;
+use relink::Options;
 use std::alloc::{AllocError, Global};
 use std::str;
 

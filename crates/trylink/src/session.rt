@@ -2,13 +2,10 @@
 //! from link to link.
 
 use crate::answered::{Answered, MALFORMED};
-use ldmodel::linker::Linker;
-use ldmodel::options::Options;
-use relink::session::Session;
 use ldi_stream::devices::{AnswerWriter, CommandReader};
 use ldi_stream::fault::RunFault;
 use ldi_stream::{Status, run};
-use relink::link::plain::Plain;
+use relink::{Linker, Options, Plain, Session};
 use std::alloc::{AllocError, Global};
 use std::hash::RandomState;
 

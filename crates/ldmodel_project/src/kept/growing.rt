@@ -7,10 +7,10 @@ ghost use Rattle.ldmodel_project.specs.Listing.{objects_of};
 ghost use Rattle.ldmodel_project.specs.Next.{touched_key};
 ghost use Rattle.ldmodel_project.specs.Staging.{IsStaged, IsTouching, SameButRoom};
 
-use crate::kept::Kept;
+use crate::kept::KeyedObjects;
 use crate::named::NamedObject;
 use crate::staged::{Places, StagedObjects, Step};
-use elfobj::object::Object;
+use elfobj::Object;
 use ldmodel::memory::NoMemory;
 use std::alloc::Global;
 
@@ -53,7 +53,7 @@ fn with_key_moved(
     Ok(copy)
 }
 
-impl Kept {
+impl KeyedObjects {
     /// What a new object needs: its name's copy, room in the slab, and an order with its key.
     pub(crate) fn grow_add(
         &mut self,

@@ -8,14 +8,14 @@ ghost use Rattle.ldmodel_project.specs.Holding.{held};
 ghost use Rattle.ldmodel_project.specs.Listing.{objects_of};
 
 use crate::edit::{is_object_name, is_too_long};
-use crate::kept::Kept;
+use crate::kept::KeyedObjects;
 use crate::project::Project;
 use ldmodel::edit::EditRefusal;
 
 /// The greatest number of objects of a project.
 pub const MAX_OBJECTS: usize = 4096;
 
-impl Kept {
+impl KeyedObjects {
     /// Whether no more object may be added.
     #[tactic(auto, unfolding(ldmodel::specs::Edits::is_full))]
     fn is_full(&self) -> bool

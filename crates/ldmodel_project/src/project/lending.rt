@@ -17,6 +17,7 @@ impl<'a> Next<'a> {
         requires { shown_inputs inputs.now ≡ objects_of self.now.entries }
         ensures { result ≡ project_of self.now }
     {
+        // so that the invariant of the field is known
         let _project = self.project;
         ProjectView::new(inputs, self.script(), self.options())
     }

@@ -8,9 +8,9 @@ ghost use Rattle.ldmodel_project.specs.Listing.{AreKeysDistinct, found_under, ke
 
 use crate::named::NamedObject;
 use crate::project::{Next, Project};
-use elfobj::object::Object;
+use elfobj::Object;
 use ldmodel::names::ObjectKey;
-use ldscript::script::Script;
+use ldscript::Script;
 
 impl Project {
     /// The keys of all objects, in their order.
@@ -70,6 +70,7 @@ impl<'a> Next<'a> {
         ensures value { result.now ≡ keys_of self.now.entries }
         ensures distinct { AreKeysDistinct result.now }
     {
+        // so that it is known that each object has a key of its own
         let _kept = self.project.keys();
         let staged = self.staged;
         &staged.objects.order

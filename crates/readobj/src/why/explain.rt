@@ -3,6 +3,7 @@
 
 use crate::why::look::{entry, header, header_count, is_name_at, symbol, symbol_table};
 use crate::why::told::{Told, tell};
+use elfobj::field::{is_outside, put_in_order};
 use elfobj::file::constants::{
     EHDR_SIZE, ELFCLASS64, ELFDATA2LSB, EM_X86_64, ET_REL, EV_CURRENT, MAX_SECTION_HEADERS,
     MAX_SECTION_SIZE, PROFILE_FLAGS, RELA_SIZE, SHDR_SIZE, SHN_ABS, SHN_COMMON, SHN_UNDEF,
@@ -14,10 +15,8 @@ use elfobj::file::numbers::{read_u16, read_u32};
 use elfobj::file::relocation_entry::RelocationEntry;
 use elfobj::file::section_header::SectionHeader;
 use elfobj::file::symbol_entry::SymbolEntry;
-use elfobj::field::{is_outside, put_in_order};
-use elfobj::refusal::ObjectRefusal;
-use elfobj::relocation::Relocation;
 use elfobj::section::{Section, SectionIndex, SectionKind};
+use elfobj::{ObjectRefusal, Relocation};
 use std::alloc::{AllocError, Global};
 
 /// What a refusal is about.

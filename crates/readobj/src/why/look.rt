@@ -2,7 +2,9 @@
 
 ghost use Rattle.std.specs.Prelude.{◌≡◌, IfSome, length};
 
-use elfobj::file::constants::{EHDR_SIZE, MAX_NAME_LENGTH, RELA_SIZE, SHDR_SIZE, STT_SECTION, SYM_SIZE};
+use elfobj::file::constants::{
+    EHDR_SIZE, MAX_NAME_LENGTH, RELA_SIZE, SHDR_SIZE, STT_SECTION, SYM_SIZE,
+};
 use elfobj::file::elf_header::{name_table_number, section_count, section_table_offset};
 use elfobj::file::names::is_graphic;
 use elfobj::file::relocation_entry::{RelocationEntry, read_relocation_entry};

@@ -3,11 +3,11 @@
 use crate::meaning::class::{Class, Symbols, class_of, class_outside};
 use crate::meaning::names::text_of;
 use crate::meaning::warning::{Caution, Warning};
+use ldscript::terms::expression::Expr;
 use ldscript::tree::{
     Assignment, BodyCommand, Command, Common, DotCommand, Formula, Item, ItemCommand, Load,
     OutputSection, Region, Statement,
 };
-use ldscript::terms::expression::Expr;
 use std::alloc::{AllocError, Global};
 use std::collections::BTreeMap;
 

@@ -3,7 +3,7 @@
 use crate::why::pattern::pattern_reason;
 use crate::why::reason::Stop;
 use crate::why::walk::Walk;
-use ldscript::tree::Pattern;
+use ldscript::Pattern;
 use ldscript::tokens::token::{Mark, Mode};
 use ldscript::tokens::words::is_free_word;
 

@@ -2,7 +2,7 @@
 
 use crate::why::reason::Stop;
 use crate::why::walk::{Use, Walk};
-use ldscript::tree::Expr;
+use ldscript::Expr;
 use ldscript::tokens::token::{Mark, Mode};
 
 /// What is noted under `ENTRY`, `MEMORY` and `SECTIONS`, which a script has once at most.

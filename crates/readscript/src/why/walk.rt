@@ -2,7 +2,7 @@
 
 use crate::why::expression::expression_stop;
 use crate::why::reason::{Explanation, Stop};
-use ldscript::tree::Expr;
+use ldscript::Expr;
 use ldscript::terms::reader::expr;
 use ldscript::tokens::bytes::{is_name_byte, is_name_start};
 use ldscript::tokens::cursor::Cursor;

@@ -1,5 +1,5 @@
 use Rattle.std.proofs.Common.{◌≡◌, ◌<◌, arith, length, sym, get_or, None, Some}
-use Rattle.place.proofs.terms.Tabled.{values_more, values_same, at_place}
+use Rattle.place.proofs.TermTables.{values_more, values_same, at_place}
 use Rattle.emit_values.proofs.script_values.note_value.Goals as goal
 
 pub returns-in-None : goal.returns-in-None

@@ -1,0 +1,10 @@
+use Rattle.std.proofs.Common.{◌≡◌, ◌++◌, take, drop}
+use Rattle.place_sections.specs.Parts.{after_sections, before_sections, items_within}
+use Rattle.place_sections.proofs.parts.ScriptParts.of.Given as goal
+
+abbrev pub invariant-loop-number : goal.invariant-loop-number
+invariant-loop-number l = record {
+  before : before_sections l.statements ≡ take l.number l.statements ++ before_sections (drop l.number l.statements);
+  items : items_within l.statements ≡ items_within (drop l.number l.statements);
+  after : after_sections l.statements ≡ after_sections (drop l.number l.statements);
+}
