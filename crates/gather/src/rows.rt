@@ -42,7 +42,7 @@ fn add_piece<'a>(
     piece: NamedPiece<'a>,
 ) -> Result<(), NoMemory>
     ensures { OnOk result ((xs : List Named) (count : ℕ) → AreBuckets xs count buckets.old.items
-        → AreBuckets (xs ++ piece ∷ []) count buckets.new.items) }
+        → AreBuckets (xs ++ piece.entry ∷ []) count buckets.new.items) }
 {
     let number = piece.piece.statement.0 as usize;
     if number < buckets.len() {

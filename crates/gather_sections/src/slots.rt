@@ -70,11 +70,16 @@ pub(crate) fn lay_slots(alloc: Global, project: &ProjectView<'_>) -> Result<AllS
             count,
             linked,
         })?;
-        // 2^32 section headers take 256 GiB
-        slots = slots.checked_add(count).ok_or(impossible())?;
-        linked = linked
-            .checked_add(input.object.sections().len())
-            .ok_or(impossible())?;
+        let Some(sum) = slots.checked_add(count) else {
+            // 2^32 section headers take 256 GiB
+            return Err(impossible());
+        };
+        let Some(more) = linked.checked_add(input.object.sections().len()) else {
+            // There are fewer of them than headers
+            return Err(impossible());
+        };
+        slots = sum;
+        linked = more;
     }
     Ok(AllSlots { objects, slots })
 }

@@ -1,4 +1,6 @@
-use Rattle.std.proofs.Common.{arith, subst, sym, List}
+use Rattle.std.proofs.Common.{ap, arith, length, subst, sym, List}
+use Rattle.std.proofs.lemmas.List.{length-map}
+use Rattle.elfobj.specs.Sections.{section_of}
 use Rattle.gather_sections.specs.declared.slots.Slots.{Slots}
 use Rattle.gather_sections.proofs.Counting.{LaidUpTo, all_before, all_linked, none_laid, one_laid}
 use Rattle.gather_sections.proofs.slots.lay_slots.Goals as goal
@@ -11,8 +13,14 @@ loop-input-init c =
 pub loop-input-preserved : goal.loop-input-preserved
 loop-input-preserved c =
     one_laid c.inputs-inputs.result.now c.loop-input.input-index c.input-item.result c.loop-input.objects.items _
-    c.loop-input.slots c.count_of-count.result c.in_ok-slots.slots c.loop-input.linked c.in_ok-linked.linked
-    c.loop-input-test.true c.input-item.is c.loop-input.invariant (omega arith) (omega arith)
+    c.loop-input.slots c.count_of-count.result c.in-Some.sum c.loop-input.linked c.in-Some-checked_add.more
+    c.loop-input-test.true c.input-item.is c.loop-input.invariant (sym c.in-Some.ensures.1)
+    (omega (
+      arith,
+      c.in-Some-checked_add.ensures.1,
+      ap length c.sections.ensures.value,
+      length-map c.input-item.result.object.now.sections section_of,
+    ))
     c.count_of-count.ensures c.in_ok-push.ensures.items
 
 pub returns-clause-laid : goal.returns-clause-laid
