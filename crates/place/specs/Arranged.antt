@@ -10,7 +10,8 @@ use Rattle.ldmodel.specs.declared.sections.Part.{Part}
 use Rattle.ldmodel.specs.declared.sections.SectionKey.{SectionKey}
 use Rattle.place.specs.InPlace.{AreInPlace}
 use Rattle.place.specs.Laying.{IsLaying}
-pub use Rattle.gather.specs.sections.SectionTable.{linked_in, linked_of}
+pub use Rattle.gather.specs.sections.Slots.{linked_in}
+pub use Rattle.gather.specs.sections.SectionTable.{linked_of}
 use Rattle.gather.specs.sections.SectionTable.{IsTableOf, number_of}
 use Rattle.ldmodel.specs.Rows as model
 use Rattle.ldmodel_project.specs.ByPlace.{rows_in}

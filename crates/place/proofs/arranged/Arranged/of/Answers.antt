@@ -5,6 +5,7 @@ use Rattle.ldmodel.specs.FileLayout.{Each}
 use Rattle.ldmodel.specs.Names.{provided}
 use Rattle.ldmodel.specs.Rows.{Piece, rows}
 use Rattle.place.specs.Columns.{AreOwners}
+use Rattle.place.specs.Entries.{all_entries}
 use Rattle.place.specs.InPlace.{IsOwned}
 use Rattle.place.specs.declared.entry.Entry.{Entry}
 use Rattle.place.proofs.AllNumbered.{all_numbered}
@@ -21,7 +22,8 @@ returns-clause-arranged c = λ s laid.
     let owned : Each (IsOwned p) (flat (rows p)) =
     all_owned p c.inputs.result.now c.inputs.ensures.same
     (sym c.has_unnamed.ensures ∙ c.if-has_unnamed.false) (c.sections_of_objects.ensures p) (flat (rows p)) inputs in
-    let are = c.in_ok-entries.ensures in
+    let are = c.in_ok-entries.ensures
+    ∙ ap (λ rows. all_entries 0 rows c.pieces.result.now) c.deref.ensures.value in
     all_places p s c.pieces.result.now _
     c.inputs.ensures.distinct
     (record {
@@ -34,5 +36,5 @@ returns-clause-arranged c = λ s laid.
     (c.pieces.ensures ∙ laid.places.starts) are c.requires.table c.requires.rows laid
     (all_numbered p c.args.table c.inputs.ensures.distinct c.requires.table (c.sections_of_objects.ensures p)
     c.args.rows.items c.pieces.result.now c.in_ok-entries.entries.items c.requires.rows owned inputs are)
-    (subst (λ (l : List Entry). AreOwners c.args.table l c.in_ok-owners.owners.items) c.deref.ensures.value
+    (subst (λ (l : List Entry). AreOwners c.args.table l c.in_ok-owners.owners.items) c.deref-2.ensures.value
     c.in_ok-owners.ensures)
