@@ -20,6 +20,7 @@ use Rattle.ldmodel.specs.SymbolValues.{placed_part, placed_pieces}
 use Rattle.ldmodel.specs.declared.sections.Part.{Part}
 use Rattle.ldmodel.specs.declared.sections.Part.TheVariants.{InTable, InCommon}
 use Rattle.ldmodel.specs.declared.sections.SectionKey.{SectionKey}
+use Rattle.place.specs.declared.arranged.Arranged.{Arranged}
 use Rattle.emit.specs.declared.relocated.Relocated.{Relocated}
 use Rattle.emit_relocate.specs.KnownLink.{KnownLink}
 use Rattle.place.proofs.Lists.{each_at, find_at, later_of_map}
@@ -78,12 +79,12 @@ all_found s rows placed differ =
 
 -- ---- row by row
 
-module _ (p : Project) (stays : SectionKey → Bool) (numbers : List ℕ) (r : Relocated) (rows : List (List Piece))
+module _ (p : Project) (stays : SectionKey → Bool) (arranged : Arranged) (r : Relocated) (rows : List (List Piece))
     (starts : List ℕ) where
   -- the rows before a number are drawn, and the others begin at the addresses that are left
   pub record RowsSoFar (k at : ℕ) (ys : List (List ImagePiece)) : Type 0 where
     pub within : at ≤ length starts
-    pub drawn : (l : KnownLink) → l.project ≡ p → AreSources l stays numbers r → AreRowsAt p l.layout rows starts
+    pub drawn : (l : KnownLink) → l.project ≡ p → AreSources l stays arranged r → AreRowsAt p l.layout rows starts
         → AllZip (IsJoinedRow l.project l.layout stays) (take k l.layout.sections) ys
     pub rest : (l : KnownLink) → AreRowsAt p l.layout rows starts
         → drop at starts ≡ flat_map starts_of (drop k l.layout.sections)
@@ -161,7 +162,7 @@ module _ (p : Project) (stays : SectionKey → Bool) (numbers : List ℕ) (r : R
 
   pub one_row : (k at : ℕ) (row : List Piece) (y : List ImagePiece) (old new : List (List ImagePiece))
       → slice_get rows k ≡ Some row → k < length rows → at + length row ≤ length starts
-      → ((l : KnownLink) (q : PlacedSection) → l.project ≡ p → AreSources l stays numbers r
+      → ((l : KnownLink) (q : PlacedSection) → l.project ≡ p → AreSources l stays arranged r
       → IsRowAt p l.layout row (drop at starts) q → IsJoinedRow l.project l.layout stays q y) → new ≡ old ++ y ∷ []
       → RowsSoFar k at old → RowsSoFar (k + 1) (at + length row) new
   one_row k at row y old new e below fits make pushed so_far = record {
@@ -185,7 +186,7 @@ module _ (p : Project) (stays : SectionKey → Bool) (numbers : List ℕ) (r : R
   }
 
   pub all_rows : (l : KnownLink) (k at : ℕ) (ys : List (List ImagePiece)) → length rows ≤ k → l.project ≡ p
-      → AreSources l stays numbers r → AreRowsAt p l.layout rows starts → RowsSoFar k at ys
+      → AreSources l stays arranged r → AreRowsAt p l.layout rows starts → RowsSoFar k at ys
       → AllZip (IsJoinedRow l.project l.layout stays) l.layout.sections ys
   all_rows l k at ys past same sources h so_far =
       let many : length l.layout.sections ≡ length rows =

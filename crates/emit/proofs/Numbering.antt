@@ -4,35 +4,24 @@ use Rattle.std.proofs.Common.{length}
 use Rattle.std.proofs.Common.{map, flat_map, take, drop, Bool, Some, false, ◌==◌, arith, get_or, slice_get}
 use Rattle.std.specs.List.{AllPairs, AllZip}
 use Rattle.std.proofs.lemmas.Bool.{eqb-true, false_from_ne_true}
-use Rattle.std.proofs.Common.{append-nil, inl, inr}
 use Rattle.std.specs.Option.{option_map}
-use Rattle.std.proofs.lemmas.Grind.{flat_map-append}
-use Rattle.std.proofs.lemmas.List.{length-append, length-map, take_all}
+use Rattle.std.proofs.lemmas.List.Sums.{sum_by-cons}
+use Rattle.std.proofs.lemmas.List.{length-append, length-map}
 use Rattle.std.proofs.lemmas.Option.{same_Some, slice_get-map}
 use Rattle.elfobj.specs.Object.{ObjectData}
 use Rattle.elfobj.specs.Sections.{LinkedSection, section_of}
 use Rattle.elfobj.specs.declared.section.Section.{Section}
 use Rattle.emit_fields.specs.declared.patch.Patch.{Patch}
-use Rattle.ldmodel_laws.specs.PlacedOnce.{AreNumbered}
 use Rattle.ldmodel_laws.specs.Spread.{EachLater}
-use Rattle.ldmodel.specs.Each.{Each}
-use Rattle.ldmodel.specs.Project.{NamedObject, Project}
+use Rattle.ldmodel.specs.Project.{NamedObject}
 use Rattle.ldmodel.specs.declared.sections.SectionKey.{SectionKey}
-use Rattle.ldmodel_project.specs.Inputs.{shown_input, shown_inputs}
-use Rattle.ldmodel_project.specs.declared.input.InputObject.{InputObject}
 use Rattle.emit_relocate.specs.Filled.{ObjectSection, ends_of, sections_in, sections_of}
 use Rattle.emit_relocate.specs.KnownLink.{KnownLink}
-use Rattle.emit.specs.Numbers.{AreFirsts, HaveNumbers}
+use Rattle.emit.specs.Numbers.{HaveNumbers}
 use Rattle.emit.specs.Runs.{AreRunsUnless, IsRunUnless}
+use Rattle.place.specs.Arranged.{linked_in}
 use Rattle.place.proofs.Lists.{later_of_map}
-use Rattle.emit.proofs.Lists.{each_join, get_left, get_push, get_right, mapped_at, pairs_later, take_next}
-
--- the objects before a place have their first numbers, which differ in each, and `next` comes after them
-pub record FirstsSoFar (inputs : List InputObject) (place next : ℕ) (firsts : List ℕ) : Type 0 where
-  pub firsts_are : AreFirsts (shown_inputs inputs) place firsts
-  pub next_is : next ≡ length (sections_in (take place (shown_inputs inputs)))
-  pub numbered : Each (λ (o : NamedObject). HaveNumbers o.object) (take place (shown_inputs inputs))
-  pub within : place ≤ length inputs
+use Rattle.emit.proofs.Lists.{get_left, get_right, pairs_later}
 
 -- sections whose numbers ascend have different ones
 pub numbers_differ : (o : ObjectData) (xs : List Section) → xs ≡ map section_of o.sections
@@ -46,66 +35,18 @@ numbers_differ o xs e h =
     apart : (m n : ℕ) → m < n → (m == n) ≡ false
     apart m n l = false_from_ne_true (m == n) (λ t. absurd (omega (arith, l, eqb-true m n t)))
 
-pub no_firsts : (inputs : List InputObject) → FirstsSoFar inputs 0 0 []
-no_firsts inputs = record {
-  firsts_are = record { long = refl; at = λ k first e. absurd (let none : ⊥ = cc in none) };
-  next_is = refl;
-  numbered = tt;
-  within = omega arith;
-}
-
--- one object more
-pub one_first : (inputs : List InputObject) (k next sum : ℕ) (firsts new : List ℕ) (x : InputObject) → k < length inputs
-    → x ≡ get_or inputs k x → HaveNumbers x.object.now → sum ≡ next + length x.object.now.sections
-    → new ≡ firsts ++ next ∷ [] → FirstsSoFar inputs k next firsts → FirstsSoFar inputs (k + 1) sum new
-one_first inputs k next sum firsts new x l e numbers total pushed h =
-    let o : NamedObject = shown_input x in
-    let objects : List NamedObject = shown_inputs inputs in
-    let here : slice_get objects k ≡ Some o = mapped_at shown_input inputs k x l e in
-    let more : take (k + 1) objects ≡ take k objects ++ o ∷ [] = take_next objects k o here in
-    let own : length (sections_of o o.object.sections) ≡ length o.object.sections =
-    length-map o.object.sections (λ y. let z : ObjectSection = record { object = o; section = y } in z) in
-    let parts : sections_in (take k objects ++ o ∷ [])
-    ≡ sections_in (take k objects) ++ sections_in (o ∷ []) =
-    flat_map-append (λ (y : NamedObject). sections_of y y.object.sections) (take k objects) (o ∷ []) in
-    let long : length (sections_in (take k objects) ++ sections_in (o ∷ []))
-    ≡ length (sections_in (take k objects)) + length (sections_in (o ∷ [])) =
-    length-append (sections_in (take k objects)) (sections_in (o ∷ [])) in
-    let last : length (sections_in (o ∷ [])) ≡ length (sections_of o o.object.sections) =
-    ap length (append-nil (sections_of o o.object.sections)) in
-    let all : length (sections_in (take (k + 1) objects)) ≡ length (sections_in (take k objects ++ o ∷ [])) =
-    ap (λ os. length (sections_in os)) more in
-    let joined : length (sections_in (take k objects ++ o ∷ []))
-    ≡ length (sections_in (take k objects) ++ sections_in (o ∷ [])) = ap length parts in
-    subst (FirstsSoFar inputs (k + 1) sum) (sym pushed) (record {
-      firsts_are = record {
-        long = length-append firsts (next ∷ []) ∙ ap (λ n. n + 1) h.firsts_are.long;
-        at = λ j first f. elim (get_push firsts next j first f) [
-          | inl before ↦ h.firsts_are.at j first before
-          | inr here ↦ here.1 ∙ h.next_is
-              ∙ ap (λ n. length (sections_in (take n objects))) (sym (here.0 ∙ h.firsts_are.long))
-        ];
-      };
-      next_is = omega (arith, total, h.next_is, own, long, last, all, joined);
-      numbered = subst (Each (λ (y : NamedObject). HaveNumbers y.object)) (sym more)
-          (each_join (λ (y : NamedObject). HaveNumbers y.object) (take k objects) (o ∷ []) h.numbered (numbers, tt));
-      within = omega (arith, l);
-    })
-
-pub all_firsts : (inputs : List InputObject) (k next : ℕ) (firsts : List ℕ) → length inputs ≤ k
-    → FirstsSoFar inputs k next firsts → AreFirsts (shown_inputs inputs) (length inputs) firsts
-all_firsts inputs k next firsts past h =
-    let end : k ≡ length inputs = omega (arith, past, h.within) in
-    subst (λ n. AreFirsts (shown_inputs inputs) n firsts) end h.firsts_are
-
-pub all_numbered : (inputs : List InputObject) (k next : ℕ) (firsts : List ℕ) → length inputs ≤ k
-    → FirstsSoFar inputs k next firsts → (p : Project) → p.objects ≡ shown_inputs inputs → AreNumbered p
-all_numbered inputs k next firsts past h p same =
-    let many : length (shown_inputs inputs) ≡ length inputs = length-map inputs shown_input in
-    subst (Each (λ (y : NamedObject). HaveNumbers y.object))
-    (take_all k (shown_inputs inputs) (omega (arith, past, many)) ∙ sym same) h.numbered
-
 -- ---- the fields of a section
+
+linked_long : (objects : List NamedObject) → length (sections_in objects) ≡ linked_in objects
+linked_long [] = refl
+linked_long (o ∷ os) =
+    omega (
+      arith,
+      length-append (sections_of o o.object.sections) (sections_in os),
+      length-map o.object.sections (λ x. let s : ObjectSection = record { object = o; section = x } in s),
+      sum_by-cons (λ (y : NamedObject). length y.object.sections) o os,
+      linked_long os,
+    )
 
 -- a section of an object among all sections
 pub section_at : (objects : List NamedObject) (place : ℕ) (o : NamedObject) (i : ℕ) (x : LinkedSection)
@@ -186,18 +127,17 @@ run_of R (x ∷ xs) (r ∷ rs) (suc n) s h e =
     let rest = run_of R xs rs n s h.1 e in record { run = rest.run; at = rest.at; is = rest.is }
 
 pub run_found : (l : KnownLink) (stays : SectionKey → Bool) (o : NamedObject) (x : LinkedSection)
-    (firsts ends : List ℕ) (patches run : List Patch) (place section first number begin end : ℕ)
-    → AreFirsts l.project.objects (length l.project.objects) firsts
+    (ends : List ℕ) (patches run : List Patch) (place section first number begin end : ℕ)
+    → first ≡ linked_in (take place l.project.objects)
     → AreRunsUnless l stays patches ends → slice_get l.project.objects place ≡ Some o
     → slice_get o.object.sections section ≡ Some x
-    → slice_get firsts place ≡ Some first → number ≡ first + section → slice_get (0 ∷ ends) number ≡ Some begin
+    → number ≡ first + section → slice_get (0 ∷ ends) number ≡ Some begin
     → slice_get (0 ∷ ends) (number + 1) ≡ Some end → run ≡ take (end - begin) (drop begin patches)
     → IsRunUnless l stays (record { object = o; section = x }) run
-run_found l stays o x firsts ends patches run place section first number begin end are runs there own at
-    sum from to is =
+run_found l stays o x ends patches run place section first number begin end before runs there own sum from to is =
     let ss : List ObjectSection = sections_in l.project.objects in
     let number_is : number ≡ length (sections_in (take place l.project.objects)) + section =
-    sum ∙ ap (λ n. n + section) (are.at place first at) in
+    sum ∙ ap (λ n. n + section) (before ∙ sym (linked_long (take place l.project.objects))) in
     let found : slice_get ss number ≡ Some (record { object = o; section = x }) =
     ap (slice_get ss) number_is ∙ section_at l.project.objects place o section x there own in
     let one = run_of (IsRunUnless l stays) ss runs.runs number (record { object = o; section = x }) runs.each found in

@@ -1,8 +1,6 @@
 -- A link without faults, whose image can be drawn.
 use Rattle.std.specs.Prelude.{◌≤◌, Bool, List}
 use Rattle.std.specs.List.{AllZip}
-use Rattle.place.specs.Laying.{IsLaying}
-use Rattle.place.specs.declared.laying.Laying.{Laying}
 use Rattle.ldmodel.specs.Layout.{Layout}
 use Rattle.ldmodel.specs.Link.{max_image_length}
 use Rattle.ldmodel.specs.Project.{Project}
@@ -10,8 +8,8 @@ use Rattle.ldmodel.specs.SectionHeaders.{image_length}
 use Rattle.ldmodel.specs.declared.sections.SectionKey.{SectionKey}
 use Rattle.symres.specs.Naming.{NamingState}
 use Rattle.emit.specs.declared.relocated.Relocated.{Relocated}
-use Rattle.place.specs.Starts.{AreStarts}
-use Rattle.place.specs.declared.starts.Starts.{Starts}
+use Rattle.place.specs.Arranged.{IsArranged}
+use Rattle.place.specs.declared.arranged.Arranged.{Arranged}
 use Rattle.emit_values.specs.LinkView.{known_link}
 use Rattle.emit_values.specs.Values.{AreValues}
 use Rattle.emit_values.specs.declared.values.Values.{Values}
@@ -20,33 +18,31 @@ use Rattle.emit.specs.Runs.{AreRunsUnless}
 use Rattle.emit.specs.declared.output.OutputDrawing.{OutputDrawing}
 
 -- the places, the values, and the fields of what does not stay, of a project at a layout whose image is not too long
-pub record IsDrawableAt (p : Project) (s : Layout) (a : NamingState) (l : Laying) (t : Starts) (v : Values)
-    (r : Relocated) (stays : SectionKey → Bool) : Type 0 where
-  pub laying : IsLaying p s l
-  pub starts : AreStarts p s t
+pub record IsDrawableAt (p : Project) (s : Layout) (a : NamingState) (x : Arranged) (v : Values) (r : Relocated)
+    (stays : SectionKey → Bool) : Type 0 where
+  pub arranged : IsArranged p s x
   pub values : AreValues p s a v
   pub fields : AreRunsUnless (known_link p s a) stays r.patches.items r.ends.items
   pub short : image_length p s ≤ max_image_length
 
 -- the project has such a layout
-pub record IsDrawable (p : Project) (l : Laying) (t : Starts) (v : Values) (r : Relocated)
+pub record IsDrawable (p : Project) (x : Arranged) (v : Values) (r : Relocated)
     (stays : SectionKey → Bool) : Type 0 where
   pub layout : Layout
   pub names : NamingState
-  pub is : IsDrawableAt p layout names l t v r stays
+  pub is : IsDrawableAt p layout names x v r stays
 
 -- the same, and these are its output sections, of which these input sections stay
-pub record AreOutputs (p : Project) (l : Laying) (t : Starts) (v : Values) (s : Layout) (stays : SectionKey → Bool)
+pub record AreOutputs (p : Project) (x : Arranged) (v : Values) (s : Layout) (stays : SectionKey → Bool)
     (xs : List OutputDrawing) : Type 0 where
   pub names : NamingState
-  pub laying : IsLaying p s l
-  pub starts : AreStarts p s t
+  pub arranged : IsArranged p s x
   pub values : AreValues p s names v
   pub short : image_length p s ≤ max_image_length
   pub outputs : AllZip (IsOutput p s stays) s.sections xs
 
 -- it has a layout with these output sections
-pub record HasOutputs (p : Project) (l : Laying) (t : Starts) (v : Values) (xs : List OutputDrawing) : Type 0 where
+pub record HasOutputs (p : Project) (x : Arranged) (v : Values) (xs : List OutputDrawing) : Type 0 where
   pub layout : Layout
   pub stays : SectionKey → Bool
-  pub are : AreOutputs p l t v layout stays xs
+  pub are : AreOutputs p x v layout stays xs

@@ -20,12 +20,13 @@ use Rattle.ldmodel.specs.declared.sections.SectionKey.{SectionKey}
 use Rattle.emit.specs.declared.relocated.Relocated.{Relocated}
 use Rattle.emit_relocate.specs.KnownLink.{KnownLink}
 use Rattle.emit.specs.Kept.{IsKeptBy}
-use Rattle.emit.specs.Numbers.{AreFirsts}
+use Rattle.place.specs.Arranged.{IsArranged}
+use Rattle.place.specs.declared.arranged.Arranged.{Arranged}
 use Rattle.emit.specs.Runs.{AreRunsUnless}
 
--- the numbers of sections, and the fields of those that do not stay, are those of a link
-pub record AreSources (l : KnownLink) (stays : SectionKey → Bool) (numbers : List ℕ) (r : Relocated) : Type 0 where
-  pub firsts : AreFirsts l.project.objects (length l.project.objects) numbers
+-- where everything stands, and the fields of the sections that do not stay, are those of a link
+pub record AreSources (l : KnownLink) (stays : SectionKey → Bool) (a : Arranged) (r : Relocated) : Type 0 where
+  pub arranged : IsArranged l.project l.layout a
   pub runs : AreRunsUnless l stays r.patches.items r.ends.items
 
 -- a section of an object at an address

@@ -9,16 +9,14 @@ ghost use Rattle.emit_image.specs.Kept.{ArePatchesOf};
 ghost use Rattle.emit_image.specs.OfLink.{IsImagePart};
 ghost use Rattle.emit_image.specs.Stretches.{EndsBy, patch_bytes};
 ghost use Rattle.ldmodel_laws.specs.Untouched.{IsGood};
-ghost use Rattle.place.specs.Laying.{IsLaying};
+ghost use Rattle.place.specs.Arranged.{IsArranged};
 ghost use Rattle.ldmodel.specs.Image as definition;
 ghost use Rattle.ldmodel.specs.Layout.{Layout};
-ghost use Rattle.ldmodel.specs.Rows as model;
 ghost use Rattle.ldmodel.specs.SectionHeaders.{image_length};
 ghost use Rattle.ldmodel.specs.Stayed.{GoodLink};
 ghost use Rattle.ldmodel.specs.WorkBound.{bytes_stayed, retargeted_bytes};
 ghost use Rattle.ldmodel.specs.declared.sections.SectionKey.{SectionKey};
 ghost use Rattle.symres.specs.Naming.{NamingState};
-ghost use Rattle.ldmodel_project.specs.ByPlace.{rows_in};
 ghost use Rattle.emit_relocate.specs.Earlier.{IsComplete};
 ghost use Rattle.emit_values.specs.LinkView.{known_link};
 ghost use Rattle.emit.specs.Drawable.{AreOutputs, HasOutputs, IsDrawable, IsDrawableAt};
@@ -38,12 +36,10 @@ use emit_image::tail::{TailPart, TailParts};
 use emit_relocate::earlier::Earlier;
 use emit_values::values::Values;
 use ldmodel::memory::NoMemory;
-use ldmodel::rows::Piece;
 use ldmodel_laws::segments::sections_in_file;
 use ldmodel_laws::stayed::stayed_in_both;
 use ldmodel_project::view::ProjectView;
-use place::Laying;
-use place::starts::Starts;
+use place::arranged::Arranged;
 use std::alloc::Global;
 
 /// A part of the tail, lent.
@@ -75,31 +71,30 @@ fn draw_outputs(
     alloc: Global,
     canvas: &mut Canvas,
     project: &ProjectView<'_>,
-    laying: &Laying,
-    starts: &Starts,
+    arranged: &Arranged,
     values: &Values<'_>,
     outputs: &[OutputDrawing<'_>],
     patches: &[Patch],
     meter: &mut Meter,
 ) -> Result<(), NoMemory>
-    requires outputs { HasOutputs project.now laying.now starts.now values.now outputs.now }
-    requires patches { (s : Layout) → IsLaying project.now s laying.now
+    requires outputs { HasOutputs project.now arranged.now values.now outputs.now }
+    requires patches { (s : Layout) → IsArranged project.now s arranged.now
         → All (EndsBy (image_length project.now s)) patches.now }
     ensures image { OnOk result ((s : Layout) (stays : SectionKey → Bool)
-        → AreOutputs project.now laying.now starts.now values.now s stays outputs.now
+        → AreOutputs project.now arranged.now values.now s stays outputs.now
         → ((k : SectionKey) → stays k ≡ false) → canvas.new.bytes ≡ definition.image project.now s) }
     ensures redrawn { OnOk result ((old new : GoodLink) (stays : SectionKey → Bool) → new.project ≡ project.now
-        → AreOutputs project.now laying.now starts.now values.now new.layout stays outputs.now → IsGood old
+        → AreOutputs project.now arranged.now values.now new.layout stays outputs.now → IsGood old
         → IsGood new → HaveStayed old new stays → ArePatchesOf old new patches.now
         → canvas.old.bytes ≡ definition.image old.project old.layout
         → canvas.new.bytes ≡ definition.image new.project new.layout) }
     ensures work { OnOk result ((old new : GoodLink) (stays : SectionKey → Bool) → new.project ≡ project.now
-        → AreOutputs project.now laying.now starts.now values.now new.layout stays outputs.now → IsGood new
+        → AreOutputs project.now arranged.now values.now new.layout stays outputs.now → IsGood new
         → AreKept old new stays → patch_bytes patches.now ≤ retargeted_bytes old new
         → meter.new.bytes + bytes_stayed old new
         ≤ meter.old.bytes + (image_length new.project new.layout + retargeted_bytes old new)) }
     ensures spent { OnOk result ((old new : GoodLink) (stays : SectionKey → Bool) → new.project ≡ project.now
-        → AreOutputs project.now laying.now starts.now values.now new.layout stays outputs.now → IsGood new
+        → AreOutputs project.now arranged.now values.now new.layout stays outputs.now → IsGood new
         → AreKept old new stays → HaveStayed old new stays → meter.new ≡ raised meter.old counts.Bytes
         (patch_bytes patches.now + (image_length new.project new.layout - bytes_stayed old new))) }
     ensures counted { OnOk result ((n : ℕ) × (meter.new ≡ raised meter.old counts.Bytes n)) }
@@ -111,7 +106,7 @@ fn draw_outputs(
     placement_is_in_memory();
     stayed_in_both();
     sections_in_file();
-    let parts = drawing_parts(alloc, project, laying, starts, values, outputs)?;
+    let parts = drawing_parts(alloc, project, arranged, values, outputs)?;
     let tail = image_parts(&parts.tail);
     let drawing = Drawing {
         headers: &parts.headers,
@@ -137,38 +132,35 @@ pub fn draw_image<'a, E: Earlier>(
     alloc: Global,
     canvas: &mut Canvas,
     project: &'a ProjectView<'_>,
-    rows: &[Vec<Piece>],
-    laying: &'a Laying,
-    starts: &Starts,
+    arranged: &'a Arranged,
     values: &Values<'_>,
     relocated: &'a Relocated,
     earlier: &E,
     patches: &[Patch],
     meter: &mut Meter,
 ) -> Result<(), NoMemory>
-    requires rows { rows_in project.now rows.now ≡ model.rows project.now }
-    requires drawable { IsDrawable project.now laying.now starts.now values.now relocated.now
+    requires drawable { IsDrawable project.now arranged.now values.now relocated.now
         (λ k. is_some (E.range earlier.now k)) }
-    requires patches { (s : Layout) → IsLaying project.now s laying.now
+    requires patches { (s : Layout) → IsArranged project.now s arranged.now
         → All (EndsBy (image_length project.now s)) patches.now }
     ensures image { OnOk result ((s : Layout) (a : NamingState)
-        → IsDrawableAt project.now s a laying.now starts.now values.now relocated.now
+        → IsDrawableAt project.now s a arranged.now values.now relocated.now
         (λ k. is_some (E.range earlier.now k)) → ((k : SectionKey) → E.range earlier.now k ≡ None)
         → canvas.new.bytes ≡ definition.image project.now s) }
     ensures redrawn { OnOk result ((old new : GoodLink) (a : NamingState) → new.project ≡ project.now
-        → IsDrawableAt project.now new.layout a laying.now starts.now values.now relocated.now
+        → IsDrawableAt project.now new.layout a arranged.now values.now relocated.now
         (λ k. is_some (E.range earlier.now k)) → IsGood old → IsGood new
         → IsSound (E.range earlier.now) old (known_link new.project new.layout a)
         → ArePatchesOf old new patches.now → canvas.old.bytes ≡ definition.image old.project old.layout
         → canvas.new.bytes ≡ definition.image new.project new.layout) }
     ensures work { OnOk result ((old new : GoodLink) (a : NamingState) → new.project ≡ project.now
-        → IsDrawableAt project.now new.layout a laying.now starts.now values.now relocated.now
+        → IsDrawableAt project.now new.layout a arranged.now values.now relocated.now
         (λ k. is_some (E.range earlier.now k)) → IsGood new
         → IsComplete (E.range earlier.now) old (known_link new.project new.layout a)
         → patch_bytes patches.now ≤ retargeted_bytes old new → meter.new.bytes + bytes_stayed old new
         ≤ meter.old.bytes + (image_length new.project new.layout + retargeted_bytes old new)) }
     ensures spent { OnOk result ((old new : GoodLink) (a : NamingState) → new.project ≡ project.now
-        → IsDrawableAt project.now new.layout a laying.now starts.now values.now relocated.now
+        → IsDrawableAt project.now new.layout a arranged.now values.now relocated.now
         (λ k. is_some (E.range earlier.now k)) → IsGood new
         → IsComplete (E.range earlier.now) old (known_link new.project new.layout a)
         → IsSound (E.range earlier.now) old (known_link new.project new.layout a)
@@ -179,10 +171,10 @@ pub fn draw_image<'a, E: Earlier>(
 {
     // the borrow checker wants its lifetime named
     let pieces: Vec<Vec<ImagePiece<'a>>> = image_pieces(
-        alloc, project, rows, laying, relocated, earlier,
+        alloc, project, arranged, relocated, earlier,
     )?;
-    let outputs = outputs(alloc, project, laying, &pieces)?;
+    let outputs = outputs(alloc, project, &arranged.laying, &pieces)?;
     draw_outputs(
-        alloc, canvas, project, laying, starts, values, &outputs, patches, meter,
+        alloc, canvas, project, arranged, values, &outputs, patches, meter,
     )
 }

@@ -2,7 +2,7 @@
 //! project, and perhaps an earlier link; gives fields or their faults, the bytes drawn, the map and the fault lines.
 //!
 //! - `relocated` over `keys`: the fields of all relocations, or their faults; `law`;
-//! - `drawing` over `output`, `parts`, `pieces`, `data_runs`, `section_numbers`, `symbols`: the image; `length`;
+//! - `drawing` over `output`, `parts`, `pieces`, `data_runs`, `section_fields`, `symbols`: the image; `length`;
 //! - `good`: a link without faults is one that the laws on two links speak of;
 //! - `map`, `fault_lines` over `by_place`: the texts;
 //! - the parts `fields`, `relocate`, `values`, `image`, `text`. Other families name this crate alone.
@@ -21,7 +21,7 @@ mod output;
 mod parts;
 mod pieces;
 pub mod relocated;
-mod section_numbers;
+mod section_fields;
 mod symbols;
 
 pub use crate::fault_lines::fault_text;

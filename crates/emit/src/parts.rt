@@ -22,8 +22,7 @@ use ldmodel::impossible::impossible;
 use ldmodel::memory::NoMemory;
 use ldmodel_laws::segments::segments_by_neighbours;
 use ldmodel_project::view::ProjectView;
-use place::Laying;
-use place::starts::Starts;
+use place::arranged::Arranged;
 use std::alloc::Global;
 
 /// One more than the greatest offset that a section header can state.
@@ -127,17 +126,16 @@ pub(crate) struct ImageParts<'a> {
 pub(crate) fn drawing_parts<'a>(
     alloc: Global,
     project: &ProjectView<'_>,
-    laying: &Laying,
-    starts: &Starts,
+    arranged: &Arranged,
     values: &Values<'_>,
     outputs: &[OutputDrawing<'a>],
 ) -> Result<ImageParts<'a>, NoMemory>
     ensures { IfOk result (λ x. (s : Layout) (stays : SectionKey → Bool)
-        → AreOutputs project.now laying.now starts.now values.now s stays outputs.now
+        → AreOutputs project.now arranged.now values.now s stays outputs.now
         → ArePartsOf project.now s stays x) }
 {
-    let segments = laying.segments.as_slice();
-    let symbols = table_symbols(alloc, project, starts, values)?;
+    let segments = arranged.laying.segments.as_slice();
+    let symbols = table_symbols(alloc, project, arranged, values)?;
     let headings = table_sections(alloc, outputs)?;
     let end = loaded_end(segments)?;
     let tail = tail(alloc, end, &symbols, &headings)?;

@@ -7,10 +7,9 @@ ghost use Rattle.std.specs.Vec.{vec_items};
 ghost use Rattle.emit_image.specs.Joined.{StandFor};
 ghost use Rattle.emit_image.specs.declared.section.ImagePiece.{ImagePiece as Drawn};
 ghost use Rattle.elfobj.specs.Sections.{LinkedSection, section_of};
-ghost use Rattle.place.specs.Laying.{IsLaying};
+ghost use Rattle.place.specs.Arranged.{IsArranged};
 ghost use Rattle.ldmodel.specs.Layout.{Layout, PlacedPiece, PlacedSection};
 ghost use Rattle.ldmodel.specs.Project.{NamedObject};
-ghost use Rattle.ldmodel.specs.Rows as model;
 ghost use Rattle.ldmodel.specs.SymbolValues.{placed_part};
 ghost use Rattle.ldmodel.specs.declared.sections.Part.TheVariants as part;
 ghost use Rattle.ldmodel.specs.declared.sections.SectionKey.{SectionKey as KeyOf};
@@ -24,7 +23,7 @@ ghost use Rattle.emit.specs.Pieces.{IsSectionPiece};
 ghost use Rattle.emit.specs.Runs.{AreRunsUnless};
 
 use crate::relocated::Relocated;
-use crate::section_numbers::{fields_of, first_sections};
+use crate::section_fields::fields_of;
 use elfobj::Object;
 use elfobj::section::{LinkedIndex, Section, SectionKind};
 use emit_image::row::{add_drawn, add_kept};
@@ -38,7 +37,8 @@ use ldmodel::sections::Part;
 use ldmodel_laws::gathering::{live_by_path, once_in_rows};
 use ldmodel_laws::layout::placed_are_rows;
 use ldmodel_project::view::ProjectView;
-use place::Laying;
+use place::arranged::Arranged;
+use place::numbered::are_numbered;
 use std::alloc::Global;
 
 /// An input section of this number of bytes at an address, all of which are 0.
@@ -67,7 +67,7 @@ fn section_at(object: &Object, index: LinkedIndex) -> Section
 /// among those whose fields are known.
 fn section_piece<'a>(
     relocated: &'a Relocated,
-    firsts: &[usize],
+    arranged: &Arranged,
     key: ObjectPlace,
     object: &'a Object,
     index: LinkedIndex,
@@ -77,7 +77,7 @@ fn section_piece<'a>(
     requires { index.0 < length object.now.sections }
     ensures { IfOk result (λ y. (l : KnownLink) (stays : KeyOf → Bool) (o : NamedObject) (x : LinkedSection)
         (w : PlacedPiece)
-        → AreSources l stays firsts.now relocated.now → slice_get l.project.objects key.0 ≡ Some o
+        → AreSources l stays arranged.now relocated.now → slice_get l.project.objects key.0 ≡ Some o
         → o.object ≡ object.now
         → slice_get o.object.sections index.0 ≡ Some x
         → stays (record { object = key; part = part.InTable x.number }) ≡ false
@@ -91,7 +91,7 @@ fn section_piece<'a>(
     let bytes = object.section_bytes(index);
     match section.kind {
         SectionKind::Nobits => Ok(zeros(size, start)),
-        _ => match fields_of(relocated, firsts, key.0, index) {
+        _ => match fields_of(relocated, arranged, key, index) {
             // Each object that an entry names is one of the project
             None => Err(impossible()),
             Some(fields) => Ok(ImagePiece {
@@ -109,12 +109,12 @@ fn section_piece<'a>(
 fn drawn_piece<'a>(
     project: &'a ProjectView<'_>,
     relocated: &'a Relocated,
-    firsts: &[usize],
+    arranged: &Arranged,
     piece: &Piece,
     start: u64,
 ) -> Result<ImagePiece<'a>, NoMemory>
     ensures { IfOk result (λ y. (l : KnownLink) (stays : KeyOf → Bool) (w : PlacedPiece)
-        → l.project ≡ project.now → AreSources l stays firsts.now relocated.now → stays piece.now.section ≡ false
+        → l.project ≡ project.now → AreSources l stays arranged.now relocated.now → stays piece.now.section ≡ false
         → IsPlacedAt project.now l.layout (piece_in project.now piece.now) start w
         → IsDrawnPiece l.project l.layout w y) }
 {
@@ -131,7 +131,7 @@ fn drawn_piece<'a>(
                 Some(index) => {
                     // so that what an object says of its sections is known
                     let _sections = object.sections();
-                    section_piece(relocated, firsts, key, object, index, piece.size, start)
+                    section_piece(relocated, arranged, key, object, index, piece.size, start)
                 }
             },
         },
@@ -144,13 +144,13 @@ fn add_entry<'a, E: Earlier>(
     pieces: &mut Vec<ImagePiece<'a>>,
     project: &'a ProjectView<'_>,
     relocated: &'a Relocated,
-    firsts: &[usize],
+    arranged: &Arranged,
     earlier: &E,
     piece: &Piece,
     start: u64,
 ) -> Result<(), NoMemory>
     ensures { OnOk result ((l : KnownLink) (w : PlacedPiece) (whole : List Drawn) → l.project ≡ project.now
-        → AreSources l (λ k. is_some (E.range earlier.now k)) firsts.now relocated.now
+        → AreSources l (λ k. is_some (E.range earlier.now k)) arranged.now relocated.now
         → IsPlacedAt project.now l.layout (piece_in project.now piece.now) start w → StandFor whole pieces.old.items
         → (y : Drawn) × IsRowPiece l.project l.layout (λ k. is_some (E.range earlier.now k)) w y
         × StandFor (whole ++ y ∷ []) pieces.new.items) }
@@ -158,7 +158,7 @@ fn add_entry<'a, E: Earlier>(
     match earlier.stayed(piece.section) {
         Some(_) => add_kept(pieces, piece.size, start),
         None => {
-            let drawn = drawn_piece(project, relocated, firsts, piece, start)?;
+            let drawn = drawn_piece(project, relocated, arranged, piece, start)?;
             add_drawn(pieces, drawn)
         }
     }
@@ -170,13 +170,13 @@ fn image_row<'a, E: Earlier>(
     alloc: Global,
     project: &'a ProjectView<'_>,
     relocated: &'a Relocated,
-    firsts: &[usize],
+    arranged: &Arranged,
     earlier: &E,
     row: &[Piece],
     starts: &[u64],
 ) -> Result<Vec<ImagePiece<'a>>, NoMemory>
     ensures { IfOk result (λ v. (l : KnownLink) (q : PlacedSection) → l.project ≡ project.now
-        → AreSources l (λ k. is_some (E.range earlier.now k)) firsts.now relocated.now
+        → AreSources l (λ k. is_some (E.range earlier.now k)) arranged.now relocated.now
         → IsRowAt project.now l.layout (map (piece_in project.now) row.now) starts.now q
         → IsJoinedRow l.project l.layout (λ k. is_some (E.range earlier.now k)) q v.items) }
 {
@@ -190,7 +190,7 @@ fn image_row<'a, E: Earlier>(
                     &mut pieces,
                     project,
                     relocated,
-                    firsts,
+                    arranged,
                     earlier,
                     piece,
                     *start,
@@ -201,25 +201,24 @@ fn image_row<'a, E: Earlier>(
     Ok(pieces)
 }
 
-/// The entries of rows at these addresses, row by row. Fails where memory runs out.
+/// The entries of all rows, row by row. Fails where memory runs out.
 fn image_rows<'a, E: Earlier>(
     alloc: Global,
     project: &'a ProjectView<'_>,
     relocated: &'a Relocated,
-    firsts: &[usize],
+    arranged: &Arranged,
     earlier: &E,
-    rows: &[Vec<Piece>],
     starts: &[u64],
 ) -> Result<Vec<Vec<ImagePiece<'a>>>, NoMemory>
     ensures { IfOk result (λ v. (l : KnownLink) → l.project ≡ project.now
-        → AreSources l (λ k. is_some (E.range earlier.now k)) firsts.now relocated.now
-        → AreRowsAt project.now l.layout (rows_in project.now rows.now) starts.now
+        → AreSources l (λ k. is_some (E.range earlier.now k)) arranged.now relocated.now
+        → AreRowsAt project.now l.layout (rows_in project.now arranged.now.rows.items) starts.now
         → AllZip (IsJoinedRow l.project l.layout (λ k. is_some (E.range earlier.now k))) l.layout.sections
         (map vec_items v.items)) }
 {
-    let mut pieces = Vec::with_capacity(alloc, rows.len())?;
+    let mut pieces = Vec::with_capacity(alloc, arranged.rows.len())?;
     let mut at: usize = 0;
-    for row in rows {
+    for row in &arranged.rows {
         let row = row.as_slice();
         if starts.len() - at < row.len() {
             // The starts are those of all rows
@@ -229,7 +228,7 @@ fn image_rows<'a, E: Earlier>(
             alloc,
             project,
             relocated,
-            firsts,
+            arranged,
             earlier,
             row,
             &starts[at..],
@@ -249,13 +248,11 @@ fn image_rows<'a, E: Earlier>(
 pub(crate) fn image_pieces<'a, E: Earlier>(
     alloc: Global,
     project: &'a ProjectView<'_>,
-    rows: &[Vec<Piece>],
-    laying: &Laying,
+    arranged: &Arranged,
     relocated: &'a Relocated,
     earlier: &E,
 ) -> Result<Vec<Vec<ImagePiece<'a>>>, NoMemory>
-    requires { rows_in project.now rows.now ≡ model.rows project.now }
-    ensures { IfOk result (λ v. (s : Layout) (a : NamingState) → IsLaying project.now s laying.now
+    ensures { IfOk result (λ v. (s : Layout) (a : NamingState) → IsArranged project.now s arranged.now
         → AreRunsUnless (known_link project.now s a) (λ k. is_some (E.range earlier.now k))
         relocated.now.patches.items relocated.now.ends.items
         → AllZip (IsJoinedRow project.now s (λ k. is_some (E.range earlier.now k))) s.sections
@@ -264,15 +261,8 @@ pub(crate) fn image_pieces<'a, E: Earlier>(
     live_by_path();
     once_in_rows();
     placed_are_rows();
-    let firsts = first_sections(alloc, project.inputs())?;
-    let laid = laying.placement.laid();
-    image_rows(
-        alloc,
-        project,
-        relocated,
-        &firsts,
-        earlier,
-        rows,
-        laid.starts,
-    )
+    are_numbered(project);
+    let _inputs = project.inputs();
+    let starts = arranged.laying.placement.pieces();
+    image_rows(alloc, project, relocated, arranged, earlier, starts)
 }

@@ -4,7 +4,7 @@ use Rattle.ldmodel.specs.Layout.{Layout, script_value}
 use Rattle.ldmodel.specs.Project.{Project}
 use Rattle.symres.specs.Decided.{HasCase}
 use Rattle.symres.specs.Naming.{IsNaming, NamingState}
-use Rattle.place.specs.Starts.{AreStarts}
+use Rattle.place.specs.Arranged.{IsArranged}
 use Rattle.emit_relocate.specs.KnownLink.{KnownLink}
 use Rattle.emit_values.specs.declared.link_view.LinkView.{LinkView}
 
@@ -17,7 +17,7 @@ pub record IsLinkView (l : KnownLink) (v : LinkView) : Type 0 where
   pub project : l.project ≡ v.project.now
   pub link : l ≡ known_link l.project l.layout v.naming.now
   pub naming : IsNaming l.project v.naming.now
-  pub starts : AreStarts l.project l.layout v.starts.now
+  pub arranged : IsArranged l.project l.layout v.arranged.now
   pub given : (k : ℕ) (name : List ℕ) → l.name k ≡ Some name
       → slice_index_or v.given.items k None ≡ script_value l.layout name
   pub cases : (k : ℕ) (name : List ℕ) → l.name k ≡ Some name → HasCase v.naming.now.cases k

@@ -7,7 +7,7 @@ ghost use Rattle.ldmodel.specs.Live.{symbol_at};
 ghost use Rattle.ldmodel.specs.NameFaults.{object_name};
 ghost use Rattle.ldmodel.specs.Project.{Project};
 ghost use Rattle.ldmodel.specs.SymbolValues.{placed_part};
-ghost use Rattle.place.specs.Starts.{AreStarts};
+ghost use Rattle.place.specs.Arranged.{IsArranged};
 ghost use Rattle.emit_relocate.specs.KnownLink.{IsCaseOf, IsNameOf, IsScriptValueOf, KnownLink, object_of, start_of};
 ghost use Rattle.emit_values.specs.LinkView.{IsLinkView};
 ghost use Rattle.emit_values.specs.Seen.{is_seen};
@@ -19,7 +19,7 @@ use emit_relocate::known::Known;
 use ldmodel::names::{Case, NameKey, ObjectPlace};
 use ldmodel::sections::SectionKey;
 use ldmodel_project::view::ProjectView;
-use place::starts::Starts;
+use place::arranged::Arranged;
 use symres::declaring::declares;
 
 /// Whether there is a symbol that isn't local.
@@ -35,12 +35,12 @@ fn sees(project: &ProjectView<'_>, object: ObjectPlace, symbol: SymbolIndex) -> 
     declares(entry.binding)
 }
 
-/// Where an input section starts, if it is in the output.
-fn start_in(starts: &Starts, section: SectionKey) -> Option<u64>
-    ensures { (p : Project) (s : Layout) → AreStarts p s starts.now → result
+/// Where an input section arranged, if it is in the output.
+fn start_in(arranged: &Arranged, section: SectionKey) -> Option<u64>
+    ensures { (p : Project) (s : Layout) → IsArranged p s arranged.now → result
         ≡ option_map (λ (x : PlacedPiece). x.start) (placed_part s (object_name p section.object.0) section.part) }
 {
-    match starts.find(section) {
+    match arranged.find(section) {
         None => None,
         Some(place) => Some(place.start),
     }
@@ -54,7 +54,7 @@ impl<'a, 'p> Known for LinkView<'a, 'p> {
     }
 
     fn start(&self, section: SectionKey) -> Option<u64> {
-        start_in(self.starts, section)
+        start_in(self.arranged, section)
     }
 
     fn name_key(&self, object: ObjectPlace, symbol: SymbolIndex) -> NameKey {

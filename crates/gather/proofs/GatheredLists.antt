@@ -1,8 +1,8 @@
 -- What holds of gathered sections, as of the input sections that they stand for.
 use Rattle.std.proofs.Common.{◌≡◌, ◌<◌, ◌+◌, ℕ, Bool, true, false, cond, List, [], ◌∷◌, ◌++◌, length, filter, map}
 use Rattle.std.proofs.Common.{get_or, drop, ltb, refl, ap, sym, ◌∙◌, subst, arith, Option, Some, None, ◌≤◌, zero, suc}
-use Rattle.std.proofs.Common.{append_assoc, append-nil, ⊎_elim}
-use Rattle.std.specs.Prelude.{slice_get, option_and_then}
+use Rattle.std.proofs.Common.{append_assoc, append-nil, ⊎_elim, Vec, Global}
+use Rattle.std.specs.Prelude.{Err, Ok, OnOk, Result, slice_get, option_and_then}
 use Rattle.std.specs.List.{All, filter_map, cons_option, position, position_or_len}
 use Rattle.std.specs.Option.{option_map, is_none}
 use Rattle.std.proofs.lemmas.Bool.{cases_lt, ltb-true}
@@ -21,11 +21,11 @@ use Rattle.ldmodel.specs.Sections.{InputSection}
 use Rattle.ldmodel.specs.declared.rows.InputIndex.{InputIndex}
 use Rattle.ldmodel.specs.declared.sections.SectionKey.{SectionKey}
 use Rattle.gather.specs.Gathered.{AreGathered, Facts, IsNamedSection, Keys, facts, named_piece, shown_facts}
-use Rattle.gather.specs.Gathered.{taken_named, untaken, untaken_by_none}
+use Rattle.gather.specs.Gathered.{taken_in, taken_named, untaken, untaken_by_none}
 use Rattle.gather.specs.LeftOut.{is_out_by, is_out_of}
 use Rattle.gather.specs.LiveMarks.{marked}
 use Rattle.gather.specs.Matches.{number_of}
-use Rattle.gather.specs.RowPieces.{AreTaken, IsNamed, shown_named, taken_piece}
+use Rattle.gather.specs.RowPieces.{AreBuckets, AreTaken, IsNamed, shown_named, taken_piece}
 use Rattle.gather.specs.declared.gathered.Gathered.{Gathered}
 use Rattle.gather.specs.declared.sorting.NamedPiece.{NamedPiece}
 
@@ -285,3 +285,24 @@ pub found_all : {Y : Type 0} (h : Gathered → Option Y) (found all : List Y) (m
 found_all h found all marks xs i past e =
     sym (append-nil found) ∙ ap (λ l. found ++ filter_map h l) (sym (marked_nil (drop i marks)))
     ∙ ap (λ l. found ++ filter_map h (marked (drop i marks) l)) (sym (drop_all i xs past)) ∙ e
+
+-- the sections before a place are in the lists of the statements that take them
+pub record Taken (xs : List Gathered) (marks : List Bool) (i count : ℕ) (buckets : List (Vec NamedPiece Global))
+    : Type 0 where
+  pub done : List NamedPiece
+  pub are : AreBuckets done count buckets
+  pub rest : done ++ taken_in (drop i marks) (drop i xs) ≡ taken_in marks xs
+
+-- a live section that a statement takes is put as its piece
+pub taken_one : {T E : Type 0} (r : Result T E) (x : Gathered) (b : Bool) (n : InputIndex) (piece : NamedPiece)
+    (old new : List (Vec NamedPiece Global)) → b ≡ true → x.statement ≡ Some n → piece ≡ named_piece x n
+    → OnOk r ((xs : List NamedPiece) (count : ℕ) → AreBuckets xs count old → AreBuckets (xs ++ piece ∷ []) count new)
+    → OnOk r ((xs : List NamedPiece) (count : ℕ) → AreBuckets xs count old
+    → AreBuckets (xs ++ filter_map taken_named (cond b (x ∷ []) [])) count new)
+taken_one (Err e) x b n piece old new live at is h = tt
+taken_one (Ok u) x b n piece old new live at is h = λ xs count are.
+    let same : piece ∷ [] ≡ filter_map taken_named (cond b (x ∷ []) []) =
+    ap (λ y. y ∷ []) is
+    ∙ sym (ap (λ c. filter_map taken_named (cond c (x ∷ []) [])) live
+    ∙ ap (λ o. cons_option (option_map (named_piece x) o) []) at) in
+    subst (λ l. AreBuckets (xs ++ l) count new) same (h xs count are)

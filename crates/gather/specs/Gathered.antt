@@ -1,5 +1,6 @@
 -- Input sections as the code gathers them.
-use Rattle.std.specs.Prelude.{ℕ, ◌≡◌, List, map, Option, Some, None, All}
+use Rattle.std.specs.Prelude.{ℕ, ◌≡◌, List, map, Bool, Option, Some, None, All}
+use Rattle.std.specs.List.{filter_map}
 use Rattle.std.specs.Option.{option_map}
 use Rattle.elfobj.specs.declared.section.SectionKind.{SectionKind}
 use Rattle.ldmodel.specs.FirstMatch.{first_match}
@@ -11,6 +12,7 @@ use Rattle.ldmodel.specs.declared.rows.InputIndex.{InputIndex}
 use Rattle.ldmodel.specs.declared.sections.SectionKey.{SectionKey}
 use Rattle.gather.specs.declared.gathered.Gathered.{Gathered}
 use Rattle.gather.specs.declared.sorting.NamedPiece.{NamedPiece}
+use Rattle.gather.specs.LiveMarks.{marked}
 use Rattle.gather.specs.Matches.{number_of}
 use Rattle.gather.specs.RowPieces.{Naming}
 
@@ -81,6 +83,10 @@ named_piece x n = record {
 -- a section as the piece of the statement that takes it, if one does
 abbrev pub taken_named : Gathered → Option NamedPiece
 taken_named x = option_map (named_piece x) x.statement
+
+-- the marked sections as pieces of the statements that take them
+abbrev pub taken_in : List Bool → List Gathered → List NamedPiece
+taken_in marks xs = filter_map taken_named (marked marks xs)
 
 -- the key of a section that no statement takes
 abbrev pub untaken_by_none : SectionKey → Option InputIndex → Option SectionKey

@@ -16,7 +16,7 @@ use crate::blocks::{block_ranks, common_blocks};
 use crate::gathered::Gathered;
 use crate::left_out::left_out;
 use crate::live::mark_live;
-use crate::live_sections::{orphans, taken};
+use crate::live_sections::orphans;
 use crate::matches::Matches;
 use crate::member::input_sections;
 use crate::members::members;
@@ -57,8 +57,7 @@ fn sorted_out(
 {
     live_by_path();
     let orphans = orphans(alloc, sections, marks)?;
-    let pieces = taken(alloc, sections, marks)?;
-    let rows = rows(alloc, project.script(), &pieces)?;
+    let rows = rows(alloc, project.script(), sections, marks)?;
     Ok(Gathering {
         table,
         rows,

@@ -8,12 +8,10 @@ ghost use Rattle.ldmodel.specs.Live.{live, orphans};
 ghost use Rattle.ldmodel.specs.Project.{Project};
 ghost use Rattle.ldmodel.specs.Sections.{InputSection};
 ghost use Rattle.std.specs.List.{filter_map};
-ghost use Rattle.gather.specs.Gathered.{AreGathered, Keys, taken_named, untaken};
+ghost use Rattle.gather.specs.Gathered.{AreGathered, Keys, untaken};
 ghost use Rattle.gather.specs.LiveMarks.{marked};
-ghost use Rattle.gather.specs.RowPieces.{AreTaken};
 
 use crate::gathered::Gathered;
-use crate::rows::NamedPiece;
 use ldmodel::memory::NoMemory;
 use ldmodel::sections::SectionKey;
 use ldmodel_laws::gathering::live_by_path;
@@ -38,28 +36,10 @@ pub fn not_out(alloc: Global, out: &[bool]) -> Result<Vec<bool>, NoMemory>
 }
 
 /// The mark of the section of this number; a section without one is not live.
-fn is_marked(marks: &[bool], number: usize) -> bool
+pub(crate) fn is_marked(marks: &[bool], number: usize) -> bool
     ensures { result ≡ slice_index_or marks.now number false }
 {
     marks.get(number).copied().unwrap_or(false)
-}
-
-/// Adds a section, if it is live and a statement takes it.
-fn add_taken<'a>(
-    pieces: &mut Vec<NamedPiece<'a>>,
-    section: &Gathered<'a>,
-    is_live: bool,
-) -> Result<(), NoMemory>
-    ensures { OnOk result (pieces.new.items ≡ pieces.old.items
-        ++ filter_map taken_named (if is_live then section.now ∷ [] else [])) }
-{
-    match section.statement {
-        Some(statement) if is_live => {
-            pieces.push(section.piece(statement))?;
-            Ok(())
-        }
-        _ => Ok(()),
-    }
 }
 
 /// Adds a section, if it is live and no statement takes it.
@@ -78,27 +58,6 @@ fn add_untaken(
         }
         _ => Ok(()),
     }
-}
-
-/// The live sections that statements take, as pieces of these, in their order. `marks` says of each section whether it
-/// is live.
-///
-/// # Errors
-///
-/// Where memory runs out.
-pub fn taken<'a>(
-    alloc: Global,
-    sections: &[Gathered<'a>],
-    marks: &[bool],
-) -> Result<Vec<NamedPiece<'a>>, NoMemory>
-    ensures { IfOk result (λ pieces. (p : Project) (keys : Keys) → AreGathered p keys sections.now
-        → marked marks.now (input_sections p) ≡ live p → AreTaken p keys.naming pieces.items) }
-{
-    let mut pieces = Vec::with_capacity(alloc, sections.len())?;
-    for (place, section) in sections.iter().enumerate() {
-        add_taken(&mut pieces, section, is_marked(marks, place))?;
-    }
-    Ok(pieces)
 }
 
 /// The live sections that no statement takes, each of them a fault, in their order. `marks` says of each section

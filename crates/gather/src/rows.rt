@@ -1,11 +1,19 @@
 //! The rows of the output sections.
 
-ghost use Rattle.std.specs.Prelude.{◌≡◌, ◌++◌, IfOk, OnOk, length, map};
+ghost use Rattle.std.specs.Prelude.{◌≡◌, ◌++◌, ◌∷◌, [], ℕ, IfOk, List, OnOk, length, map, if◌then◌else◌};
+ghost use Rattle.std.specs.List.{filter_map};
 ghost use Rattle.ldscript.specs.statements.Numbered.{shown_inputs};
 ghost use Rattle.ldmodel.specs.Project.{Project};
 ghost use Rattle.ldmodel.specs.Rows.{rows};
-ghost use Rattle.gather.specs.RowPieces.{AddsTo, AreBuckets, AreEmpty, AreTaken, Naming, shown_row};
+ghost use Rattle.ldmodel.specs.InputSections.{input_sections};
+ghost use Rattle.ldmodel.specs.Live.{live};
+ghost use Rattle.gather.specs.Gathered.{AreGathered, Keys, taken_in, taken_named};
+ghost use Rattle.gather.specs.LiveMarks.{marked};
+ghost use Rattle.gather.specs.RowPieces.{AddsTo, AreBuckets, AreEmpty, shown_row};
+ghost use Rattle.gather.specs.declared.sorting.NamedPiece.{NamedPiece as Named};
 
+use crate::gathered::Gathered;
+use crate::live_sections::is_marked;
 pub use crate::sorting::NamedPiece;
 use crate::sorting::order;
 use ldmodel::memory::NoMemory;
@@ -14,23 +22,63 @@ use ldscript::Script;
 use ldscript::tree::{InputPlace, InputStatementAt, Sort};
 use std::alloc::Global;
 
-/// The pieces of each statement, in their order.
-fn buckets<'a>(
+/// As many lists of nothing.
+fn empty_buckets<'a>(
     alloc: Global,
-    pieces: &[NamedPiece<'a>],
     statements: usize,
 ) -> Result<Vec<Vec<NamedPiece<'a>>>, NoMemory>
-    ensures { IfOk result (λ buckets. AreBuckets pieces.now statements buckets.items) }
+    ensures { IfOk result (λ buckets. AreBuckets [] statements buckets.items) }
 {
     let mut buckets: Vec<Vec<NamedPiece<'a>>> = Vec::with_capacity(alloc, statements)?;
     for _number in 0..statements {
         buckets.push(Vec::new(alloc))?;
     }
-    for piece in pieces {
-        let number = piece.piece.statement.0 as usize;
-        if number < statements {
-            buckets[number].push(*piece)?;
-        }
+    Ok(buckets)
+}
+
+/// Adds a piece to those of its statement.
+fn add_piece<'a>(
+    buckets: &mut Vec<Vec<NamedPiece<'a>>>,
+    piece: NamedPiece<'a>,
+) -> Result<(), NoMemory>
+    ensures { OnOk result ((xs : List Named) (count : ℕ) → AreBuckets xs count buckets.old.items
+        → AreBuckets (xs ++ piece.entry ∷ []) count buckets.new.items) }
+{
+    let number = piece.piece.statement.0 as usize;
+    if number < buckets.len() {
+        buckets[number].push(piece)?;
+    }
+    Ok(())
+}
+
+/// Adds a section to those of the statement that takes it, if it is live and one does.
+fn add_taken<'a>(
+    buckets: &mut Vec<Vec<NamedPiece<'a>>>,
+    section: &Gathered<'a>,
+    is_live: bool,
+) -> Result<(), NoMemory>
+    ensures { OnOk result ((xs : List Named) (count : ℕ) → AreBuckets xs count buckets.old.items
+        → AreBuckets (xs ++ filter_map taken_named (if is_live then section.now ∷ [] else [])) count
+        buckets.new.items) }
+{
+    match section.statement {
+        Some(statement) if is_live => add_piece(buckets, section.piece(statement)),
+        _ => Ok(()),
+    }
+}
+
+/// The live sections that each statement takes, in their order. `marks` says of each section whether it is live.
+fn buckets<'a>(
+    alloc: Global,
+    sections: &[Gathered<'a>],
+    marks: &[bool],
+    statements: usize,
+) -> Result<Vec<Vec<NamedPiece<'a>>>, NoMemory>
+    ensures { IfOk result (λ buckets. AreBuckets (taken_in marks.now sections.now) statements buckets.items) }
+{
+    let mut buckets = empty_buckets(alloc, statements)?;
+    for (place, section) in sections.iter().enumerate() {
+        add_taken(&mut buckets, section, is_marked(marks, place))?;
     }
     Ok(buckets)
 }
@@ -78,9 +126,9 @@ fn empty_rows(alloc: Global, count: usize) -> Result<Vec<Vec<Piece>>, NoMemory>
     Ok(rows)
 }
 
-/// The row of each output section, in the order of the script: statement by statement the pieces that the statement
-/// takes, which are those of `pieces` in their order or, where the statement has a sort, as this orders them.
-/// `pieces` are the live sections that statements take, in object order and then section order.
+/// The row of each output section, in the order of the script: statement by statement the live sections that the
+/// statement takes, in object order and then section order or, where the statement has a sort, as this orders them.
+/// `marks` says of each section whether it is live.
 ///
 /// # Errors
 ///
@@ -88,13 +136,15 @@ fn empty_rows(alloc: Global, count: usize) -> Result<Vec<Vec<Piece>>, NoMemory>
 pub fn rows(
     alloc: Global,
     script: &Script,
-    pieces: &[NamedPiece<'_>],
+    sections: &[Gathered<'_>],
+    marks: &[bool],
 ) -> Result<Vec<Vec<Piece>>, NoMemory>
-    ensures { IfOk result (λ found. (p : Project) (n : Naming) → p.script ≡ script.now → AreTaken p n pieces.now
-        → map (shown_row n) found.items ≡ rows p) }
+    ensures { IfOk result (λ found. (p : Project) (keys : Keys) → p.script ≡ script.now
+        → AreGathered p keys sections.now → marked marks.now (input_sections p) ≡ live p
+        → map (shown_row keys.naming) found.items ≡ rows p) }
 {
     let statements = script.input_statements(alloc)?;
-    let mut buckets = buckets(alloc, pieces, statements.len())?;
+    let mut buckets = buckets(alloc, sections, marks, statements.len())?;
     let mut found = empty_rows(alloc, script.output_sections(alloc)?.len())?;
     for (number, statement) in statements.iter().enumerate() {
         let place = statement.place;

@@ -1,9 +1,10 @@
 -- The header numbers of objects, one object after another.
 use Rattle.std.proofs.Common.{◌≡◌, ◌<◌, ◌≤◌, ◌+◌, ◌-◌, ◌⊎◌, inl, inr, ℕ, refl, sym, ap, subst, ◌∙◌, arith}
-use Rattle.std.proofs.Common.{List, [], ◌∷◌, ◌++◌, length, get_or, map, Option, Some, None}
+use Rattle.std.proofs.Common.{List, [], ◌∷◌, ◌++◌, length, get_or, map, take, Option, Some, None}
 use Rattle.std.proofs.lemmas.Bool.{cases_lt}
-use Rattle.std.proofs.lemmas.List.{get_or-map, get_or_append_left, get_or_past, get_or_push, length-append, length-map}
-use Rattle.std.proofs.lemmas.Option.{get_or_from_slice_get, same_Some, slice_get-map, slice_get_within}
+use Rattle.std.proofs.lemmas.List.{get_or-map, get_or_append_left, get_or_past, get_or_push, length-append, length-map, take_more}
+use Rattle.std.proofs.lemmas.List.Sums.{sum_by_push}
+use Rattle.std.proofs.lemmas.Option.{get_or_from_slice_get, same_Some, slice_get-get_or, slice_get-map, slice_get_within}
 use Rattle.std.specs.List.{All, AllPairs, slice_get}
 use Rattle.std.specs.Option.{option_map}
 use Rattle.elfobj.specs.declared.section.Section.{Section}
@@ -11,7 +12,7 @@ use Rattle.elfobj.specs.Sections.{LinkedSection, section_of}
 use Rattle.ldmodel.specs.Project.{NamedObject, Project}
 use Rattle.ldmodel_project.specs.Inputs.{shown_input, shown_inputs}
 use Rattle.ldmodel_project.specs.declared.input.InputObject.{InputObject}
-use Rattle.gather_sections.specs.Slots.{AreLaid, AreLinkedCounted, slots_of, no_slots}
+use Rattle.gather_sections.specs.Slots.{AreLaid, AreLinkedBefore, AreLinkedCounted, linked_in, slots_of, no_slots}
 use Rattle.gather_sections.specs.declared.slots.Slots.{Slots}
 
 -- an object whose header numbers are counted is there
@@ -62,15 +63,19 @@ none_reach xs ys count are none k d low =
 -- ---- all objects, one after another
 
 -- the header numbers of the first of these objects
-pub record LaidUpTo (inputs : List InputObject) (hs : List Slots) (total i : ℕ) : Type 0 where
+pub record LaidUpTo (inputs : List InputObject) (hs : List Slots) (total linked i : ℕ) : Type 0 where
   pub long : length hs ≡ i
+  pub linked_is : linked ≡ linked_in (take i (shown_inputs inputs))
+  pub before : (k : ℕ) (x : Slots) → slice_get hs k ≡ Some x → x.linked ≡ linked_in (take k (shown_inputs inputs))
   pub laid : AreLaid hs total
   pub counted : (k : ℕ) (x : InputObject) → k < i → slice_get inputs k ≡ Some x
       → All (λ (s : LinkedSection). s.number.0 < (slots_of hs k).count) x.object.now.sections
 
-pub none_laid : (inputs : List InputObject) → LaidUpTo inputs [] 0 0
+pub none_laid : (inputs : List InputObject) → LaidUpTo inputs [] 0 0 0
 none_laid inputs = record {
   long = refl;
+  linked_is = refl;
+  before = λ k x e. absurd (let none : ⊥ = cc in none);
   laid = record {
     within = λ n l. absurd (omega (arith, l));
     apart = λ n m l k. absurd (omega (arith, k));
@@ -78,11 +83,13 @@ none_laid inputs = record {
   counted = λ k x l at. absurd (omega (arith, l));
 }
 
-module _ (inputs : List InputObject) (i : ℕ) (x : InputObject) (hs now : List Slots) (total count end : ℕ)
-    (here : x ≡ get_or inputs i x) (before : LaidUpTo inputs hs total i) (sum : total + count ≡ end)
+module _ (inputs : List InputObject) (i : ℕ) (x : InputObject) (hs now : List Slots)
+    (total count end linked more : ℕ) (inside : i < length inputs) (here : x ≡ get_or inputs i x)
+    (before : LaidUpTo inputs hs total linked i) (sum : total + count ≡ end)
+    (counted_more : more ≡ linked + length x.object.now.sections)
     (reach : All (λ (s : LinkedSection). s.number.0 < count) x.object.now.sections) where
   abbrev own : Slots
-  own = record { begin = total; count = count }
+  own = record { begin = total; count = count; linked = linked }
 
   abbrev after : List Slots
   after = hs ++ own ∷ []
@@ -154,11 +161,42 @@ module _ (inputs : List InputObject) (i : ℕ) (x : InputObject) (hs now : List 
           (sym (is k same))
           (subst (λ (z : InputObject). All (λ (s : LinkedSection). s.number.0 < count) z.object.now.sections) one reach)
 
-  pub one_laid : now ≡ after → LaidUpTo inputs now end (i + 1)
+  abbrev objects : List NamedObject
+  objects = shown_inputs inputs
+
+  linked_after : more ≡ linked_in (take (i + 1) objects)
+  linked_after =
+      let low : i < length objects = omega (arith, inside, length-map inputs shown_input) in
+      let is : get_or objects i (shown_input x) ≡ shown_input x =
+      get_or-map shown_input inputs i x (shown_input x) inside ∙ ap shown_input (sym here) in
+      let split : linked_in (take (i + 1) objects)
+      ≡ linked_in (take i objects) + length x.object.now.sections =
+      ap linked_in (take_more objects i (shown_input x) low ∙ ap (λ (o : NamedObject). take i objects ++ o ∷ []) is)
+      ∙ sum_by_push (λ (o : NamedObject). length o.object.sections) (take i objects) (shown_input x) in
+      omega (arith, counted_more, before.linked_is, split)
+
+  before_after : (k : ℕ) (y : Slots) → slice_get after k ≡ Some y → y.linked ≡ linked_in (take k objects)
+  before_after k y e = go (cases_lt k i)
+    where
+      is_y : get_or after k no_slots ≡ y
+      is_y = get_or_from_slice_get after k y no_slots e
+
+      go : (k < i) ⊎ (i ≤ k) → y.linked ≡ linked_in (take k objects)
+      go (inl below) =
+          before.before k y (slice_get-get_or hs k no_slots (omega (arith, below, before.long))
+          ∙ ap (λ (z : Slots). Some z) (sym (was k below) ∙ is_y))
+      go (inr past) =
+          let same : k ≡ i = omega (arith, past, slice_get_within after k y e, long_after) in
+          ap (λ (z : Slots). z.linked) (sym is_y ∙ is k same) ∙ before.linked_is
+          ∙ ap (λ n. linked_in (take n objects)) (sym same)
+
+  pub one_laid : now ≡ after → LaidUpTo inputs now end more (i + 1)
   one_laid e =
-      subst (λ (l : List Slots). LaidUpTo inputs l end (i + 1)) (sym e)
+      subst (λ (l : List Slots). LaidUpTo inputs l end more (i + 1)) (sym e)
       (record {
         long = long_after;
+        linked_is = linked_after;
+        before = before_after;
         laid = record {
           within = λ n l. within n (omega (arith, l, long_after));
           apart = λ n m l k. apart n m l (omega (arith, k, long_after));
@@ -167,9 +205,9 @@ module _ (inputs : List InputObject) (i : ℕ) (x : InputObject) (hs now : List 
       })
 
 -- the linked sections of all objects are counted then
-pub all_linked : (p : Project) (inputs : List InputObject) (hs : List Slots) (total i : ℕ)
-    → shown_inputs inputs ≡ p.objects → length inputs ≤ i → LaidUpTo inputs hs total i → AreLinkedCounted p hs
-all_linked p inputs hs total i same past h j o x at c = go (slice_get inputs j) refl
+pub all_linked : (p : Project) (inputs : List InputObject) (hs : List Slots) (total linked i : ℕ)
+    → shown_inputs inputs ≡ p.objects → length inputs ≤ i → LaidUpTo inputs hs total linked i → AreLinkedCounted p hs
+all_linked p inputs hs total linked i same past h j o x at c = go (slice_get inputs j) refl
   where
     shown : option_map shown_input (slice_get inputs j) ≡ Some o
     shown = sym (slice_get-map shown_input inputs j) ∙ ap (λ l. slice_get l j) same ∙ at
@@ -185,3 +223,9 @@ all_linked p inputs hs total i same past h j o x at c = go (slice_get inputs j) 
         subst (λ (z : NamedObject). All (λ (s : LinkedSection). s.number.0 < (slots_of hs j).count) z.object.sections)
         is (h.counted j y low e) in
         subst (λ (s : LinkedSection). s.number.0 < (slots_of hs j).count) c.2 (own c.0 x c.1)
+
+-- and so are those of the objects before each
+pub all_before : (p : Project) (inputs : List InputObject) (hs : List Slots) (total linked i : ℕ)
+    → shown_inputs inputs ≡ p.objects → LaidUpTo inputs hs total linked i → AreLinkedBefore p hs
+all_before p inputs hs total linked i same h k x e =
+    h.before k x e ∙ ap (λ (os : List NamedObject). linked_in (take k os)) same

@@ -1,6 +1,6 @@
 -- The numbers of input sections: each part has one number at most, and no two have the same one.
 use Rattle.std.proofs.Common.{◌≡◌, ◌<◌, ◌≤◌, ◌+◌, ◌⊎◌, inl, inr, ℕ, suc, refl, sym, ap, subst, arith, ◌∙◌}
-use Rattle.std.proofs.Common.{List, [], ◌∷◌, length, get_or, map, cond, Bool, true, false, Option, Some, None}
+use Rattle.std.proofs.Common.{List, [], ◌∷◌, length, get_or, map, take, cond, Bool, true, false, Option, Some, None}
 use Rattle.std.proofs.lemmas.Bool.{cases_lt, lt-ltb, ltb-false, ltb-true, true≢false}
 use Rattle.std.proofs.lemmas.List.Elements.{All-append, All-cons, All-nil}
 use Rattle.std.proofs.lemmas.List.Quantifiers.{position-Some}
@@ -18,7 +18,7 @@ use Rattle.ldmodel.specs.Sections.{InputSection}
 use Rattle.ldmodel.specs.declared.sections.Part.{Part}
 use Rattle.ldmodel.specs.declared.sections.Part.TheVariants.{InTable, InCommon}
 use Rattle.gather_sections.specs.Ranks.{is_ranked}
-use Rattle.gather_sections.specs.Slots.{AreLaid, AreLinkedCounted, slots_of}
+use Rattle.gather_sections.specs.Slots.{AreLaid, AreLinkedBefore, AreLinkedCounted, linked_in, slots_of}
 use Rattle.gather_sections.specs.SectionTable.{AreBlockRanks, IsBlockAmong, IsTableOf, block_of, len_of, number_of, slot_of}
 use Rattle.gather_sections.specs.declared.section_table.SectionTable.{SectionTable}
 use Rattle.gather_sections.specs.declared.slots.Slots.{Slots}
@@ -144,6 +144,7 @@ module _ (t : SectionTable) where
       let same = one_block t n m x.0 y.0 at e f in (same.0, ap (λ i. InCommon (record { 0 = i })) same.1)
 
 module _ (t : SectionTable) (p : Project) (linked : AreLinkedCounted p t.objects.items)
+    (before : AreLinkedBefore p t.objects.items)
     (ranks : List (ℕ × Bool × ℕ)) (blocks : AreBlockRanks p ranks) (same : IsPermutation ranks t.blocks.items) where
   abbrev Numbered : InputSection → Type 0
   Numbered s = IsSome (number_of t s.id.object s.id.part)
@@ -178,4 +179,10 @@ module _ (t : SectionTable) (p : Project) (linked : AreLinkedCounted p t.objects
     all = one_section p Numbered of_object;
     below = below t;
     apart = apart t;
+    linked = λ n before_n e. counted n before_n (slice_get t.objects.items n) refl e;
   }
+    where
+      counted : (n m : ℕ) (o : Option Slots) → slice_get t.objects.items n ≡ o
+          → option_map (λ (x : Slots). x.linked) o ≡ Some m → m ≡ linked_in (take n p.objects)
+      counted n m None is e = absurd (let none : ⊥ = cc in none)
+      counted n m (Some x) is e = sym (same_Some _ _ e) ∙ before n x is

@@ -1,6 +1,6 @@
 -- The numbers of input sections.
 use Rattle.std.specs.Prelude.{◌≡◌, ◌<◌, ◌+◌, ℕ, Bool, true, List, length, Option, Some, None, position}
-use Rattle.std.specs.Prelude.{nat_lt, if◌then◌else◌, slice_get, All, Contains, IsSome}
+use Rattle.std.specs.Prelude.{nat_lt, if◌then◌else◌, slice_get, take, All, Contains, IsSome}
 use Rattle.std.specs.Option.{option_map}
 use Rattle.ldmodel.specs.InputSections.{common_blocks, input_sections}
 use Rattle.ldmodel.specs.Project.{NamedObject, Project}
@@ -8,7 +8,7 @@ use Rattle.ldmodel.specs.Sections.{InputSection}
 use Rattle.ldmodel.specs.declared.sections.Part.{Part}
 use Rattle.ldmodel.specs.declared.sections.Part.TheVariants.{InTable, InCommon}
 use Rattle.gather_sections.specs.Ranks.{is_ranked}
-use Rattle.gather_sections.specs.Slots.{slots_of}
+use Rattle.gather_sections.specs.Slots.{linked_in, slots_of}
 use Rattle.gather_sections.specs.declared.section_table.SectionTable.{SectionTable}
 use Rattle.gather_sections.specs.declared.slots.Slots.{Slots}
 
@@ -30,12 +30,18 @@ number_of t n (InCommon x) = block_of t n x.0
 abbrev pub len_of : SectionTable → ℕ
 len_of t = t.slots + length t.blocks.items
 
--- each input section of the project has a number, and no two parts of objects have the same one
+-- how many linked sections the objects before number n have
+abbrev pub linked_of : SectionTable → ℕ → Option ℕ
+linked_of t n = option_map (λ (x : Slots). x.linked) (slice_get t.objects.items n)
+
+-- each input section of the project has a number, and no two parts of objects have the same one; the linked sections of
+-- objects are counted
 pub record IsTableOf (p : Project) (t : SectionTable) : Type 0 where
   pub all : (s : InputSection) → Contains (input_sections p) s → IsSome (number_of t s.id.object s.id.part)
   pub below : (n : ℕ) (q : Part) (at : ℕ) → number_of t n q ≡ Some at → at < len_of t
   pub apart : (n m : ℕ) (q r : Part) (at : ℕ) → number_of t n q ≡ Some at → number_of t m r ≡ Some at
       → (n ≡ m) × (q ≡ r)
+  pub linked : (n before : ℕ) → linked_of t n ≡ Some before → before ≡ linked_in (take n p.objects)
 
 -- a part is a common block whose rank is among these
 abbrev pub IsBlockAmong : List (ℕ × Bool × ℕ) → ℕ → Part → Type 0

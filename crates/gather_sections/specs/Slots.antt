@@ -1,11 +1,12 @@
 -- The header numbers of objects, those of each after those of the one before.
 use Rattle.std.specs.Prelude.{◌≡◌, ◌≤◌, ◌<◌, ◌+◌, ℕ, List, Some, Contains, length, slice_get, slice_index_or}
+use Rattle.std.specs.Prelude.{sum_by, take}
 use Rattle.elfobj.specs.Sections.{LinkedSection}
 use Rattle.ldmodel.specs.Project.{NamedObject, Project}
 use Rattle.gather_sections.specs.declared.slots.Slots.{Slots}
 
 abbrev pub no_slots : Slots
-no_slots = record { begin = 0; count = 0 }
+no_slots = record { begin = 0; count = 0; linked = 0 }
 
 -- those of object number n
 abbrev pub slots_of : List Slots → ℕ → Slots
@@ -16,6 +17,15 @@ abbrev pub AreLinkedCounted : Project → List Slots → Type 0
 AreLinkedCounted p headers =
     (i : ℕ) (o : NamedObject) (x : LinkedSection) → slice_get p.objects i ≡ Some o → Contains o.object.sections x
     → x.number.0 < (slots_of headers i).count
+
+-- how many linked sections these objects have
+abbrev pub linked_in : List NamedObject → ℕ
+linked_in objects = sum_by (λ (o : NamedObject). length o.object.sections) objects
+
+-- of each object it is known how many linked sections those before it have
+abbrev pub AreLinkedBefore : Project → List Slots → Type 0
+AreLinkedBefore p headers =
+    (i : ℕ) (x : Slots) → slice_get headers i ≡ Some x → x.linked ≡ linked_in (take i p.objects)
 
 -- the header numbers of objects do not meet, and all are below the total
 pub record AreLaid (headers : List Slots) (total : ℕ) : Type 0 where

@@ -38,7 +38,8 @@ pub struct SectionTable {
 }
 
 impl SectionTable {
-    ghost use Rattle.gather_sections.specs.SectionTable.{AreBlockRanks, IsTableOf, block_of, len_of, number_of, slot_of};
+    ghost use Rattle.gather_sections.specs.SectionTable.{AreBlockRanks, IsTableOf, block_of, len_of, linked_of, number_of};
+    ghost use Rattle.gather_sections.specs.SectionTable.{slot_of};
 
     /// The numbers of the input sections of a project, whose common blocks have these ranks. The time grows with the
     /// numbers of objects and of common blocks.
@@ -66,6 +67,15 @@ impl SectionTable {
             slots: laid.slots,
             blocks,
         })
+    }
+
+    /// How many linked sections the objects before this one have, in all: the number of its first one, where those of all
+    /// objects are counted one after another.
+    pub fn linked_before(&self, object: ObjectPlace) -> Option<usize>
+        ensures { result ≡ linked_of self.now object.0 }
+    {
+        let slots = self.objects.get(object.0)?;
+        Some(slots.linked)
     }
 
     /// How many numbers there are.

@@ -2,7 +2,7 @@
 
 ghost use Rattle.std.specs.Prelude.{◌≡◌, ◌+◌, ◌<◌, All, IfOk};
 ghost use Rattle.elfobj.specs.Sections.{LinkedSection};
-ghost use Rattle.gather_sections.specs.Slots.{AreLaid, AreLinkedCounted};
+ghost use Rattle.gather_sections.specs.Slots.{AreLaid, AreLinkedBefore, AreLinkedCounted};
 
 use elfobj::Object;
 use elfobj::section::SectionIndex;
@@ -18,6 +18,8 @@ pub(crate) struct Slots {
     pub(crate) begin: u32,
     /// How many there are.
     pub(crate) count: u32,
+    /// How many linked sections the objects before have.
+    pub(crate) linked: usize,
 }
 
 /// The header numbers of all objects.
@@ -55,21 +57,29 @@ fn count_of(object: &Object) -> u32
 pub(crate) fn lay_slots(alloc: Global, project: &ProjectView<'_>) -> Result<AllSlots, NoMemory>
     ensures laid { IfOk result (λ x. AreLaid x.objects.items x.slots) }
     ensures counted { IfOk result (λ x. AreLinkedCounted project.now x.objects.items) }
+    ensures linked { IfOk result (λ x. AreLinkedBefore project.now x.objects.items) }
 {
     let inputs = project.inputs();
     let mut objects = Vec::with_capacity(alloc, inputs.len())?;
     let mut slots: u32 = 0;
+    let mut linked: usize = 0;
     for input in inputs {
         let count = count_of(input.object);
         objects.push(Slots {
             begin: slots,
             count,
+            linked,
         })?;
-        match slots.checked_add(count) {
-            Some(sum) => slots = sum,
+        let Some(sum) = slots.checked_add(count) else {
             // 2^32 section headers take 256 GiB
-            None => return Err(impossible()),
-        }
+            return Err(impossible());
+        };
+        let Some(more) = linked.checked_add(input.object.sections().len()) else {
+            // There are fewer of them than headers
+            return Err(impossible());
+        };
+        slots = sum;
+        linked = more;
     }
     Ok(AllSlots { objects, slots })
 }

@@ -1,11 +1,11 @@
 -- Columns of a table: under each number stands the first entry that has it.
 use Rattle.std.proofs.Common.{◌≡◌, ◌≢◌, ◌<◌, ◌≤◌, ◌+◌, ◌==◌, ℕ, suc, refl, sym, ap, subst, arith, ◌∙◌}
-use Rattle.std.proofs.Common.{List, [], ◌∷◌, ◌++◌, length, get_or, set, take, map, find, cond, Bool, true, false}
+use Rattle.std.proofs.Common.{List, [], ◌∷◌, ◌++◌, length, get_or, set, take, find, cond, Bool, true, false}
 use Rattle.std.proofs.Common.{Option, Some, None}
 use Rattle.std.proofs.lemmas.Bool.{eq-eqb, eqb-false, eqb-true, false≢true}
 use Rattle.std.proofs.lemmas.List.{get_or-set_other, get_or-set_same, get_or_default, length-set, take_more}
 use Rattle.std.proofs.lemmas.List.Folds.{find-append}
-use Rattle.std.proofs.lemmas.Option.{slice_get-get_or, slice_get-map, slice_get_past}
+use Rattle.std.proofs.lemmas.Option.{slice_get-get_or, slice_get_past}
 use Rattle.std.specs.Cmp.{both_ways}
 use Rattle.std.specs.List.{slice_get}
 use Rattle.std.specs.Option.{option_and_then, option_map, option_or}
@@ -19,7 +19,7 @@ use Rattle.place.specs.Entries.{is_part_of}
 use Rattle.place.specs.declared.entry.Entry.{Entry}
 use Rattle.gather.specs.sections.SectionTable.{IsTableOf, len_of, number_of}
 use Rattle.gather.specs.sections.declared.section_table.SectionTable.{SectionTable}
-use Rattle.place.specs.declared.starts.PartPlace.{PartPlace}
+use Rattle.place.specs.declared.arranged.PartPlace.{PartPlace}
 use Rattle.place.proofs.Members.{both_of, of_both}
 
 -- ---- what is found
@@ -63,9 +63,9 @@ part_itself (InTable k) = eq-eqb k.0 k.0 refl
 part_itself (InCommon s) = eq-eqb s.0 s.0 refl
 
 -- a column of the first entries has the place of the first entry of each part
-module _ (p : Project) (entries : List Entry) (t : SectionTable) (owners : List ℕ) (places : List PartPlace)
+module _ (p : Project) (entries : List Entry) (t : SectionTable) (owners : List ℕ)
     (table : IsTableOf p t) (numbers : HaveNumbers t entries) (owned : AreOwners t entries owners)
-    (are : places ≡ map (λ (e : Entry). e.place) entries) (n : ℕ) (part : Part) where
+    (n : ℕ) (part : Part) where
   abbrev sought : Entry → Bool
   sought = is_part_of n part
 
@@ -86,15 +86,13 @@ module _ (p : Project) (entries : List Entry) (t : SectionTable) (owners : List 
         (λ h. ap (is_number at) (same_number e h ∙ is) ∙ eq-eqb at at refl)
         (λ h. is_sought e (table.apart e.object n e.part part at (number_is (number_of t e.object e.part) at h) is))
 
-    found : option_and_then (slice_get places) (slice_get owners at) ≡ option_map place_of (find sought entries)
+    found : option_and_then (slice_get entries) (slice_get owners at) ≡ find sought entries
     found =
         let low : at < len_of t = table.below n part at is in
         let within : at < length owners = omega (arith, owned.long, low) in
-        ap (option_and_then (slice_get places)) (slice_get-get_or owners at 0 within)
-        ∙ ap (λ xs. slice_get xs (get_or owners at 0)) are
-        ∙ slice_get-map place_of entries (get_or owners at 0)
-        ∙ ap (option_map place_of) (owned.firsts at low
-        ∙ sym (find_same sought (has_number t at) entries (λ i d l. same_test (get_or entries i d))))
+        ap (option_and_then (slice_get entries)) (slice_get-get_or owners at 0 within)
+        ∙ owned.firsts at low
+        ∙ sym (find_same sought (has_number t at) entries (λ i d l. same_test (get_or entries i d)))
 
   unranked : number_of t n part ≡ None → (i : ℕ) (d : Entry) → i < length entries → sought (get_or entries i d) ≡ false
   unranked e i d l = go (sought (get_or entries i d)) refl
@@ -105,15 +103,17 @@ module _ (p : Project) (entries : List Entry) (t : SectionTable) (owners : List 
           absurd (false≢true (subst IsSome (same_number (get_or entries i d) h ∙ e) (numbers i d l)))
 
   pub has_first :
-      option_and_then (λ (at : ℕ). option_and_then (slice_get places) (slice_get owners at)) (number_of t n part)
-      ≡ option_map (λ (e : Entry). e.place) (find (is_part_of n part) entries)
+      option_and_then (λ (at : ℕ). option_map place_of (option_and_then (slice_get entries) (slice_get owners at)))
+      (number_of t n part)
+      ≡ option_map place_of (find (is_part_of n part) entries)
   has_first = go (number_of t n part) refl
     where
       go : (o : Option ℕ) → number_of t n part ≡ o
-          → option_and_then (λ (at : ℕ). option_and_then (slice_get places) (slice_get owners at)) o
+          → option_and_then
+          (λ (at : ℕ). option_map place_of (option_and_then (slice_get entries) (slice_get owners at))) o
           ≡ option_map place_of (find sought entries)
       go None e = sym (ap (option_map place_of) (find_none sought entries (unranked e)))
-      go (Some at) e = found at e
+      go (Some at) e = ap (option_map place_of) (found at e)
 
 -- ---- a column that is filled, entry by entry
 

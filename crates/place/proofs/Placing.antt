@@ -24,12 +24,13 @@ use Rattle.ldmodel_laws.specs.Spread.{entries_in}
 use Rattle.ldmodel_project.specs.ByPlace.{piece_in, rows_in}
 use Rattle.place.specs.Columns.{AreOwners, HaveNumbers}
 use Rattle.place.specs.Entries.{all_entries, entry_of, is_part_of, row_entries}
+use Rattle.place.specs.Laying.{IsLaying}
 use Rattle.place.specs.InPlace.{AreInPlace, IsOwned, entries_of}
 use Rattle.gather.specs.sections.SectionTable.{IsTableOf}
-use Rattle.place.specs.Starts.{AreStarts, IsPartPlace, place_in}
+use Rattle.place.specs.Arranged.{IsArranged, IsPartPlace, place_in}
 use Rattle.place.specs.declared.entry.Entry.{Entry}
-use Rattle.place.specs.declared.starts.PartPlace.{PartPlace}
-use Rattle.place.specs.declared.starts.Starts.{Starts}
+use Rattle.place.specs.declared.arranged.PartPlace.{PartPlace}
+use Rattle.place.specs.declared.arranged.Arranged.{Arranged}
 use Rattle.place.proofs.Lists.{each_append}
 use Rattle.place.proofs.Numbers.{same_key}
 use Rattle.place.proofs.Column.{has_first}
@@ -186,22 +187,25 @@ module _ (p : Project) (distinct : AreNamesDistinct p.objects) (k : SectionKey) 
       go (Some x) h =
           (h.0, position_from-zero (λ (q : PlacedSection). list_any test q.pieces) s.sections ∙ h.1, h.2)
 
--- a column of all entries has all places
-pub all_places : (p : Project) (s : Layout) (rows : List (Vec Piece Global)) (starts : List ℕ) (collected : List Entry)
-    (t : Starts) → AreNamesDistinct p.objects → AreInPlace p s → map entries_in s.sections ≡ rows_in p rows
-    → starts ≡ flat_map starts_of s.sections → collected ≡ all_entries 0 rows starts
-    → IsTableOf p t.table → HaveNumbers t.table collected → AreOwners t.table collected t.owners.items
-    → t.places.items ≡ map (λ (e : Entry). e.place) collected → AreStarts p s t
-all_places p s rows starts collected t distinct apart placed begin all table numbers owned are =
+-- where all entries have their numbers, everything is arranged
+pub all_places : (p : Project) (s : Layout) (starts : List ℕ) (x : Arranged) → AreNamesDistinct p.objects
+    → AreInPlace p s → map entries_in s.sections ≡ rows_in p x.rows.items → starts ≡ flat_map starts_of s.sections
+    → x.entries.items ≡ all_entries 0 x.rows.items starts → IsTableOf p x.table → rows_in p x.rows.items ≡ model.rows p
+    → IsLaying p s x.laying → HaveNumbers x.table x.entries.items
+    → AreOwners x.table x.entries.items x.owners.items → IsArranged p s x
+all_places p s starts x distinct apart placed begin all table rows laying numbers owned =
     record {
-      places = λ k. subst (IsPartPlace p s k) (sym (same k)) (is_place p distinct k s rows placed apart.owned);
+      table = table;
+      rows = rows;
+      laying = laying;
+      places = λ k. subst (IsPartPlace p s k) (sym (same k)) (is_place p distinct k s x.rows.items placed apart.owned);
       apart = apart;
     }
   where
-    same : (k : SectionKey) → place_in t k
+    same : (k : SectionKey) → place_in x k
         ≡ option_map (λ (e : Entry). e.place)
-        (find (is_part_of k.object.0 k.part) (all_entries 0 rows (flat_map starts_of s.sections)))
+        (find (is_part_of k.object.0 k.part) (all_entries 0 x.rows.items (flat_map starts_of s.sections)))
     same k =
-        has_first p collected t.table t.owners.items t.places.items table numbers owned are k.object.0 k.part
+        has_first p x.entries.items x.table x.owners.items table numbers owned k.object.0 k.part
         ∙ ap (λ xs. option_map (λ (e : Entry). e.place) (find (is_part_of k.object.0 k.part) xs))
-        (all ∙ ap (all_entries 0 rows) begin)
+        (all ∙ ap (all_entries 0 x.rows.items) begin)

@@ -8,5 +8,5 @@ pub mod Offsets
 pub mod Entries
 pub mod InPlace
 pub mod Columns
-pub mod Starts
+pub mod Arranged
 pub mod Cut

@@ -1,6 +1,6 @@
 //! Input sections with their places.
 
-use crate::starts::PartPlace;
+use crate::arranged::PartPlace;
 use ldmodel::sections::Part;
 
 /// An input section and its place.

@@ -22,10 +22,8 @@ use Rattle.ldmodel.specs.declared.names.ObjectPlace.{ObjectPlace}
 use Rattle.ldmodel.specs.declared.sections.Part.{Part}
 use Rattle.ldmodel.specs.declared.sections.SectionKey.{SectionKey}
 use Rattle.ldmodel_laws.specs.FileOrder.{AreInFileOrder}
-use Rattle.place.specs.Laying.{IsLaying}
-use Rattle.place.specs.Starts.{AreStarts}
-use Rattle.place.specs.declared.laying.Laying.{Laying}
-use Rattle.place.specs.declared.starts.Starts.{Starts}
+use Rattle.place.specs.Arranged.{IsArranged}
+use Rattle.place.specs.declared.arranged.Arranged.{Arranged}
 use Rattle.emit.specs.relocate.Earlier as earlier
 use Rattle.emit.specs.relocate.Earlier.{HasStayedAt, IsComplete, IsKept, IsPieceOf}
 use Rattle.emit.specs.relocate.KnownLink.{IsSymbolOf, KnownLink, name_of_object}
@@ -67,8 +65,8 @@ then_some f None y e = absurd (let none : ⊥ = cc in none)
 then_some f (Some x) y e = (x, refl, e)
 
 module _ (old : GoodLink) (l : KnownLink) (keys : (k : ℕ) → l.number k ≡ k)
-    (names : AreNamesDistinct l.project.objects) (t : Starts) (f : Laying)
-    (starts : AreStarts l.project l.layout t) (laying : IsLaying l.project l.layout f) where
+    (names : AreNamesDistinct l.project.objects) (t : Arranged)
+    (arranged : IsArranged l.project l.layout t) where
   named : (key : SectionKey) → name_of_object l key.object ≡ object_name l.project key.object.0
   named key = ap (object_name l.project) (keys key.object.0)
 
@@ -83,18 +81,18 @@ module _ (old : GoodLink) (l : KnownLink) (keys : (k : ℕ) → l.number k ≡ k
       x = of_link l.project l.layout q z
 
       some : 0 < length z.piece.object
-      some = (owned l.project l.layout t f starts laying k q z at among).some
+      some = (owned l.project l.layout t arranged k q z at among).some
 
       -- ---- what is known to have stayed did
 
-      sound_one : (r : FileRange) → Known (last_standing y key) (standing_in t f key) r
+      sound_one : (r : FileRange) → Known (last_standing y key) (standing_in t key) r
           → (has_stayed old x ≡ true) × (x.range ≡ earlier.range_of r)
       unfolding last_standing
       sound_one r h =
           let w = then_some (standing_from y key.part) (last_place y key.object) h.old h.was in
-          let before = stood old.project old.layout y.good.starts y.good.laying last.table.starts last.table.laying
+          let before = stood old.project old.layout y.good.arranged last.table.arranged
           (at_place w.0) h.old w.2 in
-          let now = (shows l.project l.layout t f starts laying key k q z at among (sym object)
+          let now = (shows l.project l.layout t arranged key k q z at among (sym object)
           (sym part)).is h.new h.is
           in (
             same.sound old l.project y.from last.origins last.table.names names key.object.0 x object refl some
@@ -113,7 +111,7 @@ module _ (old : GoodLink) (l : KnownLink) (keys : (k : ℕ) → l.number k ≡ k
           (offset_is : (v : SectionInFile) → Contains (in_file (segments l.layout.sections)) v
           → file_offset (segments l.layout.sections) v.section ≡ v.offset) where
         low : x.range.offset < 2 ^ 64
-        low = below_64 l.project l.layout starts.apart.spread laying.named order all offset_is k q z at among short
+        low = below_64 l.project l.layout arranged.apart.spread arranged.laying.named order all offset_is k q z at among short
 
         module _ (w : LinkedPiece) (there : Linked (of_link old.project old.layout) old.layout.sections w)
             (is_same : Same x w) where
@@ -125,9 +123,9 @@ module _ (old : GoodLink) (l : KnownLink) (keys : (k : ℕ) → l.number k ≡ k
 
           stands : (m : Option ℕ) → last_place y key.object ≡ m
               → option_and_then (standing_from y key.part) m ≡ last_standing y key
-              → kept_at (last_standing y key) (standing_in t f key) ≡ None → ⊥
+              → kept_at (last_standing y key) (standing_in t key) ≡ None → ⊥
           stands None e g h =
-              let o = owned old.project old.layout y.good.starts y.good.laying last.table.starts last.table.laying
+              let o = owned old.project old.layout y.good.arranged last.table.arranged
               there.number there.section there.piece there.at there.among in
               same.not_fresh old l.project y.from last.origins last.table.names names key.object.0 x object refl some v
               refl same_v o.object o.among o.is e
@@ -135,19 +133,19 @@ module _ (old : GoodLink) (l : KnownLink) (keys : (k : ℕ) → l.number k ≡ k
               let name =
               same.old_name old l.project y.from last.origins last.table.names names key.object.0 x object refl some v
               refl same_v j e in
-              let was = shows old.project old.layout y.good.starts y.good.laying last.table.starts last.table.laying
+              let was = shows old.project old.layout y.good.arranged last.table.arranged
               (at_place j) there.number there.section there.piece there.at there.among name (sym part ∙ same_v.part) in
-              let now = shows l.project l.layout t f starts laying key k q z at among (sym object) (sym part) in
+              let now = shows l.project l.layout t arranged key k q z at among (sym object) (sym part) in
               let b = was.some (subst (λ n. n < 2 ^ 64) same_v.offset low) in
               let a = now.some low in
-              let kept : kept_at (last_standing y key) (standing_in t f key) ≡ Some (a.0).range =
-              ap (λ m. kept_at m (standing_in t f key)) (sym g ∙ b.1) ∙ ap (kept_at (Some b.0)) a.1
+              let kept : kept_at (last_standing y key) (standing_in t key) ≡ Some (a.0).range =
+              ap (λ m. kept_at m (standing_in t key)) (sym g ∙ b.1) ∙ ap (kept_at (Some b.0)) a.1
               ∙ ap (λ c. cond c (Some (a.0).range) None)
               (alike x v b.0 a.0 same_v (was.is b.0 b.1) (now.is a.0 a.1)) in
               let never : None ≡ Some (a.0).range = sym h ∙ kept in
               absurd (let none : ⊥ = cc in none)
 
-        complete_one : kept_at (last_standing y key) (standing_in t f key) ≡ None → has_stayed old x ≡ false
+        complete_one : kept_at (last_standing y key) (standing_in t key) ≡ None → has_stayed old x ≡ false
         unfolding last_standing
         complete_one h = go (has_stayed old x) refl
           where
@@ -159,7 +157,7 @@ module _ (old : GoodLink) (l : KnownLink) (keys : (k : ℕ) → l.number k ≡ k
                 (same_of x found.member found.passes) (last_place y key.object) refl refl h)
 
   pub sound : (m : Option LastState) → IfSome m (IsLastOf old l.project) → (key : SectionKey) (r : FileRange)
-      → kept_range m t f key ≡ Some r → HasStayedAt old l key r
+      → kept_range m t key ≡ Some r → HasStayedAt old l key r
   unfolding kept_range
   sound None h key r e = absurd (let none : ⊥ = cc in none)
   sound (Some y) last key r e = λ x piece.
@@ -168,14 +166,14 @@ module _ (old : GoodLink) (l : KnownLink) (keys : (k : ℕ) → l.number k ≡ k
       (sound_one y last key there.number there.section there.piece there.at there.among
       (ap (λ (v : LinkedPiece). v.object) there.is ∙ piece.object_is ∙ named key)
       (ap (λ (v : LinkedPiece). v.part) there.is ∙ piece.part_is) r
-      (known (last_standing y key) (standing_in t f key) r e))
+      (known (last_standing y key) (standing_in t key) r e))
 
   pub complete : (y : LastState) → IsLastOf old l.project y → image_length l.project l.layout ≤ max_image_length
       → AreInFileOrder (segments l.layout.sections)
       → map (λ (v : SectionInFile). v.section) (in_file (segments l.layout.sections)) ≡ nonempty l.layout.sections
       → ((v : SectionInFile) → Contains (in_file (segments l.layout.sections)) v
       → file_offset (segments l.layout.sections) v.section ≡ v.offset)
-      → (key : SectionKey) (x : LinkedPiece) → kept_range (Some y) t f key ≡ None → IsPieceOf l key x
+      → (key : SectionKey) (x : LinkedPiece) → kept_range (Some y) t key ≡ None → IsPieceOf l key x
       → has_stayed old x ≡ false
   unfolding kept_range
   complete y last short order all offset_is key x e piece =
@@ -189,68 +187,68 @@ module _ (old : GoodLink) (l : KnownLink) (keys : (k : ℕ) → l.number k ≡ k
       → image_length l.project l.layout ≤ max_image_length → AreInFileOrder (segments l.layout.sections)
       → map (λ (v : SectionInFile). v.section) (in_file (segments l.layout.sections)) ≡ nonempty l.layout.sections
       → ((v : SectionInFile) → Contains (in_file (segments l.layout.sections)) v
-      → file_offset (segments l.layout.sections) v.section ≡ v.offset) → IsComplete (kept_range (last_of m) t f) old l
+      → file_offset (segments l.layout.sections) v.section ≡ v.offset) → IsComplete (kept_range (last_of m) t) old l
   complete_or_none None is last short order all offset_is = absurd (false≢true is)
   complete_or_none (Some y) is last short order all offset_is = complete (last_state y) last short order all offset_is
 
-pub none_known : (m : Option LastState) (t : Starts) (f : Laying) (key : SectionKey) → m ≡ None
-    → kept_range m t f key ≡ None
+pub none_known : (m : Option LastState) (t : Arranged) (key : SectionKey) → m ≡ None
+    → kept_range m t key ≡ None
 unfolding kept_range
-none_known m t f key e = ap (λ n. kept_range n t f key) e
+none_known m t key e = ap (λ n. kept_range n t key) e
 
 -- ---- case by case, as the code finds them
 
-module _ (m : Option Last) (y : Last) (last_is : m ≡ Some y) (t : Starts) (f : Laying) (key : SectionKey) where
-  kept_is : kept_range (last_of m) t f key ≡ kept_at (last_standing (last_state y) key) (standing_in t f key)
+module _ (m : Option Last) (y : Last) (last_is : m ≡ Some y) (t : Arranged) (key : SectionKey) where
+  kept_is : kept_range (last_of m) t key ≡ kept_at (last_standing (last_state y) key) (standing_in t key)
   unfolding kept_range
-  kept_is = ap (λ n. kept_range (last_of n) t f key) last_is
+  kept_is = ap (λ n. kept_range (last_of n) t key) last_is
 
-  pub none_before : None ≡ last_standing (last_state y) key → None ≡ kept_range (last_of m) t f key
-  none_before e = ap (λ b. kept_at b (standing_in t f key)) e ∙ sym kept_is
+  pub none_before : None ≡ last_standing (last_state y) key → None ≡ kept_range (last_of m) t key
+  none_before e = ap (λ b. kept_at b (standing_in t key)) e ∙ sym kept_is
 
   module _ (b : Standing) (before : Some b ≡ last_standing (last_state y) key) where
-    pub none_now : None ≡ standing_in t f key → None ≡ kept_range (last_of m) t f key
-    none_now e = ap (kept_at (Some b)) e ∙ ap (λ c. kept_at c (standing_in t f key)) before ∙ sym kept_is
+    pub none_now : None ≡ standing_in t key → None ≡ kept_range (last_of m) t key
+    none_now e = ap (kept_at (Some b)) e ∙ ap (λ c. kept_at c (standing_in t key)) before ∙ sym kept_is
 
-    pub both : (a : Standing) → Some a ≡ standing_in t f key → (c : Bool) → same_standing b a ≡ c
-        → cond c (Some a.range) None ≡ kept_range (last_of m) t f key
+    pub both : (a : Standing) → Some a ≡ standing_in t key → (c : Bool) → same_standing b a ≡ c
+        → cond c (Some a.range) None ≡ kept_range (last_of m) t key
     both a e c same =
         ap (λ d. cond d (Some a.range) None) (sym same) ∙ ap (kept_at (Some b)) e
-        ∙ ap (λ c. kept_at c (standing_in t f key)) before ∙ sym kept_is
+        ∙ ap (λ c. kept_at c (standing_in t key)) before ∙ sym kept_is
 
 -- ---- what symbols were worth
 
-pub not_kept : (m : Option LastState) (t : Starts) (f : Laying) (object : ObjectPlace) → m ≡ None
-    → IsKept (kept_range m t f) object → ⊥
-not_kept m t f object e kept =
-    false≢true (subst IsSome (none_known m t f (record { object = object; part = kept.0 }) e) kept.1)
+pub not_kept : (m : Option LastState) (t : Arranged) (object : ObjectPlace) → m ≡ None
+    → IsKept (kept_range m t) object → ⊥
+not_kept m t object e kept =
+    false≢true (subst IsSome (none_known m t (record { object = object; part = kept.0 }) e) kept.1)
 
-module _ (old : GoodLink) (l : KnownLink) (keys : (k : ℕ) → l.number k ≡ k) (t : Starts) (f : Laying)
+module _ (old : GoodLink) (l : KnownLink) (keys : (k : ℕ) → l.number k ≡ k) (t : Arranged)
     (y : LastState) (last : IsLastOf old l.project y) (object : ObjectPlace) (index : SymbolIndex) (symbol : Symbol)
     (o : NamedObject) (x : NamedSymbol) (is : IsSymbolOf l object index symbol o x) where
   worth : (p : Option ℕ) → last_place y object ≡ p → (part : Part)
-      → IsSome (kept_range (Some y) t f (record { object = object; part = part }))
+      → IsSome (kept_range (Some y) t (record { object = object; part = part }))
       → value_of (value_from y index p) ≡ referenced_value old.project old.layout o x
   unfolding kept_range last_standing
   worth None e part kept =
       let gone : last_standing y (record { object = object; part = part }) ≡ None =
       ap (option_and_then (standing_from y part)) e in
       absurd (false≢true (subst IsSome
-      (ap (λ b. kept_at b (standing_in t f (record { object = object; part = part }))) gone) kept))
+      (ap (λ b. kept_at b (standing_in t (record { object = object; part = part }))) gone) kept))
   worth (Some j) e part kept =
       last.table.symbols j index.0 o x
       (sym (last.origins.same object.0 j e) ∙ ap (slice_get l.project.objects) (sym (keys object.0)) ∙ is.object_is)
       is.entry_is
 
-  pub was_worth : IsKept (kept_range (Some y) t f) object
+  pub was_worth : IsKept (kept_range (Some y) t) object
       → value_of (last_value y object index) ≡ referenced_value old.project old.layout o x
   was_worth kept = worth (last_place y object) refl kept.0 kept.1
 
-pub worth_of : (old : GoodLink) (l : KnownLink) → ((k : ℕ) → l.number k ≡ k) → (t : Starts) (f : Laying)
+pub worth_of : (old : GoodLink) (l : KnownLink) → ((k : ℕ) → l.number k ≡ k) → (t : Arranged)
     (m : Option Last) (y : Last) → m ≡ Some y → IfSome (last_of m) (IsLastOf old l.project) → (object : ObjectPlace)
     (index : SymbolIndex) (symbol : Symbol) (o : NamedObject) (x : NamedSymbol) → IsSymbolOf l object index symbol o x
-    → IsKept (kept_range (last_of m) t f) object
+    → IsKept (kept_range (last_of m) t) object
     → value_of (last_value (last_state y) object index) ≡ referenced_value old.project old.layout o x
-worth_of old l keys t f m y e last object index symbol o x is kept =
-    was_worth old l keys t f (last_state y) (subst (λ n. IfSome (last_of n) (IsLastOf old l.project)) e last) object
-    index symbol o x is (subst (λ n. IsKept (kept_range (last_of n) t f) object) e kept)
+worth_of old l keys t m y e last object index symbol o x is kept =
+    was_worth old l keys t (last_state y) (subst (λ n. IfSome (last_of n) (IsLastOf old l.project)) e last) object
+    index symbol o x is (subst (λ n. IsKept (kept_range (last_of n) t) object) e kept)

@@ -18,12 +18,10 @@ use Rattle.ldmodel.specs.Stayed as model
 use Rattle.ldmodel.specs.Stayed.{LinkedPiece, linked_piece, linked_pieces, range_in}
 use Rattle.ldmodel.specs.SymbolValues.{is_part, placed_part}
 use Rattle.ldmodel.specs.declared.sections.SectionKey.{SectionKey}
-use Rattle.place.specs.Laying.{IsLaying}
 use Rattle.place.specs.Offsets.{IsOffset}
-use Rattle.place.specs.Starts.{AreStarts, IsPartPlace, place_in}
-use Rattle.place.specs.declared.laying.Laying.{Laying}
-use Rattle.place.specs.declared.starts.PartPlace.{PartPlace}
-use Rattle.place.specs.declared.starts.Starts.{Starts}
+use Rattle.place.specs.Arranged.{IsArranged, IsPartPlace, place_in}
+use Rattle.place.specs.declared.arranged.PartPlace.{PartPlace}
+use Rattle.place.specs.declared.arranged.Arranged.{Arranged}
 use Rattle.emit.specs.relocate.Earlier.{range_of}
 use Rattle.emit.specs.relocate.declared.earlier.FileRange.{FileRange}
 use Rattle.place.specs.InPlace.{IsOwned, entries_of}
@@ -143,12 +141,11 @@ fits s q z offset is = go (q.has_file_bytes && not (z.piece.size == 0))
 abbrev place_with : ℕ → ℕ → ℕ → PartPlace
 place_with start size n = record { start = start; size = size; section = record { 0 = n } }
 
-module _ (p : Project) (s : Layout) (t : Starts) (f : Laying) (starts : AreStarts p s t)
-    (laying : IsLaying p s f) where
+module _ (p : Project) (s : Layout) (t : Arranged) (arranged : IsArranged p s t) where
   pub owned : (k : ℕ) (q : PlacedSection) (z : PlacedPiece) → slice_get s.sections k ≡ Some q → Contains q.pieces z
       → IsOwned p z.piece
   owned k q z at among =
-      member_of (IsOwned p) (entries_of s) z.piece starts.apart.owned
+      member_of (IsOwned p) (entries_of s) z.piece arranged.apart.owned
       (subst (λ l. Contains l z.piece) (sym (flat s.sections))
       (map_in (λ (x : PlacedPiece). x.piece) (pieces s.sections) z (pieces_in s.sections k q z at among)))
 
@@ -158,17 +155,17 @@ module _ (p : Project) (s : Layout) (t : Starts) (f : Laying) (starts : AreStart
     part_found : placed_part s (object_name p key.object.0) key.part ≡ Some z
     part_found =
         ap (λ n. placed_part s n key.part) object ∙ ap (λ m. placed_part s z.piece.object m) part
-        ∙ found s starts.apart.once k q z at among
+        ∙ found s arranged.apart.once k q z at among
 
     number_found : position (λ (r : PlacedSection). list_any (is_part (object_name p key.object.0) key.part) r.pieces)
         s.sections ≡ Some k
     number_found =
         ap (λ n. position (λ (r : PlacedSection). list_any (is_part n key.part) r.pieces) s.sections) object
         ∙ ap (λ m. position (λ (r : PlacedSection). list_any (is_part z.piece.object m) r.pieces) s.sections) part
-        ∙ section_is s starts.apart.once k q z at among
+        ∙ section_is s arranged.apart.once k q z at among
 
     place_is : place_in t key ≡ Some (place_with z.start z.piece.size k)
-    place_is = go (place_in t key) (starts.places key)
+    place_is = go (place_in t key) (arranged.places key)
       where
         go : (m : Option PartPlace) → IsPartPlace p s key m → m ≡ Some (place_with z.start z.piece.size k)
         go None h = let none : None ≡ Some z = sym h ∙ part_found in absurd (let never : ⊥ = cc in never)
@@ -182,23 +179,23 @@ module _ (p : Project) (s : Layout) (t : Starts) (f : Laying) (starts : AreStart
             ∙ ap (λ n. Some (place_with z.start n x.section.0)) size
             ∙ ap (λ n. Some (place_with z.start z.piece.size n)) number
 
-    section_at : slice_get f.placement.sections k ≡ Some (placed_of q)
+    section_at : slice_get t.laying.placement.sections k ≡ Some (placed_of q)
     section_at =
-        ap (λ l. slice_get l k) laying.places.sections ∙ slice_get-map placed_of s.sections k
+        ap (λ l. slice_get l k) arranged.laying.places.sections ∙ slice_get-map placed_of s.sections k
         ∙ ap (option_map placed_of) at
 
-    begun : Beside (IsOffset s) f.offsets.items k q
-    begun = beside (IsOffset s) s.sections f.offsets.items k q laying.offsets at
+    begun : Beside (IsOffset s) t.laying.offsets.items k q
+    begun = beside (IsOffset s) s.sections t.laying.offsets.items k q arranged.laying.offsets at
 
     abbrev bytes : Option FileRange
     bytes = range_from (placed_of q) (begun.member) z.start z.piece.size
 
-    standing_is : standing_in t f key ≡ option_map (standing_with (place_with z.start z.piece.size k)) bytes
+    standing_is : standing_in t key ≡ option_map (standing_with (place_with z.start z.piece.size k)) bytes
     unfolding standing_in
     standing_is =
-        ap (option_and_then (standing_of f)) place_is
+        ap (option_and_then (standing_of t.laying)) place_is
         ∙ ap (λ m. option_map (standing_with (place_with z.start z.piece.size k))
-        (option_and_then (code.range_in f (place_with z.start z.piece.size k)) m)) section_at
+        (option_and_then (code.range_in t.laying (place_with z.start z.piece.size k)) m)) section_at
         ∙ ap (λ m. option_map (standing_with (place_with z.start z.piece.size k))
         (option_and_then (λ (offset : ℕ). range_from (placed_of q) offset z.start z.piece.size) m)) (begun.at)
 
@@ -218,7 +215,7 @@ module _ (p : Project) (s : Layout) (t : Starts) (f : Laying) (starts : AreStart
       some = λ low. (standing_with (place_with z.start z.piece.size k) r, refl);
     }
 
-    pub shows : Shows (of_link p s q z) (standing_in t f key)
+    pub shows : Shows (of_link p s q z) (standing_in t key)
     shows = subst (Shows (of_link p s q z)) (sym standing_is) (shown bytes (fits s q z (begun.member) (begun.is)))
 
   -- what stands somewhere by the tables is an input section in the output
@@ -237,12 +234,12 @@ module _ (p : Project) (s : Layout) (t : Starts) (f : Laying) (starts : AreStart
   piece_of key None n e = absurd (let none : ⊥ = cc in none)
   piece_of key (Some z) n e = (z, refl)
 
-  pub stood : (key : SectionKey) (a : Standing) → standing_in t f key ≡ Some a → Stood key a
+  pub stood : (key : SectionKey) (a : Standing) → standing_in t key ≡ Some a → Stood key a
   unfolding standing_in
-  stood key a e = go (place_in t key) (starts.places key) refl e
+  stood key a e = go (place_in t key) (arranged.places key) refl e
     where
       go : (m : Option PartPlace) → IsPartPlace p s key m → place_in t key ≡ m
-          → option_and_then (standing_of f) m ≡ Some a → Stood key a
+          → option_and_then (standing_of t.laying) m ≡ Some a → Stood key a
       go None h same g = absurd (let none : ⊥ = cc in none)
       go (Some x) h same g =
           let w = piece_of key (placed_part s (object_name p key.object.0) key.part) x.start h.0 in

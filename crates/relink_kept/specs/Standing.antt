@@ -4,10 +4,10 @@ use Rattle.std.specs.Prelude.{option_and_then, if◌then◌else◌}
 use Rattle.std.specs.Option.{option_map}
 use Rattle.ldmodel.specs.declared.laid.Placed.{Placed}
 use Rattle.ldmodel.specs.declared.sections.SectionKey.{SectionKey}
-use Rattle.place.specs.Starts.{place_in}
+use Rattle.place.specs.Arranged.{place_in}
 use Rattle.place.specs.declared.laying.Laying.{Laying}
-use Rattle.place.specs.declared.starts.PartPlace.{PartPlace}
-use Rattle.place.specs.declared.starts.Starts.{Starts}
+use Rattle.place.specs.declared.arranged.PartPlace.{PartPlace}
+use Rattle.place.specs.declared.arranged.Arranged.{Arranged}
 use Rattle.emit.specs.relocate.declared.earlier.FileRange.{FileRange}
 use Rattle.relink_kept.specs.declared.standing.Standing.{Standing}
 
@@ -36,8 +36,8 @@ standing_with x range = record { start = x.start; size = x.size; range = range }
 abbrev pub standing_of : Laying → PartPlace → Option Standing
 standing_of l x = option_map (standing_with x) (range_at l x)
 
-unfoldable pub standing_in : Starts → Laying → SectionKey → Option Standing
-standing_in starts l k = option_and_then (standing_of l) (place_in starts k)
+unfoldable pub standing_in : Arranged → SectionKey → Option Standing
+standing_in x k = option_and_then (standing_of x.laying) (place_in x k)
 
 abbrev pub same_standing : Standing → Standing → Bool
 same_standing a b =

@@ -13,10 +13,8 @@ use Rattle.ldmodel.specs.declared.names.ObjectPlace.{ObjectPlace}
 use Rattle.ldmodel.specs.declared.sections.Part.{Part}
 use Rattle.ldmodel.specs.declared.sections.SectionKey.{SectionKey}
 use Rattle.symres.specs.Naming.{NamingState}
-use Rattle.place.specs.Laying.{IsLaying}
-use Rattle.place.specs.Starts.{AreStarts}
-use Rattle.place.specs.declared.laying.Laying.{Laying}
-use Rattle.place.specs.declared.starts.Starts.{Starts}
+use Rattle.place.specs.Arranged.{IsArranged}
+use Rattle.place.specs.declared.arranged.Arranged.{Arranged}
 use Rattle.emit.specs.relocate.KnownLink.{KnownLink}
 use Rattle.emit.specs.relocate.declared.earlier.FileRange.{FileRange}
 use Rattle.emit.specs.relocate.declared.value.SymbolValue.{SymbolValue}
@@ -67,7 +65,7 @@ last_place x k = slice_index_or x.from k.0 None
 -- where an input section did
 abbrev pub standing_from : LastState → Part → ℕ → Option Standing
 standing_from x part i =
-    standing_in x.good.starts x.good.laying (record { object = record { 0 = i }; part = part })
+    standing_in x.good.arranged (record { object = record { 0 = i }; part = part })
 
 unfoldable pub last_standing : LastState → SectionKey → Option Standing
 last_standing x k = option_and_then (standing_from x k.part) (last_place x k.object)
@@ -87,12 +85,12 @@ kept_at (Some before) None = None
 kept_at (Some before) (Some now) = if same_standing before now then Some now.range else None
 
 -- which input sections stayed, and where their bytes stand in the file
-unfoldable pub kept_range : Option LastState → Starts → Laying → SectionKey → Option FileRange
-kept_range None starts laying k = None
-kept_range (Some x) starts laying k = kept_at (last_standing x k) (standing_in starts laying k)
+unfoldable pub kept_range : Option LastState → Arranged → SectionKey → Option FileRange
+kept_range None now k = None
+kept_range (Some x) now k = kept_at (last_standing x k) (standing_in now k)
 
 abbrev pub range_of : Stays → SectionKey → Option FileRange
-range_of s k = kept_range (last_of s.last) s.starts.now s.laying.now k
+range_of s k = kept_range (last_of s.last) s.arranged.now k
 
 -- this object of the earlier project was replaced by that of the new one which has its name
 pub record IsReplaced (p q : Project) (r : ReplacedState) : Type 0 where
@@ -116,8 +114,7 @@ pub record AreStays (s : Stays) (old : GoodLink) (l : KnownLink) : Type 0 where
   pub naming : NamingState
   pub link : l ≡ known_link l.project l.layout naming
   pub names : AreNamesDistinct l.project.objects
-  pub starts : AreStarts l.project l.layout s.starts.now
-  pub laying : IsLaying l.project l.layout s.laying.now
+  pub arranged : IsArranged l.project l.layout s.arranged.now
   pub short : image_length l.project l.layout ≤ max_image_length
   pub last : IfSome (last_of s.last) (IsLastOf old l.project)
   pub marks : AreMarks old l.project l.layout s.marks.now

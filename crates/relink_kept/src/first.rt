@@ -39,7 +39,7 @@ pub fn resumed<'a>(
     if !last.same_script {
         return None;
     }
-    let good = last.good;
-    let first = first_changed(&last, project, &good.rows, rows);
-    Some((&good.laying.placement, first))
+    let before = &last.good.arranged;
+    let first = first_changed(&last, project, &before.rows, rows);
+    Some((&before.laying.placement, first))
 }

@@ -7,7 +7,7 @@ use emit::relocate::earlier::FileRange;
 use ldmodel::laid::Placed;
 use ldmodel::sections::SectionKey;
 use place::Laying;
-use place::starts::{PartPlace, Starts};
+use place::arranged::{Arranged, PartPlace};
 
 /// Where an input section stands.
 #[derive(Clone, Copy, Debug, PartialEq, Eq)]
@@ -54,14 +54,13 @@ fn range_at(laying: &Laying, place: PartPlace) -> Option<FileRange>
 /// Where an input section stands in a link, if it is in the output. None where its bytes in the file begin past 2^64.
 #[tactic(auto, unfolding(crate::specs::Standing::standing_in))]
 pub(crate) fn find_standing(
-    starts: &Starts,
-    laying: &Laying,
+    arranged: &Arranged,
     section: SectionKey,
 ) -> Option<Standing>
-    ensures { result ≡ standing_in starts.now laying.now section }
+    ensures { result ≡ standing_in arranged.now section }
 {
-    let place = starts.find(section)?;
-    let range = range_at(laying, place)?;
+    let place = arranged.find(section)?;
+    let range = range_at(&arranged.laying, place)?;
     Some(Standing {
         start: place.start,
         size: place.size,

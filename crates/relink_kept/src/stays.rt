@@ -16,8 +16,7 @@ use emit::relocate::value::SymbolValue;
 use ldmodel::names::ObjectPlace;
 use ldmodel::sections::SectionKey;
 use ldmodel_laws::segments::{files_in_order, sections_in_file};
-use place::Laying;
-use place::starts::Starts;
+use place::arranged::Arranged;
 
 /// An object of the earlier link in whose place another of its name came.
 #[derive(Clone, Copy)]
@@ -62,7 +61,7 @@ impl<'a> Last<'a> {
             object: ObjectPlace(place),
             part: section.part,
         };
-        find_standing(&self.good.starts, &self.good.laying, section)
+        find_standing(&self.good.arranged, section)
     }
 
     /// What a symbol of an object of the new link was worth in the earlier one.
@@ -81,10 +80,8 @@ impl<'a> Last<'a> {
 pub struct Stays<'a> {
     /// The last link, if there is one.
     pub last: Option<Last<'a>>,
-    /// Where the input sections of the new one stand.
-    pub starts: &'a Starts,
     /// Where everything of the new one stands.
-    pub laying: &'a Laying,
+    pub arranged: &'a Arranged,
     /// Which objects of the new one, by their places, name a symbol that may have another value than in the last one;
     /// an object past the end of the list may, too.
     pub marks: &'a [bool],
@@ -125,7 +122,7 @@ impl<'a> Earlier for Stays<'a> {
     fn stayed(&self, section: SectionKey) -> Option<FileRange> {
         let last = self.last?;
         let before = last.standing(section)?;
-        let now = find_standing(self.starts, self.laying, section)?;
+        let now = find_standing(self.arranged, section)?;
         if before == now { Some(now.range) } else { None }
     }
 

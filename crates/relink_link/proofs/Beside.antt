@@ -78,8 +78,7 @@ are_stays p l y w v is beside names old last = record {
   naming = is.placed.naming;
   link = refl;
   names = names;
-  starts = beside.starts;
-  laying = beside.laying;
+  arranged = beside.arranged;
   short = is.length;
   last = last;
   marks = beside.marks old last;
@@ -175,18 +174,17 @@ end_within p s t qs e f h =
 
 -- what is counted at one is counted at each
 pub evaluated_at : (p : Project) (y : Stays) (r : Relocated) (before after : Counts) (s : Layout)
-    → IsLaying p s y.laying.now → AreEvaluated p s y r before after → HasEvaluated p y r before after
+    → IsLaying p s y.arranged.now.laying → AreEvaluated p s y r before after → HasEvaluated p y r before after
 evaluated_at p y r before after s is h =
     λ t laying.
     subst (λ (z : Layout). AreEvaluated p z y r before after) (one_placement p s t is.placed laying.placed) h
 
 -- a link that is filled can be drawn
 pub drawable_at : (p : Project) (y : Stays) (v : Values) (r : Relocated) (f : IsFilled p y v r)
-    → IsDrawableAt p f.short.placed.known.layout f.short.placed.naming y.laying.now y.starts.now v r
+    → IsDrawableAt p f.short.placed.known.layout f.short.placed.naming y.arranged.now v r
     (λ k. is_some (range_of y k))
 drawable_at p y v r f = record {
-  laying = f.short.placed.known.laying;
-  starts = f.beside.starts;
+  arranged = f.beside.arranged;
   values = f.short.placed.values;
   fields = f.fields;
   short = f.short.length;

@@ -47,7 +47,7 @@ pub record AreEvaluated (p : Project) (s : Layout) (y : Stays) (r : Relocated) (
 
 -- so it is at the layout of these tables
 abbrev pub HasEvaluated : Project → Stays → Relocated → Counts → Counts → Type 0
-HasEvaluated p y r before after = (s : Layout) → IsLaying p s y.laying.now → AreEvaluated p s y r before after
+HasEvaluated p y r before after = (s : Layout) → IsLaying p s y.arranged.now.laying → AreEvaluated p s y r before after
 
 -- the bytes of the image outside of what stayed, and of the patches
 abbrev pub bytes_spent : GoodLink → GoodLink → Relocated → ℕ
@@ -62,7 +62,7 @@ pub record IsWritten (p : Project) (s : Layout) (y : Stays) (r : Relocated) (bef
       → after ≡ raised before Bytes (bytes_spent old (new_link p s) r)
 
 abbrev pub HasWritten : Project → Stays → Relocated → Counts → Counts → Type 0
-HasWritten p y r before after = (s : Layout) → IsLaying p s y.laying.now → IsWritten p s y r before after
+HasWritten p y r before after = (s : Layout) → IsLaying p s y.arranged.now.laying → IsWritten p s y r before after
 
 -- the fields of sites outside of what stayed, and of those in it whose symbol has another value; and the bytes outside
 -- of what stayed, with those of fields in it of symbols of another value

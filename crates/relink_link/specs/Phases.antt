@@ -22,7 +22,7 @@ use Rattle.symres.specs.Naming.{NamingState}
 use Rattle.emit.specs.Beside.{new_link}
 use Rattle.emit.specs.Runs.{AreRunsUnless}
 use Rattle.emit.specs.declared.relocated.Relocated.{Relocated}
-use Rattle.place.specs.Starts.{AreStarts}
+use Rattle.place.specs.Arranged.{IsArranged}
 use Rattle.emit.specs.values.LinkView.{IsLinkView, known_link}
 use Rattle.emit.specs.values.Values.{AreValues}
 use Rattle.emit.specs.values.declared.link_view.LinkView.{LinkView}
@@ -54,14 +54,13 @@ pub record IsShort (p : Project) (l : Laying) (w : LinkView) (v : Values) : Type
 
 -- the tables of a link at a layout beside those of the earlier one, if there is one
 pub record AreBeside (p : Project) (s : Layout) (y : Stays) : Type 0 where
-  pub starts : AreStarts p s y.starts.now
-  pub laying : IsLaying p s y.laying.now
+  pub arranged : IsArranged p s y.arranged.now
   pub last : IfSome (last_of y.last) (HasOld p)
   pub marks : (old : GoodLink) → IfSome (last_of y.last) (IsLastOf old p) → AreMarks old p s y.marks.now
 
 -- at the layout of these tables
 abbrev pub IsBeside : Project → Stays → Type 0
-IsBeside p y = (s : Layout) → IsLaying p s y.laying.now → AreBeside p s y
+IsBeside p y = (s : Layout) → IsLaying p s y.arranged.now.laying → AreBeside p s y
 
 -- patches of what stayed: they end within the image, and are those of each earlier link that this one may be
 pub record ArePatches (p : Project) (s : Layout) (y : Stays) (r : Relocated) : Type 0 where
@@ -72,7 +71,7 @@ pub record ArePatches (p : Project) (s : Layout) (y : Stays) (r : Relocated) : T
 -- all relocations have their fields, but those of what stayed
 pub record IsFilled (p : Project) (y : Stays) (v : Values) (r : Relocated) : Type 0 where
   pub known_by : LinkView
-  pub short : IsShort p y.laying.now known_by v
+  pub short : IsShort p y.arranged.now.laying known_by v
   pub names : AreNamesDistinct p.objects
   pub beside : AreBeside p short.placed.known.layout y
   pub fields :
@@ -90,4 +89,4 @@ pub record IsFaultless (p : Project) (y : Stays) (v : Values) (r : Relocated) : 
 
 -- these bytes are the image at the layout of these tables
 abbrev pub IsImage : Project → Stays → List ℕ → Type 0
-IsImage p y bytes = (s : Layout) → IsLaying p s y.laying.now → bytes ≡ image p s
+IsImage p y bytes = (s : Layout) → IsLaying p s y.arranged.now.laying → bytes ≡ image p s

@@ -22,7 +22,7 @@ use gather::matches::Matches;
 use ldmodel::memory::NoMemory;
 use ldmodel::meter::Meter;
 use ldmodel_project::view::ProjectView;
-use place::starts::Starts;
+use place::arranged::Arranged;
 use relink_kept::good::Good;
 use relink_kept::marks::marks_of;
 use relink_kept::stays::{Last, Stays};
@@ -61,32 +61,25 @@ fn relinked(lent: Lent<'_, '_>, canvas: &mut Canvas, meter: &mut Meter) -> Resul
     named(lent)?;
     let Gathering { table, rows, .. } = gathered(lent)?;
     let laying = laid(lent, &rows, meter)?;
-    let starts = Starts::of(alloc, project, table, &rows, &laying)?;
-    let given = GivenValues::of(alloc, &*project, &*naming, &laying)?;
-    let view = LinkView::new(alloc, &*project, &*naming, &starts, &given)?;
-    let values = valued(lent, &laying, &view, &given)?;
+    let arranged = Arranged::of(alloc, project, table, rows, laying)?;
+    let given = GivenValues::of(alloc, &*project, &*naming, &arranged.laying)?;
+    let view = LinkView::new(alloc, &*project, &*naming, &arranged, &given)?;
+    let values = valued(lent, &arranged.laying, &view, &given)?;
     let symbols = symbol_values(alloc, project, &view, &values.names)?;
     let marks = marks_of(alloc, project, last, &symbols)?;
     let stays = Stays {
         last,
-        starts: &starts,
-        laying: &laying,
+        arranged: &arranged,
         marks: &marks,
     };
     let fields = relocated(lent, &stays, &view, &values, &symbols, meter)?;
     asserted(lent, &stays, &values, &fields)?;
-    let map = map_text(alloc, project, &rows, &laying, &values)?;
+    let map = map_text(alloc, project, &arranged.rows, &arranged.laying, &values)?;
     // the last pass that may fail, since it changes the canvas
-    drawn(lent, canvas, &rows, &stays, &values, &fields, meter)?;
+    drawn(lent, canvas, &stays, &values, &fields, meter)?;
     // what lends a table goes before the table is kept
     drop(view);
-    let good = Good {
-        rows,
-        laying,
-        starts,
-        symbols,
-    };
-    Ok(Ended::Good(good, map))
+    Ok(Ended::Good(Good { arranged, symbols }, map))
 }
 
 /// Links a project over names that are decided, matches that are found, and an earlier link, if there is one, whose

@@ -167,9 +167,9 @@ pub(crate) fn relocated(
     symbols: &SymbolTable,
     meter: &mut Meter,
 ) -> Result<Relocated, Stop>
-    requires short { IsShort (project_of lent) stays.now.laying.now view.now values.now }
+    requires short { IsShort (project_of lent) stays.now.arranged.now.laying view.now values.now }
     requires beside { IsBeside (project_of lent) stays.now }
-    requires symbols { (s : Layout) → IsLaying (project_of lent) s stays.now.laying.now
+    requires symbols { (s : Layout) → IsLaying (project_of lent) s stays.now.arranged.now.laying
         → AreSymbolValues (project_of lent) s symbols.now }
     ensures good { IfOk result (λ r. IsFilled (project_of lent.entry) stays.now values.now r) }
     ensures stop { IfErr result (λ stop. IsStop (link (project_of lent.entry)) stop) }
@@ -178,7 +178,7 @@ pub(crate) fn relocated(
     ensures early { IfErr result (λ stop. EndsReadingNothing meter.old meter.new stop) }
 {
     stays.is_complete();
-    is_good(lent.project, stays.laying);
+    is_good(lent.project, &stays.arranged.laying);
     // so that what a project says of its objects is known
     let _inputs = lent.project.inputs();
     // so that the range of the count is known
@@ -209,7 +209,7 @@ pub(crate) fn asserted(
     ensures good { OnOk result (IsFaultless (project_of lent.entry) stays.now values.now fields.now) }
     ensures stop { IfErr result (λ stop. IsStop (link (project_of lent.entry)) stop) }
 {
-    let faults = assertion_faults(lent.alloc, lent.project, stays.laying, values)?;
+    let faults = assertion_faults(lent.alloc, lent.project, &stays.arranged.laying, values)?;
     match end_if_faulty(lent.alloc, lent.project, &faults) {
         Ok(()) => Ok(()),
         Err(stop) => Err(stop),
@@ -220,13 +220,11 @@ pub(crate) fn asserted(
 pub(crate) fn drawn(
     lent: Lent<'_, '_>,
     canvas: &mut Canvas,
-    rows: &[Vec<Piece>],
     stays: &Stays<'_>,
     values: &Values<'_>,
     fields: &Relocated,
     meter: &mut Meter,
 ) -> Result<(), NoMemory>
-    requires rows { rows_in (project_of lent) rows.now ≡ model.rows (project_of lent) }
     requires filled { IsFilled (project_of lent) stays.now values.now fields.now }
     requires last { IfSome (last_of stays.now.last) (HasLast (project_of lent) canvas.old.bytes) }
     ensures image { OnOk result (IsImage (project_of lent.entry) stays.now canvas.new.bytes) }
@@ -241,9 +239,7 @@ pub(crate) fn drawn(
         lent.alloc,
         canvas,
         lent.project,
-        rows,
-        stays.laying,
-        stays.starts,
+        stays.arranged,
         values,
         fields,
         stays,

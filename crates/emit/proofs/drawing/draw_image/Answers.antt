@@ -24,14 +24,13 @@ draw_outputs-requires-clause-outputs g c =
       stays = stays;
       are = record {
         names = r.names;
-        laying = r.is.laying;
-        starts = r.is.starts;
+        arranged = r.is.arranged;
         values = r.is.values;
         short = r.is.short;
         outputs = subst (λ l. AllZip (IsOutput p s stays) s.sections l) (sym c.deref-2.ensures.value)
-            (c.in_ok-outputs.ensures s stays r.is.laying
+            (c.in_ok-outputs.ensures s stays r.is.arranged.laying
             (subst (λ l. AllZip (IsJoinedRow p s stays) s.sections (map vec_items l)) (sym c.deref.ensures.value)
-            (c.in_ok-pieces.ensures s r.names r.is.laying r.is.fields)));
+            (c.in_ok-pieces.ensures s r.names r.is.arranged r.is.fields)));
       };
     }
 
@@ -41,18 +40,17 @@ returns g c =
     let range : SectionKey → Option FileRange = g.E.Earlier.range c.args.earlier.now in
     let stays : SectionKey → Bool = λ k. is_some (range k) in
     let outputs : (s : Layout) (a : NamingState)
-    → IsDrawableAt p s a c.args.laying.now c.args.starts.now c.args.values.now c.args.relocated.now stays
-    → AreOutputs p c.args.laying.now c.args.starts.now c.args.values.now s stays c.deref-2.result.now =
+    → IsDrawableAt p s a c.args.arranged.now c.args.values.now c.args.relocated.now stays
+    → AreOutputs p c.args.arranged.now c.args.values.now s stays c.deref-2.result.now =
     λ s a is. record {
       names = a;
-      laying = is.laying;
-      starts = is.starts;
+      arranged = is.arranged;
       values = is.values;
       short = is.short;
       outputs = subst (λ l. AllZip (IsOutput p s stays) s.sections l) (sym c.deref-2.ensures.value)
-          (c.in_ok-outputs.ensures s stays is.laying
+          (c.in_ok-outputs.ensures s stays is.arranged.laying
           (subst (λ l. AllZip (IsJoinedRow p s stays) s.sections (map vec_items l)) (sym c.deref.ensures.value)
-          (c.in_ok-pieces.ensures s a is.laying is.fields)));
+          (c.in_ok-pieces.ensures s a is.arranged is.fields)));
     } in
     record {
       image = on_ok _ _ c.draw_outputs.result

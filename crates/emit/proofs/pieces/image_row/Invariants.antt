@@ -11,7 +11,7 @@ use Rattle.emit.specs.Pieces.{AreSources, IsRowAt}
 abbrev pub invariant-loop-k : goal.invariant-loop-k
 invariant-loop-k g l =
     (link : KnownLink) (q : PlacedSection) → link.project ≡ l.project
-    → AreSources link (λ key. is_some (g.E.Earlier.range l.earlier key)) l.firsts l.relocated
+    → AreSources link (λ key. is_some (g.E.Earlier.range l.earlier key)) l.arranged l.relocated
     → IsRowAt l.project link.layout (map (piece_in l.project) l.row) l.starts q
     → AreDrawnAs link.project link.layout (λ key. is_some (g.E.Earlier.range l.earlier key)) (take l.k q.pieces)
     l.pieces.items

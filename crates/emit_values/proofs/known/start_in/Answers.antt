@@ -3,7 +3,7 @@ use Rattle.std.specs.Option.{option_map}
 use Rattle.ldmodel.specs.Layout.{PlacedPiece}
 use Rattle.ldmodel.specs.NameFaults.{object_name}
 use Rattle.ldmodel.specs.SymbolValues.{placed_part}
-use Rattle.place.specs.Starts.{IsPartPlace}
+use Rattle.place.specs.Arranged.{IsPartPlace}
 use Rattle.emit_values.proofs.known.start_in.Goals as goal
 
 pub returns-in-None : goal.returns-in-None

@@ -1,5 +1,4 @@
-use Rattle.std.proofs.Common.{◌∙◌, sym, subst}
-use Rattle.gather.specs.RowPieces.{AreTaken}
+use Rattle.std.proofs.Common.{◌∙◌, sym}
 use Rattle.gather.specs.ProjectMembers.{by_place}
 use Rattle.gather.proofs.Named.{orphan_faults}
 use Rattle.gather.proofs.NamedRows.{same_rows}
@@ -12,9 +11,7 @@ returns c =
     record {
       table = c.requires.table;
       rows = same_rows p c.in_ok-rows.rows.items
-          ∙ c.in_ok-rows.ensures p (by_place p).naming (sym c.script.ensures)
-          (subst (AreTaken p (by_place p).naming) (sym c.deref.ensures.value)
-          (c.in_ok-pieces.ensures p (by_place p) c.requires.sections c.requires.marks));
+          ∙ c.in_ok-rows.ensures p (by_place p) (sym c.script.ensures) c.requires.sections c.requires.marks;
       orphans = orphan_faults p c.requires.ascending in_order.0
           c.in_ok-orphans.orphans.items in_order.1
           (c.in_ok-orphans.ensures p (by_place p) c.requires.sections c.requires.marks);

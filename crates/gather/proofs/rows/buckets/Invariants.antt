@@ -1,10 +1,6 @@
 -- The lists so far.
-use Rattle.std.proofs.Common.{take, []}
-use Rattle.gather.specs.RowPieces.{AreBuckets}
+use Rattle.gather.proofs.GatheredLists.{Taken}
 use Rattle.gather.proofs.rows.buckets.Given as goal
 
-abbrev pub invariant-loop-number : goal.invariant-loop-number
-invariant-loop-number l = AreBuckets [] l._number l.buckets.items
-
-abbrev pub invariant-loop-piece : goal.invariant-loop-piece
-invariant-loop-piece l = AreBuckets (take l.piece-index l.pieces) l.statements l.buckets.items
+abbrev pub invariant-loop-place : goal.invariant-loop-place
+invariant-loop-place l = Taken l.sections l.marks l.place l.statements l.buckets.items

@@ -1,11 +1,14 @@
-use Rattle.std.proofs.Common.{◌≡◌, ◌≢◌, ◌<◌, ◌+◌, ◌∷◌, [], length, drop, get_or, arith, ap, sym, ◌∙◌, get_or-set_other}
+use Rattle.std.proofs.Common.{◌≡◌, ◌≢◌, ◌<◌, ◌+◌, ◌∷◌, [], length, drop, get_or, arith, ap, refl, sym, ◌∙◌}
+use Rattle.std.proofs.Common.{get_or-set_other}
 use Rattle.std.specs.List.{enumerate_from}
+use Rattle.gather.specs.Gathered.{taken_in}
 use Rattle.std.proofs.Math.ListN.{length-set}
 use Rattle.std.proofs.lemmas.List.{drop_more, drop_all}
 use Rattle.ldscript.specs.statements.Numbering.{InputStatementAt, input_statements}
 use Rattle.ldscript.specs.statements.Numbered.{shown_inputs}
 use Rattle.std.specs.Prelude.{flat_map}
 use Rattle.gather.specs.RowPieces.{pieces_at, shown_row}
+use Rattle.gather.proofs.GatheredLists.{taken_are}
 use Rattle.gather.proofs.RowSteps.{rows_step, rows_end, rows_are}
 use Rattle.gather.proofs.rows.rows.Goals as goal
 
@@ -35,7 +38,8 @@ loop-number-preserved c =
           ∙ inv.left k d (omega (arith, h)) l;
       rows = λ n named k d h.
           (let before : k < length c.loop-number.found.items = omega (arith, h, added.long) in
-          rows_step n c.args.pieces.now c.index_mut.result.now.items k i (shown_inputs (drop i items))
+          rows_step n (taken_in c.args.marks.now c.args.sections.now) c.index_mut.result.now.items k i
+          (shown_inputs (drop i items))
           (shown_inputs (drop (i + 1) items)) st
           (shown_row n (get_or c.loop-number.found.items k d))
           (shown_row n (get_or c.add_statement.new.rows.items k d)) _
@@ -43,14 +47,17 @@ loop-number-preserved c =
     }
 
 pub returns : goal.returns
-returns c = λ p n is taken.
+returns c = λ p keys is gathered lives.
+    let n = keys.naming in
+    let xs = taken_in c.args.marks.now c.args.sections.now in
+    let taken = taken_are p keys c.args.marks.now c.args.sections.now _ refl gathered lives in
     let i = c.loop-number.number in
     let inv = c.loop-number.invariant in
     let items = c.deref-statement-items.result.now in
     let none : drop i items ≡ [] = drop_all i items (omega (arith, c.loop-number-test.false)) in
     let all : shown_inputs items ≡ input_statements c.args.script.now =
     ap shown_inputs c.deref-statement-items.ensures.value ∙ c.in_ok-statements.ensures in
-    rows_are p n c.args.script.now c.args.pieces.now c.loop-number.found.items is taken inv.long
-    (λ k d l. rows_end n c.args.pieces.now k i (shown_inputs (drop i items)) _ _ (ap shown_inputs none)
+    rows_are p n c.args.script.now xs c.loop-number.found.items is taken inv.long
+    (λ k d l. rows_end n xs k i (shown_inputs (drop i items)) _ _ (ap shown_inputs none)
     (inv.rows n taken.named k d l)
-    ∙ ap (λ s. flat_map (pieces_at n c.args.pieces.now k) (enumerate_from 0 s)) all)
+    ∙ ap (λ s. flat_map (pieces_at n xs k) (enumerate_from 0 s)) all)

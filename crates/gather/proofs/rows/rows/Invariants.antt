@@ -2,6 +2,7 @@
 use Rattle.std.proofs.Common.{◌≡◌, ◌<◌, ◌≤◌, ◌++◌, ℕ, length, drop, get_or, Vec, Global}
 use Rattle.std.specs.Prelude.{flat_map}
 use Rattle.std.specs.List.{All, enumerate_from}
+use Rattle.gather.specs.Gathered.{taken_in}
 use Rattle.ldscript.specs.statements.Numbered.{shown_inputs}
 use Rattle.ldscript.specs.statements.Numbering.{output_sections}
 use Rattle.ldmodel.specs.declared.rows.Piece as code
@@ -14,10 +15,11 @@ invariant-loop-number l = record {
   long : length l.found.items ≡ length (output_sections l.script);
   buckets : length l.buckets.items ≡ length l.statement-items;
   left : (k : ℕ) (d : Vec NamedPiece Global) → l.number ≤ k → k < length l.statement-items
-      → (get_or l.buckets.items k d).items ≡ of_statement l.pieces k;
-  rows : (n : Naming) → All (IsNamed n) l.pieces → (k : ℕ) (d : Vec code.Piece Global) → k < length l.found.items
+      → (get_or l.buckets.items k d).items ≡ of_statement (taken_in l.marks l.sections) k;
+  rows : (n : Naming) → All (IsNamed n) (taken_in l.marks l.sections) → (k : ℕ) (d : Vec code.Piece Global)
+      → k < length l.found.items
       → shown_row n (get_or l.found.items k d)
-      ++ flat_map (pieces_at n l.pieces k)
+      ++ flat_map (pieces_at n (taken_in l.marks l.sections) k)
       (enumerate_from l.number (shown_inputs (drop l.number l.statement-items)))
-      ≡ flat_map (pieces_at n l.pieces k) (enumerate_from 0 (shown_inputs l.statement-items));
+      ≡ flat_map (pieces_at n (taken_in l.marks l.sections) k) (enumerate_from 0 (shown_inputs l.statement-items));
 }

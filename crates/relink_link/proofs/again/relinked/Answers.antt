@@ -4,6 +4,7 @@ use Rattle.relink_kept.specs.SymbolTable.{AreSymbolValues}
 use Rattle.ldmodel.specs.Layout.{Layout}
 use Rattle.emit.specs.relocate.KnownLink.{AreNameValues}
 use Rattle.emit.specs.values.LinkView.{known_link}
+use Rattle.place.specs.Laying.{IsLaying}
 use Rattle.relink_link.specs.Lent.{project_of}
 use Rattle.relink_link.proofs.Beside.{has_old, one_placement}
 use Rattle.relink_link.proofs.Reading.{reads_then}
@@ -17,11 +18,12 @@ laid-requires-clause-last c = has_old (project_of c.args.lent) _ _ c.requires.la
 pub valued-requires-clause-known : goal.valued-requires-clause-known
 valued-requires-clause-known c =
     let s = c.in_ok-laying.ensures.good.layout in
-    let is = c.in_ok-laying.ensures.good.is in
+    let is = subst (IsLaying (project_of c.args.lent) s) (sym c.in_ok-arranged.ensures.laying)
+    c.in_ok-laying.ensures.good.is in
     record {
       layout = s;
       laying = is;
-      view = c.in_ok-view.ensures s (c.in_ok-given.ensures.values s is) (c.in_ok-starts.ensures s is);
+      view = c.in_ok-view.ensures s (c.in_ok-given.ensures.values s is) (c.in_ok-arranged.ensures.arranged s is);
       rest = c.in_ok-table.ensures.rest;
     }
 
@@ -32,8 +34,7 @@ relocated-requires-clause-beside c =
     let h = c.in_ok-values.ensures.good.placed in
     let k = h.known in
     record {
-      starts = c.in_ok-starts.ensures s laying;
-      laying = laying;
+      arranged = c.in_ok-arranged.ensures.arranged s laying;
       last = has_old p _ _ c.requires.last;
       marks = λ old last. subst (AreMarks old p s) (sym c.deref-4.ensures.value)
           (c.in_ok-marks.ensures old s last
@@ -71,9 +72,7 @@ returns-clause-ended c =
       table = record {
         good = f.good;
         names = f.names;
-        rows = c.in_ok-table.ensures.gathering.rows;
-        laying = k.laying;
-        starts = c.in_ok-starts.ensures s k.laying;
+        arranged = c.in_ok-arranged.ensures.arranged s k.laying;
         symbols = subst (λ (z : Layout). AreSymbolValues p z c.in_ok-symbols.symbols)
             (one_placement p seen.layout s seen.laying.placed k.laying.placed)
             (c.in_ok-symbols.ensures seen.layout valued.naming seen.view

@@ -28,11 +28,11 @@ draw_image-requires-clause-drawable c =
 
 pub draw_image-requires-clause-patches : goal.draw_image-requires-clause-patches
 draw_image-requires-clause-patches c =
-    λ s laying.
+    λ s arranged.
     let p = project_of c.args.lent in
     let k = c.requires.filled.short.placed.known in
     subst (All (EndsBy (image_length p s))) (sym c.deref.ensures.value)
-    (end_within p k.layout s c.args.fields.now.retargeted.items k.laying.placed laying.placed
+    (end_within p k.layout s c.args.fields.now.retargeted.items k.laying.placed arranged.laying.placed
     c.requires.filled.patches.ends)
 
 pub returns-clause-image : goal.returns-clause-image

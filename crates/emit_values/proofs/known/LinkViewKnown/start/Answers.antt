@@ -9,7 +9,7 @@ use Rattle.emit_values.proofs.known.LinkViewKnown.start.Goals as goal
 
 pub returns : goal.returns
 returns c l v =
-    c.start_in.ensures l.project l.layout v.starts
+    c.start_in.ensures l.project l.layout v.arranged
     ∙ sym (ap
     (λ n. option_map (λ (x : PlacedPiece). x.start)
     (placed_part l.layout (object_name l.project n) c.args.section.part))

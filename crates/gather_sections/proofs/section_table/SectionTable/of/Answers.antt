@@ -13,5 +13,5 @@ invariant_of-result c = record {
 
 pub returns : goal.returns
 returns c =
-    are_numbered _ c.args.project.now c.in_ok-laid.ensures.counted c.args.ranks.items c.requires
+    are_numbered _ c.args.project.now c.in_ok-laid.ensures.counted c.in_ok-laid.ensures.linked c.args.ranks.items c.requires
     c.sort_unstable_by_key.ensures.permutation

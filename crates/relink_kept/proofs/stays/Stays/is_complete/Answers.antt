@@ -11,8 +11,8 @@ use Rattle.relink_kept.proofs.stays.Stays.is_complete.Goals as goal
 
 pub returns-clause-complete : goal.returns-clause-complete
 returns-clause-complete c = λ old l h some.
-    complete_or_none old l (λ k. ap (λ (m : KnownLink). m.number k) h.link) h.names c.args.self.now.starts.now
-    c.args.self.now.laying.now h.starts h.laying c.args.self.now.last some h.last h.short
+    complete_or_none old l (λ k. ap (λ (m : KnownLink). m.number k) h.link) h.names
+    c.args.self.now.arranged.now h.arranged c.args.self.now.last some h.last h.short
     (c.files_in_order.ensures l.layout.sections) (c.sections_in_file.ensures.all l.layout.sections)
     (c.sections_in_file.ensures.offset l.layout.sections h.laying.named)
 
@@ -25,9 +25,9 @@ if_known old l key (Some r) h = h r refl
 pub returns-clause-sound : goal.returns-clause-sound
 returns-clause-sound c = λ old l h key.
     if_known old l key (range_of c.args.self.now key) (λ r e.
-    sound old l (λ k. ap (λ (m : KnownLink). m.number k) h.link) h.names c.args.self.now.starts.now
-    c.args.self.now.laying.now h.starts h.laying (last_of c.args.self.now.last) h.last key r e)
+    sound old l (λ k. ap (λ (m : KnownLink). m.number k) h.link) h.names
+    c.args.self.now.arranged.now h.arranged (last_of c.args.self.now.last) h.last key r e)
 
 pub returns-clause-none : goal.returns-clause-none
 returns-clause-none c = λ e k.
-    none_known (last_of c.args.self.now.last) c.args.self.now.starts.now c.args.self.now.laying.now k (ap last_of e)
+    none_known (last_of c.args.self.now.last) c.args.self.now.arranged.now k (ap last_of e)

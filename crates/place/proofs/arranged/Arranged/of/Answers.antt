@@ -1,39 +1,40 @@
-use Rattle.std.proofs.Common.{◌∙◌, ap, flat_map, map, subst, sym, List}
+use Rattle.std.proofs.Common.{◌∙◌, ap, flat_map, subst, sym, List}
 use Rattle.ldmodel_laws.specs.PlacedOnce.{Differ}
 use Rattle.ldmodel_laws.specs.Spread.{EachLater}
 use Rattle.ldmodel.specs.Each.{Each}
 use Rattle.ldmodel.specs.Names.{provided}
 use Rattle.ldmodel.specs.Rows.{Piece, rows}
 use Rattle.place.specs.Columns.{AreOwners}
+use Rattle.place.specs.Entries.{all_entries}
 use Rattle.place.specs.InPlace.{IsOwned}
 use Rattle.place.specs.declared.entry.Entry.{Entry}
 use Rattle.place.proofs.AllNumbered.{all_numbered}
 use Rattle.place.proofs.Owned.{all_inputs, all_owned}
 use Rattle.place.proofs.Placing.{all_places}
-use Rattle.place.proofs.starts.Starts.of.Goals as goal
+use Rattle.place.proofs.arranged.Arranged.of.Goals as goal
 
-pub returns : goal.returns
-returns c = λ s laid.
+pub returns-clause-arranged : goal.returns-clause-arranged
+returns-clause-arranged c = λ s laid.
     let p = c.args.project.now in
     let placed = c.placed_are_rows.ensures p (provided p) s laid.placed in
     let flat : List (List Piece) → List Piece = flat_map (λ (row : List Piece). row) in
     let inputs = all_inputs p (c.live_by_path.ensures.in_order p) in
     let owned : Each (IsOwned p) (flat (rows p)) =
-    all_owned p c.inputs-inputs.result.now c.inputs-inputs.ensures.same
+    all_owned p c.inputs.result.now c.inputs.ensures.same
     (sym c.has_unnamed.ensures ∙ c.if-has_unnamed.false) (c.sections_of_objects.ensures p) (flat (rows p)) inputs in
-    let are = c.in_ok-entries.ensures in
-    all_places p s c.args.rows.now c.pieces.result.now c.in_ok-entries.entries.items _
-    c.inputs-inputs.ensures.distinct
+    let are = c.in_ok-entries.ensures
+    ∙ ap (λ rows. all_entries 0 rows c.pieces.result.now) c.deref.ensures.value in
+    all_places p s c.pieces.result.now _
+    c.inputs.ensures.distinct
     (record {
       once = subst (EachLater Differ) (ap flat (sym placed))
-          (c.once_in_rows.ensures p c.inputs-inputs.ensures.distinct c.are_numbered.ensures);
+          (c.once_in_rows.ensures p c.inputs.ensures.distinct c.are_numbered.ensures);
       owned = subst (Each (IsOwned p)) (ap flat (sym placed)) owned;
       spread = c.nothing_meets.ensures p.script (rows p) (provided p) s laid.placed;
     })
     (placed ∙ sym c.requires.rows)
-    (c.pieces.ensures ∙ laid.places.starts) are c.requires.table
-    (all_numbered p c.args.table c.inputs-inputs.ensures.distinct c.requires.table (c.sections_of_objects.ensures p)
-    c.args.rows.now c.pieces.result.now c.in_ok-entries.entries.items c.requires.rows owned inputs are)
-    (subst (λ (l : List Entry). AreOwners c.args.table l c.in_ok-owners.owners.items) c.deref.ensures.value
+    (c.pieces.ensures ∙ laid.places.starts) are c.requires.table c.requires.rows laid
+    (all_numbered p c.args.table c.inputs.ensures.distinct c.requires.table (c.sections_of_objects.ensures p)
+    c.args.rows.items c.pieces.result.now c.in_ok-entries.entries.items c.requires.rows owned inputs are)
+    (subst (λ (l : List Entry). AreOwners c.args.table l c.in_ok-owners.owners.items) c.deref-2.ensures.value
     c.in_ok-owners.ensures)
-    (c.in_ok-places.ensures ∙ ap (map (λ (e : Entry). e.place)) c.deref-2.ensures.value)

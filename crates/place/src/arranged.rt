@@ -1,6 +1,6 @@
-//! A table of where the input sections of a link stand.
+//! Where everything of a link stands.
 
-ghost use Rattle.std.specs.Prelude.{◌≡◌, IfOk, map};
+ghost use Rattle.std.specs.Prelude.{◌≡◌, IfOk, IfSome, take};
 ghost use Rattle.std.specs.List.{list_any};
 ghost use Rattle.ldmodel.specs.Layout.{Layout};
 ghost use Rattle.ldmodel.specs.Project.{Project};
@@ -40,15 +40,19 @@ pub struct PartPlace {
     pub section: OutputIndex,
 }
 
-/// Where the input sections of a link stand: a column of its table.
+/// Where everything of a link stands: its rows, its layout, and the places of its input sections by their numbers.
 #[derive(Drop)]
-pub struct Starts {
+pub struct Arranged {
     /// The numbers of the input sections.
     table: SectionTable,
-    /// For each number which of the places is its own; the number of places where none is.
+    /// The row of each output section.
+    pub rows: Vec<Vec<Piece>>,
+    /// Where they stand, in memory and in the file.
+    pub laying: Laying,
+    /// All input sections in the output with their places, in the order of the rows.
+    entries: Vec<Entry>,
+    /// For each number of the table which of the entries is its own; the number of entries where none is.
     owners: Vec<u32>,
-    /// The places of all input sections in the output, in the order of the rows.
-    places: Vec<PartPlace>,
 }
 
 /// Whether one of these objects has no name.
@@ -80,15 +84,9 @@ fn owners(alloc: Global, table: &SectionTable, entries: &[Entry]) -> Result<Vec<
     Ok(owners)
 }
 
-/// The places of these input sections. Fails where memory runs out.
-fn places(alloc: Global, entries: &[Entry]) -> Result<Vec<PartPlace>, NoMemory>
-    ensures { IfOk result (λ v. v.items ≡ map (λ e. e.place) entries.now) }
-{
-    entries.iter().map(|entry| entry.place).collect(alloc)
-}
-
-impl Starts {
-    ghost use Rattle.place.specs.Starts.{AreStarts, IsPartPlace, part_in, place_in, place_under};
+impl Arranged {
+    ghost use Rattle.place.specs.Arranged.{IsArranged, IsPartPlace, linked_in, linked_of, part_in, place_in};
+    ghost use Rattle.place.specs.Arranged.{place_under};
 
     /// Where the input sections of these rows stand, by their numbers and their layout.
     ///
@@ -99,12 +97,14 @@ impl Starts {
         alloc: Global,
         project: &ProjectView<'_>,
         table: SectionTable,
-        rows: &[Vec<Piece>],
-        laying: &Laying,
-    ) -> Result<Starts, NoMemory>
+        rows: Vec<Vec<Piece>>,
+        laying: Laying,
+    ) -> Result<Arranged, NoMemory>
         requires table { IsTableOf project.now table }
-        requires rows { rows_in project.now rows.now ≡ model.rows project.now }
-        ensures { IfOk result (λ t. (s : Layout) → IsLaying project.now s laying.now → AreStarts project.now s t) }
+        requires rows { rows_in project.now rows.items ≡ model.rows project.now }
+        ensures laying { IfOk result (λ x. x.laying ≡ laying) }
+        ensures arranged { IfOk result (λ x. (s : Layout) → IsLaying project.now s x.laying
+            → IsArranged project.now s x) }
     {
         nothing_meets();
         placed_are_rows();
@@ -112,26 +112,28 @@ impl Starts {
         live_by_path();
         sections_of_objects();
         are_numbered(project);
-        let inputs = project.inputs();
-        if has_unnamed(inputs) {
+        if has_unnamed(project.inputs()) {
             // The name of an object has 1 to 255 bytes, but the contract of a project does not say so
             return Err(impossible());
         }
-        let entries = collect(alloc, rows, laying.placement.pieces())?;
+        let entries = collect(alloc, &rows, laying.placement.pieces())?;
         let owners = owners(alloc, &table, &entries)?;
-        let places = places(alloc, &entries)?;
-        Ok(Starts {
+        Ok(Arranged {
             table,
+            rows,
+            laying,
+            entries,
             owners,
-            places,
         })
     }
 
-    /// The numbers of the input sections.
-    pub fn table(&self) -> &SectionTable
-        ensures { result.now ≡ self.now.table }
+    /// How many linked sections the objects before this one have, in all.
+    pub fn linked_before(&self, object: ObjectPlace) -> Option<usize>
+        ensures is { result ≡ linked_of self.now.table object.0 }
+        ensures linked { (p : Project) (s : Layout) → IsArranged p s self.now
+            → IfSome result (λ n. n ≡ linked_in (take object.0 p.objects)) }
     {
-        &self.table
+        self.table.linked_before(object)
     }
 
     /// Where the input section of a number stands, if it is in the output. The time is constant.
@@ -139,7 +141,8 @@ impl Starts {
         ensures { result ≡ place_under self.now id.0 }
     {
         let owner = self.owners.get(id.0 as usize)?;
-        self.places.get(*owner as usize).copied()
+        let entry = self.entries.get(*owner as usize)?;
+        Some(entry.place)
     }
 
     /// Where a part of the object of a number stands, if it is in the output.
@@ -154,7 +157,7 @@ impl Starts {
     /// is logarithmic in the number of common blocks.
     pub fn find(&self, section: SectionKey) -> Option<PartPlace>
         ensures is { result ≡ place_in self.now section }
-        ensures place { (p : Project) (s : Layout) → AreStarts p s self.now → IsPartPlace p s section result }
+        ensures place { (p : Project) (s : Layout) → IsArranged p s self.now → IsPartPlace p s section result }
     {
         self.part(section.object.0, section.part)
     }

@@ -1,18 +1,16 @@
 -- The run of the section.
-use Rattle.std.proofs.Common.{◌+◌, ◌-◌, ◌∷◌, ◌∙◌, sym, refl, ap, take, drop, length, slice_get, arith}
-use Rattle.std.proofs.lemmas.Option.{slice_get_read}
+use Rattle.std.proofs.Common.{◌+◌, ◌-◌, ◌∷◌, ◌∙◌, sym, ap, take, drop, slice_get, arith}
 use Rattle.emit.proofs.Numbering.{run_found}
-use Rattle.emit.proofs.section_numbers.fields_of.Goals as goal
+use Rattle.emit.proofs.section_fields.fields_of.Goals as goal
 
 pub returns : goal.returns
 returns c l stays o x are runs there own =
     let ends = c.args.relocated.now.ends.items in
     let number = c.in_ok-number.number in
     let lent = sym c.as_slice-ends.ensures.value in
-    run_found l stays o x c.args.firsts.now ends c.args.relocated.now.patches.items _ c.args.place c.args.section.0
-    c.in_ok-first.field-0.now number c.in_ok-begin.begin c.in_ok-end.end are runs there own
-    (slice_get_read c.args.firsts.now (length c.args.firsts.now) c.args.place c.in_ok-first.field-0.now refl
-    c.in_ok-first.ensures.lookup.3.0 c.in_ok-first.ensures.lookup.1)
+    run_found l stays o x ends c.args.relocated.now.patches.items _ c.args.place.0 c.args.section.0
+    c.in_ok-first.first number c.in_ok-begin.begin c.in_ok-end.end
+    (c.in_ok-first.ensures.linked l.project l.layout are) runs there own
     (omega (arith, c.in_ok-number.ensures.1))
     (ap (λ es. slice_get (0 ∷ es) number) lent ∙ c.in_ok-begin.ensures)
     (ap (λ es. slice_get (0 ∷ es) (number + 1)) lent

@@ -2,8 +2,8 @@ use Rattle.std.proofs.Common.{◌∙◌, ap, arith, sym, ℕ, Vec, Global}
 use Rattle.std.specs.Option.{option_map}
 use Rattle.gather.specs.sections.declared.section_table.SectionId.{SectionId}
 use Rattle.place.proofs.Column.{first_owned, later_owned, none_owned}
-use Rattle.place.proofs.starts.owners.Goals as goal
-use Rattle.place.proofs.starts.owners.Goals.{in-Some+then-index-none, in-Some+else-index-none, in_default-find}
+use Rattle.place.proofs.arranged.owners.Goals as goal
+use Rattle.place.proofs.arranged.owners.Goals.{in-Some+then-index-none, in-Some+else-index-none, in_default-find}
 
 pub loop-number-preserved : goal.loop-number-preserved
 loop-number-preserved c =

@@ -1,6 +1,6 @@
 use Rattle.std.proofs.Common.{subst, sym}
-use Rattle.place.specs.Starts.{IsPartPlace}
-use Rattle.place.proofs.starts.Starts.find.Goals as goal
+use Rattle.place.specs.Arranged.{IsPartPlace}
+use Rattle.place.proofs.arranged.Arranged.find.Goals as goal
 
 pub returns : goal.returns
 returns c = record {
