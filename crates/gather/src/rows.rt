@@ -23,10 +23,7 @@ use ldscript::tree::{InputPlace, InputStatementAt, Sort};
 use std::alloc::Global;
 
 /// As many lists of nothing.
-fn empty_buckets<'a>(
-    alloc: Global,
-    statements: usize,
-) -> Result<Vec<Vec<NamedPiece<'a>>>, NoMemory>
+fn empty_buckets<'a>(alloc: Global, statements: usize) -> Result<Vec<Vec<NamedPiece<'a>>>, NoMemory>
     ensures { IfOk result (λ buckets. AreBuckets [] statements buckets.items) }
 {
     let mut buckets: Vec<Vec<NamedPiece<'a>>> = Vec::with_capacity(alloc, statements)?;

@@ -3,8 +3,8 @@
 ghost use Rattle.std.specs.Prelude.{◌≡◌, ◌++◌, IfOk, OnOk};
 ghost use Rattle.place.specs.Entries.{all_entries, row_entries};
 
-use crate::entry::Entry;
 use crate::arranged::PartPlace;
+use crate::entry::Entry;
 use ldmodel::impossible::impossible;
 use ldmodel::laid::OutputIndex;
 use ldmodel::memory::NoMemory;

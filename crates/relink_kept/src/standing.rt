@@ -53,10 +53,7 @@ fn range_at(laying: &Laying, place: PartPlace) -> Option<FileRange>
 
 /// Where an input section stands in a link, if it is in the output. None where its bytes in the file begin past 2^64.
 #[tactic(auto, unfolding(crate::specs::Standing::standing_in))]
-pub(crate) fn find_standing(
-    arranged: &Arranged,
-    section: SectionKey,
-) -> Option<Standing>
+pub(crate) fn find_standing(arranged: &Arranged, section: SectionKey) -> Option<Standing>
     ensures { result ≡ standing_in arranged.now section }
 {
     let place = arranged.find(section)?;
