@@ -1,6 +1,6 @@
 -- One row a step.
-use Rattle.std.proofs.Common.{◌≡◌, ◌≤◌, ◌+◌, ◌-◌, ◌∙◌, sym, ap, subst, List, length, map, take, drop, slice_get, Some}
-use Rattle.std.proofs.Common.{Bool, arith}
+use Rattle.std.proofs.Common.{◌≡◌, ◌≤◌, ◌<◌, ◌+◌, ◌-◌, ◌∙◌, sym, ap, subst, List, length, map, take, drop, slice_get}
+use Rattle.std.proofs.Common.{Bool, Some, arith, get_or}
 use Rattle.std.specs.Prelude.{is_some}
 use Rattle.std.specs.Option.{option_map}
 use Rattle.std.specs.Vec.{vec_items}
@@ -21,6 +21,8 @@ loop-row-preserved g c =
     let rs = c.args.arranged.now.rows.items in
     let starts = c.args.starts.now in
     let k = c.loop-row.row-index in
+    let same = c.deref-row-items.ensures.value in
+    let low : k < length rs = subst (λ l. k < length l) same c.loop-row-test.true in
     let at = c.loop-row.at in
     let items = c.as_slice-row.result.now in
     let row : List Piece = map (piece_in p) items in
@@ -28,7 +30,8 @@ loop-row-preserved g c =
     let many : length (rows_in p rs) ≡ length rs = length-map (map vec_items rs) _ ∙ length-map rs vec_items in
     let here : slice_get (rows_in p rs) k ≡ Some row =
     slice_get-map (map (piece_in p)) (map vec_items rs) k
-    ∙ ap (option_map (map (piece_in p))) (mapped_at vec_items rs k c.row-item.result c.loop-row-test.true c.row-item.is)
+    ∙ ap (option_map (map (piece_in p))) (mapped_at vec_items rs k c.row-item.result low
+    (c.row-item.is ∙ ap (λ l. get_or l k c.row-item.result) same))
     ∙ ap (λ l. Some (map (piece_in p) l)) (sym c.as_slice-row.ensures.value) in
     let within : at ≤ length starts = c.loop-row.invariant.within in
     let left : length (drop at starts) ≡ length starts - at = length-drop at starts in
@@ -37,7 +40,7 @@ loop-row-preserved g c =
     subst (λ n. RowsSoFar p stays c.args.arranged.now c.args.relocated.now (rows_in p rs) starts (k + 1) (at + n)
     (map vec_items c.push.new.self.items)) long
     (one_row p stays c.args.arranged.now c.args.relocated.now (rows_in p rs) starts k at row c.in_ok-drawn.drawn.items
-    (map vec_items c.loop-row.pieces.items) _ here (omega (arith, c.loop-row-test.true, many))
+    (map vec_items c.loop-row.pieces.items) _ here (omega (arith, low, many))
     (omega (arith, c.if-starts-at.false, within, long))
     (λ l q same sources placed.
     c.in_ok-drawn.ensures l q same sources (subst (λ ss. IsRowAt p l.layout row ss q) (sym whole) placed))
@@ -52,5 +55,5 @@ returns g c l same sources placed =
     let many : length (rows_in p rs) ≡ length rs = length-map (map vec_items rs) _ ∙ length-map rs vec_items in
     all_rows p stays c.args.arranged.now c.args.relocated.now (rows_in p rs) c.args.starts.now l c.loop-row.row-index
     c.loop-row.at (map vec_items c.loop-row.pieces.items)
-    (omega (arith, c.loop-row-test.false, many)) same sources placed
+    (omega (arith, c.loop-row-test.false, many, ap length c.deref-row-items.ensures.value)) same sources placed
     c.loop-row.invariant
