@@ -340,7 +340,10 @@ few_decided few p (Add name at bytes) q = as_many (length (distinct (named_by p 
 few_decided few p (Replace name bytes) q = as_many (length (distinct (named_by p (Replace name bytes) q)))
 few_decided few p (Move name to) q = as_many (length (distinct (named_by p (Move name to) q)))
 few_decided few p (Remove name) q = few (names_of p name) (names_of q name)
-few_decided few p (SetScript text) q = few (names_in_objects p.objects) (names_by_script p ++ names_by_script q)
+few_decided few p (SetScript text) q =
+    let once = few (names_in_objects p.objects) (names_by_script p) in
+    let more = few (names_in_objects p.objects ++ names_by_script p) (names_by_script q) in
+    omega (arith, once, more)
 
 -- ---- the counts
 

@@ -17,9 +17,9 @@ use Rattle.relink.specs.declared.last.Followed.{Followed}
 use Rattle.relink.specs.declared.last.Followed.TheVariants.{Faulty, Good}
 
 -- no object is read, and these names are decided, each once; no count falls
-pub record Decides (old new : Counts) (names : List (List ℕ)) : Type 0 where
+pub record Decides (old new : Counts) (decided : List (List ℕ)) : Type 0 where
   pub objects : new.objects ≡ old.objects
-  pub names : new.names ≡ capped old.names (length (distinct names))
+  pub names : new.names ≡ capped old.names (length (distinct decided))
   pub pieces : old.pieces ≤ new.pieces
   pub fields : old.fields ≤ new.fields
   pub bytes : old.bytes ≤ new.bytes
