@@ -10,7 +10,7 @@ use Rattle.std.proofs.lemmas.Slice.Eq.{bytes_eq-Decides}
 use Rattle.emit_image.specs.declared.section.ImagePiece.{ImagePiece}
 use Rattle.ldmodel_laws.specs.PlacedOnce.{Differ}
 use Rattle.ldmodel_laws.specs.Spread.{EachLater, entries_in}
-use Rattle.ldmodel.specs.FileLayout.{Each}
+use Rattle.ldmodel.specs.Each.{Each}
 use Rattle.ldmodel.specs.Layout.{Layout, PlacedPiece, PlacedSection}
 use Rattle.ldmodel.specs.Lent.{starts_of}
 use Rattle.ldmodel.specs.Project.{Project}

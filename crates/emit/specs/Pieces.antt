@@ -7,8 +7,9 @@ use Rattle.emit_image.specs.Drawing.{IsFilled}
 use Rattle.emit_image.specs.OfLink.{IsImagePiece}
 use Rattle.emit_image.specs.declared.section.ImagePiece.{ImagePiece}
 use Rattle.ldmodel_laws.specs.Spread.{entries_in}
-use Rattle.ldmodel.specs.FileLayout.{Each}
-use Rattle.ldmodel.specs.Image.{object_named, section_byte, section_numbered}
+use Rattle.ldmodel.specs.Each.{Each}
+use Rattle.ldmodel.specs.Image.{object_named, section_numbered}
+use Rattle.ldmodel_laws.specs.ByteCases.{section_byte}
 use Rattle.ldmodel.specs.Layout.{Layout, PlacedPiece, PlacedSection}
 use Rattle.ldmodel.specs.Lent.{starts_of}
 use Rattle.ldmodel.specs.Project.{NamedObject, Project}

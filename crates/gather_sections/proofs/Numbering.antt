@@ -12,7 +12,7 @@ use Rattle.std.specs.List.Sorted.{IsPermutation}
 use Rattle.std.specs.Option.{option_map}
 use Rattle.std.specs.Prelude.{IsSome, nat_lt}
 use Rattle.elfobj.specs.Sections.{LinkedSection}
-use Rattle.ldmodel.specs.InputSections.{common_blocks, linked_section, sections_of}
+use Rattle.ldmodel.specs.InputSections.{common_blocks, linked_input, object_inputs}
 use Rattle.ldmodel.specs.Project.{NamedObject, Project}
 use Rattle.ldmodel.specs.Sections.{InputSection}
 use Rattle.ldmodel.specs.declared.sections.Part.{Part}
@@ -152,10 +152,10 @@ module _ (t : SectionTable) (p : Project) (linked : AreLinkedCounted p t.objects
   -- the linked sections of an object
   of_linked : (i : ℕ) (o : NamedObject) → slice_get p.objects i ≡ Some o → (xs : List LinkedSection)
       → ((x : LinkedSection) → Contains xs x → Contains o.object.sections x)
-      → All Numbered (map (linked_section i o) xs)
+      → All Numbered (map (linked_input i o) xs)
   of_linked i o at [] among = All-nil Numbered
   of_linked i o at (x ∷ xs) among =
-      All-cons Numbered (linked_section i o x) (map (linked_section i o) xs)
+      All-cons Numbered (linked_input i o x) (map (linked_input i o) xs)
       (has_slot t.objects.items i x.number.0 (linked i o x at (among x (0, omega arith, refl))))
       (of_linked i o at xs (λ y c. among y (suc c.0, omega (arith, c.1), c.2)))
 
@@ -167,9 +167,9 @@ module _ (t : SectionTable) (p : Project) (linked : AreLinkedCounted p t.objects
       (has_place (is_ranked (n, true, x.0)) t.blocks.items (n, true, x.0)
       (Contains-permutation ranks t.blocks.items (n, true, x.0) same h) (alike (n, true, x.0)))
 
-  of_object : (i : ℕ) (o : NamedObject) → slice_get p.objects i ≡ Some o → All Numbered (sections_of p i o)
+  of_object : (i : ℕ) (o : NamedObject) → slice_get p.objects i ≡ Some o → All Numbered (object_inputs p i o)
   of_object i o at =
-      All-append Numbered (map (linked_section i o) o.object.sections) (common_blocks p i o)
+      All-append Numbered (map (linked_input i o) o.object.sections) (common_blocks p i o)
       (of_linked i o at o.object.sections (λ x c. c))
       (λ k d l. let s : InputSection = get_or (common_blocks p i o) k d in
       of_block s.id.object s.id.part (blocks i o at k d l))

@@ -10,7 +10,7 @@ use Rattle.std.specs.List.{list_any, position_from}
 use Rattle.std.specs.Option.{is_some, option_map, option_or}
 use Rattle.std.specs.Vec.{vec_items}
 use Rattle.ldmodel.specs.Edits.{AreNamesDistinct}
-use Rattle.ldmodel.specs.FileLayout.{Each}
+use Rattle.ldmodel.specs.Each.{Each}
 use Rattle.ldmodel.specs.Layout.{Layout, PlacedPiece, PlacedSection}
 use Rattle.ldmodel.specs.Lent.{starts_of}
 use Rattle.ldmodel.specs.NameFaults.{object_name}

@@ -16,7 +16,7 @@ use Rattle.ldmodel.specs.NameFaults.{object_name}
 use Rattle.ldmodel.specs.Project.{NamedObject}
 use Rattle.ldmodel.specs.SectionHeaders.{image_length}
 use Rattle.ldmodel.specs.Segments.{SectionInFile, file_offset, in_file, nonempty, segments}
-use Rattle.ldmodel.specs.Stayed.{GoodLink, LinkedPiece, has_stayed, pieces_in, same_piece}
+use Rattle.ldmodel.specs.Stayed.{GoodLink, LinkedPiece, has_stayed, link_pieces, same_piece}
 use Rattle.ldmodel.specs.Targets.{referenced_value}
 use Rattle.ldmodel.specs.declared.names.ObjectPlace.{ObjectPlace}
 use Rattle.ldmodel.specs.declared.sections.Part.{Part}
@@ -152,7 +152,7 @@ module _ (old : GoodLink) (l : KnownLink) (keys : (k : ℕ) → l.number k ≡ k
             go : (b : Bool) → has_stayed old x ≡ b → b ≡ false
             go false e = refl
             go true e =
-                let found = in_any (same_piece x) (pieces_in old) e in
+                let found = in_any (same_piece x) (link_pieces old) e in
                 absurd (stands found.member (in_link old.project old.layout found.member found.among)
                 (same_of x found.member found.passes) (last_place y key.object) refl refl h)
 

@@ -1,6 +1,6 @@
 -- The rows are those of the layout.
 use Rattle.std.proofs.Common.{◌∙◌, sym, refl, subst}
-use Rattle.ldmodel.specs.FileLayout.{Each}
+use Rattle.ldmodel.specs.Each.{Each}
 use Rattle.ldmodel.specs.Names.{provided}
 use Rattle.emit_values.specs.LinkView.{known_link}
 use Rattle.emit.proofs.AllRows.{all_found}
