@@ -1,6 +1,6 @@
 //! The objects of a project by their places.
 
-use elfobj::object::Object;
+use elfobj::Object;
 use emit_text::members::Members;
 use ldmodel::names::ObjectPlace;
 use ldmodel_project::view::ProjectView;

@@ -28,7 +28,7 @@ use crate::output::{OutputDrawing, outputs};
 use crate::parts::drawing_parts;
 use crate::pieces::image_pieces;
 use crate::relocated::Relocated;
-use elfobj::meter::Meter;
+use elfobj::Meter;
 use emit_fields::canvas::Canvas;
 use emit_fields::patch::Patch;
 use emit_image::law::{drawing_is_image, drawing_stands, joined_is_whole, placement_is_in_memory};
@@ -42,7 +42,7 @@ use ldmodel::rows::Piece;
 use ldmodel_laws::segments::sections_in_file;
 use ldmodel_laws::stayed::stayed_in_both;
 use ldmodel_project::view::ProjectView;
-use place::laying::Laying;
+use place::Laying;
 use place::starts::Starts;
 use std::alloc::Global;
 

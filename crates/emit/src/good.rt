@@ -10,7 +10,7 @@ ghost use Rattle.ldmodel.specs.SectionHeaders.{image_length};
 
 use ldmodel_laws::stayed::faultless_is_good;
 use ldmodel_project::view::ProjectView;
-use place::laying::Laying;
+use place::Laying;
 use place::numbered::are_numbered;
 
 /// A link whose image is not too long and whose relocations have no faults is good. The call looks at each object once,

@@ -5,7 +5,7 @@ ghost use Rattle.ldmodel.specs.Edits.{AreNamesDistinct};
 ghost use Rattle.ldmodel.specs.Project.{NamedObject};
 ghost use Rattle.emit.specs.Numbered.{AreKeysOf, IsRead};
 
-use elfobj::object::Object;
+use elfobj::Object;
 use elfobj::section::LinkedIndex;
 use ldmodel::memory::NoMemory;
 use ldmodel::names::ObjectPlace;

@@ -16,7 +16,7 @@ use emit_values::values::{OutputSymbol, Values};
 use ldmodel::memory::NoMemory;
 use ldmodel_project::view::ProjectView;
 use ldscript::tree::OutputSectionAt;
-use place::laying::Laying;
+use place::Laying;
 use place::length::{TailSizes, image_length as length_of};
 use place::sections::law::outputs_are_of_script;
 use std::alloc::{AllocError, Global};

@@ -19,7 +19,7 @@ use ldmodel::memory::NoMemory;
 use ldmodel::rows::Piece;
 use ldmodel_laws::layout::placed_are_rows;
 use ldmodel_project::view::ProjectView;
-use place::laying::Laying;
+use place::Laying;
 use place::sections::law::outputs_are_of_script;
 use std::alloc::Global;
 

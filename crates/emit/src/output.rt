@@ -20,7 +20,7 @@ use ldmodel::memory::NoMemory;
 use ldmodel_laws::layout::layout_by_effects;
 use ldmodel_project::view::ProjectView;
 use ldscript::tree::{OutputSection, OutputSectionAt};
-use place::laying::Laying;
+use place::Laying;
 use place::sections::law::outputs_are_of_script;
 use std::alloc::Global;
 

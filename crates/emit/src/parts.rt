@@ -22,7 +22,7 @@ use ldmodel::impossible::impossible;
 use ldmodel::memory::NoMemory;
 use ldmodel_laws::segments::segments_by_neighbours;
 use ldmodel_project::view::ProjectView;
-use place::laying::Laying;
+use place::Laying;
 use place::starts::Starts;
 use std::alloc::Global;
 

@@ -25,7 +25,7 @@ ghost use Rattle.emit.specs.Runs.{AreRunsUnless};
 
 use crate::relocated::Relocated;
 use crate::section_numbers::{fields_of, first_sections};
-use elfobj::object::Object;
+use elfobj::Object;
 use elfobj::section::{LinkedIndex, Section, SectionKind};
 use emit_image::row::{add_drawn, add_kept};
 use emit_image::section::ImagePiece;
@@ -38,7 +38,7 @@ use ldmodel::sections::Part;
 use ldmodel_laws::gathering::{live_by_path, once_in_rows};
 use ldmodel_laws::layout::placed_are_rows;
 use ldmodel_project::view::ProjectView;
-use place::laying::Laying;
+use place::Laying;
 use std::alloc::Global;
 
 /// An input section of this number of bytes at an address, all of which are 0.

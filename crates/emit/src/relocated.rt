@@ -18,7 +18,7 @@ ghost use Rattle.emit_values.specs.Values.{AreValues};
 
 use crate::keys::keys_of;
 use crate::law::{pieces_are_sized, sections_end_below};
-use elfobj::meter::Meter;
+use elfobj::Meter;
 use emit_fields::patch::Patch;
 use emit_image::law::patches_are_few;
 use emit_relocate::changed_fields::{ChangedFields, changed_fields};

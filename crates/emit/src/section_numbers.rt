@@ -11,7 +11,7 @@ ghost use Rattle.emit.specs.Numbers.{AreFirsts, HaveNumbers};
 ghost use Rattle.emit.specs.Runs.{AreRunsUnless, IsRunUnless};
 
 use crate::relocated::Relocated;
-use elfobj::object::Object;
+use elfobj::Object;
 use elfobj::section::LinkedIndex;
 use emit_fields::patch::Patch;
 use ldmodel::impossible::impossible;

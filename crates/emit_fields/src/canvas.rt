@@ -3,7 +3,7 @@
 ghost use Rattle.std.specs.Prelude.{◌≡◌, ◌↔◌, ◌≤◌, ◌<◌, ◌+◌, ℕ, [], IsTrue, OnErr, OnOk, length, max, slice_index};
 ghost use Rattle.elfobj.specs.Raised.{raised};
 
-use elfobj::meter::{Count, Meter};
+use elfobj::{Count, Meter};
 use std::alloc::{AllocError, Global};
 use std::marker::Model;
 

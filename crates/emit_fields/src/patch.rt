@@ -7,7 +7,7 @@ ghost use Rattle.emit_fields.specs.Patches.{AreApart, AreInOrder, IsWithin, patc
 
 use crate::canvas::Canvas;
 use crate::field::Field;
-use elfobj::meter::{Count, Meter};
+use elfobj::{Count, Meter};
 use std::alloc::AllocError;
 
 /// A field and where it lies.

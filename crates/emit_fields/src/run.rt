@@ -5,7 +5,7 @@ ghost use Rattle.elfobj.specs.Raised.{raised};
 ghost use Rattle.elfobj.specs.declared.meter.Count.TheVariants.{Bytes};
 
 use crate::canvas::Canvas;
-use elfobj::meter::Meter;
+use elfobj::Meter;
 
 /// How many bytes are written at a time: a multiple of each length that a pattern may have.
 const CHUNK: usize = 840;

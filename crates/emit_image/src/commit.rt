@@ -7,7 +7,7 @@ ghost use Rattle.emit_image.specs.Stretches.{EndsBy, Fills, IsPatchOf, IsPlanFor
 ghost use Rattle.emit_image.specs.Stretches.{is_patched, patch_bytes, stays_at, written, written_in};
 
 use crate::stretch::{Content, Stretch};
-use elfobj::meter::Meter;
+use elfobj::Meter;
 use emit_fields::canvas::Canvas;
 use emit_fields::patch::{Patch, write_patched};
 use emit_fields::run::write_run;

@@ -12,7 +12,7 @@ ghost use Rattle.emit_image.specs.OfLink.{AreUnstayed, IsDrawingOf};
 use crate::law::drawing_is_image;
 use crate::redraw::redraw;
 use crate::section::Drawing;
-use elfobj::meter::Meter;
+use elfobj::Meter;
 use emit_fields::canvas::Canvas;
 use ldmodel::memory::NoMemory;
 use std::alloc::Global;

@@ -13,7 +13,7 @@ use crate::commit::write_image;
 use crate::law::{drawing_is_image, kept_is_image, kept_is_not_drawn};
 use crate::section::{Drawing, ImagePart, ImageSection};
 use crate::stretch::{Content, Stretch};
-use elfobj::meter::Meter;
+use elfobj::Meter;
 use emit_fields::canvas::Canvas;
 use emit_fields::patch::Patch;
 use ldmodel::memory::NoMemory;

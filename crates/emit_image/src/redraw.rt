@@ -21,7 +21,7 @@ ghost use Rattle.emit_image.specs.declared.section.Drawing.{Drawing as DrawingOf
 use crate::law::{drawing_is_image, kept_is_image, kept_is_not_drawn, kept_is_what_stayed};
 use crate::plan::plan_image;
 use crate::section::Drawing;
-use elfobj::meter::Meter;
+use elfobj::Meter;
 use emit_fields::canvas::Canvas;
 use emit_fields::patch::Patch;
 use ldmodel::memory::NoMemory;

@@ -12,8 +12,8 @@ ghost use Rattle.emit_relocate.specs.Values.{value_of};
 ghost use Rattle.emit_relocate.specs.declared.earlier.FileRange.{FileRange};
 
 use crate::value::SymbolValue;
+use elfobj::Symbol;
 use elfobj::relocation::SymbolIndex;
-use elfobj::symbol::Symbol;
 use ldmodel::names::ObjectPlace;
 use ldmodel::sections::SectionKey;
 

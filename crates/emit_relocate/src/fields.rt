@@ -10,7 +10,7 @@ ghost use Rattle.emit_relocate.specs.KnownLink.{KnownLink};
 ghost use Rattle.emit_relocate.specs.Sites.{IsPlaced};
 
 use crate::site::{PlacedSection, evaluate, is_evaluated};
-use elfobj::relocation::Relocation;
+use elfobj::Relocation;
 use emit_fields::patch::{Patch, in_order};
 use ldmodel::fault::Fault;
 use ldmodel::impossible::impossible;

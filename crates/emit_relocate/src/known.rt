@@ -5,7 +5,7 @@ ghost use Rattle.std.specs.Option.{option_map};
 ghost use Rattle.ldmodel.specs.Layout.{script_value};
 ghost use Rattle.emit_relocate.specs.KnownLink.{IsCaseOf, IsNameOf, IsScriptValueOf, KnownLink, object_of, start_of};
 
-use elfobj::object::Object;
+use elfobj::Object;
 use elfobj::relocation::SymbolIndex;
 use ldmodel::names::{Case, NameKey, ObjectPlace};
 use ldmodel::sections::SectionKey;

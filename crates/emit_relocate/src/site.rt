@@ -14,10 +14,9 @@ ghost use Rattle.emit_relocate.specs.Sites.{IsEvaluated, IsFieldOf, IsSectionOf,
 ghost use Rattle.emit_relocate.specs.Values.{value_of};
 
 use crate::value::SymbolValue;
-use elfobj::object::Object;
 use elfobj::relocation::{Relocation, RelocationKind, SymbolIndex};
 use elfobj::section::{LinkedIndex, SectionIndex};
-use elfobj::symbol::Symbol;
+use elfobj::{Object, Symbol};
 use emit_fields::field::evaluate::field;
 use emit_fields::patch::Patch;
 use ldmodel::fault::{Fault, SiteKey};

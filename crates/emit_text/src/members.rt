@@ -1,6 +1,6 @@
 //! What finds the objects of a project by their keys.
 
-use elfobj::object::Object;
+use elfobj::Object;
 use ldmodel::names::ObjectPlace;
 
 /// What finds the objects of a project by their keys: that of a linker, or a table made for one link.

@@ -5,7 +5,7 @@ ghost use Rattle.ldmodel.specs.FaultCode.{name_of_part, name_of_section, name_of
 ghost use Rattle.emit_text.specs.Naming.{numbered};
 
 use crate::members::Members;
-use elfobj::object::Object;
+use elfobj::Object;
 use elfobj::relocation::{Relocation, SymbolIndex};
 use elfobj::section::{LinkedIndex, SectionIndex};
 use ldmodel::fault::SiteKey;

@@ -20,9 +20,8 @@ use ldmodel::memory::NoMemory;
 use ldmodel_laws::layout::layout_by_effects;
 use ldmodel_project::view::ProjectView;
 use ldscript::tree::Assertion;
-use place::laying::Laying;
 use place::sections::law::outputs_are_of_script;
-use place::terms::value::{ValueFault, value};
+use place::{Laying, ValueFault, value};
 use std::alloc::Global;
 
 /// Whether a value counts as true; where there is none, it does not.

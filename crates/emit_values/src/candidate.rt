@@ -9,10 +9,10 @@ ghost use Rattle.emit_values.specs.Candidates.{all_given, names_given, names_of,
 use crate::merged::merge_names;
 use ldmodel::memory::NoMemory;
 use ldmodel::names::NameKey;
-use ldscript::script::Script;
+use ldscript::Script;
 use ldscript::tree::{Common, CommonAt};
 use std::alloc::Global;
-use symres::naming::Naming;
+use symres::Naming;
 use symres::sorted::NamedKey;
 
 /// A name that may be a symbol of the output.

@@ -6,7 +6,7 @@ ghost use Rattle.emit_relocate.specs.Values.{value_of};
 
 use crate::symbols_by_name::SymbolsByName;
 use ldmodel::laid::{Laid, Placed, PlacedRegion};
-use ldscript::script::Script;
+use ldscript::Script;
 use place::terms::scope::Scope;
 
 /// What stands in the output at the end of a link: its symbols, output sections and memory regions.

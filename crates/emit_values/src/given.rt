@@ -6,9 +6,9 @@ ghost use Rattle.std.specs.Prelude.{IfOk};
 use crate::script_values::ScriptValues;
 use ldmodel::memory::NoMemory;
 use ldmodel_project::view::ProjectView;
-use place::laying::Laying;
+use place::Laying;
 use std::alloc::Global;
-use symres::naming::Naming;
+use symres::Naming;
 use symres::sorted::NamedKey;
 
 /// The values that the script gives names, and all names that objects declare in byte order.

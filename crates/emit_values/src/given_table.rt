@@ -7,7 +7,7 @@ ghost use Rattle.emit_values.specs.ScriptValues.{value_in};
 use crate::script_values::{ScriptValues, given_name};
 use ldmodel::memory::NoMemory;
 use std::alloc::Global;
-use symres::naming::Naming;
+use symres::Naming;
 
 /// A table of no values.
 fn no_values(alloc: Global, count: usize) -> Result<Vec<Option<u64>>, NoMemory>

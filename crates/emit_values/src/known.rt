@@ -13,7 +13,7 @@ ghost use Rattle.emit_values.specs.LinkView.{IsLinkView};
 ghost use Rattle.emit_values.specs.Seen.{is_seen};
 
 use crate::link_view::LinkView;
-use elfobj::object::Object;
+use elfobj::Object;
 use elfobj::relocation::SymbolIndex;
 use emit_relocate::known::Known;
 use ldmodel::names::{Case, NameKey, ObjectPlace};

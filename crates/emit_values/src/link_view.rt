@@ -12,7 +12,7 @@ use ldmodel::memory::NoMemory;
 use ldmodel_project::view::ProjectView;
 use place::starts::Starts;
 use std::alloc::Global;
-use symres::naming::Naming;
+use symres::Naming;
 
 /// A link whose names are decided and whose parts have their places: it is `Known` to the evaluation of relocations.
 #[derive(Drop)]

@@ -13,9 +13,9 @@ ghost use Rattle.emit_values.specs.ScriptValues.{AreScriptValues, value_in};
 use ldmodel::impossible::impossible;
 use ldmodel::memory::NoMemory;
 use ldmodel::script_symbol::CommonIndex;
-use ldscript::script::Script;
+use ldscript::Script;
 use ldscript::tree::{Common, CommonAt};
-use place::sections::placement::Placement;
+use place::Placement;
 use place::terms::commands::number_in;
 use std::alloc::Global;
 

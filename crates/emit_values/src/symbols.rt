@@ -19,9 +19,9 @@ use emit_relocate::value::SymbolValue;
 use ldmodel::impossible::impossible;
 use ldmodel::memory::NoMemory;
 use ldmodel::names::{Case, NameKey};
-use ldscript::script::Script;
+use ldscript::Script;
 use std::alloc::Global;
-use symres::naming::Naming;
+use symres::Naming;
 
 /// What the symbols of the output are made of.
 #[derive(Clone, Copy)]

@@ -21,7 +21,7 @@ use ldmodel::memory::NoMemory;
 use ldmodel::names::Case;
 use ldmodel_project::view::ProjectView;
 use std::alloc::Global;
-use symres::naming::Naming;
+use symres::Naming;
 
 /// A symbol of the output: a name that stands for something.
 #[derive(Clone, Copy, Debug)]

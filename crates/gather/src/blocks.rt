@@ -14,7 +14,7 @@ use ldmodel::memory::NoMemory;
 use ldmodel::names::{Case, NameKey};
 use ldmodel_project::view::ProjectView;
 use std::alloc::Global;
-use symres::naming::Naming;
+use symres::Naming;
 
 /// No common blocks, of this many objects.
 fn no_blocks(alloc: Global, count: usize) -> Result<Vec<Vec<CommonBlock>>, NoMemory>

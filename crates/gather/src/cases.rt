@@ -5,12 +5,12 @@ ghost use Rattle.elfobj.specs.Symbols.{NamedSymbol};
 ghost use Rattle.gather.specs.Symbols.{IsCaseOf, IsObjectAt};
 ghost use Rattle.symres.specs.Naming.{IsNaming};
 
-use elfobj::object::Object;
+use elfobj::Object;
 use elfobj::relocation::SymbolIndex;
 use ldmodel::names::Case;
 use ldmodel_project::view::ProjectView;
+use symres::Naming;
 use symres::declaring::declares;
-use symres::naming::Naming;
 
 /// What the name of a symbol of the object at a place stands for; nothing for a local symbol, which has no name. The
 /// time is constant.

@@ -8,7 +8,7 @@ ghost use Rattle.gather.specs.Matches.{number_of};
 
 use crate::file_tables::FileTables;
 use crate::name_places::NamePlaces;
-use elfobj::object::Object;
+use elfobj::Object;
 use elfobj::section::LinkedIndex;
 use ldmodel::memory::NoMemory;
 use ldmodel::rows::InputIndex;

@@ -28,7 +28,7 @@ use ldmodel::sections::SectionKey;
 use ldmodel_laws::gathering::live_by_path;
 use ldmodel_project::view::ProjectView;
 use std::alloc::Global;
-use symres::naming::Naming;
+use symres::Naming;
 
 /// What gathering finds: the numbers of the input sections, the row of each output section, and the orphans.
 #[derive(Drop)]

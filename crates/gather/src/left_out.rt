@@ -13,7 +13,7 @@ ghost use Rattle.gather.specs.Matches.{number_of};
 use crate::gathered::Gathered;
 use ldmodel::memory::NoMemory;
 use ldmodel::options::Orphans;
-use ldscript::script::Script;
+use ldscript::Script;
 use ldscript::tree::{InputPlace, InputStatementAt};
 use std::alloc::Global;
 

@@ -22,7 +22,7 @@ use gather_sections::section_table::SectionTable;
 use ldmodel::memory::NoMemory;
 use ldmodel_project::view::ProjectView;
 use std::alloc::Global;
-use symres::naming::Naming;
+use symres::Naming;
 
 /// Marks the sections that the program needs. `out` says of each whether it is left out. The relocations of the other
 /// sections are not gone through.

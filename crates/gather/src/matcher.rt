@@ -8,11 +8,11 @@ ghost use Rattle.gather.specs.Matches.{matches_of, number_of};
 
 use crate::file_search::matches_by;
 use crate::file_tables::FileTables;
-use elfobj::object::Object;
+use elfobj::Object;
 use ldmodel::impossible::impossible;
 use ldmodel::memory::NoMemory;
 use ldmodel::rows::InputIndex;
-use ldscript::script::Script;
+use ldscript::Script;
 use ldscript::tree::InputStatementAt;
 use std::alloc::Global;
 use std::marker::Model;

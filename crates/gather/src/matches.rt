@@ -4,7 +4,7 @@ ghost use Rattle.std.specs.Prelude.{◌≡◌, IfOk, map};
 ghost use Rattle.gather.specs.ProjectMatches.{AreMatched, IsMatched};
 
 use crate::matcher::Matcher;
-use elfobj::object::Object;
+use elfobj::Object;
 use ldmodel::memory::NoMemory;
 use ldmodel::rows::InputIndex;
 use ldmodel_project::view::ProjectView;

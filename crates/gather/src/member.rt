@@ -6,8 +6,8 @@ ghost use Rattle.gather.specs.Gathered.{AreGathered, Keys, shown_facts};
 ghost use Rattle.gather.specs.Members.{AddsFacts, AreMembers, IsLinkedAt, NamesSections, block_facts, linked_facts};
 
 use crate::gathered::Gathered;
+use elfobj::Object;
 use elfobj::file::constants::{SHF_ALLOC, SHF_WRITE};
-use elfobj::object::Object;
 use elfobj::relocation::SymbolIndex;
 use elfobj::section::{LinkedIndex, SectionKind};
 use ldmodel::memory::NoMemory;

@@ -2,7 +2,7 @@
 
 ghost use Rattle.std.specs.Prelude.{◌≡◌, ◌<◌, IfSome, IsTrue, length, map, slice_get};
 
-use elfobj::object::Object;
+use elfobj::Object;
 use elfobj::section::LinkedIndex;
 use elfobj::span::Span;
 use ldmodel::memory::NoMemory;

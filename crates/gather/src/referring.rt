@@ -14,13 +14,12 @@ use crate::gathered::Gathered;
 use crate::places::Places;
 use crate::references::References;
 use crate::targets::target_section;
-use elfobj::object::Object;
-use elfobj::relocation::Relocation;
 use elfobj::section::SectionIndex;
+use elfobj::{Object, Relocation};
 use ldmodel::memory::NoMemory;
 use ldmodel::sections::Part;
 use ldmodel_project::view::ProjectView;
-use symres::naming::Naming;
+use symres::Naming;
 
 /// Adds the number of a section, if there is one.
 fn add_number(targets: &mut Vec<usize>, number: Option<usize>) -> Result<(), NoMemory>

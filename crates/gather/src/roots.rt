@@ -15,7 +15,7 @@ ghost use Rattle.gather.specs.Roots.{is_kept_by, kept_numbers};
 use crate::gathered::Gathered;
 use ldmodel::memory::NoMemory;
 use ldmodel::rows::InputIndex;
-use ldscript::script::Script;
+use ldscript::Script;
 use ldscript::tree::InputStatementAt;
 use std::alloc::Global;
 

@@ -10,7 +10,7 @@ pub use crate::sorting::NamedPiece;
 use crate::sorting::order;
 use ldmodel::memory::NoMemory;
 use ldmodel::rows::Piece;
-use ldscript::script::Script;
+use ldscript::Script;
 use ldscript::tree::{InputPlace, InputStatementAt, Sort};
 use std::alloc::Global;
 

@@ -10,13 +10,13 @@ ghost use Rattle.ldmodel.specs.Live.{section_of_symbol, symbol_at};
 ghost use Rattle.symres.specs.Naming.{IsNaming};
 
 use crate::cases::case_of_symbol;
-use elfobj::object::Object;
+use elfobj::Object;
 use elfobj::relocation::{Relocation, SymbolIndex};
 use elfobj::symbol::SymbolPlace;
 use ldmodel::names::{Case, Entry, ObjectPlace};
 use ldmodel::sections::{Part, SectionKey};
 use ldmodel_project::view::ProjectView;
-use symres::naming::Naming;
+use symres::Naming;
 
 /// The section that a symbol of the object at a place is defined in, if it is in one.
 fn section_at(place: usize, at: SymbolPlace) -> Option<SectionKey>

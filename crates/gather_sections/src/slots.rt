@@ -4,7 +4,7 @@ ghost use Rattle.std.specs.Prelude.{◌≡◌, ◌+◌, ◌<◌, All, IfOk};
 ghost use Rattle.elfobj.specs.Sections.{LinkedSection};
 ghost use Rattle.gather_sections.specs.Slots.{AreLaid, AreLinkedCounted};
 
-use elfobj::object::Object;
+use elfobj::Object;
 use elfobj::section::SectionIndex;
 use ldmodel::impossible::impossible;
 use ldmodel::memory::NoMemory;

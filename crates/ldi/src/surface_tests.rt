@@ -1,17 +1,12 @@
-//! The public calls of the families, each by the name of its crate: they are found where they are looked for, and each
-//! answers on its happy path.
+//! The linkers and projects that `relink` passes on, each by its name there.
 
 use crate::tests::OBJECT_A;
-use elfobj::{Meter, Object};
-use emit::{Canvas, Index};
-use gather::Matcher;
-use ldscript::{Script, matches};
+use ldmodel::meter::Meter;
 use relink::{Edit, Linker, Options, Output, Plain, Project, Session};
 use std::alloc::{AllocError, Global};
 use std::hash::RandomState;
 use std::process::Abort;
 use std::test::Fail;
-use symres::Names;
 
 const SCRIPT: &[u8] = b"SECTIONS { . = 0x401000; .text : { *(.text) } }";
 
@@ -75,33 +70,5 @@ fn a_project_is_linked(rt: HostRuntime) -> Result<(), Fail> {
     let inputs = project.inputs(alloc)?;
     let output = Output::of(alloc, seed, &project.view(&inputs), &mut Meter::new())?;
     assert_eq!(&rt; output.map(), MAP);
-    Ok(())
-}
-
-#[test]
-fn readers_read(rt: HostRuntime) -> Result<(), Fail> {
-    let alloc = rt.alloc();
-    let mut meter = Meter::new();
-    let bytes = Vec::from_slice(alloc, &OBJECT_A)?;
-    match Object::read(alloc, bytes, &mut meter) {
-        Ok(object) => assert_eq!(&rt; object.sections().len(), 1),
-        Err((_bytes, _refusal)) => assert!(&rt; false),
-    }
-    match Script::read(alloc, SCRIPT) {
-        Ok(script) => {
-            let matcher = Matcher::new(alloc, &script)?;
-            assert!(&rt; matcher.first_match(b"a.o", b".text").is_some());
-            assert!(&rt; matcher.first_match(b"a.o", b".data").is_none());
-        }
-        Err(_refusal) => assert!(&rt; false),
-    }
-    Ok(())
-}
-
-#[test]
-fn tables_start_empty(rt: HostRuntime) -> Result<(), Fail> {
-    let alloc = rt.alloc();
-    let canvas = Canvas::new(alloc);
-    assert_eq!(&rt; canvas.len(), 0);
     Ok(())
 }

@@ -4,8 +4,8 @@ ghost use Rattle.std.specs.Prelude.{◌≡◌};
 ghost use Rattle.ldmodel.specs.EditMeaning.{refusal_of};
 ghost use Rattle.ldmodel.specs.Edits.{inner_number, refusal_number};
 
-use elfobj::refusal::ObjectRefusal;
-use ldscript::refusal::ScriptRefusal;
+use elfobj::ObjectRefusal;
+use ldscript::ScriptRefusal;
 
 /// The greatest number of bytes that an object or a script may have: 2^26.
 pub const MAX_PAYLOAD: usize = 0x400_0000;

@@ -8,7 +8,7 @@ ghost use Rattle.ldmodel.specs.Link.{link};
 ghost use Rattle.ldmodel.specs.Project.{Project};
 
 use crate::edit::{Edit, EditRefusal, Linked};
-use elfobj::meter::Meter;
+use elfobj::Meter;
 
 /// What holds a project, changes it by edits and knows its link.
 pub trait Linker {

@@ -6,9 +6,9 @@ ghost use Rattle.elfobj.specs.Names.{is_graphic};
 ghost use Rattle.ldmodel.specs.Edits.{is_object_name, is_too_long};
 ghost use Rattle.ldmodel_project.specs.Refused.{object_refused, script_refused};
 
-use elfobj::refusal::ObjectRefusal;
+use elfobj::ObjectRefusal;
 use ldmodel::edit::{EditRefusal, MAX_OBJECT_NAME, MAX_PAYLOAD};
-use ldscript::refusal::ScriptRefusal;
+use ldscript::ScriptRefusal;
 
 /// How it is reported that an object is refused.
 pub(crate) fn object_refused(why: ObjectRefusal) -> EditRefusal

@@ -4,7 +4,7 @@ ghost use Rattle.std.specs.Prelude.{◌≡◌, IfOk};
 ghost use Rattle.ldmodel_project.specs.Inputs.{shown_input};
 
 use crate::input::InputObject;
-use elfobj::object::Object;
+use elfobj::Object;
 use ldmodel::memory::NoMemory;
 use std::alloc::Global;
 use std::marker::Model;

@@ -23,7 +23,7 @@ use ldmodel::memory::NoMemory;
 use ldmodel::meter::Meter;
 use ldmodel::names::ObjectKey;
 use ldmodel::options::Options;
-use ldscript::script::Script;
+use ldscript::Script;
 use std::alloc::Global;
 use std::marker::Model;
 

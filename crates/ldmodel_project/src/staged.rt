@@ -8,7 +8,7 @@ ghost use Rattle.ldmodel_project.specs.Next.{next_found, put_under, removed_key,
 use crate::kept::KeyedObjects;
 use crate::named::NamedObject;
 use ldmodel::names::ObjectKey;
-use ldscript::script::Script;
+use ldscript::Script;
 
 /// What an edit does to the objects under their keys.
 #[derive(Drop)]

@@ -10,10 +10,10 @@ ghost use Rattle.ldmodel_project.specs.Inputs.{shown_inputs};
 ghost use Rattle.ldmodel_project.specs.Read.{AreObjectsRead};
 
 use crate::input::InputObject;
-use elfobj::object::Object;
+use elfobj::Object;
 use ldmodel::names::ObjectPlace;
 use ldmodel::options::Options;
-use ldscript::script::Script;
+use ldscript::Script;
 use std::marker::Model;
 
 /// A project, lent for a link: its objects in their order, its script and its options. The key of an object in that

@@ -15,7 +15,7 @@ ghost use Rattle.place_sections.specs.Outcomes as outcomes;
 
 use crate::offsets::offsets;
 use crate::segments::segments;
-use elfobj::meter::Meter;
+use elfobj::Meter;
 use ldmodel::fault::Fault;
 use ldmodel::rows::Piece;
 use ldmodel::segment::Segment;
@@ -25,7 +25,7 @@ use place_sections::law::outputs_are_of_script;
 use place_sections::place::place;
 use place_sections::placement::Placement;
 use std::alloc::{AllocError, Global};
-use symres::naming::Naming;
+use symres::Naming;
 
 /// Where everything of a project stands.
 #[derive(Drop)]

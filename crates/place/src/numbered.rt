@@ -5,7 +5,7 @@ ghost use Rattle.elfobj.specs.Sections.{LinkedSection};
 ghost use Rattle.ldmodel_laws.specs.PlacedOnce.{AreNumbered};
 ghost use Rattle.ldmodel_laws.specs.Spread.{EachLater};
 
-use elfobj::object::Object;
+use elfobj::Object;
 use ldmodel_project::view::ProjectView;
 
 /// The sections of an object that was read have different numbers. The call does nothing.

@@ -10,7 +10,7 @@ ghost use Rattle.place_sections.specs.declared.fault.PlaceFault.TheVariants.{NoM
 
 use crate::stop::Stop;
 use ldmodel::fault::{Fault, MentionIndex};
-use ldscript::script::Script;
+use ldscript::Script;
 use place_terms::mentioned::{mention_of, mentioned_names};
 use place_terms::named::{output_named, region_named};
 use std::alloc::{AllocError, Global};

@@ -8,7 +8,7 @@ ghost use Rattle.place_sections.specs.State.{layout_of, Gives};
 
 use crate::state::{Done, Here};
 use crate::stop::Stop;
-use ldscript::tree::Region;
+use ldscript::Region;
 
 impl<'a> Here<'a> {
     /// A region of MEMORY.

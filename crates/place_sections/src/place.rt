@@ -20,7 +20,7 @@ use ldmodel::meter::{Count, Meter};
 use ldmodel::rows::Piece;
 use ldmodel::script_symbol::CommonIndex;
 use ldmodel_laws::layout::steps_stay_alike;
-use ldscript::script::Script;
+use ldscript::Script;
 use place_terms::provided::Provided;
 use place_terms::regions::Regions;
 use place_terms::sections::Sections;

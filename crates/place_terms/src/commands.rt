@@ -5,7 +5,7 @@ ghost use Rattle.ldscript.specs.statements.Numbered.{shown_commons};
 ghost use Rattle.place_terms.specs.Numbers.{gives_at, symbol_number};
 
 use crate::guesses::Guesses;
-use ldscript::script::Script;
+use ldscript::Script;
 use ldscript::tree::{Common, CommonAt, Given};
 use std::alloc::{AllocError, Global};
 use std::marker::Model;

@@ -6,7 +6,7 @@ ghost use Rattle.ldscript.specs.statements.Numbering.{OutputSectionAt, output_se
 ghost use Rattle.ldscript.specs.statements.declared.statement.Region.{Region};
 
 use ldmodel::laid::{OutputIndex, RegionIndex};
-use ldscript::script::Script;
+use ldscript::Script;
 
 /// The number of the output section of a name.
 #[tactic(auto, using(crate::proofs::Numbers::section_named_by))]

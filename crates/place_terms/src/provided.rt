@@ -8,7 +8,7 @@ ghost use Rattle.place_terms.specs.ProvidedTable.{name_in, provided_names, Marks
 
 use crate::commands::number_in;
 use ldmodel::script_symbol::CommonIndex;
-use ldscript::script::Script;
+use ldscript::Script;
 use ldscript::tree::{Common, CommonAt};
 use std::alloc::{AllocError, Global};
 use std::marker::Model;

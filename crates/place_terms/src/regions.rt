@@ -6,7 +6,7 @@ ghost use Rattle.ldmodel.specs.SectionEnd.{freed_from};
 ghost use Rattle.place_terms.specs.RegionTable.{region_of};
 
 use ldmodel::impossible::impossible;
-use ldscript::script::Script;
+use ldscript::Script;
 use std::alloc::{AllocError, Global};
 use std::marker::Model;
 

@@ -17,7 +17,7 @@ use crate::guesses::Guesses;
 use ldmodel::impossible::impossible;
 use ldmodel::laid::Placed;
 use ldmodel::rows::Piece;
-use ldscript::script::Script;
+use ldscript::Script;
 use ldscript::tree::{OutputSection, Width};
 use std::alloc::{AllocError, Global};
 use std::marker::Model;

@@ -6,7 +6,7 @@ ghost use Rattle.place_terms.specs.SymbolTable.{named, risen, value_of, value_un
 use crate::commands::Commands;
 use ldmodel::impossible::impossible;
 use ldmodel::script_symbol::{CommonIndex, ScriptSymbol};
-use ldscript::script::Script;
+use ldscript::Script;
 use std::alloc::{AllocError, Global};
 use std::marker::Model;
 

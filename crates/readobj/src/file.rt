@@ -2,10 +2,8 @@
 
 use crate::why::explain::explain;
 use crate::why::lto::is_slim;
-use elfobj::meter::Meter;
-use elfobj::object::Object;
-use elfobj::refusal::ObjectRefusal;
 use elfobj::section::LinkedIndex;
+use elfobj::{Meter, Object, ObjectRefusal};
 use filearg::file::{NamedFile, print_too_long};
 use std::alloc::Global;
 use std::io;

@@ -1,8 +1,8 @@
 //! The lines of an object.
 
 use crate::names;
+use elfobj::Object;
 use elfobj::file::constants::{SHF_ALLOC, SHF_EXECINSTR, SHF_MERGE, SHF_STRINGS, SHF_WRITE};
-use elfobj::object::Object;
 use elfobj::relocation::{Relocation, SymbolIndex};
 use elfobj::section::{LinkedIndex, Section};
 use elfobj::symbol::{Symbol, SymbolPlace};

@@ -1,8 +1,6 @@
 //! What the reader says of all beginnings of an object, and of the object with one byte set to another value.
 
-use elfobj::meter::Meter;
-use elfobj::object::Object;
-use elfobj::refusal::ObjectRefusal;
+use elfobj::{Meter, Object, ObjectRefusal};
 use std::alloc::{AllocError, Global};
 use std::io;
 use std::io::Write;

@@ -2,8 +2,7 @@
 
 use crate::places::{push_places, push_warnings};
 use filearg::file::{NamedFile, print_too_long};
-use ldscript::refusal::ScriptRefusal;
-use ldscript::script::Script;
+use ldscript::{Script, ScriptRefusal};
 use std::alloc::Global;
 use std::io;
 use std::io::{ErrorKind, Write};

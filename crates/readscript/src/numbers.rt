@@ -3,7 +3,7 @@
 use crate::common::push_common;
 use crate::input::push_input;
 use crate::text::{is_shown, push_bytes, push_text};
-use ldscript::script::Script;
+use ldscript::Script;
 use ldscript::tree::{Common, Given, InputPlace};
 use std::alloc::{AllocError, Global};
 use std::fmt::Write;

@@ -1,7 +1,7 @@
 //! Patterns of names, and what they match.
 
 use crate::text::push_bytes;
-use ldscript::tree::{Pattern, matches};
+use ldscript::{Pattern, matches};
 use std::alloc::{AllocError, Global};
 
 /// Whether a byte of a pattern stands for itself without a `\`.

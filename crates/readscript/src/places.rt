@@ -4,8 +4,7 @@
 use crate::meaning::warnings::warnings;
 use crate::text::{is_shown, push_text};
 use crate::why::explain::explain;
-use ldscript::refusal::ScriptRefusal;
-use ldscript::script::Script;
+use ldscript::{Script, ScriptRefusal};
 use std::alloc::{AllocError, Global};
 use std::fmt::Write;
 

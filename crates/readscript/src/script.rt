@@ -3,7 +3,7 @@
 use crate::statement::push_statement;
 use crate::text::{is_shown, push_text};
 use crate::why::explain::explain;
-use ldscript::script::Script;
+use ldscript::Script;
 use std::alloc::{AllocError, Global};
 use std::fmt::Write;
 

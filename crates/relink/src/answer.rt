@@ -4,7 +4,7 @@ ghost use Rattle.std.specs.Prelude.{◌≡◌, ℕ, List};
 ghost use Rattle.ldmodel.specs.EditMeaning.{linked_of};
 ghost use Rattle.relink.specs.Answer.{is_good, shown};
 
-use emit::fields::canvas::Canvas;
+use emit::Canvas;
 use ldmodel::edit::Linked;
 
 /// What a session answers of its link, beside the image, which a canvas holds.

@@ -7,7 +7,7 @@ ghost use Rattle.ldmodel_project.specs.Next.{touched_key};
 ghost use Rattle.ldmodel_project.specs.Touched.{IsArranged};
 ghost use Rattle.relink.specs.Change.{IsChange, beside, place_at, shown_at};
 
-use elfobj::object::Object;
+use elfobj::Object;
 use ldmodel::names::ObjectKey;
 use ldmodel_project::law::{found_where_placed, tables_follow};
 use ldmodel_project::project::{Next, Project};

@@ -21,7 +21,7 @@ use crate::change::{object_change, place_of};
 use crate::last::Followed;
 use crate::linking::link_next;
 use crate::match_table::{exchange, match_under};
-use emit::fields::canvas::Canvas;
+use emit::Canvas;
 use gather::matches::{Matches, match_all};
 use ldmodel::memory::NoMemory;
 use ldmodel::meter::Meter;
@@ -31,8 +31,8 @@ use ldmodel_project::project::{Next, Project};
 use ldmodel_project::staged::Staged;
 use relink_kept::stays::Last;
 use std::alloc::Global;
+use symres::Naming;
 use symres::decisions::change::ObjectChange;
-use symres::naming::Naming;
 
 /// What names stand for, under the keys of the objects, and which statements take the input sections of each object.
 #[derive(Drop)]

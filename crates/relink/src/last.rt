@@ -11,7 +11,7 @@ ghost use Rattle.relink.specs.Last.{Knows, PutsNoneOf, changed_key, lent, lost_k
 ghost use Rattle.relink.specs.Last.{replaced_in, without};
 
 use crate::answer::Answer;
-use elfobj::object::Object;
+use elfobj::Object;
 use ldmodel::memory::NoMemory;
 use ldmodel::names::{ObjectKey, ObjectPlace};
 use ldmodel_project::named::NamedObject;

@@ -15,7 +15,7 @@ ghost use Rattle.relink_link.specs.Ended.{HasLast};
 ghost use Rattle.relink_link.specs.Reads.{ReadsNothing};
 
 use crate::last::{Followed, LastGood};
-use emit::fields::canvas::Canvas;
+use emit::Canvas;
 use gather::matches::{Matches, lend_all};
 use ldmodel::memory::NoMemory;
 use ldmodel::meter::Meter;
@@ -27,7 +27,7 @@ use ldmodel_project::view::ProjectView;
 use relink_kept::stays::Last;
 use relink_link::again::{Ended, relink};
 use std::alloc::Global;
-use symres::naming::Naming;
+use symres::Naming;
 
 /// The names of these objects, in their order. Fails where memory runs out.
 fn names_of(alloc: Global, inputs: &[InputObject<'_>]) -> Result<Vec<Vec<u8>>, NoMemory>

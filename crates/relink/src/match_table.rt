@@ -4,7 +4,7 @@ ghost use Rattle.std.specs.Prelude.{◌≡◌, ◌+◌, ◌<◌, ◌≤◌, IfOk
 ghost use Rattle.ldmodel_project.specs.Listing.{found_under};
 ghost use Rattle.relink.specs.Matches.{IsMatchedOr, exchanged, gone_at, put_at, taken_at};
 
-use gather::matcher::Matcher;
+use gather::Matcher;
 use gather::matches::{Matches, match_object};
 use ldmodel::memory::NoMemory;
 use ldmodel::names::ObjectKey;

@@ -14,7 +14,7 @@ use crate::keeping::LinkTables;
 use crate::last::{Effect, LastGood, effect_of, end, lend, origins_for};
 use crate::linking::link_first;
 use crate::unchanged::{is_unchanged, puts_same};
-use emit::fields::canvas::Canvas;
+use emit::Canvas;
 use ldmodel::edit::{Edit, EditRefusal, Linked};
 use ldmodel::linker::Linker;
 use ldmodel::memory::NoMemory;
@@ -25,8 +25,8 @@ use ldmodel_project::project::Project;
 use std::alloc::Global;
 use std::hash::RandomState;
 use std::marker::Model;
+use symres::Naming;
 use symres::decisions::law::{distinct_more, names_of_objects};
-use symres::naming::Naming;
 
 /// A linker that keeps what names stand for, which statements take the input sections of each object, and the last link
 /// without faults. An edit of an object reads at most that object, and decides its names alone. Where the link before

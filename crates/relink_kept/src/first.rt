@@ -13,7 +13,7 @@ use crate::stays::Last;
 use ldmodel::rows::Piece;
 use ldmodel_laws::layout::placed_are_rows;
 use ldmodel_project::view::ProjectView;
-use place::sections::placement::Placement;
+use place::Placement;
 
 /// The placement of the earlier link, if there is one and it is known to be of the same script, and the number of the
 /// first row that differs from its rows.

@@ -2,7 +2,7 @@
 
 use crate::symbol_table::SymbolTable;
 use ldmodel::rows::Piece;
-use place::laying::Laying;
+use place::Laying;
 use place::starts::Starts;
 
 /// What is kept of a link without faults: its rows, its layout, where its input sections stand, and what its symbols

@@ -3,7 +3,7 @@
 ghost use Rattle.std.specs.Prelude.{◌≡◌, ◌<◌, slice_get, None, Some, IfSome, length, MatchOption};
 ghost use Rattle.relink_kept.specs.SameRows.{numbered, part_name, section_name};
 
-use elfobj::object::Object;
+use elfobj::Object;
 use elfobj::section::{LinkedIndex, SectionIndex};
 use ldmodel::sections::Part;
 

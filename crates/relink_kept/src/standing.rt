@@ -6,7 +6,7 @@ ghost use Rattle.relink_kept.specs.Standing.{range_at, range_from, standing_in};
 use emit::relocate::earlier::FileRange;
 use ldmodel::laid::Placed;
 use ldmodel::sections::SectionKey;
-use place::laying::Laying;
+use place::Laying;
 use place::starts::{PartPlace, Starts};
 
 /// Where an input section stands.

@@ -9,15 +9,14 @@ ghost use Rattle.relink_kept.specs.Stays.{AreStays, last_standing, last_state, l
 
 use crate::good::Good;
 use crate::standing::{Standing, find_standing};
-use elfobj::object::Object;
 use elfobj::relocation::SymbolIndex;
-use elfobj::symbol::Symbol;
+use elfobj::{Object, Symbol};
 use emit::relocate::earlier::{Earlier, FileRange};
 use emit::relocate::value::SymbolValue;
 use ldmodel::names::ObjectPlace;
 use ldmodel::sections::SectionKey;
 use ldmodel_laws::segments::{files_in_order, sections_in_file};
-use place::laying::Laying;
+use place::Laying;
 use place::starts::Starts;
 
 /// An object of the earlier link in whose place another of its name came.

@@ -10,7 +10,7 @@ ghost use Rattle.emit.specs.relocate.Values.{value_of};
 ghost use Rattle.emit.specs.values.LinkView.{IsLinkView, known_link};
 ghost use Rattle.relink_kept.specs.SymbolTable.{AreSymbolValues};
 
-use elfobj::object::Object;
+use elfobj::Object;
 use elfobj::relocation::SymbolIndex;
 pub use emit::relocate::symbol_table::SymbolTable;
 use emit::relocate::target::referenced_value;

@@ -14,11 +14,10 @@ ghost use Rattle.relink_link.specs.Worked.{HasWorked};
 use crate::lent::Lent;
 use crate::passes::{asserted, drawn, gathered, laid, named, relocated, valued};
 use crate::stop::Stop;
-use emit::fields::canvas::Canvas;
-use emit::map::map_text;
 use emit::values::given::GivenValues;
 use emit::values::link_view::LinkView;
-use gather::gathering::Gathering;
+use emit::{Canvas, map_text};
+use gather::Gathering;
 use gather::matches::Matches;
 use ldmodel::memory::NoMemory;
 use ldmodel::meter::Meter;
@@ -29,7 +28,7 @@ use relink_kept::marks::marks_of;
 use relink_kept::stays::{Last, Stays};
 use relink_kept::symbol_table::symbol_values;
 use std::alloc::{AllocError, Global};
-use symres::naming::Naming;
+use symres::Naming;
 
 /// How a link over an earlier one ends.
 #[derive(Drop)]

@@ -4,7 +4,7 @@ use gather::matches::Matches;
 use ldmodel_project::view::ProjectView;
 use relink_kept::stays::Last;
 use std::alloc::Global;
-use symres::naming::Naming;
+use symres::Naming;
 
 /// What each pass of a link is lent.
 #[derive(Clone, Copy)]

@@ -5,14 +5,14 @@ ghost use Rattle.ldmodel.specs.Link.{link};
 
 use crate::again::{Ended, relink};
 use crate::output::Output;
-use emit::fields::canvas::Canvas;
+use emit::Canvas;
 use gather::matches::{lend_all, match_all};
 use ldmodel::memory::NoMemory;
 use ldmodel::meter::Meter;
 use ldmodel_project::view::ProjectView;
 use std::alloc::{AllocError, Global};
 use std::hash::RandomState;
-use symres::naming::Naming;
+use symres::Naming;
 
 /// Links a project from scratch: over names and matches of its own, and no earlier link.
 ///

@@ -5,7 +5,7 @@ ghost use Rattle.ldmodel.specs.EditMeaning.{linked_of};
 ghost use Rattle.ldmodel.specs.Link.{link};
 
 use crate::link::link;
-use emit::fields::canvas::Canvas;
+use emit::Canvas;
 use ldmodel::edit::Linked;
 use ldmodel::memory::NoMemory;
 use ldmodel::meter::Meter;

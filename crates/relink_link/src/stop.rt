@@ -6,7 +6,7 @@ ghost use Rattle.ldmodel.specs.Link.{Link, faulty, unless};
 ghost use Rattle.ldmodel_project.specs.ByPlace.{faults_in};
 ghost use Rattle.relink_link.specs.Stops.{IsStop};
 
-use emit::fault_lines::fault_text;
+use emit::fault_text;
 use ldmodel::fault::Fault;
 use ldmodel::memory::NoMemory;
 use ldmodel_project::view::ProjectView;

@@ -12,10 +12,10 @@ ghost use Rattle.symres.specs.Placed.{keys_of};
 ghost use Rattle.symres_table.specs.State.{Forgets, IsNamed};
 
 use crate::naming::Naming;
-use elfobj::meter::Meter;
+use elfobj::Meter;
 use ldmodel::memory::NoMemory;
 use ldmodel_project::order::Order;
-use ldscript::script::Script;
+use ldscript::Script;
 use std::mem;
 use symres_decisions::change::ObjectChange;
 

@@ -16,7 +16,7 @@ ghost use Rattle.ldmodel_project.specs.ByPlace.{faults_in};
 ghost use Rattle.symres_table.specs.State.{AreDistinct};
 
 use crate::naming::Naming;
-use elfobj::object::Object;
+use elfobj::Object;
 use elfobj::relocation::SymbolIndex;
 use elfobj::symbol::{Binding, Symbol, SymbolPlace};
 use ldmodel::fault::{Definer, Fault};
@@ -24,7 +24,7 @@ use ldmodel::given;
 use ldmodel::memory::NoMemory;
 use ldmodel::names::{Case, Entry, NameKey, ObjectPlace};
 use ldmodel_project::view::ProjectView;
-use ldscript::script::Script;
+use ldscript::Script;
 use std::alloc::Global;
 
 /// Whether a symbol is a strong definition: global, and in a section or a number.

@@ -17,7 +17,7 @@ ghost use Rattle.symres_table.specs.State.{AreDistinct, IsNamed};
 
 use crate::entered::{by_place, keys_of};
 use crate::placed::place_case;
-use elfobj::meter::Meter;
+use elfobj::Meter;
 use elfobj::relocation::SymbolIndex;
 use ldmodel::memory::NoMemory;
 use ldmodel::names::{Case, NameKey};
@@ -25,7 +25,7 @@ use ldmodel_laws::names::decision_by_keys;
 use ldmodel_project::input::InputObject;
 use ldmodel_project::law::tables_by_place;
 use ldmodel_project::order::Order;
-use ldscript::script::Script;
+use ldscript::Script;
 use std::alloc::Global;
 use std::hash::RandomState;
 use std::marker::Model;

@@ -14,7 +14,7 @@ use ldmodel::impossible::impossible;
 use ldmodel::memory::NoMemory;
 use ldmodel::names::Case;
 use ldmodel::script_symbol::CommonIndex;
-use ldscript::script::Script;
+use ldscript::Script;
 use ldscript::tree::Common;
 use std::alloc::Global;
 

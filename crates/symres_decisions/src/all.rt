@@ -7,9 +7,9 @@ ghost use Rattle.symres_table.specs.State.{HasName};
 
 use crate::cases::Cases;
 use crate::single::case_for;
+use elfobj::Meter;
 use elfobj::memory::NoMemory;
-use elfobj::meter::Meter;
-use ldscript::script::Script;
+use ldscript::Script;
 use std::alloc::Global;
 use symres_table::names::Names;
 

@@ -5,7 +5,7 @@ ghost use Rattle.elfobj.specs.Symbols.{NamedSymbol};
 ghost use Rattle.symres_decisions.specs.Change.{changed_tables, Fits, reversed};
 ghost use Rattle.symres_decisions.specs.declared.change.ObjectChange.{ObjectChange};
 
-use elfobj::object::Object;
+use elfobj::Object;
 use ldmodel::names::ObjectKey;
 
 /// An object at a place among the entered ones, from 0.

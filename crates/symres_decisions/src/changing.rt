@@ -15,9 +15,9 @@ use crate::decisions::Decisions;
 use crate::exchange::{put_in, take_out};
 use crate::noted::note_keys;
 use crate::texts::{KeySource, clear_names, decide_names, have_entries};
-use elfobj::meter::Meter;
+use elfobj::Meter;
 use ldmodel::names::NameKey;
-use ldscript::script::Script;
+use ldscript::Script;
 use symres_table::law::entered_again;
 use symres_table::names::Names;
 

@@ -1,6 +1,6 @@
 //! Objects as they are entered first: each under its key.
 
-use elfobj::object::Object;
+use elfobj::Object;
 use ldmodel::names::ObjectKey;
 
 /// An object under its key, lent while its names are entered.

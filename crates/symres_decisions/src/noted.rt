@@ -7,8 +7,8 @@ ghost use Rattle.symres_decisions.specs.Texts.{AreFound, AreNoted, IsNotedFor};
 
 use crate::change::{ObjectAt, ObjectChange};
 use crate::texts::{KeySource, key_of};
+use elfobj::Object;
 use elfobj::memory::NoMemory;
-use elfobj::object::Object;
 use ldmodel::names::NameKey;
 use symres_table::names::Names;
 

@@ -15,10 +15,10 @@ use crate::change::ObjectChange;
 use crate::decisions::Decisions;
 use crate::noted::reserve_keys;
 use crate::single::given_case;
+use elfobj::Object;
 use elfobj::memory::NoMemory;
-use elfobj::object::Object;
 use ldmodel::names::NameKey;
-use ldscript::script::Script;
+use ldscript::Script;
 use symres_table::names::Names;
 
 /// Gives a name without entries the case that the script alone makes of it.

@@ -10,10 +10,10 @@ ghost use Rattle.symres_decisions.specs.Decided.{IsCase};
 ghost use Rattle.symres_decisions.specs.Counted.{uses};
 ghost use Rattle.symres_table.specs.State.{HasName, IsNamed};
 
-use elfobj::meter::Meter;
+use elfobj::Meter;
 use ldmodel::given::is_assigned;
 use ldmodel::names::{Case, NameKey};
-use ldscript::script::Script;
+use ldscript::Script;
 use symres_table::names::Names;
 
 /// What the script alone makes of a name.

@@ -13,11 +13,10 @@ ghost use Rattle.symres_decisions.specs.Texts.{IsCleared, IsKeyOf};
 ghost use Rattle.symres_table.specs.State.{AreDistinct, HasName};
 
 use crate::cases::Cases;
-use elfobj::meter::Meter;
-use elfobj::object::Object;
 use elfobj::relocation::SymbolIndex;
+use elfobj::{Meter, Object};
 use ldmodel::names::NameKey;
-use ldscript::script::Script;
+use ldscript::Script;
 use symres_table::names::Names;
 use symres_table::symbol::is_visible;
 

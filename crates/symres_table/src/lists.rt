@@ -17,10 +17,9 @@ use crate::hints::Hints;
 use crate::known::NameTable;
 use crate::repeats::{Repeats, is_long};
 use crate::symbol::{Numbered, is_visible};
-use elfobj::object::Object;
 use elfobj::relocation::SymbolIndex;
 use elfobj::span::Span;
-use elfobj::symbol::Symbol;
+use elfobj::{Object, Symbol};
 use std::alloc::AllocError;
 
 fn find(spare: &[Vec<Numbered>], count: usize) -> usize

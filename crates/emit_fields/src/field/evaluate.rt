@@ -8,8 +8,8 @@ ghost use Rattle.emit_fields.specs.Fields.{value, fits, field_of};
 
 use super::{Field, Overflow};
 use byteorder::{ByteOrder, LittleEndian};
-use elfobj::meter::{Count, Meter};
 use elfobj::relocation::{Relocation, RelocationKind};
+use elfobj::{Count, Meter};
 
 /// The value modulo 2^64: S + A, or S + A - P for the kinds that count from their place.
 fn value(relocation: &Relocation, s: u64, p: u64) -> u64

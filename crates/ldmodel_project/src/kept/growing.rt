@@ -10,7 +10,7 @@ ghost use Rattle.ldmodel_project.specs.Staging.{IsStaged, IsTouching, SameButRoo
 use crate::kept::KeyedObjects;
 use crate::named::NamedObject;
 use crate::staged::{Places, StagedObjects, Step};
-use elfobj::object::Object;
+use elfobj::Object;
 use ldmodel::memory::NoMemory;
 use std::alloc::Global;
 

@@ -8,9 +8,9 @@ ghost use Rattle.ldmodel_project.specs.Listing.{AreKeysDistinct, found_under, ke
 
 use crate::named::NamedObject;
 use crate::project::{Next, Project};
-use elfobj::object::Object;
+use elfobj::Object;
 use ldmodel::names::ObjectKey;
-use ldscript::script::Script;
+use ldscript::Script;
 
 impl Project {
     /// The keys of all objects, in their order.

@@ -12,11 +12,11 @@ ghost use Rattle.ldmodel_project.specs.Staging.{IsStaged, IsTouching};
 use crate::edit::{object_refused, script_refused};
 use crate::project::Project;
 use crate::staged::{Staged, StagedObjects};
-use elfobj::object::Object;
+use elfobj::Object;
 use ldmodel::edit::{Edit, EditRefusal};
 use ldmodel::memory::NoMemory;
 use ldmodel::meter::Meter;
-use ldscript::script::Script;
+use ldscript::Script;
 
 /// An edit of the objects alone, for which all memory was had.
 fn staged(grown: Result<StagedObjects, NoMemory>) -> Result<Staged, EditRefusal>

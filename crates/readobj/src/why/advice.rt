@@ -3,9 +3,9 @@
 use crate::why::explain::Place;
 use crate::why::look::{entry, header, symbol_of};
 use crate::why::psabi::{SHF_GROUP, SHF_TLS, STB_GNU_UNIQUE, STT_GNU_IFUNC, STT_TLS};
+use elfobj::ObjectRefusal;
 use elfobj::file::constants::{ELFCLASS64, ET_REL};
 use elfobj::file::numbers::read_u16;
-use elfobj::refusal::ObjectRefusal;
 
 /// Position-independent code.
 const POSITION: &str =

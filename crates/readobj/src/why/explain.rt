@@ -15,9 +15,8 @@ use elfobj::file::numbers::{read_u16, read_u32};
 use elfobj::file::relocation_entry::RelocationEntry;
 use elfobj::file::section_header::SectionHeader;
 use elfobj::file::symbol_entry::SymbolEntry;
-use elfobj::refusal::ObjectRefusal;
-use elfobj::relocation::Relocation;
 use elfobj::section::{Section, SectionIndex, SectionKind};
+use elfobj::{ObjectRefusal, Relocation};
 use std::alloc::{AllocError, Global};
 
 /// What a refusal is about.

@@ -1,7 +1,7 @@
 //! Objects for link-time optimization, which are objects without code.
 
 use crate::why::look::{header_count, section_name};
-use elfobj::object::Object;
+use elfobj::Object;
 use elfobj::section::SectionKind;
 
 /// How the names of the sections begin that gcc makes for link-time optimization.

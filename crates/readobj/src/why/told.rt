@@ -4,8 +4,8 @@ use crate::why::advice::advice;
 use crate::why::explain::{Explanation, Place};
 use crate::why::look::{entry, header, section_name, symbol_name, symbol_of};
 use crate::why::psabi::{FLAGS, binding_name, relocation_name, symbol_kind_name};
+use elfobj::ObjectRefusal;
 use elfobj::file::constants::{PROFILE_FLAGS, STB_WEAK, STT_COMMON};
-use elfobj::refusal::ObjectRefusal;
 use elfobj::section::SectionKind;
 use std::fmt;
 

@@ -2,7 +2,7 @@
 
 use crate::meaning::sections::Reading;
 use crate::meaning::warning::Warning;
-use ldscript::script::Script;
+use ldscript::Script;
 use std::alloc::{AllocError, Global};
 
 /// What is said of the statements of a script, in the order of the text.

@@ -3,9 +3,9 @@
 use crate::why::pattern::pattern_reason;
 use crate::why::reason::Stop;
 use crate::why::walk::Walk;
+use ldscript::Pattern;
 use ldscript::tokens::token::{Mark, Mode};
 use ldscript::tokens::words::is_free_word;
-use ldscript::tree::Pattern;
 
 /// The words of sorts.
 const SORTS: [&[u8]; 3] = [b"SORT", b"SORT_BY_NAME", b"SORT_BY_ALIGNMENT"];

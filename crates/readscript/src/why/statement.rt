@@ -2,8 +2,8 @@
 
 use crate::why::reason::Stop;
 use crate::why::walk::{Use, Walk};
+use ldscript::Expr;
 use ldscript::tokens::token::{Mark, Mode};
-use ldscript::tree::Expr;
 
 /// What is noted under `ENTRY`, `MEMORY` and `SECTIONS`, which a script has once at most.
 const COMMANDS: [&[u8]; 3] = [b"ENTRY", b"MEMORY", b"SECTIONS"];

@@ -2,12 +2,12 @@
 
 use crate::why::expression::expression_stop;
 use crate::why::reason::{Explanation, Stop};
+use ldscript::Expr;
 use ldscript::terms::reader::expr;
 use ldscript::tokens::bytes::{is_name_byte, is_name_start};
 use ldscript::tokens::cursor::Cursor;
 use ldscript::tokens::token::{Mark, Mode, TokenKind};
 use ldscript::tokens::words::{is_free_name, is_reserved};
-use ldscript::tree::Expr;
 use std::alloc::Global;
 
 /// Whether a word in which pattern signs may stand is spelled like a name.
