@@ -18,7 +18,7 @@ from client.adapt.statements import Statements
 from client.adapt.structure import Structure
 from client.adapt.symbols import Symbols, unused
 from client.adapt.taking import all_sections, row, taking
-from client.adapt.tree import Input
+from client.adapt.tree import Input, Node
 
 __all__ = ["Adapted", "NoParse", "Note", "adapt", "CHANGED", "DROPPED", "LEFT", "REWRITTEN"]
 
@@ -49,7 +49,7 @@ def adapt(script: os.PathLike[str] | str | bytes, defsyms: Sequence[tuple[str, s
           objects: Objects | Mapping[str, bytes] | Iterable[str] | None = None,
           include_path: Sequence[str] = (), path: str = "script", orphans: bool = True,
           values: Mapping[str, int] | None = None, later: Sequence[tuple[str, str]] = (),
-          undefined: Iterable[str] = ()) -> Adapted:
+          undefined: Iterable[str] = (), addresses: Mapping[str, int] | None = None) -> Adapted:
     """Rewrites `script` into the profile.
 
     `script` is a file's path as a `Path`, or a text (`str` or `bytes`), whose name in the report is then `path`.
@@ -60,8 +60,9 @@ def adapt(script: os.PathLike[str] | str | bytes, defsyms: Sequence[tuple[str, s
     sections that no statement takes are reported as left. `values` are addresses of objects' symbols that an earlier
     link of the same objects gave: where an expression outside of ASSERT names one, which is left otherwise, its number
     is written (0 where there is none); the caller links again until the numbers stay (`Adapted.valued`). `later` are
-    pairs as `defsyms`, whose assignments stand after the script; `undefined` are names that are wanted as by EXTERN.
-    Raises `NoParse`, and `OSError` where a file cannot be read.
+    pairs as `defsyms`, whose assignments stand after the script; `undefined` are names that are wanted as by EXTERN;
+    `addresses` are those of output sections, in place of what the script says. Raises `NoParse`, and `OSError` where a
+    file cannot be read.
     """
     if isinstance(script, os.PathLike):
         path = os.fspath(script)
@@ -70,6 +71,8 @@ def adapt(script: os.PathLike[str] | str | bytes, defsyms: Sequence[tuple[str, s
     data = script.encode() if isinstance(script, str) else script
     try:
         source = _source(data, defsyms, later, path, include_path)
+        if addresses:
+            source.set_text(_placed(source.text, parse(source)[0], addresses))
         return _adapted(source, [*defsyms, *later], objects, orphans, values, undefined)
     except RecursionError:
         reason = "an expression of the script has hundreds of signs: use symbols for its parts"
@@ -85,6 +88,17 @@ def _source(data: bytes, defsyms: Sequence[tuple[str, str]], later: Sequence[tup
     if back:
         text += (b"" if text.endswith(b"\n") else b"\n") + back
     return Source(path, text, tuple(include_path))
+
+
+def _placed(text: str, nodes: list[Node], addresses: Mapping[str, int]) -> str:
+    """The text with these addresses at the heads of the first output sections of these names, on their lines."""
+    first = {section.name: section for section in reversed(all_sections(nodes)) if section.name in addresses}
+    for section in sorted(first.values(), key=lambda section: section.start, reverse=True):
+        begin, end = section.name_span.end, section.colon
+        kind = text[section.type.start:section.type.end] if section.type is not None else ""
+        lines = "\n" * (text.count("\n", begin, end) - kind.count("\n"))
+        text = f"{text[:begin]} {addresses[section.name]:#x} {kind}{lines}{text[end:]}"
+    return text
 
 
 def _adapted(source: Source, defsyms: Sequence[tuple[str, str]],

@@ -145,7 +145,7 @@ class Sections(Heads):
             if not isinstance(node, (Assign, Assert)):
                 return
             if ex.uses_dot(node.value) or isinstance(node, Assign) and node.name == "." and node.op != "=":
-                model.note(CHANGED, node.start, f"{model.text(node)}: `.` is the address of {section.name}, which "
+                model.note(CHANGED, node.start, f"{model.text(node)} `.` is the address of {section.name}, which "
                            "takes nothing of these objects; to GNU ld it is the place before that")
             if isinstance(node, Assign) and node.name == "." and not ex.uses_dot(node.value):
                 return

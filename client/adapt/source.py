@@ -26,10 +26,13 @@ class Source:
         self.include_path = include_path
         self.included: list[tuple[str, int, str]] = []
         """Each INCLUDE: its file and line, and the file that it read."""
-        self.text, self.origins = self._read(path, data.decode("latin-1"), 0)
-        self._starts = [0]
-        for match in re.finditer("\n", self.text):
-            self._starts.append(match.end())
+        text, self.origins = self._read(path, data.decode("latin-1"), 0)
+        self.set_text(text)
+
+    def set_text(self, text: str) -> None:
+        """Takes a text of as many lines, which came from the same places."""
+        self.text = text
+        self._starts = [0, *(match.end() for match in re.finditer("\n", text))]
 
     def place(self, offset: int) -> tuple[str, int]:
         """The file and the line of an offset of the text."""

@@ -16,7 +16,7 @@ from client.ld.command import Command, number
 from client.ld.default_script import DEFAULT
 from client.ld.inputs import BadInput, MissingInput
 from client.ld.script_commands import Commands, read_commands
-from client.ld.script_text import outline, set_address
+from client.ld.script_text import outline
 from client.watch.quick import with_entry
 
 NUMBER_ENTRY = b"ld.ldi.entry"
@@ -110,7 +110,8 @@ def adapt_source(
     data = text.encode(errors="surrogateescape")
     try:
         return adapt(data, _assignments(command.defsyms), known, command.folders, source.path, orphans=False,
-                     values=values, later=_assignments(command.later_defsyms), undefined=command.undefined)
+                     values=values, later=_assignments(command.later_defsyms), undefined=command.undefined,
+                     addresses=command.section_starts)
     except NoParse as fault:
         raise BadInput(str(fault)) from fault
     except OSError as fault:
@@ -138,11 +139,8 @@ def write_script(
     """
     adapted = adapt_source(source, command, known, values)
     text = adapted.text
-    for section, start in command.section_starts.items():
-        changed = set_address(text, os.fsencode(section), start)
-        if changed is None:
-            command.note(f"the address of {section}: the script has no such section")
-        text = changed or text
+    for section in sorted(command.section_starts.keys() - {os.fsdecode(head.name) for head in outline(text).sections}):
+        command.note(f"the address of {section}: the script has no such section")
     if command.entry is None:
         text, entry = _default_entry(text, command, known)
     else:

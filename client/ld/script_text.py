@@ -1,4 +1,4 @@
-"""The parts of a script of the profile: its sections with their regions, its regions, its ENTRY; addresses set anew.
+"""The parts of a script of the profile: its sections with their regions, its regions, its ENTRY.
 
 docs/scripts.md has the language. What stands here goes through the tokens of a text and reads no expression.
 """
@@ -12,10 +12,9 @@ from client.watch.quick import Token, tokens
 
 @dataclass(frozen=True)
 class Head:
-    """An output section: its name, where its address may stand, and the regions at its end."""
+    """An output section: its name, and the regions at its end."""
 
     name: bytes
-    address: tuple[int, int]
     region: bytes = b""
     load_region: bytes = b""
 
@@ -74,12 +73,9 @@ def _closing(found: list[Token], at: int) -> int:
 
 def _head(found: list[Token], begin: int) -> tuple[Head, int]:
     """The output section whose name is the token `begin`, and the token after its tail."""
-    at = colon = begin
+    at = begin
     while found[at].text != b"{":
-        if found[at].text == b"(":
-            at = _closing(found, at)
-        elif found[at].text == b":":
-            colon = at
+        at = _closing(found, at) if found[at].text == b"(" else at
         at += 1
     while found[at].text != b"}" or found[at].depth != 2:
         at += 1
@@ -94,15 +90,4 @@ def _head(found: list[Token], begin: int) -> tuple[Head, int]:
             at += 2
         else:
             break
-    name = found[begin]
-    return Head(name.text, (name.start + len(name.text), found[colon].start), region, load_region), at
-
-
-def set_address(script: bytes, section: bytes, address: int) -> bytes | None:
-    """The script with this address at the head of an output section; None where the script has no such section."""
-    for head in outline(script).sections:
-        if head.name == section:
-            begin, end = head.address
-            lines = b"\n" * script.count(b"\n", begin, end)
-            return script[:begin] + b" 0x%x" % address + lines + b" " + script[end:]
-    return None
+    return Head(found[begin].text, region, load_region), at

@@ -144,6 +144,21 @@ class SettingTest(LinkTest):
         self.assertIn("required symbol `nothing' not defined", done.stderr)
 
     @needs("ld.bfd")
+    def test_addresses_and_loads(self) -> None:
+        """-Tdata and --section-start of a section after one that is loaded elsewhere, and of one that takes nothing."""
+        self.compile("two.c", "int _start = 1; int other = 2;")
+        self.write("t.ld", """SECTIONS { . = 0x10000; .text : AT(0x20000) { *(.data._start) } .data /* here */
+            () : { *(.data.other) } .none : { *(.none) } e = .; .bss : { *(.bss) } /DISCARD/ : { *(*) } }""")
+        words = ["-T", "t.ld", "-Tdata", "30000", "--section-start=.none=0x70000", "two.o"]
+        done = self.links(*words, "-o", "own")
+        self.run_tool("ld.bfd", "--no-warn-rwx-segments", *words, "-o", "gnu")
+        own, gnu = (self.run_tool("readelf", "-lW", name) for name in ("own", "gnu"))
+        loads = [[line.split()[2:4] for line in text.splitlines() if "LOAD" in line] for text in (own, gnu)]
+        self.assertEqual(loads[0], loads[1])
+        self.assertIn("e = .; `.` is the address of .none, which takes nothing", done.stderr)
+        self.assertIn("the address of .no", self.ld(*words, "-o", "own", "--section-start=.no=1").stderr)
+
+    @needs("ld.bfd")
     def test_defsym_and_undefined(self) -> None:
         """--defsym before -T and after it, and -u of what the script PROVIDEs, as GNU ld has them."""
         self.compile("one.c", "int _start;")
