@@ -64,3 +64,9 @@ bytes_read_nothing old new n small e = record {
 pub ends_reading : (old new : Counts) (stop : Stop) → ReadsNothing old new → EndsReadingNothing old new stop
 ends_reading old new (Faulty o) r = r
 ends_reading old new NoMemory r = tt
+
+-- what read nothing, and then ended so
+pub reads_ending : (a b c : Counts) (stop : Stop) → ReadsNothing a b → EndsReadingNothing b c stop
+    → EndsReadingNothing a c stop
+reads_ending a b c (Faulty o) x y = reads_then a b c x y
+reads_ending a b c NoMemory x y = tt

@@ -1,4 +1,5 @@
 use Rattle.std.proofs.Common.{subst, sym}
+use Rattle.std.proofs.lemmas.Result.{err_from_is_err_and}
 use Rattle.relink_kept.specs.Marks.{AreMarks}
 use Rattle.relink_kept.specs.SymbolTable.{AreSymbolValues}
 use Rattle.ldmodel.specs.Layout.{Layout}
@@ -7,7 +8,7 @@ use Rattle.emit.specs.values.LinkView.{known_link}
 use Rattle.place.specs.Laying.{IsLaying}
 use Rattle.relink_link.specs.Lent.{project_of}
 use Rattle.relink_link.proofs.Beside.{has_old, one_placement}
-use Rattle.relink_link.proofs.Reading.{reads_then}
+use Rattle.relink_link.proofs.Reading.{ends_reading, reads_ending, reads_then}
 use Rattle.relink_link.proofs.Stopping.{ends_well}
 use Rattle.relink_link.proofs.Working.{are_drawn, link_work}
 use Rattle.relink_link.proofs.again.relinked.Goals as goal
@@ -36,12 +37,12 @@ relocated-requires-clause-beside c =
     record {
       arranged = c.in_ok-arranged.ensures.arranged s laying;
       last = has_old p _ _ c.requires.last;
-      marks = λ old last. subst (AreMarks old p s) (sym c.deref-4.ensures.value)
+      marks = λ old last. subst (AreMarks old p s) (sym c.deref-3.ensures.value)
           (c.in_ok-marks.ensures old s last
           (subst (λ (z : Layout). AreSymbolValues p z c.in_ok-symbols.symbols)
           (one_placement p k.layout s k.laying.placed laying.placed)
           (c.in_ok-symbols.ensures k.layout h.naming k.view
-          (subst (AreNameValues (known_link p k.layout h.naming)) (sym c.deref-3.ensures.value) h.values.names))));
+          (subst (AreNameValues (known_link p k.layout h.naming)) (sym c.deref-2.ensures.value) h.values.names))));
     }
 
 pub relocated-requires-clause-symbols : goal.relocated-requires-clause-symbols
@@ -53,7 +54,7 @@ relocated-requires-clause-symbols c =
     subst (λ (z : Layout). AreSymbolValues p z c.in_ok-symbols.symbols)
     (one_placement p k.layout s k.laying.placed laying.placed)
     (c.in_ok-symbols.ensures k.layout h.naming k.view
-    (subst (AreNameValues (known_link p k.layout h.naming)) (sym c.deref-3.ensures.value) h.values.names))
+    (subst (AreNameValues (known_link p k.layout h.naming)) (sym c.deref-2.ensures.value) h.values.names))
 
 pub returns-clause-ended : goal.returns-clause-ended
 returns-clause-ended c =
@@ -76,7 +77,7 @@ returns-clause-ended c =
         symbols = subst (λ (z : Layout). AreSymbolValues p z c.in_ok-symbols.symbols)
             (one_placement p seen.layout s seen.laying.placed k.laying.placed)
             (c.in_ok-symbols.ensures seen.layout valued.naming seen.view
-            (subst (AreNameValues (known_link p seen.layout valued.naming)) (sym c.deref-3.ensures.value)
+            (subst (AreNameValues (known_link p seen.layout valued.naming)) (sym c.deref-2.ensures.value)
             valued.values.names));
       };
       image = same;
@@ -93,3 +94,15 @@ returns-clause-worked c =
     link_work (project_of c.args.lent) _ _ _ _ c.in_ok-laying.ensures.counted
     (are_drawn (project_of c.args.lent) k.layout _ c.in_ok-fields.fields _ _ _ k.laying.layout f.good
     (c.in_ok-fields.ensures.counted k.layout k.laying) (c.in_ok-drawn.ensures.counted k.layout k.laying))
+
+pub returns-in_err-fields-clause-early : goal.returns-in_err-fields-clause-early
+returns-in_err-fields-clause-early c =
+    let p = err_from_is_err_and c.from_residual-in_err-fields.result c.from_residual-in_err-fields.ensures.1 in
+    rw (p.1, p.2) (reads_ending _ _ _ c.in_err-fields.field-0.0 c.in_ok-laying.ensures.reads
+    c.in_err-fields.ensures.early)
+
+pub returns-in_err-asserted-clause-early : goal.returns-in_err-asserted-clause-early
+returns-in_err-asserted-clause-early c =
+    let p = err_from_is_err_and c.from_residual-in_err-asserted.result c.from_residual-in_err-asserted.ensures.1 in
+    rw (p.1, p.2) (ends_reading _ _ c.in_err-asserted.field-0.0
+    (reads_then _ _ _ c.in_ok-laying.ensures.reads c.in_ok-fields.ensures.reads))
