@@ -5,10 +5,10 @@
 //! - `laying`: the phase, over `place_sections`;
 //! - `segments` over `group`: what is loaded as one, and its offset in the file; `offsets`: where output sections begin
 //!   in the file; `length`: how long the image is;
-//! - `arranged` over `collected` and `entry`: all of that, and where each input section stands; `numbered`: the sections
-//!   of an object have different numbers; `rows`: rows as one list;
-//! - the parts `terms` (values of expressions, what a layout keeps) and `sections` (output sections placed). Other families
-//!   name this crate alone.
+//! - `arranged` over `collected` and `entry`: all of that, and where each input section stands; `numbered`: the
+//!   sections of an object have different numbers; `rows`: rows as one list;
+//! - the parts `terms` (values of expressions, what a layout keeps) and `sections` (output sections placed). Other
+//!   families name this crate alone.
 #![tactic(auto)]
 
 pub mod arranged;
