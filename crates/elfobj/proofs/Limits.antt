@@ -19,8 +19,10 @@ use Rattle.elfobj_file.specs.SectionHeaders.{header}
 use Rattle.elfobj_file.specs.LinkedKinds.{is_alloc, linked_kind}
 use Rattle.elfobj_file.specs.Sections.{linked_as, linked_section, sections_below, sections_of, name_of, contents}
 use Rattle.elfobj_file.specs.declared.refusal.ObjectRefusal.{ObjectRefusal}
-use Rattle.elfobj_file.specs.declared.refusal.ObjectRefusal.TheVariants.{Short, NotElf, Machine, SectionTable, SectionCount}
-use Rattle.elfobj_file.specs.declared.refusal.ObjectRefusal.TheVariants.{SectionBounds, SectionProfile, SymbolTable, Symbol}
+use Rattle.elfobj_file.specs.declared.refusal.ObjectRefusal.TheVariants.{Short, NotElf, Machine, SectionTable}
+use Rattle.elfobj_file.specs.declared.refusal.ObjectRefusal.TheVariants.{SectionCount}
+use Rattle.elfobj_file.specs.declared.refusal.ObjectRefusal.TheVariants.{SectionBounds, SectionProfile, SymbolTable}
+use Rattle.elfobj_file.specs.declared.refusal.ObjectRefusal.TheVariants.{Symbol}
 use Rattle.elfobj_file.specs.declared.refusal.ObjectRefusal.TheVariants.{RelocationSection, RelocationType, FieldBounds}
 use Rattle.elfobj_file.specs.declared.refusal.ObjectRefusal.TheVariants.{FieldOverlap}
 use Rattle.elfobj_file.specs.declared.section.SectionKind.{SectionKind}

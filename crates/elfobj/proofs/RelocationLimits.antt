@@ -10,11 +10,13 @@ use Rattle.elfobj_file.specs.LinkedKinds.{linked_kind}
 use Rattle.elfobj.specs.Profile.{AreApart, HasRelocationsOfProfile, IsRelocationOfProfile}
 use Rattle.elfobj_file.specs.Refusal.{holds, object_refusal}
 use Rattle.elfobj_file.specs.RelocationEntries.{r_sym}
-use Rattle.elfobj_file.specs.Relocations.{field_end, meets, relocation_entries, relocation_of, relocations_at, share_bytes}
+use Rattle.elfobj_file.specs.Relocations.{field_end, meets, relocation_entries, relocation_of, relocations_at}
+use Rattle.elfobj_file.specs.Relocations.{share_bytes}
 use Rattle.elfobj_file.specs.SectionHeaders.{header}
 use Rattle.elfobj_file.specs.Sections.{LinkedSection, linked_section, section_of, sections_below, sections_of}
 use Rattle.elfobj_file.specs.Symbols.{symbols_of}
-use Rattle.elfobj_file.specs.Tables.{has_field_outside, has_overlap, has_shared_bytes, has_strange_symbol, has_wrong_bounds}
+use Rattle.elfobj_file.specs.Tables.{has_field_outside, has_overlap, has_shared_bytes, has_strange_symbol}
+use Rattle.elfobj_file.specs.Tables.{has_wrong_bounds}
 use Rattle.elfobj_file.specs.Tables.{has_wrong_relocation_section, is_outside, names_no_symbol}
 use Rattle.elfobj_file.specs.declared.relocation.Relocation.{Relocation}
 use Rattle.elfobj_file.specs.declared.relocation_entry.RelocationEntry.{RelocationEntry}

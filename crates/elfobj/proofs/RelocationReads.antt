@@ -21,7 +21,8 @@ use Rattle.elfobj.specs.Runs.{AreTablesOf, IsTableOf, has_refused_entry, is_refu
 use Rattle.elfobj_file.specs.SectionHeaders.{header, headers}
 use Rattle.elfobj_file.specs.Sections.{LinkedSection, linked_section, section_of, sections_below, sections_of}
 use Rattle.elfobj_file.specs.Symbols.{symbols_of}
-use Rattle.elfobj_file.specs.Tables.{has_field_outside, has_overlap, has_shared_bytes, has_strange_symbol, has_strange_type}
+use Rattle.elfobj_file.specs.Tables.{has_field_outside, has_overlap, has_shared_bytes, has_strange_symbol}
+use Rattle.elfobj_file.specs.Tables.{has_strange_type}
 use Rattle.elfobj_file.specs.Tables.{has_wrong_bounds, has_wrong_relocation_section, has_wrong_type, is_outside}
 use Rattle.elfobj_file.specs.Tables.{is_wrong_below, linked_sections}
 use Rattle.elfobj_file.specs.declared.span.Span.{Span}

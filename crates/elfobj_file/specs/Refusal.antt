@@ -5,21 +5,25 @@ use Rattle.std.specs.Prelude.{◌==◌, nat_lt, nat_le, is_some, bit_or}
 use Rattle.std.specs.List.{list_any}
 use Rattle.std.specs.Int.{is_power_of_two}
 use Rattle.std.specs.Option.{option_map_or}
-use Rattle.elfobj_file.specs.ElfHeader.{e_ident, e_type, e_machine, e_version, e_shoff, e_shentsize, e_shnum, e_shstrndx}
+use Rattle.elfobj_file.specs.ElfHeader.{e_ident, e_type, e_machine, e_version, e_shoff, e_shentsize, e_shnum}
+use Rattle.elfobj_file.specs.ElfHeader.{e_shstrndx}
 use Rattle.elfobj_file.specs.SectionHeaders.{header, headers}
 use Rattle.elfobj_file.specs.Names.{string_at, is_name}
 use Rattle.elfobj_file.specs.SectionKinds.{kind_of}
 use Rattle.elfobj_file.specs.LinkedKinds.{is_alloc}
 use Rattle.elfobj_file.specs.Sections.{name_table}
-use Rattle.elfobj_file.specs.Tables.{has_wrong_symbol_table, has_wrong_symbol, has_wrong_relocation_section, has_wrong_type}
+use Rattle.elfobj_file.specs.Tables.{has_wrong_symbol_table, has_wrong_symbol, has_wrong_relocation_section}
+use Rattle.elfobj_file.specs.Tables.{has_wrong_type}
 use Rattle.elfobj_file.specs.Tables.{has_wrong_bounds, has_overlap}
 use Rattle.elfobj_file.specs.declared.section_header.SectionHeader.{SectionHeader}
 use Rattle.elfobj_file.specs.declared.constants.TheConstants.{ELFCLASS64, ELFDATA2LSB, EV_CURRENT, ET_REL, EM_X86_64}
 use Rattle.elfobj_file.specs.declared.constants.TheConstants.{MAX_SECTION_HEADERS, SHT_NULL, SHT_STRTAB, SHT_NOBITS}
 use Rattle.elfobj_file.specs.declared.constants.TheConstants.{PROFILE_FLAGS, MAX_SECTION_SIZE}
 use Rattle.elfobj_file.specs.declared.refusal.ObjectRefusal.{ObjectRefusal}
-use Rattle.elfobj_file.specs.declared.refusal.ObjectRefusal.TheVariants.{Short, NotElf, Machine, SectionTable, SectionCount}
-use Rattle.elfobj_file.specs.declared.refusal.ObjectRefusal.TheVariants.{SectionBounds, SectionProfile, SymbolTable, Symbol}
+use Rattle.elfobj_file.specs.declared.refusal.ObjectRefusal.TheVariants.{Short, NotElf, Machine, SectionTable}
+use Rattle.elfobj_file.specs.declared.refusal.ObjectRefusal.TheVariants.{SectionCount}
+use Rattle.elfobj_file.specs.declared.refusal.ObjectRefusal.TheVariants.{SectionBounds, SectionProfile, SymbolTable}
+use Rattle.elfobj_file.specs.declared.refusal.ObjectRefusal.TheVariants.{Symbol}
 use Rattle.elfobj_file.specs.declared.refusal.ObjectRefusal.TheVariants.{RelocationSection, RelocationType, FieldBounds}
 use Rattle.elfobj_file.specs.declared.refusal.ObjectRefusal.TheVariants.{FieldOverlap, NoMemory}
 

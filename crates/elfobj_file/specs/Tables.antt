@@ -14,7 +14,8 @@ use Rattle.elfobj_file.specs.Symbols.{is_symbol_table, symbol_table_number, symb
 use Rattle.elfobj_file.specs.Symbols.{symbols_of}
 use Rattle.elfobj_file.specs.RelocationEntries.{r_sym, r_type}
 use Rattle.elfobj_file.specs.RelocationKinds.{relocation_kind}
-use Rattle.elfobj_file.specs.Relocations.{is_relocation_section, changes, relocation_entries, relocations_at, share_bytes}
+use Rattle.elfobj_file.specs.Relocations.{is_relocation_section, changes, relocation_entries, relocations_at}
+use Rattle.elfobj_file.specs.Relocations.{share_bytes}
 use Rattle.elfobj_file.specs.Relocations.{field_end}
 use Rattle.elfobj_file.specs.Sections.{section_of, sections_of}
 use Rattle.elfobj_file.specs.declared.constants.TheConstants.{SHT_STRTAB, SHT_REL, STB_LOCAL, STB_GLOBAL, STB_WEAK}

@@ -1,19 +1,29 @@
 //! The numbers of the standards, each written out a second time, so that a wrong one in `constants` is no definition.
 
 ghost use Rattle.std.specs.Prelude.{◌≡◌, ◌^◌};
-ghost use Rattle.elfobj_file.specs.declared.constants.TheConstants.{ELFCLASS64, ELFDATA2LSB, EV_CURRENT, ET_REL, ET_EXEC};
-ghost use Rattle.elfobj_file.specs.declared.constants.TheConstants.{EM_X86_64, MAX_SECTION_HEADERS, EHDR_SIZE, PHDR_SIZE};
-ghost use Rattle.elfobj_file.specs.declared.constants.TheConstants.{SHDR_SIZE, SYM_SIZE, RELA_SIZE, PT_LOAD, PF_X, PF_W};
-ghost use Rattle.elfobj_file.specs.declared.constants.TheConstants.{PF_R, SHT_NULL, SHT_PROGBITS, SHT_SYMTAB, SHT_STRTAB};
+ghost use Rattle.elfobj_file.specs.declared.constants.TheConstants.{ELFCLASS64, ELFDATA2LSB, EV_CURRENT, ET_REL};
+ghost use Rattle.elfobj_file.specs.declared.constants.TheConstants.{ET_EXEC};
+ghost use Rattle.elfobj_file.specs.declared.constants.TheConstants.{EM_X86_64, MAX_SECTION_HEADERS, EHDR_SIZE};
+ghost use Rattle.elfobj_file.specs.declared.constants.TheConstants.{PHDR_SIZE};
+ghost use Rattle.elfobj_file.specs.declared.constants.TheConstants.{SHDR_SIZE, SYM_SIZE, RELA_SIZE, PT_LOAD, PF_X};
+ghost use Rattle.elfobj_file.specs.declared.constants.TheConstants.{PF_W};
+ghost use Rattle.elfobj_file.specs.declared.constants.TheConstants.{PF_R, SHT_NULL, SHT_PROGBITS, SHT_SYMTAB};
+ghost use Rattle.elfobj_file.specs.declared.constants.TheConstants.{SHT_STRTAB};
 ghost use Rattle.elfobj_file.specs.declared.constants.TheConstants.{SHT_RELA, SHT_NOTE, SHT_NOBITS, SHT_REL};
 ghost use Rattle.elfobj_file.specs.declared.constants.TheConstants.{SHT_INIT_ARRAY, SHT_FINI_ARRAY, SHT_PREINIT_ARRAY};
-ghost use Rattle.elfobj_file.specs.declared.constants.TheConstants.{SHT_X86_64_UNWIND, SHF_WRITE, SHF_ALLOC, SHF_EXECINSTR};
+ghost use Rattle.elfobj_file.specs.declared.constants.TheConstants.{SHT_X86_64_UNWIND, SHF_WRITE, SHF_ALLOC};
+ghost use Rattle.elfobj_file.specs.declared.constants.TheConstants.{SHF_EXECINSTR};
 ghost use Rattle.elfobj_file.specs.declared.constants.TheConstants.{SHF_MERGE, SHF_STRINGS, PROFILE_FLAGS, STB_LOCAL};
-ghost use Rattle.elfobj_file.specs.declared.constants.TheConstants.{STB_GLOBAL, STB_WEAK, STT_NOTYPE, STT_OBJECT, STT_FUNC};
-ghost use Rattle.elfobj_file.specs.declared.constants.TheConstants.{STT_SECTION, STT_FILE, STT_COMMON, SHN_UNDEF, SHN_ABS};
-ghost use Rattle.elfobj_file.specs.declared.constants.TheConstants.{SHN_COMMON, R_X86_64_NONE, R_X86_64_64, R_X86_64_PC32};
-ghost use Rattle.elfobj_file.specs.declared.constants.TheConstants.{R_X86_64_PLT32, R_X86_64_32, R_X86_64_32S, R_X86_64_16};
-ghost use Rattle.elfobj_file.specs.declared.constants.TheConstants.{R_X86_64_PC16, R_X86_64_8, R_X86_64_PC8, R_X86_64_PC64};
+ghost use Rattle.elfobj_file.specs.declared.constants.TheConstants.{STB_GLOBAL, STB_WEAK, STT_NOTYPE, STT_OBJECT};
+ghost use Rattle.elfobj_file.specs.declared.constants.TheConstants.{STT_FUNC};
+ghost use Rattle.elfobj_file.specs.declared.constants.TheConstants.{STT_SECTION, STT_FILE, STT_COMMON, SHN_UNDEF};
+ghost use Rattle.elfobj_file.specs.declared.constants.TheConstants.{SHN_ABS};
+ghost use Rattle.elfobj_file.specs.declared.constants.TheConstants.{SHN_COMMON, R_X86_64_NONE, R_X86_64_64};
+ghost use Rattle.elfobj_file.specs.declared.constants.TheConstants.{R_X86_64_PC32};
+ghost use Rattle.elfobj_file.specs.declared.constants.TheConstants.{R_X86_64_PLT32, R_X86_64_32, R_X86_64_32S};
+ghost use Rattle.elfobj_file.specs.declared.constants.TheConstants.{R_X86_64_16};
+ghost use Rattle.elfobj_file.specs.declared.constants.TheConstants.{R_X86_64_PC16, R_X86_64_8, R_X86_64_PC8};
+ghost use Rattle.elfobj_file.specs.declared.constants.TheConstants.{R_X86_64_PC64};
 ghost use Rattle.elfobj_file.specs.declared.constants.TheConstants.{MAX_SECTION_SIZE, MAX_NAME_LENGTH};
 
 /// The constants are those of the System V gABI (ELF-64), of the x86-64 psABI, and of the limits in `docs/objects.md`.

@@ -9,9 +9,11 @@ use Rattle.std.proofs.lemmas.Option.{same_Some}
 use Rattle.emit_fields.specs.declared.patch.Patch.{Patch}
 use Rattle.ldmodel.specs.Image.{covers}
 use Rattle.ldmodel.specs.declared.laid.PlacedData.{PlacedData}
-use Rattle.emit_image.specs.Drawing.{AreApart, AreData, AreParts, ArePieces, AreSections, IsDrawing, IsOrderly, covers_data}
+use Rattle.emit_image.specs.Drawing.{AreApart, AreData, AreParts, ArePieces, AreSections, IsDrawing, IsOrderly}
+use Rattle.emit_image.specs.Drawing.{covers_data}
 use Rattle.emit_image.specs.Drawing.{covers_part, covers_piece, covers_section, data_end, drawing_end, drawing_spot}
-use Rattle.emit_image.specs.Drawing.{end_of_parts, end_of_sections, ends_in, gap_byte, last_end, section_spot, spot_among}
+use Rattle.emit_image.specs.Drawing.{end_of_parts, end_of_sections, ends_in, gap_byte, last_end, section_spot}
+use Rattle.emit_image.specs.Drawing.{spot_among}
 use Rattle.emit_image.specs.Drawing.{spot_past_headers}
 use Rattle.emit_image.specs.Joined.{AreAlike, IsJoined, IsJoinedSection, piece_ends, piece_spot, spot_in}
 use Rattle.emit_image.specs.Plan.{IsDrawnFor, count_unstayed}

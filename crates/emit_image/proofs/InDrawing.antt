@@ -6,7 +6,8 @@ use Rattle.std.specs.List.{find}
 use Rattle.std.proofs.lemmas.Bool.{cases_lt}
 use Rattle.std.proofs.lemmas.Bool.Decides.{nat_tests, leb_tells}
 use Rattle.std.proofs.lemmas.List.{drop_more, drop_all}
-use Rattle.emit_image.specs.Drawing.{AreParts, AreSections, IsDrawing, IsOrderly, covers_part, covers_section, drawing_end}
+use Rattle.emit_image.specs.Drawing.{AreParts, AreSections, IsDrawing, IsOrderly, covers_part, covers_section}
+use Rattle.emit_image.specs.Drawing.{drawing_end}
 use Rattle.emit_image.specs.Drawing.{drawing_spot, end_of_parts, end_of_sections, part_end}
 use Rattle.emit_image.specs.Reached.{ArePartsReached, AreSectionsReached, after_zeros, part_image, section_image}
 use Rattle.emit_image.specs.Stretches.{Spot}

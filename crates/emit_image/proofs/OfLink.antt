@@ -22,7 +22,8 @@ use Rattle.ldscript.specs.statements.Widths.{byte_count}
 use Rattle.ldscript.specs.statements.declared.section.Width.{Width}
 use Rattle.ldscript.specs.statements.declared.section.Width.TheVariants.{Byte, Short, Long, Quad}
 use Rattle.emit_image.specs.Drawing.{covers_data, covers_part, covers_piece, covers_section, data_byte, data_end}
-use Rattle.emit_image.specs.Drawing.{drawing_end, drawing_spot, end_of_parts, end_of_sections, ends_in, gap_byte, is_full}
+use Rattle.emit_image.specs.Drawing.{drawing_end, drawing_spot, end_of_parts, end_of_sections, ends_in, gap_byte}
+use Rattle.emit_image.specs.Drawing.{is_full}
 use Rattle.emit_image.specs.Drawing.{last_end, piece_byte, piece_end, section_spot, spot_among, spot_past_headers}
 use Rattle.emit_image.specs.OfLink.{AreUnstayed, IsDrawingOf, IsImageData, IsImagePart, IsImagePiece, IsImageSection}
 use Rattle.emit_image.specs.OfLink.{loaded}

@@ -21,7 +21,8 @@ use Rattle.ldmodel.specs.Segments.{loaded_end, nonempty, group_sections, segment
 use Rattle.ldmodel.specs.SymbolValues.{entry_point, number_or_0}
 use Rattle.ldmodel.specs.Sorting.{insert_by, sort_by}
 use Rattle.ldmodel.specs.declared.laid.PlacedData.{PlacedData}
-use Rattle.emit_image.specs.Drawing.{AreApart, AreData, AreParts, ArePieces, AreSections, IsDrawing, IsOrderly, data_end}
+use Rattle.emit_image.specs.Drawing.{AreApart, AreData, AreParts, ArePieces, AreSections, IsDrawing, IsOrderly}
+use Rattle.emit_image.specs.Drawing.{data_end}
 use Rattle.emit_image.specs.Drawing.{end_of_sections, part_end, piece_end}
 use Rattle.emit_image.specs.InMemory.{AreFilled, DataInOrder, DoNotMeet, IsInMemory, IsSectionFilled, PiecesInOrder}
 use Rattle.emit_image.specs.InMemory.{bytes_end, placed_end}

@@ -2,7 +2,8 @@
 use Rattle.std.specs.Prelude.{◌≡◌, ℕ, ◌+◌, ◌-◌, ◌<◌, ◌≤◌, ◌⊎◌, length, slice_index, slice_index_or, Contains, drop}
 use Rattle.std.specs.Prelude.{nat_lt, false, if◌then◌else◌}
 use Rattle.ldmodel.specs.declared.laid.PlacedData.{PlacedData}
-use Rattle.emit_image.specs.Drawing.{AreParts, AreSections, data_end, drawing_end, end_of_parts, end_of_sections, ends_in}
+use Rattle.emit_image.specs.Drawing.{AreParts, AreSections, data_end, drawing_end, end_of_parts, end_of_sections}
+use Rattle.emit_image.specs.Drawing.{ends_in}
 use Rattle.emit_image.specs.Drawing.{part_end}
 use Rattle.emit_image.specs.Drawing.{piece_end, section_spot}
 use Rattle.emit_image.specs.Stretches.{Spot}

@@ -3,7 +3,8 @@ use Rattle.std.specs.Prelude.{◌≡◌, ℕ, ◌+◌, ◌%◌, ◌^◌, List, [
 use Rattle.std.specs.Int.{next_multiple_of}
 use Rattle.std.specs.Prelude.{◌==◌, not, if◌then◌else◌}
 use Rattle.std.specs.List.{AllZip, enumerate_from}
-use Rattle.elfobj.specs.file.declared.constants.TheConstants.{SHT_PROGBITS, SHT_NOBITS, SHF_WRITE, SHF_ALLOC, SHF_EXECINSTR}
+use Rattle.elfobj.specs.file.declared.constants.TheConstants.{SHT_PROGBITS, SHT_NOBITS, SHF_WRITE, SHF_ALLOC}
+use Rattle.elfobj.specs.file.declared.constants.TheConstants.{SHF_EXECINSTR}
 use Rattle.elfobj.specs.file.declared.constants.TheConstants.{STB_GLOBAL, STB_WEAK}
 use Rattle.ldmodel.specs.Layout.{Layout, PlacedSection}
 use Rattle.ldmodel.specs.Lent.{placed_of}

@@ -4,7 +4,8 @@ ghost use Rattle.std.specs.Prelude.{◌≡◌, ◌+◌, ◌++◌, ◌∷◌, [],
 ghost use Rattle.std.specs.List.{enumerate_from};
 ghost use Rattle.ldmodel.specs.SectionHeaders.{header_bytes};
 ghost use Rattle.ldmodel.specs.Tail.{string_table, name_offset};
-ghost use Rattle.emit_image.specs.Tables.{alignment_of, flags_of, header_names_of, output_headers_of, section_header_of};
+ghost use Rattle.emit_image.specs.Tables.{alignment_of, flags_of, header_names_of, output_headers_of};
+ghost use Rattle.emit_image.specs.Tables.{section_header_of};
 ghost use Rattle.emit_image.specs.HeaderRecord.{header_of};
 
 use crate::number::{put_u32, put_u64};

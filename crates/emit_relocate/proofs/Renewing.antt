@@ -3,7 +3,8 @@ use Rattle.std.proofs.Common.{◌≡◌, List, [], ◌∷◌, ◌++◌, map, fla
 use Rattle.std.specs.List.{AllZip}
 use Rattle.ldmodel.specs.Stayed.{GoodLink}
 use Rattle.ldmodel.specs.declared.sections.SectionKey.{SectionKey}
-use Rattle.emit_relocate.specs.Changes.{AreChanged, AreFilled, Evaluated, IsEvaluatedAt, IsEvaluatedOf, IsRenewed, Results}
+use Rattle.emit_relocate.specs.Changes.{AreChanged, AreFilled, Evaluated, IsEvaluatedAt, IsEvaluatedOf, IsRenewed}
+use Rattle.emit_relocate.specs.Changes.{Results}
 use Rattle.emit_relocate.specs.Changes.{own_sites, section_key}
 use Rattle.emit_relocate.specs.Fields.{IsCounted}
 use Rattle.emit_relocate.specs.Filled.{IsRunOf, ObjectSection, sections_in}

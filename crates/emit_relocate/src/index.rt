@@ -3,7 +3,8 @@
 ghost use Rattle.std.specs.Prelude.{◌≡◌, ◌≢◌, ◌≤◌, ◌<◌, ◌+◌, ◌++◌, ℕ, [], ◌∷◌, List, All, OnOk, count_by, filter};
 ghost use Rattle.std.specs.Prelude.{length, map, not, slice_index};
 ghost use Rattle.std.specs.List.Sorted.{IsPermutation};
-ghost use Rattle.emit_relocate.specs.Index.{HasRoomFor, cleared, cleared_one, is_against, is_of_object, site_of, room_at};
+ghost use Rattle.emit_relocate.specs.Index.{HasRoomFor, cleared, cleared_one, is_against, is_of_object, site_of};
+ghost use Rattle.emit_relocate.specs.Index.{room_at};
 ghost use Rattle.emit_relocate.specs.Index.{sites_at, slot, slots_at, spot_room, spots_at, wanted_at};
 ghost use Rattle.emit_relocate.specs.declared.index.TargetSite.{TargetSite};
 ghost use Rattle.ldmodel.specs.declared.names.ObjectPlace.{ObjectPlace};

@@ -1,6 +1,7 @@
 //! Relocations of an input section in the output: each one's field, or its fault.
 
-ghost use Rattle.std.specs.Prelude.{◌≡◌, ◌≤◌, All, IfOk, ◌+◌, ◌<◌, ◌^◌, Some, [], ◌∷◌, length, option_copied, slice_get};
+ghost use Rattle.std.specs.Prelude.{◌≡◌, ◌≤◌, All, IfOk, ◌+◌, ◌<◌, ◌^◌, Some, [], ◌∷◌, length, option_copied};
+ghost use Rattle.std.specs.Prelude.{slice_get};
 ghost use Rattle.std.specs.Prelude.{true};
 ghost use Rattle.elfobj.specs.Raised.{raised};
 ghost use Rattle.elfobj.specs.declared.meter.Count.TheVariants.{Fields};

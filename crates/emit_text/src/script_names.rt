@@ -4,7 +4,8 @@ ghost use Rattle.std.specs.Prelude.{◌≡◌, ℕ, List, slice_get, [], unwrap_
 ghost use Rattle.std.specs.Option.{option_map};
 ghost use Rattle.std.specs.Borrow.{Bor};
 ghost use Rattle.ldscript.specs.Numbered.{shown_regions, shown_sections};
-ghost use Rattle.emit_text.specs.Naming.{assertion_line, assertion_message, shown_assertions, shown_names, section_name};
+ghost use Rattle.emit_text.specs.Naming.{assertion_line, assertion_message, shown_assertions, shown_names};
+ghost use Rattle.emit_text.specs.Naming.{section_name};
 ghost use Rattle.emit_text.specs.Naming.{region_name};
 
 use crate::assertion::AssertionAt;

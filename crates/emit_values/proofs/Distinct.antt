@@ -10,7 +10,8 @@ use Rattle.std.proofs.lemmas.Bool.{cases_lt, false≢true, true≢false}
 use Rattle.std.proofs.lemmas.List.{get_or-map, length-map}
 use Rattle.std.proofs.lemmas.List.Sorted.{ranks_by, sorted_far}
 use Rattle.std.proofs.lemmas.Slice.Eq.{bytes_eq-Decides}
-use Rattle.emit_text.proofs.ByteOrder.{Asc, In, Lt, Name, append_asc, append_in, in_append, lt_from_not_before, lt_trans}
+use Rattle.emit_text.proofs.ByteOrder.{Asc, In, Lt, Name, append_asc, append_in, in_append, lt_from_not_before}
+use Rattle.emit_text.proofs.ByteOrder.{lt_trans}
 use Rattle.ldmodel.specs.OutputSymbols.{is_before}
 use Rattle.emit_values.specs.Candidates.{comes_before, names_of}
 use Rattle.emit_values.specs.Symbols.{distinct_first, fresh, is_repeat}

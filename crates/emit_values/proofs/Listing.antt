@@ -8,7 +8,8 @@ use Rattle.std.proofs.lemmas.List.Elements.{All-append, All-map}
 use Rattle.std.proofs.lemmas.List.Sorted.{All-permutation, Contains-permutation, IsPermutation-append_right}
 use Rattle.std.proofs.lemmas.List.Sorted.{IsPermutation-map, IsPermutation-trans}
 use Rattle.emit_text.proofs.ByteOrder.{In, append_in, contained_in, distinct_in, in_append, in_contained, in_distinct}
-use Rattle.ldscript.specs.statements.Numbering.{AssignmentAt, CommonAt, assigned_by, assigned_in, common_commands, provided_by}
+use Rattle.ldscript.specs.statements.Numbering.{AssignmentAt, CommonAt, assigned_by, assigned_in, common_commands}
+use Rattle.ldscript.specs.statements.Numbering.{provided_by}
 use Rattle.ldscript.specs.statements.Numbering.{provided_in}
 use Rattle.ldscript.specs.statements.Numbered.{shown_commons}
 use Rattle.ldscript.specs.statements.declared.numbering.CommonAt as code
@@ -21,7 +22,8 @@ use Rattle.ldmodel.specs.ScriptNames.{assigned_names, provided_names}
 use Rattle.symres.specs.Naming.{IsNaming, NamingState}
 use Rattle.symres.specs.Sorted.{AreSorted}
 use Rattle.symres.specs.declared.sorted.NamedKey.{NamedKey}
-use Rattle.emit_values.specs.Candidates.{all_given, comes_before, names_given, names_of, with_key, AreCandidates, AreKeyed}
+use Rattle.emit_values.specs.Candidates.{all_given, comes_before, names_given, names_of, with_key, AreCandidates}
+use Rattle.emit_values.specs.Candidates.{AreKeyed}
 use Rattle.emit_values.specs.Candidates.{HasKeyOr}
 use Rattle.emit_values.specs.Merged.{Merged, NotAfter}
 use Rattle.emit_values.specs.declared.candidate.Candidate.{Candidate}

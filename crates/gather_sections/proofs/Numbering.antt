@@ -19,7 +19,8 @@ use Rattle.ldmodel.specs.declared.sections.Part.{Part}
 use Rattle.ldmodel.specs.declared.sections.Part.TheVariants.{InTable, InCommon}
 use Rattle.gather_sections.specs.Ranks.{is_ranked}
 use Rattle.gather_sections.specs.Slots.{AreLaid, AreLinkedBefore, AreLinkedCounted, linked_in, slots_of}
-use Rattle.gather_sections.specs.SectionTable.{AreBlockRanks, IsBlockAmong, IsTableOf, block_of, len_of, number_of, slot_of}
+use Rattle.gather_sections.specs.SectionTable.{AreBlockRanks, IsBlockAmong, IsTableOf, block_of, len_of, number_of}
+use Rattle.gather_sections.specs.SectionTable.{slot_of}
 use Rattle.gather_sections.specs.declared.section_table.SectionTable.{SectionTable}
 use Rattle.gather_sections.specs.declared.slots.Slots.{Slots}
 use Rattle.gather_sections.proofs.Counting.{inside}

@@ -38,7 +38,8 @@ pub struct SectionTable {
 }
 
 impl SectionTable {
-    ghost use Rattle.gather_sections.specs.SectionTable.{AreBlockRanks, IsTableOf, block_of, len_of, linked_of, number_of};
+    ghost use Rattle.gather_sections.specs.SectionTable.{AreBlockRanks, IsTableOf, block_of, len_of, linked_of};
+    ghost use Rattle.gather_sections.specs.SectionTable.{number_of};
     ghost use Rattle.gather_sections.specs.SectionTable.{slot_of};
 
     /// The numbers of the input sections of a project, whose common blocks have these ranks. The time grows with the

@@ -1,7 +1,8 @@
 -- The names that the expressions of a script mention (GNU ld manual, "Expressions in Linker Scripts"), in the order of
 -- the text: symbols, output sections and regions.
 use Rattle.std.specs.Prelude.{ℕ, List, [], ◌∷◌, ◌++◌, flat_map, Option, Some, None}
-use Rattle.ldscript.specs.terms.Expressions.{Expr, Number, Dot, Name, Unary, Binary, Choice, OfRegion, OfSection, AlignDot}
+use Rattle.ldscript.specs.terms.Expressions.{Expr, Number, Dot, Name, Unary, Binary, Choice, OfRegion, OfSection}
+use Rattle.ldscript.specs.terms.Expressions.{AlignDot}
 use Rattle.ldscript.specs.terms.Expressions.{Align}
 use Rattle.ldscript.specs.statements.declared.common.Common.{Common}
 use Rattle.ldscript.specs.statements.declared.common.Common.TheVariants as common

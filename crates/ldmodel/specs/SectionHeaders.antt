@@ -6,7 +6,8 @@ use Rattle.std.specs.Prelude.{ℕ, ◌+◌, ◌%◌, List, [], ◌∷◌, ◌++�
 use Rattle.std.specs.Prelude.{◌^◌, flat_map}
 use Rattle.std.specs.List.{enumerate_from}
 use Rattle.std.specs.Int.{to_le_bytes, next_multiple_of, w32, w64}
-use Rattle.elfobj.specs.file.declared.constants.TheConstants.{SHT_PROGBITS, SHT_SYMTAB, SHT_STRTAB, SHT_NOBITS, SHF_WRITE}
+use Rattle.elfobj.specs.file.declared.constants.TheConstants.{SHT_PROGBITS, SHT_SYMTAB, SHT_STRTAB, SHT_NOBITS}
+use Rattle.elfobj.specs.file.declared.constants.TheConstants.{SHF_WRITE}
 use Rattle.elfobj.specs.file.declared.constants.TheConstants.{SHF_ALLOC, SHF_EXECINSTR}
 use Rattle.ldmodel.specs.Layout.{Layout, PlacedSection}
 use Rattle.ldmodel.specs.Project.{Project}

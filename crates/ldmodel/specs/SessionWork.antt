@@ -7,7 +7,8 @@ use Rattle.elfobj.specs.declared.section.SectionKind.{SectionKind}
 use Rattle.elfobj.specs.declared.section.SectionKind.TheVariants.{Progbits, Nobits, Note, InitArray, FiniArray}
 use Rattle.elfobj.specs.declared.section.SectionKind.TheVariants.{PreinitArray, Unwind}
 use Rattle.elfobj.specs.Counts.{Counts}
-use Rattle.ldscript.specs.terms.Expressions.{Expr, Number, Dot, Name, Unary, Binary, Choice, OfRegion, OfSection, AlignDot}
+use Rattle.ldscript.specs.terms.Expressions.{Expr, Number, Dot, Name, Unary, Binary, Choice, OfRegion, OfSection}
+use Rattle.ldscript.specs.terms.Expressions.{AlignDot}
 use Rattle.ldscript.specs.terms.Expressions.{Align}
 use Rattle.ldscript.specs.statements.Numbering.{AssertionAt, asserts}
 use Rattle.ldscript.specs.statements.declared.statement.Statement.{Statement}

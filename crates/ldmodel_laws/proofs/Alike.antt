@@ -33,7 +33,8 @@ use Rattle.ldmodel.specs.Layout.{Layout, ScriptSymbol, address, noted, number, s
 use Rattle.ldmodel.specs.Layout.{value_at, with_symbol}
 use Rattle.ldmodel.specs.Rows.{Piece}
 use Rattle.ldmodel.specs.Value.{ValueFault, value}
-use Rattle.ldmodel_laws.specs.Alike.{AreAlike, AreBodiesAlike, AreNew, AreSymbolsAlike, given_names, names_given, value_in}
+use Rattle.ldmodel_laws.specs.Alike.{AreAlike, AreBodiesAlike, AreNew, AreSymbolsAlike, given_names, names_given}
+use Rattle.ldmodel_laws.specs.Alike.{value_in}
 use Rattle.ldmodel_laws.specs.Alike.{with_symbols}
 use Rattle.ldmodel_laws.specs.Bounds.{DoAgree}
 use Rattle.ldmodel_laws.proofs.Agreeing.{values_agree}

@@ -8,9 +8,11 @@ use Rattle.std.proofs.lemmas.List.{append-nil}
 use Rattle.std.proofs.lemmas.Slice.Eq.{bytes_eq-Decides}
 use Rattle.ldscript.specs.Script.{IsSound}
 use Rattle.ldscript.specs.statements.Mentions.{Clashes, Mention, SymbolGiven, in_body, in_body_command, in_common}
-use Rattle.ldscript.specs.statements.Mentions.{in_item_command, in_items, in_load_head, in_load_tail, in_optional, in_region_name}
+use Rattle.ldscript.specs.statements.Mentions.{in_item_command, in_items, in_load_head, in_load_tail, in_optional}
+use Rattle.ldscript.specs.statements.Mentions.{in_region_name}
 use Rattle.ldscript.specs.statements.Mentions.{in_section, in_top_command, mentions}
-use Rattle.ldscript.specs.statements.Numbering.{CommonAt, common_commands, commons_in, commons_of, item_commons, items_commons}
+use Rattle.ldscript.specs.statements.Numbering.{CommonAt, common_commands, commons_in, commons_of, item_commons}
+use Rattle.ldscript.specs.statements.Numbering.{items_commons}
 use Rattle.ldscript.specs.statements.Numbering.{top_commons}
 use Rattle.ldscript.specs.statements.declared.common.Common.{Common}
 use Rattle.ldscript.specs.statements.declared.common.Common.TheVariants as common

@@ -18,7 +18,8 @@ use Rattle.ldmodel.specs.Rows.{Piece}
 use Rattle.ldmodel_laws.specs.Placed.{PieceTo}
 use Rattle.ldmodel_laws.specs.Spread.{Notes, dots_of, dots_of_all, dots_of_command, dots_in}
 use Rattle.ldmodel_laws.proofs.Effects.{run_by, Kept, kept_same, Quiet, still, renamed, onward, added, named_kept}
-use Rattle.ldmodel_laws.proofs.Effects.{common_named, free_dot_kept, region_kept, SectionPlaced, section_placed, command_by}
+use Rattle.ldmodel_laws.proofs.Effects.{common_named, free_dot_kept, region_kept, SectionPlaced, section_placed}
+use Rattle.ldmodel_laws.proofs.Effects.{command_by}
 
 -- what was kept of `.` in a body stays
 abbrev Has : List ℕ → Body → Type 0

@@ -28,7 +28,8 @@ use Rattle.ldmodel_laws.specs.ImageBytes.{AreNamed}
 use Rattle.ldmodel_laws.specs.Spread.{EachLater}
 use Rattle.ldmodel_laws.specs.Untouched.{HasField, IsGood}
 use Rattle.ldmodel_laws.proofs.Apart.{fields_apart, later_of_pairs, some_width}
-use Rattle.ldmodel_laws.proofs.Finding.{NotBoth, find_only, flat_map_in, in_flat_map, in_map, later_imply, map_in, member_of}
+use Rattle.ldmodel_laws.proofs.Finding.{NotBoth, find_only, flat_map_in, in_flat_map, in_map, later_imply, map_in}
+use Rattle.ldmodel_laws.proofs.Finding.{member_of}
 use Rattle.ldmodel_laws.proofs.Members.{filter_in, first_or_later, here, in_any, in_filter, later, none_in_nil}
 use Rattle.ldmodel_laws.proofs.PieceBytes.{before_end, both_of, names_apart, of_both, one_name, same_name}
 use Rattle.ldmodel_laws.proofs.Untouched.{by_object, by_section, known, same, sites_by, wide}

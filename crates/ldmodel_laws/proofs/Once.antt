@@ -22,7 +22,8 @@ use Rattle.ldmodel_laws.specs.PlacedOnce.{AreNumbered}
 use Rattle.ldmodel_laws.specs.Spread.{EachLater}
 use Rattle.ldmodel_laws.proofs.FileOrder.{later_both}
 use Rattle.std.proofs.lemmas.List.Sums.{sum_by-cons}
-use Rattle.ldmodel_laws.proofs.Finding.{ComesOf, each_member, in_either, in_filter_map, in_flat_map, in_map, later_imply}
+use Rattle.ldmodel_laws.proofs.Finding.{ComesOf, each_member, in_either, in_filter_map, in_flat_map, in_map}
+use Rattle.ldmodel_laws.proofs.Finding.{later_imply}
 use Rattle.ldmodel_laws.proofs.Finding.{member_of}
 use Rattle.ldmodel_laws.proofs.Liveness.{in_order}
 use Rattle.ldmodel_laws.proofs.Members.{here, later, first_or_later, none_in_nil}

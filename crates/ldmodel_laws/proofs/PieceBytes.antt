@@ -21,7 +21,8 @@ use Rattle.ldmodel_laws.specs.ImageBytes.{AreNamed, offset_in_file}
 use Rattle.ldmodel_laws.specs.Spread.{EachLater, IsSpread, piece_end}
 use Rattle.ldmodel_laws.proofs.ByteCases.{by_cases}
 use Rattle.ldmodel_laws.proofs.FileOrder.{files_in_order}
-use Rattle.ldmodel_laws.proofs.Finding.{Comes, NotBoth, each_member, find_filter, find_only, in_map, later_imply, member_of}
+use Rattle.ldmodel_laws.proofs.Finding.{Comes, NotBoth, each_member, find_filter, find_only, in_map, later_imply}
+use Rattle.ldmodel_laws.proofs.Finding.{member_of}
 use Rattle.ldmodel_laws.proofs.Grouped.{is_grouping}
 use Rattle.ldmodel_laws.proofs.Members.{filter_in, in_filter}
 

@@ -19,10 +19,12 @@ use Rattle.ldmodel.specs.Placement.{command_step, item_command_step, item_step, 
 use Rattle.ldmodel.specs.Placement.{section_step, statement_step, next_row}
 use Rattle.ldmodel.specs.Rows.{Piece, piece_alignment}
 use Rattle.ldmodel.specs.Placement.{section_end, Head, head_of}
-use Rattle.ldmodel_laws.specs.Placed.{Pieces, none, other, one_more, PieceFails, first, after_one, InputsTo, past_inputs}
+use Rattle.ldmodel_laws.specs.Placed.{Pieces, none, other, one_more, PieceFails, first, after_one, InputsTo}
+use Rattle.ldmodel_laws.specs.Placed.{past_inputs}
 use Rattle.ldmodel_laws.specs.Placed.{SectionTo}
 use Rattle.ldmodel_laws.specs.Placed.{BodyCommandTo, BodyCommandAt, BodyTo, BodyAt, SectionAt, in_head, in_body, at_end}
-use Rattle.ldmodel_laws.specs.Placed.{ItemCommandTo, ItemCommandAt, ItemTo, ItemAt, RegionTo, RegionAt, CommandTo, CommandAt}
+use Rattle.ldmodel_laws.specs.Placed.{ItemCommandTo, ItemCommandAt, ItemTo, ItemAt, RegionTo, RegionAt, CommandTo}
+use Rattle.ldmodel_laws.specs.Placed.{CommandAt}
 use Rattle.ldmodel_laws.specs.Placed.{IsLeastMultiple, PieceTo, PieceAt, with_piece}
 use Rattle.ldmodel_laws.specs.Placed.{StatementTo, StatementAt, IsPlacement, IsFirstFault}
 use Rattle.ldmodel_laws.proofs.Multiples.{least_multiple, one_least_multiple}

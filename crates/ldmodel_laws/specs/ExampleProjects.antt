@@ -16,7 +16,8 @@ use Rattle.ldscript.specs.statements.declared.statement.Command.TheVariants.{Ent
 use Rattle.ldscript.specs.statements.declared.statement.Statement.{Statement}
 use Rattle.ldmodel.specs.Options.{default_options}
 use Rattle.ldmodel.specs.Project.{NamedObject, Project}
-use Rattle.ldmodel_laws.specs.Examples.{object, section, reference, defined, undefined, common, any, exactly, word, from_any}
+use Rattle.ldmodel_laws.specs.Examples.{object, section, reference, defined, undefined, common, any, exactly, word}
+use Rattle.ldmodel_laws.specs.Examples.{from_any}
 use Rattle.ldmodel_laws.specs.Examples.{item_at, output, discard, command, sections, provide}
 
 abbrev pub project : List NamedObject → List Statement → Project

@@ -7,8 +7,10 @@ ghost use Rattle.ldmodel.specs.Fault.{AddressesMeet, LoadAddressesMeet, MovedBac
 ghost use Rattle.ldmodel.specs.Link.{link};
 ghost use Rattle.ldmodel.specs.Placement.{placement};
 ghost use Rattle.ldmodel_laws.specs.Examples.{sections};
-ghost use Rattle.ldmodel_laws.specs.LayoutExamples.{at, bytes, dot, dot_of, eight_bytes, filled, numbers_of, on, one_body};
-ghost use Rattle.ldmodel_laws.specs.LayoutExamples.{overlaps_of, rom_and_ram, starts_of, text_data_bss, two_at, two_rows};
+ghost use Rattle.ldmodel_laws.specs.LayoutExamples.{at, bytes, dot, dot_of, eight_bytes, filled, numbers_of, on};
+ghost use Rattle.ldmodel_laws.specs.LayoutExamples.{one_body};
+ghost use Rattle.ldmodel_laws.specs.LayoutExamples.{overlaps_of, rom_and_ram, starts_of, text_data_bss, two_at};
+ghost use Rattle.ldmodel_laws.specs.LayoutExamples.{two_rows};
 
 /// Layout: regions go on with the sections in them, those of `AT>region` with load ends; a region without room is a
 /// fault; `.` counts from the start of an output section, does not go back there, and outside wraps modulo 2^64;

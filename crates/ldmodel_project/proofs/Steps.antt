@@ -9,7 +9,8 @@ use Rattle.ldmodel.specs.Edits.{unnamed, AreNamesDistinct}
 use Rattle.ldmodel.specs.Project.{NamedObject}
 use Rattle.ldmodel_project.specs.Listing.{Entry, Contents, key_count}
 use Rattle.ldmodel_project.specs.Slots.{named_at, entry_at, IsOrdered}
-use Rattle.ldmodel_project.specs.Next.{named_under, next_named, next_entry, next_entries, next_count, next_slot, CanStep}
+use Rattle.ldmodel_project.specs.Next.{named_under, next_named, next_entry, next_entries, next_count, next_slot}
+use Rattle.ldmodel_project.specs.Next.{CanStep}
 use Rattle.ldmodel_project.specs.Next.{Fits, KeysAreStable}
 use Rattle.ldmodel_project.specs.declared.staged.StagedObjects.{StagedObjects}
 use Rattle.ldmodel_project.specs.declared.staged.Step.{Step}

@@ -4,7 +4,8 @@ use Rattle.std.specs.Prelude.{codes, bytes_eq, if◌then◌else◌}
 use Rattle.ldscript_tokens.specs.Tokens.{Lexeme, Word}
 use Rattle.ldscript_tokens.specs.Words.{is_free_name, is_free_word, is_reserved}
 use Rattle.ldscript_tokens.specs.declared.token.Mark.{Mark}
-use Rattle.ldscript_tokens.specs.declared.token.Mark.TheVariants.{OpenParenthesis, CloseBrace, Semicolon, Assign, AddAssign}
+use Rattle.ldscript_tokens.specs.declared.token.Mark.TheVariants.{OpenParenthesis, CloseBrace, Semicolon, Assign}
+use Rattle.ldscript_tokens.specs.declared.token.Mark.TheVariants.{AddAssign}
 use Rattle.ldscript_tokens.specs.declared.token.Mode.TheVariants.{Pattern}
 use Rattle.ldscript_terms.specs.Expressions.{Expr}
 use Rattle.ldscript.specs.Steps.{◌▸◌, mark, token, key, statements}

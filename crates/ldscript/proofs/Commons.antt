@@ -1,7 +1,8 @@
 -- Why no command of those that stand in several lists stands at some tokens.
 use Rattle.std.proofs.Common.{List, ℕ}
 use Rattle.ldscript_tokens.specs.Tokens.{Lexeme}
-use Rattle.ldscript_tokens.specs.declared.token.Mark.TheVariants.{OpenParenthesis, CloseParenthesis, Semicolon, Comma, Assign}
+use Rattle.ldscript_tokens.specs.declared.token.Mark.TheVariants.{OpenParenthesis, CloseParenthesis, Semicolon, Comma}
+use Rattle.ldscript_tokens.specs.declared.token.Mark.TheVariants.{Assign}
 use Rattle.ldscript_tokens.specs.declared.token.Mark.TheVariants.{AddAssign}
 use Rattle.ldscript_tokens.specs.declared.token.Mode.{Mode}
 use Rattle.ldscript_terms.specs.Expressions.{Expr}

@@ -6,7 +6,8 @@ use Rattle.std.proofs.lemmas.Bool.{false≢true}
 use Rattle.ldscript_tokens.specs.Tokens.{Lexeme, Word, Punctuation}
 use Rattle.ldscript_tokens.specs.Words.{is_free_word, is_reserved}
 use Rattle.ldscript_tokens.specs.declared.token.Mark.{Mark}
-use Rattle.ldscript_tokens.specs.declared.token.Mark.TheVariants.{OpenParenthesis, CloseParenthesis, CloseBrace, Semicolon}
+use Rattle.ldscript_tokens.specs.declared.token.Mark.TheVariants.{OpenParenthesis, CloseParenthesis, CloseBrace}
+use Rattle.ldscript_tokens.specs.declared.token.Mark.TheVariants.{Semicolon}
 use Rattle.ldscript_tokens.specs.declared.token.Mode.TheVariants.{Pattern}
 use Rattle.ldscript_terms.specs.Parts as patterns
 use Rattle.ldscript_terms.specs.Spelling.{SpellsPattern}

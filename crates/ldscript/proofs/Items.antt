@@ -6,7 +6,8 @@ use Rattle.std.proofs.lemmas.Bool.{false≢true}
 use Rattle.ldscript_tokens.specs.Tokens.{Lexeme, first_line, Name, Discard, Punctuation}
 use Rattle.ldscript_tokens.specs.Words.{is_free_name, is_reserved}
 use Rattle.ldscript_tokens.specs.declared.token.Mark.{Mark}
-use Rattle.ldscript_tokens.specs.declared.token.Mark.TheVariants.{OpenBrace, CloseBrace, Semicolon, Colon, Assign, Greater}
+use Rattle.ldscript_tokens.specs.declared.token.Mark.TheVariants.{OpenBrace, CloseBrace, Semicolon, Colon, Assign}
+use Rattle.ldscript_tokens.specs.declared.token.Mark.TheVariants.{Greater}
 use Rattle.ldscript_tokens.specs.declared.token.Mode.TheVariants.{Expression}
 use Rattle.ldscript_terms.specs.Expressions.{Expr}
 use Rattle.ldscript_terms.specs.Grammar.{Whole}

@@ -5,7 +5,8 @@ use Rattle.std.proofs.lemmas.Bool.{false≢true}
 use Rattle.ldscript_tokens.specs.Tokens.{Token, Lexeme, lexeme, Text, Punctuation}
 use Rattle.ldscript_tokens.specs.Words.{is_free_name, is_reserved}
 use Rattle.ldscript_tokens.specs.declared.token.Mark.{Mark}
-use Rattle.ldscript_tokens.specs.declared.token.Mark.TheVariants.{OpenParenthesis, CloseParenthesis, Semicolon, Comma, Assign}
+use Rattle.ldscript_tokens.specs.declared.token.Mark.TheVariants.{OpenParenthesis, CloseParenthesis, Semicolon, Comma}
+use Rattle.ldscript_tokens.specs.declared.token.Mark.TheVariants.{Assign}
 use Rattle.ldscript_tokens.specs.declared.token.Mark.TheVariants.{AddAssign}
 use Rattle.ldscript_tokens.specs.declared.token.Mode.{Mode}
 use Rattle.ldscript_tokens.specs.declared.token.Mode.TheVariants.{Expression, Pattern}

@@ -6,8 +6,10 @@ use Rattle.ldscript_tokens.specs.declared.token.Mark.TheVariants.{OpenParenthesi
 use Rattle.ldscript_terms.specs.Operators.{unary_of}
 use Rattle.ldscript_terms.specs.declared.operator.UnaryOperator.{UnaryOperator}
 use Rattle.ldscript_terms.specs.Expressions.{Expr}
-use Rattle.ldscript_terms.specs.Grammar.{Word, Terminal, Numeral, Worded, Sign, terminal_of, Begins, Level, Spells, number}
-use Rattle.ldscript_terms.specs.Grammar.{dot, name, group, of_region, of_section, align, one_argument, two_arguments, primary}
+use Rattle.ldscript_terms.specs.Grammar.{Word, Terminal, Numeral, Worded, Sign, terminal_of, Begins, Level, Spells}
+use Rattle.ldscript_terms.specs.Grammar.{number}
+use Rattle.ldscript_terms.specs.Grammar.{dot, name, group, of_region, of_section, align, one_argument, two_arguments}
+use Rattle.ldscript_terms.specs.Grammar.{primary}
 use Rattle.ldscript_terms.specs.Grammar.{unary, operand, binary, operators, choice}
 use Rattle.ldscript.specs.Steps.{mark}
 

@@ -4,7 +4,8 @@ use Rattle.std.specs.Prelude.{codes, bytes_eq}
 use Rattle.ldscript_tokens.specs.Tokens.{Lexeme, lexeme, first_line, Name, Punctuation}
 use Rattle.ldscript_tokens.specs.Words.{is_free_name, is_reserved}
 use Rattle.ldscript_tokens.specs.Modes.{IsCut}
-use Rattle.ldscript_tokens.specs.declared.token.Mark.TheVariants.{OpenParenthesis, CloseParenthesis, OpenBrace, CloseBrace}
+use Rattle.ldscript_tokens.specs.declared.token.Mark.TheVariants.{OpenParenthesis, CloseParenthesis, OpenBrace}
+use Rattle.ldscript_tokens.specs.declared.token.Mark.TheVariants.{CloseBrace}
 use Rattle.ldscript_tokens.specs.declared.token.Mark.TheVariants.{Semicolon}
 use Rattle.ldscript_tokens.specs.declared.token.Mode.TheVariants.{Expression}
 use Rattle.ldscript.specs.Steps.{Rule, ◌▸◌, mark, token, key, name, each, statements, Semicolons, none}

@@ -1,7 +1,8 @@
 -- What the readers of the parts of a script answer, and the parts that one reader reads at once.
 use Rattle.std.specs.Prelude.{◌≡◌, ◌<◌, ◌≤◌, List, codes, length, Bool, true, false, Option, Some, None, IfOk, Result}
 use Rattle.ldscript_tokens.specs.Tokens.{Lexeme, Discard}
-use Rattle.ldscript_tokens.specs.declared.token.Mark.TheVariants.{OpenParenthesis, CloseParenthesis, OpenBrace, Colon, Greater}
+use Rattle.ldscript_tokens.specs.declared.token.Mark.TheVariants.{OpenParenthesis, CloseParenthesis, OpenBrace, Colon}
+use Rattle.ldscript_tokens.specs.declared.token.Mark.TheVariants.{Greater}
 use Rattle.ldscript_tokens.specs.declared.token.Mark.TheVariants.{Assign}
 use Rattle.ldscript_tokens.specs.declared.token.Mode.TheVariants.{Expression, Pattern}
 use Rattle.ldscript_terms.specs.Expressions.{Expr}

@@ -4,7 +4,8 @@ ghost use Rattle.std.specs.Prelude.{◌≡◌, [], IfErr, IfOk};
 ghost use Rattle.std.specs.Option.{option_copied};
 ghost use Rattle.ldscript.specs.Script.{IsScript, IsTree, IsRefusal, IsSound};
 ghost use Rattle.ldscript_statements.specs.Given.{given_by, region_number, section_number};
-ghost use Rattle.ldscript_statements.specs.Numbering.{common_commands, entry_of, input_statements, output_sections, regions};
+ghost use Rattle.ldscript_statements.specs.Numbering.{common_commands, entry_of, input_statements, output_sections};
+ghost use Rattle.ldscript_statements.specs.Numbering.{regions};
 ghost use Rattle.ldscript_statements.specs.Numbered.{shown_commons, shown_inputs, shown_regions, shown_sections};
 
 use crate::read_script::statements_of;

@@ -18,7 +18,8 @@ use Rattle.std.proofs.lemmas.List.Sorted.{IsPermutation-append_comm, IsPermutati
 use Rattle.std.proofs.lemmas.List.Sorted.{IsPermutation-append_right, Contains-permutation}
 use Rattle.ldscript_statements.specs.declared.mention.Mention as code
 use Rattle.ldscript_statements.specs.declared.mention.Mention.TheVariants as variant
-use Rattle.ldscript_statements.specs.Mentions.{Mention, EntryGiven, MemoryGiven, SectionsGiven, SectionNamed, SymbolGiven}
+use Rattle.ldscript_statements.specs.Mentions.{Mention, EntryGiven, MemoryGiven, SectionsGiven, SectionNamed}
+use Rattle.ldscript_statements.specs.Mentions.{SymbolGiven}
 use Rattle.ldscript_statements.specs.Mentions.{RegionDeclared, RegionUsed, Clashes}
 use Rattle.ldscript_statements.specs.Listed.{mention_of, shown, Holds, IsOnce, Meets}
 use Rattle.ldscript_statements.proofs.Derived.{same, same_shown, shown_same}

@@ -5,7 +5,8 @@ use Rattle.ldscript_terms.specs.declared.operator.UnaryOperator.{UnaryOperator}
 use Rattle.ldscript_terms.specs.declared.operator.BinaryOperator.{BinaryOperator}
 use Rattle.ldscript_terms.specs.declared.expression.RegionQuery.{RegionQuery}
 use Rattle.ldscript_terms.specs.declared.expression.SectionQuery.{SectionQuery}
-use Rattle.ldscript_terms.specs.Expressions.{Expr, Number, Dot, Name, Unary, Binary, Choice, OfRegion, OfSection, AlignDot}
+use Rattle.ldscript_terms.specs.Expressions.{Expr, Number, Dot, Name, Unary, Binary, Choice, OfRegion, OfSection}
+use Rattle.ldscript_terms.specs.Expressions.{AlignDot}
 use Rattle.ldscript_terms.specs.Expressions.{Align}
 
 pub data Instruction : Type 0 where

@@ -1,6 +1,7 @@
 -- Which command gives a name, which output section or memory region has it, and the symbols that an expression names.
 use Rattle.std.specs.Prelude.{ℕ, suc, List, [], ◌∷◌, ◌++◌, Option, Some, None, bytes_eq, if◌then◌else◌}
-use Rattle.ldscript_terms.specs.Expressions.{Expr, Number, Dot, Name, Unary, Binary, Choice, OfRegion, OfSection, AlignDot}
+use Rattle.ldscript_terms.specs.Expressions.{Expr, Number, Dot, Name, Unary, Binary, Choice, OfRegion, OfSection}
+use Rattle.ldscript_terms.specs.Expressions.{AlignDot}
 use Rattle.ldscript_terms.specs.Expressions.{Align}
 use Rattle.ldscript_statements.specs.declared.common.Common.{Common}
 use Rattle.ldscript_statements.specs.declared.common.Common.TheVariants as commons

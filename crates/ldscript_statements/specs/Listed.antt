@@ -3,7 +3,8 @@ use Rattle.std.specs.Prelude.{◌≡◌, ⊤, Bool, List, [], ◌∷◌, ◌++�
 use Rattle.std.specs.List.{Contains}
 use Rattle.ldscript_statements.specs.declared.mention.Mention as code
 use Rattle.ldscript_statements.specs.declared.mention.Mention.TheVariants as variant
-use Rattle.ldscript_statements.specs.Mentions.{Mention, EntryGiven, MemoryGiven, SectionsGiven, SectionNamed, SymbolGiven}
+use Rattle.ldscript_statements.specs.Mentions.{Mention, EntryGiven, MemoryGiven, SectionsGiven, SectionNamed}
+use Rattle.ldscript_statements.specs.Mentions.{SymbolGiven}
 use Rattle.ldscript_statements.specs.Mentions.{RegionDeclared, RegionUsed, Clashes}
 
 abbrev pub mention_of : code.Mention → Mention

@@ -1,7 +1,8 @@
 -- What a script does with names, in the order of the text, and what it may not give twice or name too early.
 use Rattle.std.specs.Prelude.{◌≡◌, ℕ, List, [], ◌∷◌, ◌++◌, Option, Some, None}
 use Rattle.std.specs.List.{Contains}
-use Rattle.ldscript_terms.specs.Expressions.{Expr, Number, Dot, Name, Unary, Binary, Choice, OfRegion, OfSection, AlignDot}
+use Rattle.ldscript_terms.specs.Expressions.{Expr, Number, Dot, Name, Unary, Binary, Choice, OfRegion, OfSection}
+use Rattle.ldscript_terms.specs.Expressions.{AlignDot}
 use Rattle.ldscript_terms.specs.Expressions.{Align}
 use Rattle.ldscript_statements.specs.declared.section.BodyCommand.{BodyCommand}
 use Rattle.ldscript_statements.specs.declared.section.BodyCommand.TheVariants as body

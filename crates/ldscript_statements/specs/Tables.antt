@@ -7,7 +7,8 @@ use Rattle.ldscript_statements.specs.declared.number_table.NumberTable.{NumberTa
 use Rattle.ldscript_statements.specs.declared.tables.Tables.{Tables}
 use Rattle.ldscript_statements.specs.declared.statement.Region.{Region}
 use Rattle.ldscript_statements.specs.declared.statement.Statement.{Statement}
-use Rattle.ldscript_statements.specs.Given.{assigned_here, assigned_from, provided_here, provided_from, given_as, given_by}
+use Rattle.ldscript_statements.specs.Given.{assigned_here, assigned_from, provided_here, provided_from, given_as}
+use Rattle.ldscript_statements.specs.Given.{given_by}
 use Rattle.ldscript_statements.specs.Given.{section_from, section_number, region_from, region_number}
 use Rattle.ldscript_statements.specs.Numbering.{OutputSectionAt, CommonAt}
 use Rattle.ldscript_statements.specs.NumberTables.{number_at}

@@ -2,8 +2,10 @@
 
 ghost use Rattle.std.specs.Prelude.{◌≡◌};
 ghost use Rattle.std.specs.List.{list_any};
-ghost use Rattle.ldscript_statements.specs.Dots.{assert_misplaces, body_command_misplaces, body_misplaces, common_uses_dot};
-ghost use Rattle.ldscript_statements.specs.Dots.{dot_misplaces, has_misplaced_dot, item_command_misplaces, item_misplaces};
+ghost use Rattle.ldscript_statements.specs.Dots.{assert_misplaces, body_command_misplaces, body_misplaces};
+ghost use Rattle.ldscript_statements.specs.Dots.{common_uses_dot};
+ghost use Rattle.ldscript_statements.specs.Dots.{dot_misplaces, has_misplaced_dot, item_command_misplaces};
+ghost use Rattle.ldscript_statements.specs.Dots.{item_misplaces};
 ghost use Rattle.ldscript_statements.specs.Dots.{region_misplaces, top_command_misplaces, top_misplaces, uses_dot};
 
 use crate::common::{Common, DotCommand};

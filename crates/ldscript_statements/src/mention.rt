@@ -2,9 +2,12 @@
 
 ghost use Rattle.std.specs.Prelude.{[], ◌∷◌, OnOk};
 ghost use Rattle.ldscript_terms.specs.CodeTerms.{expr_of};
-ghost use Rattle.ldscript_statements.specs.Mentions.{in_assignment, in_body, in_body_command, in_common, in_dot_command};
-ghost use Rattle.ldscript_statements.specs.Mentions.{in_expression, in_item_command, in_items, in_load_head, in_load_tail};
-ghost use Rattle.ldscript_statements.specs.Mentions.{in_optional, in_region_name, in_regions, in_section, in_top_command, mentions};
+ghost use Rattle.ldscript_statements.specs.Mentions.{in_assignment, in_body, in_body_command, in_common};
+ghost use Rattle.ldscript_statements.specs.Mentions.{in_dot_command};
+ghost use Rattle.ldscript_statements.specs.Mentions.{in_expression, in_item_command, in_items, in_load_head};
+ghost use Rattle.ldscript_statements.specs.Mentions.{in_load_tail};
+ghost use Rattle.ldscript_statements.specs.Mentions.{in_optional, in_region_name, in_regions, in_section};
+ghost use Rattle.ldscript_statements.specs.Mentions.{in_top_command, mentions};
 ghost use Rattle.ldscript_statements.specs.Listed.{Adds, mention_of};
 
 use crate::common::{Assignment, Common, DotCommand};

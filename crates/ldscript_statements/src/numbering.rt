@@ -7,7 +7,8 @@ ghost use Rattle.ldscript_statements.specs.Numbering.{inputs_of, inputs_in, disc
 ghost use Rattle.ldscript_statements.specs.Numbering.{input_statements, commons_of, commons_in, item_commons};
 ghost use Rattle.ldscript_statements.specs.Numbering.{items_commons, top_commons, common_commands, regions, regions_in};
 ghost use Rattle.ldscript_statements.specs.Numbering.{entry_of};
-ghost use Rattle.ldscript_statements.specs.Numbered.{AddsItems, AddsSections, AddsInputs, AddsCommons, AddsRegions, shown_items};
+ghost use Rattle.ldscript_statements.specs.Numbered.{AddsItems, AddsSections, AddsInputs, AddsCommons, AddsRegions};
+ghost use Rattle.ldscript_statements.specs.Numbered.{shown_items};
 ghost use Rattle.ldscript_statements.specs.Numbered.{shown_sections, shown_inputs, shown_commons, shown_regions};
 
 use crate::common::Common;

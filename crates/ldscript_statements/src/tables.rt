@@ -2,7 +2,8 @@
 
 ghost use Rattle.std.specs.Prelude.{◌≡◌, [], IfOk, OnOk};
 ghost use Rattle.ldscript_statements.specs.Numbered.{shown_commons, shown_sections, shown_regions};
-ghost use Rattle.ldscript_statements.specs.Tables.{HasAssigned, HasProvided, HasSections, HasRegions, AssignsOver, ProvidesOver};
+ghost use Rattle.ldscript_statements.specs.Tables.{HasAssigned, HasProvided, HasSections, HasRegions, AssignsOver};
+ghost use Rattle.ldscript_statements.specs.Tables.{ProvidesOver};
 ghost use Rattle.ldscript_statements.specs.Tables.{IsTablesOf, given_in, section_in, region_in};
 
 use crate::common::Common;

@@ -3,13 +3,15 @@ use Rattle.std.proofs.Common.{◌≡◌, ℕ, suc, ◌^◌, ◌<◌, List, [], �
 use Rattle.std.proofs.Common.{arith, ◌∙◌}
 use Rattle.ldscript_tokens.specs.Tokens.{Lexeme}
 use Rattle.ldscript_tokens.specs.declared.token.Mark.{Mark}
-use Rattle.ldscript_tokens.specs.declared.token.Mark.TheVariants.{OpenParenthesis, CloseParenthesis, Comma, Question, Colon}
+use Rattle.ldscript_tokens.specs.declared.token.Mark.TheVariants.{OpenParenthesis, CloseParenthesis, Comma, Question}
+use Rattle.ldscript_tokens.specs.declared.token.Mark.TheVariants.{Colon}
 use Rattle.ldscript_terms.specs.declared.operator.UnaryOperator.{UnaryOperator}
 use Rattle.ldscript_terms.specs.declared.operator.BinaryOperator.{BinaryOperator}
 use Rattle.ldscript_terms.specs.declared.expression.RegionQuery.{RegionQuery}
 use Rattle.ldscript_terms.specs.declared.expression.SectionQuery.{SectionQuery}
 use Rattle.ldscript_terms.specs.Operators.{unary_of, binary_of, level_of}
-use Rattle.ldscript_terms.specs.Expressions.{Expr, Number, Dot, Name, Unary, Binary, Choice, OfRegion, OfSection, AlignDot}
+use Rattle.ldscript_terms.specs.Expressions.{Expr, Number, Dot, Name, Unary, Binary, Choice, OfRegion, OfSection}
+use Rattle.ldscript_terms.specs.Expressions.{AlignDot}
 use Rattle.ldscript_terms.specs.Expressions.{Align}
 use Rattle.ldscript_terms.specs.Grammar.{Point, AsksRegion, AsksSection, Aligns, Free, Reserved, Terminal, Numeral}
 use Rattle.ldscript_terms.specs.Grammar.{Worded, Sign, Other, terminal_of, Begins, BeginsUnary, BeginsBinary}

@@ -4,7 +4,8 @@ use Rattle.ldscript_tokens.specs.Tokens as token
 use Rattle.ldscript_tokens.specs.Tokens.{Token, Lexeme, lexeme}
 use Rattle.ldscript_tokens.specs.CodeTokens.{spelled_token}
 use Rattle.ldscript_tokens.specs.declared.token.Mark.{Mark}
-use Rattle.ldscript_tokens.specs.declared.token.Mark.TheVariants.{OpenParenthesis, CloseParenthesis, Comma, Question, Colon}
+use Rattle.ldscript_tokens.specs.declared.token.Mark.TheVariants.{OpenParenthesis, CloseParenthesis, Comma, Question}
+use Rattle.ldscript_tokens.specs.declared.token.Mark.TheVariants.{Colon}
 use Rattle.ldscript_terms.specs.declared.operator.UnaryOperator.{UnaryOperator}
 use Rattle.ldscript_terms.specs.declared.operator.BinaryOperator.{BinaryOperator}
 use Rattle.ldscript_terms.specs.declared.expression.RegionQuery.{RegionQuery}
@@ -15,8 +16,10 @@ use Rattle.ldscript_terms.specs.Grammar.{Begins, BeginsUnary, BeginsBinary, Begi
 use Rattle.ldscript_terms.specs.Grammar.{Whole, Spells, number, dot, name, group, of_region, of_section, align}
 use Rattle.ldscript_terms.specs.Grammar.{one_argument, two_arguments, primary, unary, operators, choice}
 use Rattle.ldscript_terms.specs.Reading.{Stops, Reading, NoReading, Reads}
-use Rattle.ldscript_terms.proofs.Readings.{Lacks, begins_same, Shape, primary_shape, primary_begins_no_unary, primary_reading}
-use Rattle.ldscript_terms.proofs.Readings.{align_reading, unary_same, binary_same, level_tail, tail_stops, Tail, done, longer}
+use Rattle.ldscript_terms.proofs.Readings.{Lacks, begins_same, Shape, primary_shape, primary_begins_no_unary}
+use Rattle.ldscript_terms.proofs.Readings.{primary_reading}
+use Rattle.ldscript_terms.proofs.Readings.{align_reading, unary_same, binary_same, level_tail, tail_stops, Tail, done}
+use Rattle.ldscript_terms.proofs.Readings.{longer}
 use Rattle.ldscript_terms.proofs.Readings.{SoFar, operator_goes_on, whole_stops, whole_stops_before, within_stops_at}
 use Rattle.ldscript_terms.proofs.Readings.{question_goes_on}
 

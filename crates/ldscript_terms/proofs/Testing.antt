@@ -4,7 +4,8 @@ use Rattle.std.proofs.Common.{ap, subst, inl, inr}
 use Rattle.std.proofs.Math.Dec.{eqb}
 use Rattle.std.proofs.lemmas.Bool.{or_cases, eqb-true, eq-eqb}
 use Rattle.ldscript_terms.specs.Parts.{Part, AnyRun, AnyByte, Byte, OneOf, is_in_any}
-use Rattle.ldscript_terms.specs.Matching.{Meets, Matches, nothing, part, passes_some_end, passes_after_one, passes_after}
+use Rattle.ldscript_terms.specs.Matching.{Meets, Matches, nothing, part, passes_some_end, passes_after_one}
+use Rattle.ldscript_terms.specs.Matching.{passes_after}
 use Rattle.ldscript_terms.specs.Matching.{is_match}
 use Rattle.ldscript_terms.proofs.Stars.{nothing_left}
 

@@ -7,8 +7,10 @@ use Rattle.ldscript_terms.specs.Grammar.{Sign, Level, Primary, Arguments, Within
 use Rattle.ldscript_terms.specs.Grammar.{group, of_region, of_section, align, one_argument, two_arguments, primary}
 use Rattle.ldscript_terms.specs.Grammar.{unary, operand, binary, operators, choice}
 use Rattle.ldscript_terms.specs.Reading.{Stops, Reading, OneTree, OneReading}
-use Rattle.ldscript_terms.proofs.Readings.{SoFar, Lacks, primary_begins_no_unary, number_reading, dot_reading, name_reading}
-use Rattle.ldscript_terms.proofs.Readings.{group_reading, of_region_reading, of_section_reading, align_reading, one_reading}
+use Rattle.ldscript_terms.proofs.Readings.{SoFar, Lacks, primary_begins_no_unary, number_reading, dot_reading}
+use Rattle.ldscript_terms.proofs.Readings.{name_reading}
+use Rattle.ldscript_terms.proofs.Readings.{group_reading, of_region_reading, of_section_reading, align_reading}
+use Rattle.ldscript_terms.proofs.Readings.{one_reading}
 use Rattle.ldscript_terms.proofs.Readings.{two_reading, unary_reading, primary_reading, lower_stops, operator_stops}
 use Rattle.ldscript_terms.proofs.Readings.{operator_goes_on, level_start, level_end, level_step, within_stops_at}
 use Rattle.ldscript_terms.proofs.Readings.{whole_stops_before, whole_stops, question_goes_on, operators_reading}

@@ -45,7 +45,7 @@ abbrev pub front_of : List ℕ → Option Spelled → Option Front
 front_of word None = None
 front_of word (Some s) = front_part (part_of word s.part) s.count
 
--- it takes a byte or more of so many
+-- it takes a byte or more of this number of bytes
 abbrev pub IsWithin : ℕ → Option Spelled → Type 0
 IsWithin room None = Unit {0}
 IsWithin room (Some s) = (0 < s.count) × (s.count ≤ room) × IsPlace room s.part

@@ -13,7 +13,8 @@ use Rattle.ldscript_tokens.specs.Tokens.{Token, Lexeme}
 use Rattle.ldscript_tokens.specs.Numbers.{number_value}
 use Rattle.ldscript_tokens.specs.Words.{is_free_name}
 use Rattle.ldscript_tokens.specs.declared.token.Mark.{Mark}
-use Rattle.ldscript_tokens.specs.declared.token.Mark.TheVariants.{OpenParenthesis, CloseParenthesis, Comma, Question, Colon}
+use Rattle.ldscript_tokens.specs.declared.token.Mark.TheVariants.{OpenParenthesis, CloseParenthesis, Comma, Question}
+use Rattle.ldscript_tokens.specs.declared.token.Mark.TheVariants.{Colon}
 use Rattle.ldscript_terms.specs.declared.operator.UnaryOperator.{UnaryOperator}
 use Rattle.ldscript_terms.specs.declared.operator.BinaryOperator.{BinaryOperator}
 use Rattle.ldscript_terms.specs.declared.expression.RegionQuery.{RegionQuery}
@@ -21,7 +22,8 @@ use Rattle.ldscript_terms.specs.declared.expression.RegionQuery.TheVariants.{Ori
 use Rattle.ldscript_terms.specs.declared.expression.SectionQuery.{SectionQuery}
 use Rattle.ldscript_terms.specs.declared.expression.SectionQuery.TheVariants.{Address, LoadAddress, Size}
 use Rattle.ldscript_terms.specs.Operators.{unary_of, binary_of, level_of}
-use Rattle.ldscript_terms.specs.Expressions.{Expr, Number, Dot, Name, Unary, Binary, Choice, OfRegion, OfSection, AlignDot}
+use Rattle.ldscript_terms.specs.Expressions.{Expr, Number, Dot, Name, Unary, Binary, Choice, OfRegion, OfSection}
+use Rattle.ldscript_terms.specs.Expressions.{AlignDot}
 use Rattle.ldscript_terms.specs.Expressions.{Align}
 
 -- what a name is to an expression: `.`, a word that asks something of a memory region or of an output section, ALIGN, a

@@ -4,7 +4,8 @@ use Rattle.ldscript_tokens.specs.Tokens.{Lexeme}
 use Rattle.ldscript_tokens.specs.declared.token.Mark.TheVariants.{OpenParenthesis}
 use Rattle.ldscript_terms.specs.declared.head.Head.{Head}
 use Rattle.ldscript_terms.specs.declared.head.Head.TheVariants as head
-use Rattle.ldscript_terms.specs.Grammar.{Word, Point, AsksRegion, AsksSection, Aligns, Free, Numeral, Worded, Sign, Begins}
+use Rattle.ldscript_terms.specs.Grammar.{Word, Point, AsksRegion, AsksSection, Aligns, Free, Numeral, Worded, Sign}
+use Rattle.ldscript_terms.specs.Grammar.{Begins}
 
 -- a word that may begin one
 abbrev pub IsWord : Head → Word → Type 0

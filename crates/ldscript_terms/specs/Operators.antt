@@ -5,9 +5,11 @@ use Rattle.ldscript_tokens.specs.declared.token.Mark.TheVariants as mark
 use Rattle.ldscript_terms.specs.declared.operator.UnaryOperator.{UnaryOperator}
 use Rattle.ldscript_terms.specs.declared.operator.UnaryOperator.TheVariants.{Not, Negate, Complement}
 use Rattle.ldscript_terms.specs.declared.operator.BinaryOperator.{BinaryOperator}
-use Rattle.ldscript_terms.specs.declared.operator.BinaryOperator.TheVariants.{Multiply, Divide, Remainder, Add, Subtract}
+use Rattle.ldscript_terms.specs.declared.operator.BinaryOperator.TheVariants.{Multiply, Divide, Remainder, Add}
+use Rattle.ldscript_terms.specs.declared.operator.BinaryOperator.TheVariants.{Subtract}
 use Rattle.ldscript_terms.specs.declared.operator.BinaryOperator.TheVariants.{ShiftLeft, ShiftRight, Less, LessOrEqual}
-use Rattle.ldscript_terms.specs.declared.operator.BinaryOperator.TheVariants.{Greater, GreaterOrEqual, Equal, NotEqual, BitAnd}
+use Rattle.ldscript_terms.specs.declared.operator.BinaryOperator.TheVariants.{Greater, GreaterOrEqual, Equal, NotEqual}
+use Rattle.ldscript_terms.specs.declared.operator.BinaryOperator.TheVariants.{BitAnd}
 use Rattle.ldscript_terms.specs.declared.operator.BinaryOperator.TheVariants.{BitOr, And, Or}
 
 -- before an operand: ! - ~

@@ -14,7 +14,8 @@ use Rattle.ldscript_tokens.specs.declared.token.LexState.{LexState}
 use Rattle.ldscript_tokens.specs.declared.token.CodeToken.{CodeToken}
 use Rattle.ldscript_tokens.specs.declared.front.FrontToken.{FrontToken}
 use Rattle.ldscript_tokens.specs.declared.token.ExpressionStretch.{ExpressionStretch}
-use Rattle.ldscript_tokens.specs.declared.token.ExpressionStretch.TheVariants.{Closed, Awaited, ToSemicolon, ToParenthesis}
+use Rattle.ldscript_tokens.specs.declared.token.ExpressionStretch.TheVariants.{Closed, Awaited, ToSemicolon}
+use Rattle.ldscript_tokens.specs.declared.token.ExpressionStretch.TheVariants.{ToParenthesis}
 use Rattle.ldscript_tokens.specs.declared.front.Ahead.TheVariants.{Found}
 
 pub cut_end : {text : List ℕ} {at : ℕ} {p : LexState} {ls : List Lexeme} → front (mode_of p) (drop at text) ≡ End

@@ -22,16 +22,16 @@ sign m = cond (is_sign m.token) 1 0
 abbrev pub signs_in : List ModedToken → ℕ
 signs_in run = count_by (λ m. is_sign m.token) run
 
--- the signs of the run that a token ends, after so many
+-- the signs of the run that a token ends, after this number of them
 abbrev pub signs_to : ℕ → ModedToken → ℕ
 signs_to c m = if breaks m then 0 else c + sign m
 
--- no run has more than 64 signs, where the first goes on one with so many
+-- no run has more than 64 signs, where the first goes on one that has this number of them
 abbrev pub runs_from : ℕ → List ModedToken → Bool
 runs_from c [] = true
 runs_from c (m ∷ ms) = nat_le (signs_to c m) 64 && runs_from (signs_to c m) ms
 
--- the run at the front has room for so many more
+-- the run at the front has room for this number of further signs
 abbrev pub HasShortFront : ℕ → List ModedToken → Type 0
 HasShortFront c ms = (run after : List ModedToken) → ms ≡ run ++ after → list_any breaks run ≡ false
     → c + signs_in run ≤ 64

@@ -41,25 +41,25 @@ front_of text (Space n) = Blank n
 front_of text (Found t n) = Begins (piece_of text t) n
 front_of text Unknown = Nothing
 
--- it takes a byte or more, and no more than so many
+-- it takes a byte or more, and at most this number of bytes
 abbrev pub IsAdvance : ℕ → Ahead → Type 0
 IsAdvance room Finished = Unit {0}
 IsAdvance room (Space n) = (0 < n) × (n ≤ room)
 IsAdvance room (Found t n) = (0 < n) × (n ≤ room) × (t.start ≤ t.end) × (t.end ≤ n)
 IsAdvance room Unknown = Unit {0}
 
--- so many parentheses at most are open in a stretch
+-- at most this number of parentheses are open in a stretch
 abbrev pub IsShortStretch : ℕ → ExpressionStretch → Type 0
 IsShortStretch n Closed = Unit {0}
 IsShortStretch n Awaited = Unit {0}
 IsShortStretch n ToSemicolon = Unit {0}
 IsShortStretch n (ToParenthesis k) = k ≤ n
 
--- so many braces at most are open, and parentheses in a stretch
+-- at most these numbers of braces are open, and of parentheses in a stretch
 abbrev pub IsShallow : ℕ → LexState → Type 0
 IsShallow n p = (p.depth ≤ n) × IsShortStretch n p.stretch
 
--- a token that lies within so many bytes
+-- a token that lies within this number of bytes
 abbrev pub IsPlace : ℕ → CodeToken → Type 0
 IsPlace n t = (t.start ≤ t.end) × (t.end ≤ n)
 

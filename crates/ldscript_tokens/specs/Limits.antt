@@ -8,9 +8,12 @@ use Rattle.ldscript_tokens.specs.Modes.{IsCut, at_start, mode_of, state_after}
 use Rattle.ldscript_tokens.specs.declared.token.Mode.{Mode}
 use Rattle.ldscript_tokens.specs.declared.token.Mode.TheVariants.{Expression, Pattern}
 use Rattle.ldscript_tokens.specs.declared.token.Mark.{Mark}
-use Rattle.ldscript_tokens.specs.declared.token.Mark.TheVariants.{OpenParenthesis, OpenBrace, CloseBrace, Semicolon, Not}
-use Rattle.ldscript_tokens.specs.declared.token.Mark.TheVariants.{Minus, Complement, Star, Slash, Percent, Plus, ShiftLeft}
-use Rattle.ldscript_tokens.specs.declared.token.Mark.TheVariants.{ShiftRight, Less, LessOrEqual, Greater, GreaterOrEqual}
+use Rattle.ldscript_tokens.specs.declared.token.Mark.TheVariants.{OpenParenthesis, OpenBrace, CloseBrace, Semicolon}
+use Rattle.ldscript_tokens.specs.declared.token.Mark.TheVariants.{Not}
+use Rattle.ldscript_tokens.specs.declared.token.Mark.TheVariants.{Minus, Complement, Star, Slash, Percent, Plus}
+use Rattle.ldscript_tokens.specs.declared.token.Mark.TheVariants.{ShiftLeft}
+use Rattle.ldscript_tokens.specs.declared.token.Mark.TheVariants.{ShiftRight, Less, LessOrEqual, Greater}
+use Rattle.ldscript_tokens.specs.declared.token.Mark.TheVariants.{GreaterOrEqual}
 use Rattle.ldscript_tokens.specs.declared.token.Mark.TheVariants.{Equal, NotEqual, And, AndAnd, Or, OrOr, Question}
 use Rattle.ldscript_tokens.specs.declared.token.ExpressionStretch.{ExpressionStretch}
 use Rattle.ldscript_tokens.specs.declared.token.ExpressionStretch.TheVariants.{Awaited}

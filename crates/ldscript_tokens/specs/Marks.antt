@@ -6,10 +6,13 @@ use Rattle.std.specs.Option.{option_or}
 use Rattle.ldscript_tokens.specs.declared.token.Mode.{Mode}
 use Rattle.ldscript_tokens.specs.declared.token.Mode.TheVariants.{Expression, Pattern}
 use Rattle.ldscript_tokens.specs.declared.token.Mark.{Mark}
-use Rattle.ldscript_tokens.specs.declared.token.Mark.TheVariants.{OpenParenthesis, CloseParenthesis, OpenBrace, CloseBrace}
-use Rattle.ldscript_tokens.specs.declared.token.Mark.TheVariants.{Semicolon, Colon, Comma, Assign, AddAssign, Not, Minus}
+use Rattle.ldscript_tokens.specs.declared.token.Mark.TheVariants.{OpenParenthesis, CloseParenthesis, OpenBrace}
+use Rattle.ldscript_tokens.specs.declared.token.Mark.TheVariants.{CloseBrace}
+use Rattle.ldscript_tokens.specs.declared.token.Mark.TheVariants.{Semicolon, Colon, Comma, Assign, AddAssign, Not}
+use Rattle.ldscript_tokens.specs.declared.token.Mark.TheVariants.{Minus}
 use Rattle.ldscript_tokens.specs.declared.token.Mark.TheVariants.{Complement, Star, Slash, Percent, Plus, ShiftLeft}
-use Rattle.ldscript_tokens.specs.declared.token.Mark.TheVariants.{ShiftRight, Less, LessOrEqual, Greater, GreaterOrEqual}
+use Rattle.ldscript_tokens.specs.declared.token.Mark.TheVariants.{ShiftRight, Less, LessOrEqual, Greater}
+use Rattle.ldscript_tokens.specs.declared.token.Mark.TheVariants.{GreaterOrEqual}
 use Rattle.ldscript_tokens.specs.declared.token.Mark.TheVariants.{Equal, NotEqual, And, AndAnd, Or, OrOr, Question}
 
 -- a mark with its spelling

@@ -5,10 +5,12 @@ use Rattle.std.specs.List.{list_any}
 use Rattle.ldscript_tokens.specs.Tokens.{Token, Lexeme, lexeme, Word, Punctuation, End, Blank, Begins, front}
 use Rattle.ldscript_tokens.specs.declared.token.Mode.{Mode}
 use Rattle.ldscript_tokens.specs.declared.token.Mode.TheVariants.{Expression, Pattern}
-use Rattle.ldscript_tokens.specs.declared.token.Mark.TheVariants.{OpenParenthesis, CloseParenthesis, OpenBrace, CloseBrace}
+use Rattle.ldscript_tokens.specs.declared.token.Mark.TheVariants.{OpenParenthesis, CloseParenthesis, OpenBrace}
+use Rattle.ldscript_tokens.specs.declared.token.Mark.TheVariants.{CloseBrace}
 use Rattle.ldscript_tokens.specs.declared.token.Mark.TheVariants.{Semicolon, Assign, AddAssign}
 use Rattle.ldscript_tokens.specs.declared.token.ExpressionStretch.{ExpressionStretch}
-use Rattle.ldscript_tokens.specs.declared.token.ExpressionStretch.TheVariants.{Closed, Awaited, ToSemicolon, ToParenthesis}
+use Rattle.ldscript_tokens.specs.declared.token.ExpressionStretch.TheVariants.{Closed, Awaited, ToSemicolon}
+use Rattle.ldscript_tokens.specs.declared.token.ExpressionStretch.TheVariants.{ToParenthesis}
 use Rattle.ldscript_tokens.specs.declared.token.LexState.{LexState}
 
 -- pattern mode holds at depth 2 outside stretches

@@ -33,7 +33,7 @@ abbrev pub first_line : List Lexeme → ℕ
 first_line [] = 0
 first_line (l ∷ ls) = l.line
 
--- what stands at the front of a text: its end, so many bytes of white space or comment, a token of so many
+-- what stands at the front of a text: its end, a number of bytes of white space or comment, a token of some length
 -- bytes, or nothing that the language has
 pub data Front : Type 0 where
   End : Front

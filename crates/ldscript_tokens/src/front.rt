@@ -1,7 +1,8 @@
 //! What stands at the front of a text.
 
 ghost use Rattle.std.specs.Prelude.{◌≡◌, ◌<◌, ◌≤◌, ◌+◌, true, length, drop, slice_index, IfSome, ◌==◌};
-ghost use Rattle.ldscript_tokens.specs.Bytes.{is_name_start, is_name_byte, is_octal_digit, is_decimal_digit, is_hex_digit};
+ghost use Rattle.ldscript_tokens.specs.Bytes.{is_name_start, is_name_byte, is_octal_digit, is_decimal_digit};
+ghost use Rattle.ldscript_tokens.specs.Bytes.{is_hex_digit};
 ghost use Rattle.ldscript_tokens.specs.Bytes.{is_text_byte, run_length};
 ghost use Rattle.ldscript_tokens.specs.CodeTokens.{front_of, IsAdvance};
 ghost use Rattle.ldscript_tokens.specs.Tokens.{is_hex, digits_length, number_length, name_length, name_front};

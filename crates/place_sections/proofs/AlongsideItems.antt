@@ -3,7 +3,8 @@ use Rattle.std.proofs.Common.{◌≡◌, ℕ, ◌+◌, ◌≤◌, ◌<◌, List,
 use Rattle.std.proofs.Common.{false, get_or, length, map}
 use Rattle.std.proofs.Math.ListN.{get_or-map}
 use Rattle.std.proofs.lemmas.List.{append-nil, length-map}
-use Rattle.ldscript.specs.statements.Numbering.{CommonAt, common_commands, commons_in, item_commons, items_commons, top_commons}
+use Rattle.ldscript.specs.statements.Numbering.{CommonAt, common_commands, commons_in, item_commons, items_commons}
+use Rattle.ldscript.specs.statements.Numbering.{top_commons}
 use Rattle.ldscript.specs.statements.declared.section.OutputSection.{OutputSection}
 use Rattle.ldscript.specs.statements.declared.statement.Command.{Command}
 use Rattle.ldscript.specs.statements.declared.statement.Command.TheVariants as top

@@ -11,7 +11,8 @@ use Rattle.elfobj.specs.declared.meter.Count.TheVariants as count
 use Rattle.ldmodel.specs.declared.rows.Piece.{Piece}
 use Rattle.place_terms.specs.Keyed.{KeyedSection}
 use Rattle.place_terms.specs.Wholes.{counts_in}
-use Rattle.place_sections.specs.Counted.{Adds, CountsAlong, PlacesAnew, Resumes, entries, first_of, left_after, placed_from}
+use Rattle.place_sections.specs.Counted.{Adds, CountsAlong, PlacesAnew, Resumes, entries, first_of, left_after}
+use Rattle.place_sections.specs.Counted.{placed_from}
 use Rattle.place_sections.specs.declared.script.Input.{Input}
 use Rattle.place_sections.specs.declared.state.Here.{Here}
 use Rattle.place_sections.specs.declared.stop.Stop.{Stop}

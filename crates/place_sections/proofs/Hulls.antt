@@ -7,7 +7,8 @@ use Rattle.std.proofs.lemmas.Bool.{cases_eq, lt-ltb, ltb-true, false_from_ne_tru
 use Rattle.std.proofs.lemmas.List.{get_or_default, length-set}
 use Rattle.std.specs.Option.{is_some}
 use Rattle.place_sections.specs.Extents.{meet}
-use Rattle.place_sections.specs.Hulls.{around, Around, Kept, Marked, MarkedAt, Missed, Under, Within, below, found, here}
+use Rattle.place_sections.specs.Hulls.{around, Around, Kept, Marked, MarkedAt, Missed, Under, Within, below, found}
+use Rattle.place_sections.specs.Hulls.{here}
 use Rattle.place_sections.specs.Hulls.{may_meet, same}
 use Rattle.place_sections.proofs.Apart.{both, no_zero}
 use Rattle.place_sections.specs.declared.extent.Extent.{Extent}

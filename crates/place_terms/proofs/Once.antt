@@ -10,9 +10,11 @@ use Rattle.place_terms.specs.Numbers.{AreCommandsOf, AreNumbered, gives, gives_a
 use Rattle.ldscript.specs.Script.{IsSound}
 use Rattle.ldscript.specs.statements.Given.{assigned_from, assigned_here, given_as, provided_from, provided_here}
 use Rattle.ldscript.specs.statements.Mentions.{Clashes, Mention, SymbolGiven, in_body, in_body_command, in_common}
-use Rattle.ldscript.specs.statements.Mentions.{in_item_command, in_items, in_load_head, in_load_tail, in_optional, in_region_name}
+use Rattle.ldscript.specs.statements.Mentions.{in_item_command, in_items, in_load_head, in_load_tail, in_optional}
+use Rattle.ldscript.specs.statements.Mentions.{in_region_name}
 use Rattle.ldscript.specs.statements.Mentions.{in_section, in_top_command, mentions}
-use Rattle.ldscript.specs.statements.Numbering.{CommonAt, common_commands, commons_in, commons_of, item_commons, items_commons}
+use Rattle.ldscript.specs.statements.Numbering.{CommonAt, common_commands, commons_in, commons_of, item_commons}
+use Rattle.ldscript.specs.statements.Numbering.{items_commons}
 use Rattle.ldscript.specs.statements.Numbering.{top_commons}
 use Rattle.ldscript.specs.statements.declared.common.Assertion.{Assertion}
 use Rattle.ldscript.specs.statements.declared.common.Assignment.{Assignment}

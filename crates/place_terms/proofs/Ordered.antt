@@ -5,7 +5,8 @@ use Rattle.std.specs.List.{Contains}
 use Rattle.std.specs.Prelude.{⊤, slice_get}
 use Rattle.ldscript.specs.Script.{IsSound}
 use Rattle.ldscript.specs.statements.Given.{section_from, section_number}
-use Rattle.ldscript.specs.statements.Mentions.{Mention, SectionNamed, in_item_command, in_items, in_top_command, mentions}
+use Rattle.ldscript.specs.statements.Mentions.{Mention, SectionNamed, in_item_command, in_items, in_top_command}
+use Rattle.ldscript.specs.statements.Mentions.{mentions}
 use Rattle.ldscript.specs.statements.Numbering.{OutputSectionAt, items, items_of, output_sections, sections_in}
 use Rattle.ldscript.specs.statements.Numbering.{item_sections}
 use Rattle.ldscript.specs.statements.declared.section.OutputSection.{OutputSection}

@@ -61,7 +61,7 @@ impl Guesses {
     /// No guess yet, and slots for this many names.
     pub fn new(alloc: Global, count: usize) -> Result<Guesses, AllocError> {
         let Some(wanted) = count.saturating_mul(2).checked_next_power_of_two() else {
-            // No script has so many names
+            // No script has that number of names
             return Err(impossible());
         };
         let slots = vec![in alloc; Slot::FREE; wanted]?;

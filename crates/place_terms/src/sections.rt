@@ -171,7 +171,7 @@ fn sum(count: usize, more: usize) -> Result<usize, AllocError>
 {
     match count.checked_add(more) {
         Some(sum) => Ok(sum),
-        // A list of so many does not lie in memory
+        // A list of that length does not fit into memory
         None => Err(impossible()),
     }
 }

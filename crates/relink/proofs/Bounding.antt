@@ -1,5 +1,6 @@
 -- How much an edit between two links without faults counts.
-use Rattle.std.proofs.Common.{◌≡◌, ◌∙◌, ◌+◌, ◌-◌, ◌<◌, ◌≤◌, ◌^◌, ℕ, Bool, true, false, List, [], ◌∷◌, Option, Some, None}
+use Rattle.std.proofs.Common.{◌≡◌, ◌∙◌, ◌+◌, ◌-◌, ◌<◌, ◌≤◌, ◌^◌, ℕ, Bool, true, false, List, [], ◌∷◌, Option, Some}
+use Rattle.std.proofs.Common.{None}
 use Rattle.std.proofs.Common.{Global, Vec, ap, arith, inl, inr, length, refl, subst, sym}
 use Rattle.std.specs.Prelude.{◌&&◌, Err, IfSome, Ok, if◌then◌else◌, is_some, nat_lt, take}
 use Rattle.elfobj.specs.Counts.{Counts, capped}

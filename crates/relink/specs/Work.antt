@@ -9,7 +9,8 @@ use Rattle.ldmodel.specs.Link.{layout, link}
 use Rattle.ldmodel.specs.Names.{distinct, names_in_objects}
 use Rattle.ldmodel.specs.Project.{Project}
 use Rattle.ldmodel.specs.Rows.{rows}
-use Rattle.ldmodel.specs.SessionWork.{IsSessionWork, Rises, entries_from, named_by, names_of, objects_read, touched_names}
+use Rattle.ldmodel.specs.SessionWork.{IsSessionWork, Rises, entries_from, named_by, names_of, objects_read}
+use Rattle.ldmodel.specs.SessionWork.{touched_names}
 use Rattle.ldmodel.specs.Stayed.{GoodLink}
 use Rattle.relink_link.specs.Counted.{IsImageCount}
 use Rattle.relink_link.specs.Worked.{IsLinkWork}

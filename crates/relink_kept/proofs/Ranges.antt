@@ -30,7 +30,8 @@ use Rattle.emit.specs.relocate.KnownLink.{IsSymbolOf, KnownLink, name_of_object}
 use Rattle.emit.specs.relocate.Values.{value_of}
 use Rattle.emit.specs.relocate.declared.earlier.FileRange.{FileRange}
 use Rattle.relink_kept.specs.Standing.{same_standing, standing_in}
-use Rattle.relink_kept.specs.Stays.{IsLastOf, LastState, kept_at, kept_range, last_of, last_place, last_standing, last_state}
+use Rattle.relink_kept.specs.Stays.{IsLastOf, LastState, kept_at, kept_range, last_of, last_place, last_standing}
+use Rattle.relink_kept.specs.Stays.{last_state}
 use Rattle.relink_kept.specs.Stays.{last_value, standing_from, value_from}
 use Rattle.relink_kept.specs.declared.standing.Standing.{Standing}
 use Rattle.relink_kept.specs.declared.stays.Last.{Last}

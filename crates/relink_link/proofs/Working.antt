@@ -20,7 +20,8 @@ use Rattle.ldmodel.specs.Stayed.{GoodLink}
 use Rattle.ldmodel.specs.WorkBound.{bytes_stayed}
 use Rattle.emit.specs.Beside.{new_link}
 use Rattle.emit.specs.declared.relocated.Relocated.{Relocated}
-use Rattle.relink_link.specs.Counted.{AreDrawn, AreEvaluated, ArePlaced, CountsFields, IsImageCount, IsWritten, bytes_spent}
+use Rattle.relink_link.specs.Counted.{AreDrawn, AreEvaluated, ArePlaced, CountsFields, IsImageCount, IsWritten}
+use Rattle.relink_link.specs.Counted.{bytes_spent}
 use Rattle.relink_link.specs.Worked.{IsLinkWork}
 
 -- ---- the image

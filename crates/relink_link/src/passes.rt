@@ -14,7 +14,8 @@ ghost use Rattle.emit.specs.values.Given.{IsGiven};
 ghost use Rattle.relink_link.specs.Counted.{ArePlaced, HasEvaluated, HasWritten};
 ghost use Rattle.relink_link.specs.Ended.{HasLast};
 ghost use Rattle.relink_link.specs.Lent.{IsLent, project_of};
-ghost use Rattle.relink_link.specs.Phases.{HasOld, IsBeside, IsFaultless, IsFilled, IsImage, IsKnown, IsPlaced, IsShort};
+ghost use Rattle.relink_link.specs.Phases.{HasOld, IsBeside, IsFaultless, IsFilled, IsImage, IsKnown, IsPlaced};
+ghost use Rattle.relink_link.specs.Phases.{IsShort};
 ghost use Rattle.relink_link.specs.Reads.{EndsReadingNothing, ReadsNothing};
 ghost use Rattle.relink_link.specs.Stops.{IsStop};
 

@@ -1,5 +1,6 @@
 -- A change of one object, from its first step to its last.
-use Rattle.std.proofs.Common.{◌≡◌, ◌∙◌, ◌+◌, ℕ, Bool, true, false, cond, List, [], ◌++◌, Option, Some, None, length, ap, sym}
+use Rattle.std.proofs.Common.{◌≡◌, ◌∙◌, ◌+◌, ℕ, Bool, true, false, cond, List, [], ◌++◌, Option, Some, None, length, ap}
+use Rattle.std.proofs.Common.{sym}
 use Rattle.std.proofs.Common.{refl, subst, arith}
 use Rattle.elfobj.specs.Counts.{Counts}
 use Rattle.elfobj.specs.Raised.{raised}
@@ -8,13 +9,15 @@ use Rattle.ldscript.specs.statements.declared.statement.Statement.{Statement}
 use Rattle.ldmodel.specs.Names.{distinct}
 use Rattle.ldmodel.specs.declared.names.Case.{Case}
 use Rattle.symres_table.specs.State.{HasName, IsInByteOrder, IsNamed, State, entries_of, slot}
-use Rattle.symres_decisions.specs.Change.{AreThere, Fits, IsReadyFor, PutsIn, Table, TakesOut, changed_tables, declared_by}
+use Rattle.symres_decisions.specs.Change.{AreThere, Fits, IsReadyFor, PutsIn, Table, TakesOut, changed_tables}
+use Rattle.symres_decisions.specs.Change.{declared_by}
 use Rattle.symres_decisions.specs.Change.{reversed}
 use Rattle.symres_decisions.specs.Change.{put_in, symbols_at, symbols_or}
 use Rattle.symres_decisions.specs.Counted.{CountsNames}
 use Rattle.symres_decisions.specs.Decided.{AreCases, HasCase, case_at}
 use Rattle.symres_decisions.specs.Decisions.{AreUsedIf, IsNoted, IsWhole}
-use Rattle.symres_decisions.specs.Texts.{AreDone, AreFound, AreOpen, DecidedFor, HasPlaces, IsCleared, declares, touches}
+use Rattle.symres_decisions.specs.Texts.{AreDone, AreFound, AreOpen, DecidedFor, HasPlaces, IsCleared, declares}
+use Rattle.symres_decisions.specs.Texts.{touches}
 use Rattle.symres_decisions.specs.declared.change.ObjectAt.{ObjectAt}
 use Rattle.symres_decisions.specs.declared.change.ObjectChange.{ObjectChange}
 use Rattle.symres_decisions.specs.declared.texts.KeySource.TheVariants as sources

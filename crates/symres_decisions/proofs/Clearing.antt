@@ -1,7 +1,8 @@
 -- Cases of names that a symbol table declares are cleared.
 use Rattle.std.proofs.Common.{◌≡◌, ◌∙◌, ◌<◌, ◌+◌, ℕ, Bool, true, false, cond, not, List, [], ◌∷◌, ◌++◌, length, map}
 use Rattle.std.proofs.Common.{filter}
-use Rattle.std.proofs.Common.{Option, Some, None, get_or, set, take, refl, ap, sym, arith, append-nil, ⊎_elim, suc, zero}
+use Rattle.std.proofs.Common.{Option, Some, None, get_or, set, take, refl, ap, sym, arith, append-nil, ⊎_elim, suc}
+use Rattle.std.proofs.Common.{zero}
 use Rattle.std.proofs.Common.{get_or-set_other, get_or-set_same}
 use Rattle.std.specs.Prelude.{bytes_eq, ◌||◌}
 use Rattle.std.specs.Set.{is_member}

@@ -1,5 +1,6 @@
 -- Each declared name is in use and listed, so that the listed names in use are as many as the declared ones, each once.
-use Rattle.std.proofs.Common.{◌≡◌, ◌∙◌, ◌<◌, ◌≤◌, ℕ, zero, suc, Bool, true, false, cond, not, List, [], ◌∷◌, length, map}
+use Rattle.std.proofs.Common.{◌≡◌, ◌∙◌, ◌<◌, ◌≤◌, ℕ, zero, suc, Bool, true, false, cond, not, List, [], ◌∷◌, length}
+use Rattle.std.proofs.Common.{map}
 use Rattle.std.proofs.Common.{filter, get_or, refl, ap, sym, subst, arith, ⊎_elim}
 use Rattle.std.specs.Prelude.{Option, bytes_eq, nat_lt, ◌||◌}
 use Rattle.std.specs.List.{AllByRecursion, IsDistinct, list_any}

@@ -21,7 +21,8 @@ use Rattle.symres_decisions.specs.Change.{Fits, IsReadyFor, MayFollow, symbols_a
 use Rattle.symres_decisions.specs.Counted.{is_used}
 use Rattle.symres_decisions.specs.Decided.{AreCases, HasCase, IsCase, case_at}
 use Rattle.symres_decisions.specs.Decisions.{IsNoted, IsWhole}
-use Rattle.symres_decisions.specs.Room.{AreKeptWhere, AreUnused, HaveCasesBelow, HaveCasesFrom, KeepsUsed, OnlyDrops, kept_where}
+use Rattle.symres_decisions.specs.Room.{AreKeptWhere, AreUnused, HaveCasesBelow, HaveCasesFrom, KeepsUsed, OnlyDrops}
+use Rattle.symres_decisions.specs.Room.{kept_where}
 use Rattle.symres_decisions.specs.Room.{AreOldOrNew, StandsFrom}
 use Rattle.symres_decisions.specs.declared.change.ObjectAt.{ObjectAt}
 use Rattle.symres_decisions.specs.declared.change.ObjectChange.{ObjectChange}

@@ -1,5 +1,6 @@
 -- Names that have entries, and what a change leaves of that.
-use Rattle.std.proofs.Common.{◌≡◌, ◌∙◌, ◌<◌, ◌≤◌, ◌⊎◌, inl, inr, ℕ, zero, suc, Bool, true, false, cond, List, [], ◌∷◌, ◌++◌}
+use Rattle.std.proofs.Common.{◌≡◌, ◌∙◌, ◌<◌, ◌≤◌, ◌⊎◌, inl, inr, ℕ, zero, suc, Bool, true, false, cond, List, [], ◌∷◌}
+use Rattle.std.proofs.Common.{◌++◌}
 use Rattle.std.proofs.Common.{Option, Some, None, get_or, length, filter, map, ap, arith, refl, sym}
 use Rattle.std.specs.Prelude.{◌==◌, bytes_eq, nat_lt, not, ◌||◌}
 use Rattle.std.specs.List.{All}

@@ -1,7 +1,8 @@
 //! A change of one object, and the cases of the names that it touches.
 
 ghost use Rattle.std.specs.Prelude.{◌≡◌, ◌++◌, ℕ, List, false, length, true};
-ghost use Rattle.symres_decisions.specs.Change.{AreThere, changed_tables, declared_by, IsReadyFor, reversed, symbols_or};
+ghost use Rattle.symres_decisions.specs.Change.{AreThere, changed_tables, declared_by, IsReadyFor, reversed};
+ghost use Rattle.symres_decisions.specs.Change.{symbols_or};
 ghost use Rattle.symres_decisions.specs.Counted.{CountsNames};
 ghost use Rattle.symres_decisions.specs.Decided.{AreCases, case_at};
 ghost use Rattle.symres_decisions.specs.Decisions.{AreKept};

@@ -6,7 +6,8 @@ ghost use Rattle.symres_decisions.specs.Change.{CanGo, Fits, IsReadyFor};
 ghost use Rattle.symres_decisions.specs.Counted.{is_used};
 ghost use Rattle.symres_decisions.specs.Decided.{AreCases, case_at, HasCase};
 ghost use Rattle.symres_decisions.specs.Decisions.{AreKept, AreUsedIf, IsNoted, IsWhole};
-ghost use Rattle.symres_decisions.specs.Room.{AreKeptWhere, AreUnused, HaveCasesBelow, HaveCasesFrom, kept_where, KeepsUsed};
+ghost use Rattle.symres_decisions.specs.Room.{AreKeptWhere, AreUnused, HaveCasesBelow, HaveCasesFrom, kept_where};
+ghost use Rattle.symres_decisions.specs.Room.{KeepsUsed};
 ghost use Rattle.symres_decisions.specs.Room.{AreOldOrNew, OnlyDrops};
 ghost use Rattle.symres_table.specs.State.{entries_of, Forgets, HasName, IsNamed, MayEnter, slot};
 

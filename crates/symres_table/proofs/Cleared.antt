@@ -10,7 +10,8 @@ use Rattle.std.proofs.lemmas.Option.{slice_get-get_or}
 use Rattle.symres_table.specs.declared.symbol.Declared.{Declared}
 use Rattle.symres_table.specs.declared.symbol.Numbered.{Numbered}
 use Rattle.ldmodel.specs.Names.{is_local}
-use Rattle.symres_table.specs.Numbers.{Entered, declared, own, entries, IsTable, KeepsRoom, is_named, named, others, without}
+use Rattle.symres_table.specs.Numbers.{Entered, declared, own, entries, IsTable, KeepsRoom, is_named, named, others}
+use Rattle.symres_table.specs.Numbers.{without}
 use Rattle.symres_table.specs.Numbers.{HasSymbols}
 use Rattle.symres_table.specs.Steps.{AllGathered, cleared, has_name, Cleared, ClearedWhere, ends_in, Gathered, is_of}
 use Rattle.symres_table.specs.Steps.{IsGathered}

@@ -13,7 +13,8 @@ use Rattle.std.proofs.lemmas.List.{get_or-map as get_or-map_within}
 use Rattle.std.proofs.lemmas.Map.Keys.{apart_from_distinct}
 use Rattle.std.proofs.lemmas.Option.{slice_get_cases, slice_get-get_or}
 use Rattle.std.proofs.lemmas.Slice.Eq.{bytes_eq-Decides}
-use Rattle.symres_table.specs.Known.{AreApart, entry_spelled, Files, HaveSlots, IsFiled, IsPaired, IsSpelled, kept_if, key_at}
+use Rattle.symres_table.specs.Known.{AreApart, entry_spelled, Files, HaveSlots, IsFiled, IsPaired, IsSpelled, kept_if}
+use Rattle.symres_table.specs.Known.{key_at}
 use Rattle.symres_table.specs.Known.{number_in, spelled, stored}
 use Rattle.symres_table.specs.State.{slot}
 use Rattle.symres_table.proofs.Cutting.{found_entry, in_whole}

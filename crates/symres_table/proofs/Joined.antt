@@ -17,7 +17,8 @@ use Rattle.symres_table.specs.Known.{KnownNames, IsConsistent, IsKeptWhere}
 use Rattle.symres_table.specs.Numbers.{Entered, HasRow, is_named, named, entries, is_used}
 use Rattle.symres_table.specs.Numbers as numbers
 use Rattle.symres_table.specs.Objects.{ObjectsState, CanEnter, HasKey}
-use Rattle.symres_table.specs.Spelled.{text, spell_symbol, spell, HasName, is_seen, IsSpellable, Spells, SpellsSeen, IsReady}
+use Rattle.symres_table.specs.Spelled.{text, spell_symbol, spell, HasName, is_seen, IsSpellable, Spells, SpellsSeen}
+use Rattle.symres_table.specs.Spelled.{IsReady}
 use Rattle.symres_table.specs.State.{State, slot, IsNamed, AreDistinct, entries_of, naming, without, HasObject, HasList}
 use Rattle.symres_table.specs.State.{IsFresh, MayEnter, Forgets, IsSeenOr, IsNamedOr, HasSymbol, IsNameOfSymbol}
 use Rattle.symres_table.specs.Tally.{declaration_of}

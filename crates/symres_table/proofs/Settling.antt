@@ -17,7 +17,8 @@ use Rattle.symres_table.specs.declared.symbol.Declared.{Declared}
 use Rattle.symres_table.specs.declared.symbol.Numbered.{Numbered}
 use Rattle.ldmodel.specs.Names.{is_local}
 use Rattle.symres_table.specs.declared.places.PlacedKey.{PlacedKey}
-use Rattle.symres_table.specs.Numbers.{Entered, declared, own, entries, before, is_named, IsPlace, IsTable, IsSplit, named}
+use Rattle.symres_table.specs.Numbers.{Entered, declared, own, entries, before, is_named, IsPlace, IsTable, IsSplit}
+use Rattle.symres_table.specs.Numbers.{named}
 use Rattle.symres_table.specs.Numbers.{Grows}
 use Rattle.symres_table.specs.Steps.{Appended, AreParts, ends_with, is_entry, IsOwnStart, IsSettling, Settling}
 use Rattle.symres_table.proofs.Adding.{place_is, front_before, behind_not_before, map_push, entries-append}

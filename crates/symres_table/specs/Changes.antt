@@ -2,7 +2,8 @@
 use Rattle.std.specs.Prelude.{ℕ, ◌≡◌, ◌+◌, ◌==◌, ◌≤◌, List, [], drop, insert, length, true}
 use Rattle.std.specs.List.{All}
 use Rattle.elfobj.specs.Symbols.{NamedSymbol}
-use Rattle.symres_table.specs.State.{entries_of, IsMore, IsSameBut, MayEnter, ParksList, SameNames, State, TakesList, without}
+use Rattle.symres_table.specs.State.{entries_of, IsMore, IsSameBut, MayEnter, ParksList, SameNames, State, TakesList}
+use Rattle.symres_table.specs.State.{without}
 
 -- the object of the key was taken out: `Names::withdraw`
 pub record Withdraws (old new : State) (key : ℕ) : Type 0 where

@@ -4,7 +4,8 @@ ghost use Rattle.std.specs.Prelude.{◌≡◌, ◌≢◌, ◌==◌, ℕ, List, [
 ghost use Rattle.std.specs.Prelude.{take, IfNone, ◌++◌, ◌∷◌};
 ghost use Rattle.std.specs.Prelude.{map, filter, is_some, if◌then◌else◌, nat_lt, OnErr, ◌<◌, slice_index_or};
 ghost use Rattle.slab.specs.Slab.{ContainsKey, get, Updates};
-ghost use Rattle.symres_table.specs.Known.{AddsNames, AreApart, entry_spelled, Files, HaveSlots, IsConsistent, IsKeptWhere};
+ghost use Rattle.symres_table.specs.Known.{AddsNames, AreApart, entry_spelled, Files, HaveSlots, IsConsistent};
+ghost use Rattle.symres_table.specs.Known.{IsKeptWhere};
 ghost use Rattle.symres_table.specs.Known.{kept_if, number_in};
 ghost use Rattle.std.proofs.Common.{Vec, Global};
 ghost use Rattle.symres_table.specs.Numbers.{is_used};

@@ -2,11 +2,14 @@ use Rattle.std.proofs.Common.{◌≡◌, suc, ◌-◌, subst, arith}
 use Rattle.ldscript_terms.specs.CodeTerms.{expr_of}
 use Rattle.ldscript_terms.specs.Reading.{Reads}
 use Rattle.ldscript_terms.specs.Grammar.{Within}
-use Rattle.ldscript_terms.proofs.Readings.{number_reading, dot_reading, name_reading, of_region_reading, of_section_reading}
-use Rattle.ldscript_terms.proofs.Readings.{group_reading, one_reading, two_reading, unary_reading, level_start, level_end}
+use Rattle.ldscript_terms.proofs.Readings.{number_reading, dot_reading, name_reading, of_region_reading}
+use Rattle.ldscript_terms.proofs.Readings.{of_section_reading}
+use Rattle.ldscript_terms.proofs.Readings.{group_reading, one_reading, two_reading, unary_reading, level_start}
+use Rattle.ldscript_terms.proofs.Readings.{level_end}
 use Rattle.ldscript_terms.proofs.Readings.{level_step, operators_reading, choice_reading}
 use Rattle.ldscript_terms.proofs.Refusals.{group_none, group_open, of_region_none, of_section_none, align_reads}
-use Rattle.ldscript_terms.proofs.Refusals.{arguments_unopened, first_argument_none, arguments_unclosed, second_argument_none}
+use Rattle.ldscript_terms.proofs.Refusals.{arguments_unopened, first_argument_none, arguments_unclosed}
+use Rattle.ldscript_terms.proofs.Refusals.{second_argument_none}
 use Rattle.ldscript_terms.proofs.Refusals.{second_argument_unclosed, primary_reads, unary_none, level_none, level_stuck}
 use Rattle.ldscript_terms.proofs.Refusals.{whole_none, first_choice_none, no_colon, second_choice_none}
 use Rattle.ldscript_terms.proofs.reader.+reader.Goals as goal

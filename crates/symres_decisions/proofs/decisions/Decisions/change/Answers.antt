@@ -2,7 +2,8 @@ use Rattle.std.proofs.Common.{◌∙◌, ap, refl, subst, sym}
 use Rattle.symres_decisions.specs.Decided.{case_at}
 use Rattle.symres_decisions.specs.Decisions.{DecisionsState}
 use Rattle.symres_table.specs.State.{AreDistinct, IsFresh, slot}
-use Rattle.symres_decisions.proofs.Changed.{Steps, back_after, counted_after, frame_after, kept_after, noted_after, places_after}
+use Rattle.symres_decisions.proofs.Changed.{Steps, back_after, counted_after, frame_after, kept_after, noted_after}
+use Rattle.symres_decisions.proofs.Changed.{places_after}
 use Rattle.symres_decisions.proofs.Changed.{used_after, whole_after}
 use Rattle.symres_decisions.proofs.Clearing.{listed_apart}
 use Rattle.symres_decisions.proofs.Exchanging.{in_names, out_known, out_names, out_objects}
