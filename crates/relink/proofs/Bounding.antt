@@ -4,8 +4,8 @@ use Rattle.std.proofs.Common.{None}
 use Rattle.std.proofs.Common.{Global, Vec, ap, arith, inl, inr, length, refl, subst, sym}
 use Rattle.std.specs.Prelude.{◌&&◌, Err, IfSome, Ok, if◌then◌else◌, is_some, nat_lt, take}
 use Rattle.elfobj.specs.Counts.{Counts, capped}
-use Rattle.relink_kept.specs.First.{AreSameBefore, IsFirstChanged, IsNext}
-use Rattle.relink_kept.specs.Stays.{IsLastOf, LastState}
+use Rattle.relink_link.specs.First.{AreSameBefore, IsFirstChanged, IsNext}
+use Rattle.relink_link.specs.Stays.{IsLastOf, LastState}
 use Rattle.ldmodel.specs.Edits.{Add, Change, Move, Remove, Replace, SetScript}
 use Rattle.ldmodel.specs.Fault.{Fault, ImageTooLong}
 use Rattle.ldmodel.specs.Layout.{Layout}

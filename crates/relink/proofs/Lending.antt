@@ -4,9 +4,9 @@ use Rattle.std.proofs.Common.{◌∙◌, [], subst}
 use Rattle.std.specs.List.{position}
 use Rattle.std.specs.Option.{option_map}
 use Rattle.std.specs.Prelude.{◌&&◌, IfSome, is_some, nat_eq, unwrap_or}
-use Rattle.relink_kept.specs.Stays.{IsLastOf, IsReplaced}
-use Rattle.relink_kept.specs.Table.{IsTable}
-use Rattle.relink_kept.specs.Origins.{AreOrigins}
+use Rattle.relink_link.specs.Stays.{IsLastOf, IsReplaced}
+use Rattle.relink_link.specs.Table.{IsTable}
+use Rattle.relink_link.specs.Origins.{AreOrigins}
 use Rattle.ldmodel.specs.Edits.{unnamed}
 use Rattle.ldmodel.specs.Link.{link}
 use Rattle.ldmodel.specs.Project.{NamedObject, Project}

@@ -7,7 +7,7 @@ use Rattle.std.specs.Prelude.{Contains, IfSome, if◌then◌else◌, nat_eq}
 use Rattle.std.proofs.lemmas.Bool.{eq-eqb, eqb-true}
 use Rattle.std.proofs.lemmas.Option.{slice_get-get_or}
 use Rattle.std.specs.Prelude.{slice_get}
-use Rattle.relink_kept.specs.First.{HasReplaced}
+use Rattle.relink_link.specs.First.{HasReplaced}
 use Rattle.ldmodel.specs.Edits.{AreNamesDistinct, has_name}
 use Rattle.ldmodel.specs.Project.{NamedObject}
 use Rattle.ldmodel_project.specs.Holding.{Holding, Listing, next_listing}

@@ -15,7 +15,7 @@ use Rattle.ldmodel_project.specs.Next.{next_found, put_under, removed_key, touch
 use Rattle.ldmodel_project.specs.Touched.{is_other}
 use Rattle.ldmodel_project.specs.declared.staged.Step.{Step}
 use Rattle.ldmodel_project.specs.declared.staged.Step.TheVariants.{Put, Remove, Move, Stay}
-use Rattle.relink_kept.specs.Origins.{AreOrigins}
+use Rattle.relink_link.specs.Origins.{AreOrigins}
 use Rattle.ldmodel_project.specs.Order.{HasPlaces}
 use Rattle.ldmodel.specs.Project.{Project}
 use Rattle.relink.proofs.Finding.{find_some}

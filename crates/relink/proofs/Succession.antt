@@ -4,8 +4,8 @@ use Rattle.std.proofs.Common.{ap, map, refl, subst, sym}
 use Rattle.std.specs.List.{position}
 use Rattle.std.specs.Prelude.{Contains, is_some, nat_eq, slice_get, slice_index_or}
 use Rattle.std.proofs.lemmas.Bool.{eq-eqb}
-use Rattle.relink_kept.specs.First.{HasReplaced, IsNext}
-use Rattle.relink_kept.specs.Stays.{LastState, ReplacedState}
+use Rattle.relink_link.specs.First.{HasReplaced, IsNext}
+use Rattle.relink_link.specs.Stays.{LastState, ReplacedState}
 use Rattle.ldmodel.specs.Project.{NamedObject, Project}
 use Rattle.ldmodel_project.specs.Listing.{AreKeysDistinct, Entry, found_under, keys_of, objects_of}
 use Rattle.ldmodel_project.specs.Next.{next_found, put_under, touched_key}

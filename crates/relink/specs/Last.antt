@@ -3,9 +3,9 @@ use Rattle.std.specs.Prelude.{◌≡◌, ◌<◌, ◌&&◌, ℕ, List, [], Optio
 use Rattle.std.specs.Prelude.{slice_index_or, if◌then◌else◌, length, ⊤, Bool, true, false, Vec}
 use Rattle.std.specs.Option.{option_map}
 use Rattle.elfobj.specs.Object.{ObjectData}
-use Rattle.relink_kept.specs.Stays.{LastState, ReplacedState}
+use Rattle.relink_link.specs.Stays.{LastState, ReplacedState}
 use Rattle.std.specs.Global.{Global}
-use Rattle.relink_kept.specs.Table.{IsTable}
+use Rattle.relink_link.specs.Table.{IsTable}
 use Rattle.ldmodel.specs.Image.{image}
 use Rattle.ldmodel.specs.Link.{link}
 use Rattle.ldmodel.specs.Project.{NamedObject}

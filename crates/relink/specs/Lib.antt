@@ -1,5 +1,4 @@
 pub use Rattle.ldmodel_project.specs as project
-pub use Rattle.relink_kept.specs as kept
 pub use Rattle.relink_link.specs as link
 pub mod Matches
 pub mod Change

@@ -1,8 +1,8 @@
 -- How much an edit may count, and what it counts.
 use Rattle.std.specs.Prelude.{◌≡◌, ◌≤◌, ◌⊎◌, ⊤, ℕ, List, Ok, Option, Some, length}
 use Rattle.elfobj.specs.Counts.{Counts, capped}
-use Rattle.relink_kept.specs.First.{AreSameBefore}
-use Rattle.relink_kept.specs.Stays.{IsLastOf, LastState}
+use Rattle.relink_link.specs.First.{AreSameBefore}
+use Rattle.relink_link.specs.Stays.{IsLastOf, LastState}
 use Rattle.ldmodel.specs.Edits.{Change, Remove, SetScript}
 use Rattle.ldmodel.specs.Layout.{Layout}
 use Rattle.ldmodel.specs.Link.{layout, link}

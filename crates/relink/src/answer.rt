@@ -4,8 +4,8 @@ ghost use Rattle.std.specs.Prelude.{◌≡◌, ℕ, List};
 ghost use Rattle.ldmodel.specs.EditMeaning.{linked_of};
 ghost use Rattle.relink.specs.Answer.{is_good, shown};
 
-use emit::Canvas;
 use ldmodel::edit::Linked;
+use relink_link::Canvas;
 
 /// What a session answers of its link, beside the image, which a canvas holds.
 #[derive(Drop)]

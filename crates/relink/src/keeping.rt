@@ -2,7 +2,7 @@
 
 ghost use Rattle.std.specs.Prelude.{◌≡◌, ◌+◌, ◌≤◌, IfOk, IfSome, List, None, OnErr, OnOk, Some};
 ghost use Rattle.std.specs.Prelude.{vec_capacity, vec_len};
-ghost use Rattle.relink_kept.specs.Stays.{last_of};
+ghost use Rattle.relink_link.specs.Stays.{last_of};
 ghost use Rattle.symres.specs.decisions.Change.{Fits as FitsTables, IsReadyFor};
 ghost use Rattle.symres.specs.decisions.Decisions.{AreKept};
 ghost use Rattle.ldmodel_project.specs.Holding.{TouchesOne, listing_of, next_listing, project_of};
@@ -21,7 +21,6 @@ use crate::change::{object_change, place_of};
 use crate::last::Followed;
 use crate::linking::link_next;
 use crate::match_table::{exchange, match_under};
-use emit::Canvas;
 use gather::matches::{Matches, match_all};
 use ldmodel::memory::NoMemory;
 use ldmodel::meter::Meter;
@@ -29,7 +28,8 @@ use ldmodel::names::ObjectKey;
 use ldmodel_project::order::Order;
 use ldmodel_project::project::{Next, Project};
 use ldmodel_project::staged::Staged;
-use relink_kept::stays::Last;
+use relink_link::Canvas;
+use relink_link::stays::Last;
 use std::alloc::Global;
 use symres::Naming;
 use symres::decisions::change::ObjectChange;

@@ -2,7 +2,7 @@
 
 ghost use Rattle.std.specs.Prelude.{◌≡◌, ℕ, IfOk, IfSome, List, None, Some, false, map, slice_get, true};
 ghost use Rattle.std.specs.Option.{option_copied, option_map};
-ghost use Rattle.relink_kept.specs.Stays.{last_of, replaced_state};
+ghost use Rattle.relink_link.specs.Stays.{last_of, replaced_state};
 ghost use Rattle.ldmodel.specs.Project.{NamedObject};
 ghost use Rattle.ldmodel_project.specs.Listing.{keys_of};
 ghost use Rattle.relink.specs.Answer.{is_good};
@@ -17,8 +17,8 @@ use ldmodel::names::{ObjectKey, ObjectPlace};
 use ldmodel_project::named::NamedObject;
 use ldmodel_project::project::{Next, Project};
 use ldmodel_project::staged::Staged;
-use relink_kept::good::Good;
-use relink_kept::stays::{Last, Replaced};
+use relink_link::good::Good;
+use relink_link::stays::{Last, Replaced};
 use std::alloc::Global;
 
 /// What is kept of the last link without faults.

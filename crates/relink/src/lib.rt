@@ -5,7 +5,7 @@
 //!   nothing;
 //! - `change`, `match_table`: what an edit changes under a key; the matches of all objects;
 //! - `last`, `linking`: the last link without faults, and a link over it; `answer`: what the queries get;
-//! - the parts `project` (the crate `ldmodel_project`), `kept`, `link`. Programs name this crate alone.
+//! - the parts `project` (the crate `ldmodel_project`) and `link`. Programs name this crate alone.
 #![tactic(auto)]
 
 mod answer;
@@ -23,7 +23,6 @@ pub use ldmodel::linker::Linker;
 pub use ldmodel::options::{Options, Orphans};
 pub use ldmodel_project as project;
 pub use ldmodel_project::project::Project;
-pub use relink_kept as kept;
 pub use relink_link as link;
 pub use relink_link::output::Output;
 pub use relink_link::plain::Plain;

@@ -2,7 +2,7 @@
 
 ghost use Rattle.std.specs.Prelude.{◌≡◌, IfOk, IfSome, OnErr, OnOk, map};
 ghost use Rattle.gather.specs.ProjectMatches.{AreMatched};
-ghost use Rattle.relink_kept.specs.Stays.{last_of};
+ghost use Rattle.relink_link.specs.Stays.{last_of};
 ghost use Rattle.ldmodel.specs.Project.{NamedObject};
 ghost use Rattle.symres.specs.Naming.{IsNaming};
 ghost use Rattle.ldmodel_project.specs.Holding.{Listing, listing_of, project_of};
@@ -15,7 +15,6 @@ ghost use Rattle.relink_link.specs.Ended.{HasLast};
 ghost use Rattle.relink_link.specs.Reads.{ReadsNothing};
 
 use crate::last::{Followed, LastGood};
-use emit::Canvas;
 use gather::matches::{Matches, lend_all};
 use ldmodel::memory::NoMemory;
 use ldmodel::meter::Meter;
@@ -24,8 +23,9 @@ use ldmodel_project::law::found_where_placed;
 use ldmodel_project::order::places_of;
 use ldmodel_project::project::{Next, Project};
 use ldmodel_project::view::ProjectView;
-use relink_kept::stays::Last;
+use relink_link::Canvas;
 use relink_link::again::{Ended, relink};
+use relink_link::stays::Last;
 use std::alloc::Global;
 use symres::Naming;
 

@@ -5,9 +5,9 @@ use Rattle.std.specs.List.{All}
 use Rattle.emit.specs.fields.declared.patch.Patch.{Patch}
 use Rattle.emit.specs.image.Kept.{ArePatchesOf}
 use Rattle.emit.specs.image.Stretches.{EndsBy}
-use Rattle.relink_kept.specs.Stays.{AreStays, IsLastOf, LastState, last_of, range_of}
-use Rattle.relink_kept.specs.declared.stays.Last.{Last}
-use Rattle.relink_kept.specs.declared.stays.Stays.{Stays}
+use Rattle.relink_link.specs.Stays.{AreStays, IsLastOf, LastState, last_of, range_of}
+use Rattle.relink_link.specs.declared.stays.Last.{Last}
+use Rattle.relink_link.specs.declared.stays.Stays.{Stays}
 use Rattle.emit.specs.Drawable.{IsDrawableAt}
 use Rattle.emit.specs.Kept.{IsSound}
 use Rattle.ldmodel_laws.specs.Untouched.{IsGood}

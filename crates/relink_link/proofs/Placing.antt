@@ -8,8 +8,8 @@ use Rattle.std.proofs.lemmas.List.Sums.{sum_by-cons}
 use Rattle.elfobj.specs.Counts.{Counts}
 use Rattle.elfobj.specs.Raised.{raised}
 use Rattle.elfobj.specs.declared.meter.Count.TheVariants.{Pieces}
-use Rattle.relink_kept.specs.First.{AreSameBefore, IsFirstChanged, IsNext}
-use Rattle.relink_kept.specs.Stays.{IsLastOf, LastState}
+use Rattle.relink_link.specs.First.{AreSameBefore, IsFirstChanged, IsNext}
+use Rattle.relink_link.specs.Stays.{IsLastOf, LastState}
 use Rattle.ldmodel_laws.specs.Spread.{entries_in}
 use Rattle.ldmodel.specs.Layout.{Layout, PlacedPiece, PlacedSection, nothing_placed}
 use Rattle.ldmodel.specs.Project.{Project}

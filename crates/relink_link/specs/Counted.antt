@@ -4,9 +4,9 @@ use Rattle.elfobj.specs.Counts.{Counts, capped}
 use Rattle.elfobj.specs.Raised.{raised}
 use Rattle.elfobj.specs.declared.meter.Count.TheVariants.{Bytes, Fields, Pieces}
 use Rattle.emit.specs.image.Stretches.{patch_bytes}
-use Rattle.relink_kept.specs.First.{AreSameBefore, IsFirstChanged, IsNext}
-use Rattle.relink_kept.specs.Stays.{IsLastOf, LastState, last_of}
-use Rattle.relink_kept.specs.declared.stays.Stays.{Stays}
+use Rattle.relink_link.specs.First.{AreSameBefore, IsFirstChanged, IsNext}
+use Rattle.relink_link.specs.Stays.{IsLastOf, LastState, last_of}
+use Rattle.relink_link.specs.declared.stays.Stays.{Stays}
 use Rattle.ldmodel_laws.specs.Untouched.{IsGood}
 use Rattle.place.specs.Laying.{IsLaying}
 use Rattle.ldmodel.specs.Layout.{Layout}

@@ -5,9 +5,9 @@ use Rattle.ldmodel.specs.Layout.{Layout}
 use Rattle.ldmodel.specs.Link.{link}
 use Rattle.ldmodel.specs.Project.{Project}
 use Rattle.ldmodel.specs.Stayed.{GoodLink}
-use Rattle.relink_kept.specs.Stays.{IsLastOf, LastState}
-use Rattle.relink_kept.specs.Table.{IsTable}
-use Rattle.relink_kept.specs.declared.good.Good.{Good}
+use Rattle.relink_link.specs.Stays.{IsLastOf, LastState}
+use Rattle.relink_link.specs.Table.{IsTable}
+use Rattle.relink_link.specs.declared.good.Good.{Good}
 use Rattle.relink_link.specs.declared.again.Ended.{Ended}
 use Rattle.relink_link.specs.declared.again.Ended.TheVariants as ended
 

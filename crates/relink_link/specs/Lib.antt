@@ -1,3 +1,11 @@
+pub mod Origins
+pub mod Standing
+pub mod Table
+pub mod Marks
+pub mod Stays
+pub mod Unmarked
+pub mod First
+pub mod SameRows
 pub mod Applied
 pub mod Counted
 pub mod Ended

@@ -3,9 +3,9 @@ use Rattle.std.specs.Prelude.{◌≡◌, ◌≤◌, ℕ, IfSome, IsSome, List, [
 use Rattle.std.specs.List.{All}
 use Rattle.emit.specs.image.Kept.{ArePatchesOf}
 use Rattle.emit.specs.image.Stretches.{EndsBy}
-use Rattle.relink_kept.specs.Marks.{AreMarks}
-use Rattle.relink_kept.specs.Stays.{IsLastOf, LastState, last_of, range_of}
-use Rattle.relink_kept.specs.declared.stays.Stays.{Stays}
+use Rattle.relink_link.specs.Marks.{AreMarks}
+use Rattle.relink_link.specs.Stays.{IsLastOf, LastState, last_of, range_of}
+use Rattle.relink_link.specs.declared.stays.Stays.{Stays}
 use Rattle.ldmodel_laws.specs.Untouched.{IsGood}
 use Rattle.place.specs.Laying.{IsLaying}
 use Rattle.place.specs.declared.laying.Laying.{Laying}

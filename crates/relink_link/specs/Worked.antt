@@ -1,8 +1,8 @@
 -- What a link over an earlier one counts, where it has no faults: exactly what its calls worked out.
 use Rattle.std.specs.Prelude.{◌≡◌, ⊤, ℕ, false, Option, Some, Ok}
 use Rattle.elfobj.specs.Counts.{Counts, capped}
-use Rattle.relink_kept.specs.First.{AreSameBefore, IsFirstChanged, IsNext}
-use Rattle.relink_kept.specs.Stays.{IsLastOf, LastState}
+use Rattle.relink_link.specs.First.{AreSameBefore, IsFirstChanged, IsNext}
+use Rattle.relink_link.specs.Stays.{IsLastOf, LastState}
 use Rattle.ldmodel.specs.Layout.{Layout}
 use Rattle.ldmodel.specs.Link.{layout}
 use Rattle.ldmodel.specs.Project.{Project}

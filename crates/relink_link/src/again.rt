@@ -2,7 +2,7 @@
 
 ghost use Rattle.std.specs.Prelude.{◌≡◌, IfErr, IfOk, IfSome, OnErr, OnOk, map};
 ghost use Rattle.gather.specs.ProjectMatches.{AreMatched};
-ghost use Rattle.relink_kept.specs.Stays.{last_of};
+ghost use Rattle.relink_link.specs.Stays.{last_of};
 ghost use Rattle.ldmodel.specs.Link.{link};
 ghost use Rattle.symres.specs.Naming.{IsNaming};
 ghost use Rattle.relink_link.specs.Ended.{HasEnded, HasLast};
@@ -11,9 +11,13 @@ ghost use Rattle.relink_link.specs.Reads.{EndsReadingNothing, ReadsNothing};
 ghost use Rattle.relink_link.specs.Stops.{IsStop};
 ghost use Rattle.relink_link.specs.Worked.{HasWorked};
 
+use crate::good::Good;
 use crate::lent::Lent;
+use crate::marks::marks_of;
 use crate::passes::{asserted, drawn, gathered, laid, named, relocated, valued};
+use crate::stays::{Last, Stays};
 use crate::stop::Stop;
+use crate::symbol_table::symbol_values;
 use emit::values::given::GivenValues;
 use emit::values::link_view::LinkView;
 use emit::{Canvas, map_text};
@@ -23,10 +27,6 @@ use ldmodel::memory::NoMemory;
 use ldmodel::meter::Meter;
 use ldmodel_project::view::ProjectView;
 use place::arranged::Arranged;
-use relink_kept::good::Good;
-use relink_kept::marks::marks_of;
-use relink_kept::stays::{Last, Stays};
-use relink_kept::symbol_table::symbol_values;
 use std::alloc::{AllocError, Global};
 use symres::Naming;
 

@@ -1,8 +1,8 @@
 //! What is lent to the passes of a link.
 
+use crate::stays::Last;
 use gather::matches::Matches;
 use ldmodel_project::view::ProjectView;
-use relink_kept::stays::Last;
 use std::alloc::Global;
 use symres::Naming;
 

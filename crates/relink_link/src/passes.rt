@@ -2,8 +2,8 @@
 
 ghost use Rattle.std.specs.Prelude.{◌≡◌, IfErr, IfOk, IfSome, OnErr, OnOk, map};
 ghost use Rattle.gather.specs.Gathering.{IsGathering};
-ghost use Rattle.relink_kept.specs.Stays.{last_of};
-ghost use Rattle.relink_kept.specs.SymbolTable.{AreSymbolValues};
+ghost use Rattle.relink_link.specs.Stays.{last_of};
+ghost use Rattle.emit.specs.relocate.SymbolTable.{AreSymbolValues};
 ghost use Rattle.place.specs.Laying.{HasLayout, IsLaying};
 ghost use Rattle.ldmodel.specs.Layout.{Layout};
 ghost use Rattle.ldmodel.specs.Link.{gathering_faults, layout, link, placed, unless};
@@ -19,8 +19,11 @@ ghost use Rattle.relink_link.specs.Phases.{IsShort};
 ghost use Rattle.relink_link.specs.Reads.{EndsReadingNothing, ReadsNothing};
 ghost use Rattle.relink_link.specs.Stops.{IsStop};
 
+use crate::first::resumed;
 use crate::lent::Lent;
+use crate::stays::Stays;
 use crate::stop::{Stop, end_if_faulty};
+use crate::symbol_table::SymbolTable;
 use emit::drawing::draw_image;
 use emit::good::is_good;
 use emit::length::image_length;
@@ -39,9 +42,6 @@ use ldmodel::sections::SectionKey;
 use ldmodel_laws::layout::placed_are_rows;
 use place::laying::{LayFault, Laying};
 use place::length::length_fault;
-use relink_kept::first::resumed;
-use relink_kept::stays::Stays;
-use relink_kept::symbol_table::SymbolTable;
 use std::alloc::Global;
 
 /// Names: no fault of names ends the link.

@@ -1,6 +1,6 @@
 use Rattle.std.proofs.Common.{◌∙◌, ap, map, refl, subst, true}
 use Rattle.ldmodel.specs.Project.{NamedObject}
-use Rattle.relink_kept.specs.Stays.{last_of}
+use Rattle.relink_link.specs.Stays.{last_of}
 use Rattle.relink_link.specs.Ended.{HasEnded}
 use Rattle.relink_link.specs.Worked.{HasWorked}
 use Rattle.relink.proofs.Lending.{followed_good}

@@ -1,7 +1,7 @@
 use Rattle.std.proofs.Common.{subst, sym}
 use Rattle.std.proofs.lemmas.Result.{err_from_is_err_and}
-use Rattle.relink_kept.specs.Marks.{AreMarks}
-use Rattle.relink_kept.specs.SymbolTable.{AreSymbolValues}
+use Rattle.relink_link.specs.Marks.{AreMarks}
+use Rattle.emit.specs.relocate.SymbolTable.{AreSymbolValues}
 use Rattle.ldmodel.specs.Layout.{Layout}
 use Rattle.emit.specs.relocate.KnownLink.{AreNameValues}
 use Rattle.emit.specs.values.LinkView.{known_link}

@@ -1,7 +1,7 @@
 use Rattle.std.proofs.Common.{◌∙◌, ℕ, List, Option, ap, arith, length, map, refl, subst, sym}
 use Rattle.std.specs.Vec.{vec_len}
 use Rattle.gather.specs.declared.matches.Matches.{Matches}
-use Rattle.relink_kept.specs.Stays.{last_of}
+use Rattle.relink_link.specs.Stays.{last_of}
 use Rattle.symres.specs.decisions.Change.{Table, changed_tables}
 use Rattle.symres.specs.decisions.Decisions.{AreKept}
 use Rattle.ldmodel_project.specs.Holding.{Listing, next_listing, project_of}

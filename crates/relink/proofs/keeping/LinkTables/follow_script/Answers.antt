@@ -1,5 +1,5 @@
 use Rattle.std.proofs.Common.{subst}
-use Rattle.relink_kept.specs.Stays.{last_of}
+use Rattle.relink_link.specs.Stays.{last_of}
 use Rattle.ldmodel_project.specs.Holding.{Listing, project_of}
 use Rattle.relink.specs.Work.{HasWorked}
 use Rattle.relink.proofs.Bounding.{names_link_nothing, worked_from}

@@ -1,6 +1,6 @@
 use Rattle.std.proofs.Common.{◌≡◌, ◌∙◌, ℕ, List, Option, ap, arith, refl, subst, sym}
 use Rattle.std.specs.Prelude.{IfSome}
-use Rattle.relink_kept.specs.Stays.{LastState}
+use Rattle.relink_link.specs.Stays.{LastState}
 use Rattle.ldmodel.specs.EditMeaning.{change_of}
 use Rattle.ldmodel.specs.Edits.{Change}
 use Rattle.ldmodel.specs.Link.{link}

@@ -1,9 +1,0 @@
-pub mod Origins
-pub mod Standing
-pub use Rattle.emit.specs.relocate.SymbolTable
-pub mod Table
-pub mod Marks
-pub mod Stays
-pub mod Unmarked
-pub mod First
-pub mod SameRows

@@ -1,0 +1,46 @@
+use Rattle.std.proofs.Common.{◌≡◌, ◌≤◌, ap, subst, sym, ◌∙◌}
+use Rattle.std.specs.Prelude.{IfSome}
+use Rattle.std.proofs.lemmas.Option.{same_Some}
+use Rattle.ldmodel.specs.Names.{provided}
+use Rattle.ldmodel.specs.Project.{Project}
+use Rattle.ldmodel.specs.Rows as model
+use Rattle.ldmodel.specs.SessionWork.{entries_from}
+use Rattle.place.specs.sections.Kept.{IsKept}
+use Rattle.relink_link.specs.First.{AreSameBefore, IsNext}
+use Rattle.relink_link.specs.SameRows.{first_changed}
+use Rattle.relink_link.specs.Stays.{IsLastOf, LastState, last_of, last_state}
+use Rattle.relink_link.proofs.Resumed.{are_same, is_first, is_kept}
+use Rattle.relink_link.proofs.first.resumed.Goals as goal
+
+pub returns-clause-kept : goal.returns-clause-kept
+returns-clause-kept c = λ old h.
+    let new : Project = c.args.project.now in
+    let x : LastState = last_state c.in_ok-last.last in
+    let last : IsLastOf old new x = subst (λ m. IfSome (last_of m) (IsLastOf old new)) c.in_ok-last.was h in
+    let first = c.first_changed-first.ensures
+    ∙ ap (λ l. first_changed x new l c.args.rows.now) c.deref.ensures.value in
+    subst (λ n. IsKept new.script (model.rows new) x.good.arranged.laying.placement n) (sym first)
+    (is_kept old new x last c.args.rows.now c.requires.rows c.if-not-last.false)
+
+pub returns-clause-same : goal.returns-clause-same
+returns-clause-same c = λ old y e h.
+    let new : Project = c.args.project.now in
+    let x : LastState = last_state c.in_ok-last.last in
+    let is : x ≡ y = same_Some _ _ (sym (ap last_of c.in_ok-last.was) ∙ e) in
+    let last : IsLastOf old new x = subst (IsLastOf old new) (sym is) h in
+    let first = c.first_changed-first.ensures
+    ∙ ap (λ l. first_changed x new l c.args.rows.now) c.deref.ensures.value in
+    subst (AreSameBefore old.project new) (sym first) (are_same old new x last c.args.rows.now c.requires.rows)
+
+pub returns-clause-first : goal.returns-clause-first
+returns-clause-first c = λ old y e h g n same.
+    let new : Project = c.args.project.now in
+    let x : LastState = last_state c.in_ok-last.last in
+    let is : x ≡ y = same_Some _ _ (sym (ap last_of c.in_ok-last.was) ∙ e) in
+    let last : IsLastOf old new x = subst (IsLastOf old new) (sym is) h in
+    let next : IsNext old.project new x = subst (IsNext old.project new) (sym is) g in
+    let first = c.first_changed-first.ensures
+    ∙ ap (λ l. first_changed x new l c.args.rows.now) c.deref.ensures.value in
+    subst (λ k. entries_from k (model.rows new) ≤ entries_from n (model.rows new)) (sym first)
+    (is_first old new x last c.args.rows.now c.requires.rows next
+    (c.placed_are_rows.ensures old.project (provided old.project) old.layout last.table.arranged.laying.placed) n same)

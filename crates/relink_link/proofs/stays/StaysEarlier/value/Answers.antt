@@ -1,0 +1,17 @@
+use Rattle.std.proofs.Common.{◌∙◌, ap}
+use Rattle.emit.specs.relocate.KnownLink.{KnownLink}
+use Rattle.emit.specs.relocate.Values.{value_of}
+use Rattle.relink_link.specs.Stays.{last_of}
+use Rattle.relink_link.proofs.Ranges.{not_kept, worth_of}
+use Rattle.relink_link.proofs.stays.StaysEarlier.value.Goals as goal
+
+pub returns-in-None : goal.returns-in-None
+returns-in-None c = λ old l o x h kept is.
+    absurd (not_kept (last_of c.args.self.now.last) c.args.self.now.arranged.now c.args.object
+    (ap last_of c.in-None.is) kept)
+
+pub returns-in-Some : goal.returns-in-Some
+returns-in-Some c = λ old l o x h kept is.
+    ap value_of c.value.ensures
+    ∙ worth_of old l (λ k. ap (λ (m : KnownLink). m.number k) h.link) c.args.self.now.arranged.now
+    c.args.self.now.last c.in-Some.last c.in-Some.is h.last c.args.object c.args.index c.args._symbol.now o x is kept

@@ -1,0 +1,14 @@
+-- What is kept of a link without faults.
+use Rattle.std.specs.Prelude.{◌≡◌}
+use Rattle.ldmodel.specs.Stayed.{GoodLink}
+use Rattle.ldmodel_laws.specs.Untouched.{IsGood}
+use Rattle.ldmodel.specs.Edits.{AreNamesDistinct}
+use Rattle.place.specs.Arranged.{IsArranged}
+use Rattle.emit.specs.relocate.SymbolTable.{AreSymbolValues}
+use Rattle.relink_link.specs.declared.good.Good.{Good}
+
+pub record IsTable (l : GoodLink) (g : Good) : Type 0 where
+  pub good : IsGood l
+  pub names : AreNamesDistinct l.project.objects
+  pub arranged : IsArranged l.project l.layout g.arranged
+  pub symbols : AreSymbolValues l.project l.layout g.symbols

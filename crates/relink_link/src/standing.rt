@@ -1,0 +1,66 @@
+//! Where an input section stands in a link, in memory and in the file.
+
+ghost use Rattle.std.specs.Prelude.{◌≡◌};
+ghost use Rattle.relink_link.specs.Standing.{range_at, range_from, standing_in};
+
+use emit::relocate::earlier::FileRange;
+use ldmodel::laid::Placed;
+use ldmodel::sections::SectionKey;
+use place::Laying;
+use place::arranged::{Arranged, PartPlace};
+
+/// Where an input section stands.
+#[derive(Clone, Copy, Debug, PartialEq, Eq)]
+pub(crate) struct Standing {
+    /// The address that it starts at.
+    pub start: u64,
+    /// How many bytes it takes in memory.
+    pub size: u64,
+    /// The bytes of the input section in the file.
+    pub range: FileRange,
+}
+
+/// Where the bytes of an input section stand in the file, whose output section begins at this offset of it: no bytes,
+/// where the output section has none. None where they begin past 2^64.
+#[tactic(auto, unfolding(crate::specs::Standing::range_from))]
+fn range_from(section: &Placed, offset: u128, start: u64, size: u64) -> Option<FileRange>
+    ensures { result ≡ range_from section.now offset start size }
+{
+    if !section.has_file_bytes || size == 0 {
+        return Some(FileRange {
+            offset: 0,
+            length: 0,
+        });
+    }
+    let from_start = start.saturating_sub(section.start);
+    let offset = offset.checked_add(u128::from(from_start))?;
+    let offset = u64::try_from(offset).ok()?;
+    Some(FileRange {
+        offset,
+        length: size,
+    })
+}
+
+/// Where the bytes of an input section in its place stand in the file; none where they begin past 2^64.
+fn range_at(laying: &Laying, place: PartPlace) -> Option<FileRange>
+    ensures { result ≡ range_at laying.now place }
+{
+    let number = place.section.0 as usize;
+    let section = laying.placement.sections().get(number)?;
+    let offset = laying.offsets.get(number)?;
+    range_from(section, *offset, place.start, place.size)
+}
+
+/// Where an input section stands in a link, if it is in the output. None where its bytes in the file begin past 2^64.
+#[tactic(auto, unfolding(crate::specs::Standing::standing_in))]
+pub(crate) fn find_standing(arranged: &Arranged, section: SectionKey) -> Option<Standing>
+    ensures { result ≡ standing_in arranged.now section }
+{
+    let place = arranged.find(section)?;
+    let range = range_at(&arranged.laying, place)?;
+    Some(Standing {
+        start: place.start,
+        size: place.size,
+        range,
+    })
+}
