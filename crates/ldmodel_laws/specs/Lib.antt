@@ -17,3 +17,4 @@ pub mod Traces
 pub mod Untouched
 pub mod PlacedOnce
 pub mod StayedSites
+pub mod Outline
