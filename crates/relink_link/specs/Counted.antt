@@ -1,12 +1,14 @@
 -- What the phases of a link count, beside an earlier one.
-use Rattle.std.specs.Prelude.{◌≡◌, ◌≤◌, ◌+◌, ◌-◌, ℕ, false, IfSome, IsSome, Option, Some, Ok, length}
+use Rattle.std.specs.Prelude.{◌≡◌, ◌≤◌, ◌⊎◌, ◌+◌, ◌-◌, ℕ, false, IfSome, IsSome, Option, Some, Ok, length}
 use Rattle.elfobj.specs.Counts.{Counts, capped}
 use Rattle.elfobj.specs.Raised.{raised}
 use Rattle.elfobj.specs.declared.meter.Count.TheVariants.{Bytes, Fields, Pieces}
 use Rattle.emit.specs.image.Stretches.{patch_bytes}
 use Rattle.relink_link.specs.First.{AreSameBefore, IsFirstChanged, IsNext}
+use Rattle.relink_link.specs.Retouched.{bytes_of_object}
 use Rattle.relink_link.specs.Stays.{IsLastOf, LastState, last_of}
 use Rattle.relink_link.specs.declared.stays.Stays.{Stays}
+use Rattle.ldmodel_laws.specs.Outline.{IsRetouched}
 use Rattle.ldmodel_laws.specs.Untouched.{IsGood}
 use Rattle.place.specs.Laying.{IsLaying}
 use Rattle.ldmodel.specs.Layout.{Layout}
@@ -14,7 +16,7 @@ use Rattle.ldmodel.specs.Link.{layout}
 use Rattle.ldmodel.specs.Project.{Project}
 use Rattle.ldmodel.specs.Rows.{rows}
 use Rattle.ldmodel.specs.SectionHeaders.{image_length}
-use Rattle.ldmodel.specs.SessionWork.{entries_from, sites_to_evaluate}
+use Rattle.ldmodel.specs.SessionWork.{bytes_to_write, entries_from, sites_to_evaluate}
 use Rattle.ldmodel.specs.Stayed.{GoodLink, retargeted}
 use Rattle.ldmodel.specs.WorkBound.{bytes_stayed, retargeted_bytes, sites_outside}
 use Rattle.emit.specs.Beside.{new_link}
@@ -64,15 +66,28 @@ pub record IsWritten (p : Project) (s : Layout) (y : Stays) (r : Relocated) (bef
 abbrev pub HasWritten : Project → Stays → Relocated → Counts → Counts → Type 0
 HasWritten p y r before after = (s : Layout) → IsLaying p s y.arranged.now.laying → IsWritten p s y r before after
 
--- the fields of sites outside of what stayed, and of those in it whose symbol has another value; and the bytes outside
--- of what stayed, with those of fields in it of symbols of another value
-pub record IsImageCount (old new : GoodLink) (before after : Counts) : Type 0 where
-  pub relocations : after.fields ≡ capped before.fields (sites_to_evaluate old new)
+-- the bytes of an image that is drawn over the earlier one: those outside of what stayed, with those of fields in it of
+-- symbols of another value
+pub record IsDrawnCount (old new : GoodLink) (written : ℕ) : Type 0 where
   pub patched : ℕ
   pub few : patched ≤ retargeted_bytes old new
-  pub bytes :
-      after.bytes
-      ≡ capped before.bytes (patched + (image_length new.project new.layout - bytes_stayed old new))
+  pub is : written ≡ patched + (image_length new.project new.layout - bytes_stayed old new)
+
+-- the bytes of an image that differs from the earlier one in what the input sections of one object hold: those of these
+-- sections
+pub record IsRetouchedCount (old new : GoodLink) (written : ℕ) : Type 0 where
+  pub place : ℕ
+  pub retouched : IsRetouched old.project new.project place
+  pub is : written ≡ bytes_of_object new place
+
+-- the fields of sites outside of what stayed, and of those in it whose symbol has another value; and the bytes of the
+-- image that are written, which are no more than an incremental link may write
+pub record IsImageCount (old new : GoodLink) (before after : Counts) : Type 0 where
+  pub relocations : after.fields ≡ capped before.fields (sites_to_evaluate old new)
+  pub written : ℕ
+  pub bytes : after.bytes ≡ capped before.bytes written
+  pub few : written ≤ bytes_to_write old new
+  pub exactly : IsDrawnCount old new written ⊎ IsRetouchedCount old new written
 
 -- no input section is counted, and of the image this
 pub record AreDrawn (p : Project) (last : Option LastState) (before after : Counts) : Type 0 where

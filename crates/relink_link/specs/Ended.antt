@@ -1,11 +1,12 @@
 -- How a link over an earlier one ends.
-use Rattle.std.specs.Prelude.{◌≡◌, ℕ, List, []}
+use Rattle.std.specs.Prelude.{◌≡◌, ℕ, List, [], Option}
 use Rattle.ldmodel.specs.Image.{image}
 use Rattle.ldmodel.specs.Layout.{Layout}
 use Rattle.ldmodel.specs.Link.{link}
 use Rattle.ldmodel.specs.Project.{Project}
 use Rattle.ldmodel.specs.Stayed.{GoodLink}
 use Rattle.relink_link.specs.Stays.{IsLastOf, LastState}
+use Rattle.relink_link.specs.Retouched.{IsRetouchedEnd}
 use Rattle.relink_link.specs.Table.{IsTable}
 use Rattle.relink_link.specs.declared.good.Good.{Good}
 use Rattle.relink_link.specs.declared.again.Ended.{Ended}
@@ -24,8 +25,10 @@ pub record IsGoodEnd (p : Project) (bytes : List ℕ) (g : Good) (map : List ℕ
   pub table : IsTable (record { project = p; layout = layout }) g
   pub image : bytes ≡ image p layout
 
--- fault lines, where the bytes are as they were; or a link without faults
-abbrev pub HasEnded : Project → List ℕ → List ℕ → Ended → Type 0
-HasEnded p old new (ended.Faulty t) =
+-- fault lines, where the bytes are as they were; or a link without faults, of which all but the image may be that of the
+-- earlier link
+abbrev pub HasEnded : Project → Option LastState → List ℕ → List ℕ → Ended → Type 0
+HasEnded p last old new (ended.Faulty t) =
     (link p ≡ record { status = 1; image = []; map = []; faults = t.items }) × (new ≡ old)
-HasEnded p old new (ended.Good g m) = IsGoodEnd p new g m.items
+HasEnded p last old new (ended.Good g m) = IsGoodEnd p new g m.items
+HasEnded p last old new ended.Retouched = IsRetouchedEnd p last new

@@ -8,11 +8,14 @@ pub mod First
 pub mod SameRows
 pub mod Applied
 pub mod Counted
+pub mod Retouched
+pub mod Spots
 pub mod Ended
 pub mod Lent
 pub mod Phases
 pub mod Reads
 pub mod Worked
+pub mod Touched
 pub mod Stops
 pub mod Unbounded
 pub mod Adding

@@ -1,6 +1,6 @@
 -- Which input sections of a link stayed where an earlier link has them.
 use Rattle.std.specs.Prelude.{◌≡◌, ◌≤◌, ℕ, Bool, true, List, Option, Some, None, IfSome, option_and_then}
-use Rattle.std.specs.Prelude.{if◌then◌else◌, slice_get, slice_index_or}
+use Rattle.std.specs.Prelude.{if◌then◌else◌, length, slice_get, slice_index_or}
 use Rattle.std.specs.Option.{option_map}
 use Rattle.elfobj.specs.Object.{ObjectData}
 use Rattle.elfobj.specs.declared.relocation.SymbolIndex.{SymbolIndex}
@@ -40,19 +40,24 @@ pub record ReplacedState : Type 0 where
 abbrev pub replaced_state : Replaced → ReplacedState
 replaced_state x = record { old = x.old; object = x.object.now; new = x.new }
 
--- an earlier link without faults, which of its objects are still there, and which one was replaced
+-- an earlier link without faults, how many objects it has, which of them are still there, which one was replaced, and
+-- whether it is the one that is answered
 pub record LastState : Type 0 where
   pub good : Good
+  pub objects : ℕ
   pub from : List (Option ℕ)
   pub same_script : Bool
   pub replaced : Option ReplacedState
+  pub is_current : Bool
 
 abbrev pub last_state : Last → LastState
 last_state x = record {
   good = x.good.now;
+  objects = x.objects;
   from = x.from.now;
   same_script = x.same_script;
   replaced = option_map replaced_state x.replaced;
+  is_current = x.is_current;
 }
 
 abbrev pub last_of : Option Last → Option LastState
@@ -101,10 +106,12 @@ pub record IsReplaced (p q : Project) (r : ReplacedState) : Type 0 where
   pub object : before.object ≡ r.object
   pub name : after.name ≡ before.name
 
--- the earlier link is this one, its objects are those of the next project as its origins say, and its script is the
--- same where it is said to be
+-- the earlier link is this one, with this number of objects, which are those of the next project as its origins say; its
+-- options are the same, and so is its script where it is said to be
 pub record IsLastOf (old : GoodLink) (new : Project) (x : LastState) : Type 0 where
   pub table : IsTable old x.good
+  pub objects : x.objects ≡ length old.project.objects
+  pub options : old.project.options ≡ new.options
   pub origins : AreOrigins old.project new x.from
   pub script : x.same_script ≡ true → old.project.script ≡ new.script
   pub replaced : IfSome x.replaced (IsReplaced old.project new)

@@ -1,8 +1,9 @@
 -- What is kept of a link without faults.
-use Rattle.std.specs.Prelude.{◌≡◌}
+use Rattle.std.specs.Prelude.{◌≡◌, Ok}
 use Rattle.ldmodel.specs.Stayed.{GoodLink}
 use Rattle.ldmodel_laws.specs.Untouched.{IsGood}
 use Rattle.ldmodel.specs.Edits.{AreNamesDistinct}
+use Rattle.ldmodel.specs.Link as model
 use Rattle.place.specs.Arranged.{IsArranged}
 use Rattle.emit.specs.relocate.SymbolTable.{AreSymbolValues}
 use Rattle.relink_link.specs.declared.good.Good.{Good}
@@ -12,3 +13,5 @@ pub record IsTable (l : GoodLink) (g : Good) : Type 0 where
   pub names : AreNamesDistinct l.project.objects
   pub arranged : IsArranged l.project l.layout g.arranged
   pub symbols : AreSymbolValues l.project l.layout g.symbols
+  pub layout : model.layout l.project ≡ Ok l.layout
+  pub link : model.link l.project ≡ model.good l.project l.layout

@@ -24,8 +24,12 @@ pub record IsLinkWork (old new : GoodLink) (x : LastState) (before after : Count
   pub image : IsImageCount old new before after
 
 -- beside each earlier link that this one may be
-abbrev pub HasWorked : Project → Option LastState → Counts → Counts → Ended → Type 0
-HasWorked p last before after (ended.Faulty t) = ⊤
-HasWorked p last before after (ended.Good g m) =
+abbrev pub IsWorkBeside : Project → Option LastState → Counts → Counts → Type 0
+IsWorkBeside p last before after =
     (old : GoodLink) (x : LastState) (s : Layout) → last ≡ Some x → IsLastOf old p x → layout p ≡ Ok s
     → IsLinkWork old (record { project = p; layout = s }) x before after
+
+abbrev pub HasWorked : Project → Option LastState → Counts → Counts → Ended → Type 0
+HasWorked p last before after (ended.Faulty t) = ⊤
+HasWorked p last before after (ended.Good g m) = IsWorkBeside p last before after
+HasWorked p last before after ended.Retouched = IsWorkBeside p last before after

@@ -37,13 +37,16 @@ pub enum Ended {
     Faulty(Vec<u8>),
     /// It has none: what is kept of the link, and its map.
     Good(Good, Vec<u8>),
+    /// It has none, and differs from the earlier link in what the input sections of one object hold: the image is the new
+    /// one; the map, and what is kept of the earlier link, are right for this one.
+    Retouched,
 }
 
 /// The passes of a link over an earlier one, in their order.
 fn relinked(lent: Lent<'_, '_>, canvas: &mut Canvas, meter: &mut Meter) -> Result<Ended, Stop>
     requires lent { IsLent lent }
     requires last { IfSome (last_of lent.last) (HasLast (project_of lent) canvas.old.bytes) }
-    ensures ended { IfOk result (HasEnded (project_of lent.entry) canvas.old.bytes canvas.new.bytes) }
+    ensures ended { IfOk result (HasEnded (project_of lent.entry) (last_of lent.entry.last) canvas.old.bytes canvas.new.bytes) }
     ensures stop { IfErr result (λ stop. IsStop (link (project_of lent.entry)) stop) }
     ensures reads { OnOk result (ReadsNothing meter.old meter.new) }
     ensures worked { IfOk result (HasWorked (project_of lent.entry) (last_of lent.entry.last) meter.old meter.new) }
@@ -105,7 +108,7 @@ pub fn relink(
     requires naming { IsNaming project.now naming.now }
     requires matches { AreMatched project.now (map (λ x. x.now) matches.now) }
     requires last { IfSome (last_of last) (HasLast project.now canvas.old.bytes) }
-    ensures ended { IfOk result (HasEnded project.now canvas.old.bytes canvas.new.bytes) }
+    ensures ended { IfOk result (HasEnded project.now (last_of last.entry) canvas.old.bytes canvas.new.bytes) }
     ensures reads { OnOk result (ReadsNothing meter.old meter.new) }
     ensures worked { IfOk result (HasWorked project.now (last_of last.entry) meter.old meter.new) }
     ensures unchanged { OnErr result (canvas.new.bytes ≡ canvas.old.bytes) }

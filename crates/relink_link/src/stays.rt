@@ -35,12 +35,16 @@ pub struct Replaced<'a> {
 pub struct Last<'a> {
     /// What is kept of that link.
     pub good: &'a Good,
+    /// How many objects it has.
+    pub objects: usize,
     /// For each object of the new link, by its place, the place in the earlier one.
     pub from: &'a [Option<usize>],
     /// Whether that link is known to be of the same script.
     pub same_script: bool,
     /// The object that was replaced, if one is known.
     pub replaced: Option<Replaced<'a>>,
+    /// Whether that link is the one that is answered: where another with the same map follows, only the image changes.
+    pub is_current: bool,
 }
 
 impl<'a> Last<'a> {

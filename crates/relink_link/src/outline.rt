@@ -1,0 +1,52 @@
+//! Whether two objects differ in what their sections hold alone.
+
+ghost use Rattle.std.specs.Prelude.{◌≡◌, map, true};
+ghost use Rattle.ldmodel_laws.specs.Outline.{section_outline};
+
+use elfobj::Object;
+use elfobj::relocation::SymbolIndex;
+use elfobj::section::LinkedIndex;
+
+/// Whether two objects have the same symbol table.
+fn same_symbols(a: &Object, b: &Object) -> bool
+    ensures { result ≡ true → a.now.symbols ≡ b.now.symbols }
+{
+    let before = a.symbols();
+    let now = b.symbols();
+    if before.len() != now.len() {
+        return false;
+    }
+    for number in 0..before.len() {
+        let index = SymbolIndex(number as u32);
+        if before[number] != now[number] || a.name_of(index) != b.name_of(index) {
+            return false;
+        }
+    }
+    true
+}
+
+/// Whether two objects have the same sections, whatever these hold.
+fn same_sections(a: &Object, b: &Object) -> bool
+    ensures { result ≡ true → map section_outline a.now.sections ≡ map section_outline b.now.sections }
+{
+    let before = a.sections();
+    let now = b.sections();
+    if before.len() != now.len() {
+        return false;
+    }
+    for number in 0..before.len() {
+        let index = LinkedIndex(number);
+        if before[number] != now[number] || a.section_name(index) != b.section_name(index) {
+            return false;
+        }
+    }
+    true
+}
+
+/// Whether two objects have the same symbol table, and sections that differ in their bytes and relocations alone.
+pub(crate) fn same_outline(a: &Object, b: &Object) -> bool
+    ensures symbols { result ≡ true → a.now.symbols ≡ b.now.symbols }
+    ensures sections { result ≡ true → map section_outline a.now.sections ≡ map section_outline b.now.sections }
+{
+    same_symbols(a, b) && same_sections(a, b)
+}

@@ -1,0 +1,130 @@
+//! Links whose project differs from that of an earlier one in what the input sections of one object hold.
+
+ghost use Rattle.std.specs.Prelude.{◌≡◌, ◌<◌, ℕ, IfOk, IfSome, List, None, OnErr, slice_index_or, true};
+ghost use Rattle.elfobj.specs.Counts.{Counts};
+ghost use Rattle.ldmodel.specs.Stayed.{GoodLink};
+ghost use Rattle.ldmodel_laws.specs.Outline.{IsRetouched};
+ghost use Rattle.relink_link.specs.Ended.{HasLast};
+ghost use Rattle.relink_link.specs.Lent.{project_of};
+ghost use Rattle.relink_link.specs.Retouched.{HasTouched, IsFollowed, origin_beside};
+ghost use Rattle.relink_link.specs.Stays.{IsLastOf, last_of, last_state, replaced_state};
+
+use crate::lent::Lent;
+use crate::outline::same_outline;
+use crate::spots::spots_of;
+use crate::stays::{Last, Replaced};
+use elfobj::Object;
+use emit::Canvas;
+use emit::good::is_good;
+use emit::retouch::rewrite::retouch;
+use emit::retouch::spot::nobits_are_bare;
+use ldmodel::memory::NoMemory;
+use ldmodel::meter::{Count, Meter};
+use ldmodel::names::ObjectPlace;
+use ldmodel_laws::segments::{files_in_order, sections_in_file};
+use ldmodel_laws::stayed::{stayed_by_part, stayed_in_image};
+use ldmodel_outline::law::{
+    retouched_frame, retouched_layout, retouched_link, retouched_names, retouched_rows,
+    retouched_values,
+};
+use ldmodel_project::view::ProjectView;
+use place::numbered::are_numbered;
+use std::alloc::Global;
+
+/// Whether each of these objects stood in the earlier link where it stands, but for the one of a place, which was not
+/// there.
+fn is_alone(last: &Last<'_>, count: usize, place: ObjectPlace) -> bool
+    ensures { result ≡ true → (i : ℕ) → i < count → slice_index_or last.now.from.now i None ≡ origin_beside place.0 i }
+{
+    for i in 0..count {
+        let origin = if i == place.0 { None } else { Some(i) };
+        if last.place(ObjectPlace(i)) != origin {
+            return false;
+        }
+    }
+    true
+}
+
+/// The object in whose place another one came, where nothing else differs from the earlier link, that one is answered,
+/// and the two objects differ in what their sections hold alone. Where sections may be dropped that nothing refers to,
+/// none, since relocations are references.
+fn find_replaced<'a>(last: &Last<'a>, project: &ProjectView<'_>) -> Option<Replaced<'a>>
+    ensures { IfSome result (λ r. IsFollowed (last_state last.now) project.now (replaced_state r)) }
+{
+    if !last.same_script || !last.is_current || project.options().gc() {
+        return None;
+    }
+    let replaced = last.replaced?;
+    let object = project.object(replaced.new)?;
+    let count = project.inputs().len();
+    if replaced.old != replaced.new || last.objects != count {
+        return None;
+    }
+    if is_alone(last, count, replaced.new) && same_outline(replaced.object, object) {
+        Some(replaced)
+    } else {
+        None
+    }
+}
+
+/// Writes the input sections of an object over those of the one in whose place it came. Answers whether it did: not
+/// where a relocation has a fault. Then the canvas is as it was.
+fn touched(
+    lent: Lent<'_, '_>,
+    last: &Last<'_>,
+    replaced: &Replaced<'_>,
+    canvas: &mut Canvas,
+    meter: &mut Meter,
+) -> Result<bool, NoMemory>
+{
+    let Some(object) = lent.project.object(replaced.new) else {
+        return Ok(false);
+    };
+    let arranged = &last.good.arranged;
+    let spots = spots_of(lent.alloc, arranged, replaced.new, object)?;
+    let values = last
+        .good
+        .symbols
+        .row(replaced.new, object.symbols().len());
+    retouch(
+        lent.alloc,
+        canvas,
+        replaced.new,
+        object,
+        values,
+        &spots,
+        meter,
+    )
+}
+
+/// Where the project follows the earlier one by an object that differs in what its sections hold alone, writes these
+/// sections over the earlier image. Answers whether it did: not where a relocation has a fault. Then the canvas is as it
+/// was, and nothing is counted.
+///
+/// # Errors
+///
+/// Where memory runs out. Then the canvas is as it was.
+pub(crate) fn retouched(
+    lent: Lent<'_, '_>,
+    canvas: &mut Canvas,
+    meter: &mut Meter,
+) -> Result<bool, NoMemory>
+    requires last { IfSome (last_of lent.last) (HasLast (project_of lent) canvas.old.bytes) }
+    ensures done { IfOk result (HasTouched (project_of lent.entry) (last_of lent.entry.last) canvas.old.bytes
+        canvas.new.bytes meter.old meter.new) }
+    ensures unchanged { OnErr result (canvas.new.bytes ≡ canvas.old.bytes) }
+{
+    let Some(last) = lent.last else {
+        return Ok(false);
+    };
+    let Some(replaced) = find_replaced(&last, lent.project) else {
+        return Ok(false);
+    };
+    let mut counted = Meter::new();
+    let done = touched(lent, &last, &replaced, canvas, &mut counted)?;
+    if done {
+        meter.raise(Count::Fields, counted.fields());
+        meter.raise(Count::Bytes, counted.bytes());
+    }
+    Ok(done)
+}
