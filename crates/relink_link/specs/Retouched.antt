@@ -1,6 +1,6 @@
 -- A link whose project differs from that of an earlier one in what the input sections of one object hold.
 use Rattle.std.specs.Prelude.{◌≡◌, ◌<◌, ◌==◌, ℕ, Bool, true, false, List, Option, Some, None, length, map, slice_get}
-use Rattle.std.specs.Prelude.{if◌then◌else◌, slice_index_or, find, sum_by}
+use Rattle.std.specs.Prelude.{[], Ok, find, if◌then◌else◌, slice_index_or, sum_by}
 use Rattle.std.specs.Option.{option_map_or}
 use Rattle.elfobj.specs.Profile.{size_in_file}
 use Rattle.elfobj.specs.Sections.{LinkedSection}
@@ -8,10 +8,13 @@ use Rattle.ldmodel.specs.Image.{image}
 use Rattle.ldmodel.specs.Layout.{Layout}
 use Rattle.ldmodel.specs.Link as model
 use Rattle.ldmodel.specs.MapText.{map_text}
+use Rattle.ldmodel.specs.Names.{decision, provided}
 use Rattle.ldmodel.specs.Project.{NamedObject, Project}
+use Rattle.ldmodel.specs.Relocations.{relocation_faults}
+use Rattle.ldmodel.specs.Rows.{rows}
 use Rattle.ldmodel.specs.Stayed.{GoodLink, LinkedPiece, link_pieces}
 use Rattle.ldmodel.specs.declared.sections.Part.TheVariants.{InTable}
-use Rattle.ldmodel_laws.specs.Outline.{IsRetouched, section_outline}
+use Rattle.ldmodel_laws.specs.Outline.{HasSameFrame, IsRetouched, section_outline}
 use Rattle.ldmodel_laws.specs.StayedSites.{is_linked_part}
 use Rattle.relink_link.specs.Stays.{IsLastOf, LastState, ReplacedState}
 use Rattle.relink_link.specs.Table.{IsTable}
@@ -33,6 +36,17 @@ pub record IsFollowed (x : LastState) (p : Project) (r : ReplacedState) : Type 0
   pub at : slice_get p.objects r.new.0 ≡ Some after
   pub symbols : r.object.symbols ≡ after.object.symbols
   pub sections : map section_outline r.object.sections ≡ map section_outline after.object.sections
+
+-- what the laws on outlines say of two projects, at the layout of the first
+pub record IsKeptLink (p q : Project) (s : Layout) : Type 0 where
+  pub decided : (name : List ℕ) → decision p name ≡ decision q name
+  pub provided : provided p ≡ provided q
+  pub rows : rows p ≡ rows q
+  pub layout : model.layout p ≡ model.layout q
+  pub frame : HasSameFrame p q s
+  pub map : map_text p s ≡ map_text q s
+  pub link : model.layout p ≡ Ok s → (model.link p).status ≡ 0 → relocation_faults q s ≡ []
+      → model.link q ≡ model.good q s
 
 -- the earlier link is the one that is answered, and what is kept of it is right for the new one, which has no faults, the
 -- same map and this image

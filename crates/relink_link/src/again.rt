@@ -15,6 +15,7 @@ use crate::good::Good;
 use crate::lent::Lent;
 use crate::marks::marks_of;
 use crate::passes::{asserted, drawn, gathered, laid, named, relocated, valued};
+use crate::retouch::retouched;
 use crate::stays::{Last, Stays};
 use crate::stop::Stop;
 use crate::symbol_table::symbol_values;
@@ -89,9 +90,13 @@ fn relinked(lent: Lent<'_, '_>, canvas: &mut Canvas, meter: &mut Meter) -> Resul
 /// image the canvas holds. Where the project has no faults, the canvas then holds its image: of what stayed, only the
 /// fields are written whose symbols have other values. Where it has faults, the canvas is as it was.
 ///
-/// The layout of the earlier link is resumed where its script was the same. Where the project has no faults, exactly
-/// this is counted: the input sections that are placed from the first row on that differs, the fields outside of what
-/// stayed and those in it whose symbols have other values, and the bytes of both.
+/// Where an object came that differs from the one in its place in what its sections hold alone, and the earlier link is
+/// answered, nothing is made anew but these sections of the image. Else the layout of the earlier link is resumed where
+/// its script was the same.
+///
+/// Where the project has no faults, exactly this is counted: the input sections that are placed from the first row on
+/// that differs, the fields outside of what stayed and those in it whose symbols have other values, and the bytes that
+/// are written.
 ///
 /// # Errors
 ///
@@ -120,6 +125,9 @@ pub fn relink(
         matches,
         last,
     };
+    if retouched(lent, canvas, meter)? {
+        return Ok(Ended::Retouched);
+    }
     match relinked(lent, canvas, meter) {
         Ok(ended) => Ok(ended),
         Err(Stop::Faulty(lines)) => Ok(Ended::Faulty(lines)),

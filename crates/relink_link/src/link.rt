@@ -34,6 +34,8 @@ pub(crate) fn link(
     match relink(alloc, project, &naming, &lent, None, &mut image, meter) {
         Ok(Ended::Good(_kept, map)) => Ok(Output::good(alloc, image, map)),
         Ok(Ended::Faulty(lines)) => Ok(Output::faulty(alloc, lines)),
+        // there is no earlier link
+        Ok(Ended::Retouched) => unreachable!(),
         Err(_) => Err(AllocError),
     }
 }

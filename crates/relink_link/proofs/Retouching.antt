@@ -1,0 +1,214 @@
+-- A link whose project differs from that of an earlier one in what the input sections of one object hold: what is kept of
+-- the earlier link is right for it.
+use Rattle.std.proofs.Common.{◌≡◌, ◌∙◌, ◌⊎◌, inl, inr, ◌<◌, ◌≤◌, ℕ, ◌==◌, Bool, true, false, cond, List, [], Option, Some}
+use Rattle.std.proofs.Common.{None, ap, arith, length, map, refl, slice_get, subst, sym}
+use Rattle.std.specs.List.{Contains, list_any}
+use Rattle.std.specs.Option.{option_map, option_map_or}
+use Rattle.std.specs.Prelude.{IfSome, IsSome, Ok, position, slice_index_or}
+use Rattle.std.proofs.lemmas.Bool.{cases_lt, eq-eqb, eqb-false, eqb-true, ne_eqb}
+use Rattle.std.proofs.lemmas.List.{length-map, same_lists}
+use Rattle.std.proofs.lemmas.Option.{get_or_from_slice_get, same_Some, slice_get-get_or, slice_get-map, slice_get_past}
+use Rattle.elfobj.specs.Object.{ObjectData}
+use Rattle.elfobj.specs.Symbols.{NamedSymbol}
+use Rattle.ldmodel.specs.Each.{Each}
+use Rattle.ldmodel.specs.Edits.{AreNamesDistinct}
+use Rattle.ldmodel.specs.Layout.{Layout, PlacedPiece}
+use Rattle.ldmodel.specs.Link as model
+use Rattle.ldmodel.specs.MapText.{map_text}
+use Rattle.ldmodel.specs.Names.{decision, provided}
+use Rattle.ldmodel.specs.NameFaults.{object_name}
+use Rattle.ldmodel.specs.Options.{LinkOptions}
+use Rattle.ldmodel.specs.Placement.{placement}
+use Rattle.ldmodel.specs.Project.{NamedObject, Project}
+use Rattle.ldmodel.specs.Rows.{rows}
+use Rattle.ldmodel.specs.Rows as rows_of
+use Rattle.ldmodel.specs.SectionHeaders.{image_length}
+use Rattle.ldmodel.specs.Stayed.{GoodLink}
+use Rattle.ldmodel.specs.SymbolValues.{is_part, placed_part}
+use Rattle.ldmodel.specs.Targets.{referenced_value}
+use Rattle.ldmodel.specs.declared.sections.SectionKey.{SectionKey}
+use Rattle.ldmodel_laws.specs.Outline.{IsRetouched, ObjectOutline, SectionOutline, object_outline, section_outline}
+use Rattle.ldmodel_laws.specs.Untouched.{IsGood}
+use Rattle.ldscript.specs.statements.declared.statement.Statement.{Statement}
+use Rattle.emit.specs.Beside.{new_link}
+use Rattle.emit.specs.relocate.SymbolTable.{AreSymbolValues, value_at}
+use Rattle.emit.specs.relocate.Values.{value_of}
+use Rattle.emit.specs.relocate.declared.symbol_table.SymbolTable.{SymbolTable}
+use Rattle.gather.specs.sections.SectionTable.{IsTableOf, number_of}
+use Rattle.gather.specs.sections.declared.section_table.SectionTable.{SectionTable}
+use Rattle.place.specs.Arranged.{IsArranged, IsPartPlace}
+use Rattle.place.specs.InPlace.{AreInPlace, IsOwned, entries_of}
+use Rattle.place.specs.Laying.{IsLaying}
+use Rattle.place.specs.declared.arranged.Arranged.{Arranged}
+use Rattle.place.specs.declared.arranged.PartPlace.{PartPlace}
+use Rattle.place.specs.declared.laying.Laying.{Laying}
+use Rattle.place.specs.sections.Places.{AreOf, IsPlacement}
+use Rattle.relink_link.specs.Retouched.{IsFollowed, IsKeptLink, IsRetouchedEnd, origin_beside}
+use Rattle.relink_link.specs.Stays.{IsLastOf, IsReplaced, LastState, ReplacedState}
+use Rattle.relink_link.specs.Table.{IsTable}
+use Rattle.relink_link.specs.declared.good.Good.{Good}
+use Rattle.relink_link.proofs.Outlined.{input_before, outline_at, outlines_at, same_linked, same_names, same_owned}
+use Rattle.relink_link.proofs.Outlined.{same_rows_in}
+
+-- ---- the project follows the earlier one
+
+beside_other : (place i : ℕ) → (i ≡ place → ⊥) → origin_beside place i ≡ Some i
+beside_other place i other = ap (λ b. cond b None (Some i)) (ne_eqb i place other)
+
+pub beside_own : (place i : ℕ) → i ≡ place → origin_beside place i ≡ None
+beside_own place i same = ap (λ b. cond b None (Some i)) (eq-eqb i place same)
+
+-- lists that have the same at each place
+same_at : {X : Type 0} (xs ys : List X) → length xs ≡ length ys
+    → ((k : ℕ) → k < length xs → slice_get xs k ≡ slice_get ys k) → xs ≡ ys
+same_at xs ys long same =
+    same_lists xs ys long (λ k d within.
+    sym (get_or_from_slice_get ys k _ d (sym (same k within) ∙ slice_get-get_or xs k d within)))
+
+module _ (old : GoodLink) (p : Project) (x : LastState) (r : ReplacedState) (is : IsLastOf old p x)
+    (f : IsFollowed x p r) where
+  many : length old.project.objects ≡ length p.objects
+  many = sym is.objects ∙ f.objects
+
+  came : IsReplaced old.project p r
+  came = subst (λ (m : Option ReplacedState). IfSome m (IsReplaced old.project p)) f.replaced is.replaced
+
+  pub was : slice_get old.project.objects r.new.0 ≡ Some came.before
+  was = ap (slice_get old.project.objects) (sym f.place) ∙ came.old
+
+  after_is : came.after ≡ f.after
+  after_is = same_Some _ _ (sym came.new ∙ f.at)
+
+  outline_there : object_outline came.before ≡ object_outline f.after
+  outline_there =
+      let made : List ℕ → List NamedSymbol → List SectionOutline → ObjectOutline =
+      λ name symbols sections. record { name = name; symbols = symbols; sections = sections } in
+      ap (λ n. made n came.before.object.symbols (map section_outline came.before.object.sections))
+      (sym came.name ∙ ap (λ (o : NamedObject). o.name) after_is)
+      ∙ ap (λ (d : ObjectData). made f.after.name d.symbols (map section_outline d.sections)) came.object
+      ∙ ap (λ l. made f.after.name l (map section_outline r.object.sections)) f.symbols
+      ∙ ap (made f.after.name f.after.object.symbols) f.sections
+
+  others : (j : ℕ) → (j ≡ r.new.0 → ⊥) → slice_get old.project.objects j ≡ slice_get p.objects j
+  others j other = go (cases_lt j (length p.objects))
+    where
+      go : (j < length p.objects) ⊎ (length p.objects ≤ j)
+          → slice_get old.project.objects j ≡ slice_get p.objects j
+      go (inl within) =
+          sym (is.origins.same j j (f.origins j within ∙ beside_other r.new.0 j other))
+      go (inr past) =
+          slice_get_past old.project.objects j (omega (arith, past, many)) ∙ sym (slice_get_past p.objects j past)
+
+  same_outline : (j : ℕ) → outline_at old.project j ≡ outline_at p j
+  same_outline j = go (j == r.new.0) refl
+    where
+      go : (b : Bool) → (j == r.new.0) ≡ b → outline_at old.project j ≡ outline_at p j
+      go true e =
+          let here : j ≡ r.new.0 = eqb-true j r.new.0 e in
+          ap (λ k. outline_at old.project k) here ∙ ap (option_map object_outline) was ∙ ap Some outline_there
+          ∙ sym (ap (option_map object_outline) f.at) ∙ ap (λ k. outline_at p k) (sym here)
+      go false e = ap (option_map object_outline) (others j (eqb-false j r.new.0 e))
+
+  pub is_retouched : IsRetouched old.project p r.new.0
+  is_retouched = record {
+    script = is.script f.script;
+    options = is.options;
+    all_kept = ap (λ (o : LinkOptions). o.gc) is.options ∙ f.all_kept;
+    outlines = same_at (map object_outline old.project.objects) (map object_outline p.objects)
+        (length-map old.project.objects object_outline ∙ many ∙ sym (length-map p.objects object_outline))
+        (λ k within. slice_get-map object_outline old.project.objects k ∙ same_outline k
+        ∙ sym (slice_get-map object_outline p.objects k));
+    others = others;
+  }
+
+-- ---- what is kept of the earlier link is right
+
+module _ (p q : Project) (i : ℕ) (h : IsRetouched p q i) (s : Layout) (k : IsKeptLink p q s) where
+  same_table : (t : SectionTable) → IsTableOf p t → IsTableOf q t
+  same_table t is = record {
+    all = input_before p q i h k.decided (λ id. IsSome (number_of t id.object id.part)) is.all;
+    below = is.below;
+    apart = is.apart;
+    linked = λ n before e. is.linked n before e ∙ same_linked p q i h n;
+  }
+
+  same_laying : (l : Laying) → IsLaying p s l → IsLaying q s l
+  same_laying l is = record {
+    placed = sym (ap (λ t. placement t (rows p) (provided p)) h.script
+        ∙ ap (λ r. placement q.script r (provided p)) k.rows ∙ ap (placement q.script (rows q)) k.provided)
+        ∙ is.placed;
+    apart = is.apart;
+    layout = sym k.layout ∙ is.layout ∙ ap (λ n. model.of_length n s) k.frame.length;
+    places = subst (λ (t : List Statement). AreOf t s l.placement) h.script is.places;
+    kept = subst (λ (ns : List (List ℕ)). IsPlacement q.script (rows q) ns l.placement) k.provided
+        (subst (λ (r : List (List rows_of.Piece)). IsPlacement q.script r (provided p) l.placement) k.rows
+        (subst (λ (t : List Statement). IsPlacement t (rows p) (provided p) l.placement) h.script is.kept));
+    segments = is.segments;
+    offsets = is.offsets;
+    named = is.named;
+  }
+
+  same_place : (key : SectionKey) (m : Option PartPlace) → IsPartPlace p s key m → IsPartPlace q s key m
+  same_place key None is =
+      subst (λ n. placed_part s n key.part ≡ None) (same_names p q i h key.object.0) is
+  same_place key (Some x) is =
+      subst (λ n. (option_map (λ (y : PlacedPiece). y.start) (placed_part s n key.part) ≡ Some x.start)
+      × (position (λ (q : PlacedSection). list_any (is_part n key.part) q.pieces) s.sections ≡ Some x.section.0)
+      × (option_map (λ (y : PlacedPiece). y.piece.size) (placed_part s n key.part) ≡ Some x.size))
+      (same_names p q i h key.object.0) is
+
+  same_each : {X : Type 0} (P Q : X → Type 0) → ((x : X) → P x → Q x) → (xs : List X) → Each P xs → Each Q xs
+  same_each P Q f [] is = tt
+  same_each P Q f (x ∷ xs) is = (f x is.0, same_each P Q f xs is.1)
+
+  pub same_arranged : (t : Arranged) → IsArranged p s t → IsArranged q s t
+  same_arranged t is = record {
+    table = same_table t.table is.table;
+    rows = sym (same_rows_in p q i h t.rows.items) ∙ is.rows ∙ k.rows;
+    laying = same_laying t.laying is.laying;
+    places = λ key. same_place key _ (is.places key);
+    apart = record {
+      once = is.apart.once;
+      owned = same_each (IsOwned p) (IsOwned q) (same_owned p q i h) (entries_of s) is.apart.owned;
+      spread = is.apart.spread;
+    };
+  }
+
+  -- an object of the second project, and that of the first in its place
+  pub record Before (j : ℕ) (o : NamedObject) : Type 0 where
+    pub object : NamedObject
+    pub at : slice_get p.objects j ≡ Some object
+    pub outline : object_outline object ≡ object_outline o
+
+  pub before : (j : ℕ) (o : NamedObject) → slice_get q.objects j ≡ Some o → Before j o
+  before j o at = go (slice_get p.objects j) refl
+    where
+      outlines : outline_at p j ≡ Some (object_outline o)
+      outlines = outlines_at p q i h j ∙ ap (option_map object_outline) at
+
+      go : (m : Option NamedObject) → slice_get p.objects j ≡ m → Before j o
+      go None e =
+          let none : None ≡ Some (object_outline o) = sym (ap (option_map object_outline) e) ∙ outlines in
+          absurd (let never : ⊥ = cc in never)
+      go (Some a) e = record {
+        object = a;
+        at = e;
+        outline = same_Some _ _ (sym (ap (option_map object_outline) e) ∙ outlines);
+      }
+
+  pub same_symbols : (t : SymbolTable) → AreSymbolValues p s t → AreSymbolValues q s t
+  same_symbols t is j n o x at symbol =
+      let b = before j o at in
+      is j n b.object x b.at (ap (λ (v : ObjectOutline). slice_get v.symbols n) b.outline ∙ symbol)
+      ∙ k.frame.references j b.object o x b.at at
+
+  pub table_of : (g : Good) → IsTable (new_link p s) g → AreNamesDistinct q.objects → IsGood (new_link q s)
+      → model.link q ≡ model.good q s → IsTable (new_link q s) g
+  table_of g is names good link = record {
+    good = good;
+    names = names;
+    arranged = same_arranged g.arranged is.arranged;
+    symbols = same_symbols g.symbols is.symbols;
+    layout = sym k.layout ∙ is.layout;
+    link = link;
+  }

@@ -1,0 +1,282 @@
+-- Where the sections of an object stand in a link, as the tables of the link show it.
+use Rattle.std.proofs.Common.{◌≡◌, ◌∙◌, ◌⊎◌, inl, inr, ◌<◌, ◌≤◌, ℕ, zero, suc, ◌+◌, ◌^◌, Bool, true, List, [], ◌∷◌, ◌++◌, map}
+use Rattle.std.proofs.Common.{Option, Some, None, ap, arith, length, refl, slice_get, subst, sym, take}
+use Rattle.std.specs.List.{All, AllPairs, Contains}
+use Rattle.std.specs.Option.{option_and_then, option_map, option_map_or}
+use Rattle.std.specs.Prelude.{option_to_list, sum_by}
+use Rattle.std.proofs.lemmas.Bool.{cases_lt}
+use Rattle.std.proofs.lemmas.List.{length-map, take_all}
+use Rattle.std.proofs.lemmas.List.Elements.{All-cons, All-nil}
+use Rattle.std.proofs.lemmas.List.Kept.{AllPairs-cons}
+use Rattle.std.proofs.lemmas.List.Sums.{sum_by-append}
+use Rattle.std.proofs.lemmas.Option.{same_Some, slice_get-map, slice_get_within}
+use Rattle.elfobj.specs.Sections.{LinkedSection, section_of}
+use Rattle.elfobj.specs.declared.section.Section.{Section}
+use Rattle.ldmodel.specs.Each.{Each}
+use Rattle.ldmodel.specs.Layout.{Layout, PlacedPiece}
+use Rattle.ldmodel.specs.Link.{max_image_length}
+use Rattle.ldmodel.specs.NameFaults.{object_name}
+use Rattle.ldmodel.specs.Project.{NamedObject, Project}
+use Rattle.ldmodel.specs.SectionHeaders.{image_length}
+use Rattle.ldmodel.specs.Segments.{SectionInFile, file_offset, in_file, nonempty, segments}
+use Rattle.ldmodel.specs.Stayed.{LinkedPiece, linked_pieces}
+use Rattle.ldmodel.specs.SymbolValues.{is_part, placed_part, placed_pieces}
+use Rattle.ldmodel.specs.declared.names.ObjectPlace.{ObjectPlace}
+use Rattle.ldmodel.specs.declared.sections.Part.TheVariants.{InTable}
+use Rattle.ldmodel.specs.declared.sections.SectionKey.{SectionKey}
+use Rattle.ldmodel_laws.specs.FileOrder.{AreInFileOrder}
+use Rattle.ldmodel_laws.specs.Spread.{EachLater}
+use Rattle.emit.specs.relocate.Earlier.{range_of}
+use Rattle.emit.specs.retouch.Spots.{HasSpots, IsSpot}
+use Rattle.emit.specs.retouch.declared.spot.SectionSpot.{SectionSpot}
+use Rattle.place.specs.Arranged.{IsArranged}
+use Rattle.place.specs.declared.arranged.Arranged.{Arranged}
+use Rattle.place.proofs.Members.{both_of, each_join, find_in, here, in_back, in_front}
+use Rattle.std.proofs.lemmas.Slice.Eq.{bytes_eq-Decides}
+use Rattle.relink_link.specs.Spots.{key_of, spot_at, spot_of, spot_with, spots_below}
+use Rattle.relink_link.specs.Standing.{standing_in}
+use Rattle.relink_link.specs.declared.standing.Standing.{Standing}
+use Rattle.relink_link.proofs.Inside.{below_64}
+use Rattle.relink_link.proofs.Kept.{IsAt, Shows, same_part}
+use Rattle.relink_link.proofs.Once.{found, in_pieces}
+use Rattle.relink_link.proofs.Standings.{in_link, of_link, shows, stood}
+
+-- ---- lists that are made number by number
+
+each_later_pairs : {X : Type 0} (R : X → X → Type 0) (xs : List X) → EachLater R xs → AllPairs R xs
+each_later_pairs R [] h = λ i j d less within. absurd (omega (arith, within))
+each_later_pairs R (x ∷ xs) h =
+    AllPairs-cons R x xs (all_of_each (R x) xs h.0) (each_later_pairs R xs h.1)
+  where
+    all_of_each : {X : Type 0} (P : X → Type 0) (xs : List X) → Each P xs → All P xs
+    all_of_each P [] h = All-nil P
+    all_of_each P (x ∷ xs) h = All-cons P x xs h.0 (all_of_each P xs h.1)
+
+all_each : {X : Type 0} (P : X → Type 0) (xs : List X) → Each P xs → All P xs
+all_each P [] h = All-nil P
+all_each P (x ∷ xs) h = All-cons P x xs h.0 (all_each P xs h.1)
+
+imply_each : {X : Type 0} (P Q : X → Type 0) → ((x : X) → P x → Q x) → (xs : List X) → Each P xs → Each Q xs
+imply_each P Q f [] h = tt
+imply_each P Q f (x ∷ xs) h = (f x h.0, imply_each P Q f xs h.1)
+
+later_back : {X : Type 0} (R : X → X → Type 0) (xs : List X) (m : Option X) → EachLater R xs
+    → ((y : X) → m ≡ Some y → Each (λ x. R x y) xs) → EachLater R (xs ++ option_to_list m)
+later_back R [] None h k = tt
+later_back R [] (Some y) h k = (tt, tt)
+later_back R (x ∷ xs) None h k =
+    (each_join (R x) xs [] h.0 tt, later_back R xs None h.1 (λ y e. (k y e).1))
+later_back R (x ∷ xs) (Some y) h k =
+    (each_join (R x) xs (y ∷ []) h.0 ((k y refl).0, tt), later_back R xs (Some y) h.1 (λ z e. (k z e).1))
+
+module _ {T : Type 0} (f : ℕ → Option T) (index : T → ℕ) (own : (n : ℕ) (x : T) → f n ≡ Some x → index x ≡ n) where
+  made : ℕ → List T
+  made zero = []
+  made (suc n) = made n ++ option_to_list (f n)
+
+  each_made : (P : T → Type 0) → ((n : ℕ) (x : T) → f n ≡ Some x → P x) → (n : ℕ) → Each P (made n)
+  each_made P h zero = tt
+  each_made P h (suc n) = each_join P (made n) (option_to_list (f n)) (each_made P h n) (go (f n) refl)
+    where
+      go : (m : Option T) → f n ≡ m → Each P (option_to_list m)
+      go None e = tt
+      go (Some x) e = (h n x e, tt)
+
+  before : (n : ℕ) → Each (λ x. index x < n) (made n)
+  before zero = tt
+  before (suc n) =
+      each_join (λ x. index x < suc n) (made n) (option_to_list (f n))
+      (imply_each (λ x. index x < n) (λ x. index x < suc n) (λ x less. omega (arith, less)) (made n) (before n))
+      (go (f n) refl)
+    where
+      go : (m : Option T) → f n ≡ m → Each (λ x. index x < suc n) (option_to_list m)
+      go None e = tt
+      go (Some x) e = (let same = own n x e in omega (arith, same), tt)
+
+  ascending : (n : ℕ) → EachLater (λ x y. index x < index y) (made n)
+  ascending zero = tt
+  ascending (suc n) =
+      later_back (λ x y. index x < index y) (made n) (f n) (ascending n) (λ y e.
+      imply_each (λ x. index x < n) (λ x. index x < index y) (λ x less. (let same = own n y e in omega (arith, less, same)))
+      (made n) (before n))
+
+  has_made : (n k : ℕ) (x : T) → k < n → f k ≡ Some x → Contains (made n) x
+  has_made zero k x less e = absurd (omega (arith, less))
+  has_made (suc n) k x less e = go (cases_lt k n)
+    where
+      go : (k < n) ⊎ (n ≤ k) → Contains (made (suc n)) x
+      go (inl earlier) = in_front (made n) (option_to_list (f n)) x (has_made n k x earlier e)
+      go (inr last) =
+          let same : n ≡ k = omega (arith, less, last) in
+          in_back (made n) (option_to_list (f n)) x
+          (subst (λ m. Contains (option_to_list m) x) (sym (ap f same ∙ e)) (here x []))
+
+  -- sums over them
+  sum_made : {Z : Type 0} (g : T → ℕ) (h : Z → ℕ) (zs : List Z)
+      → ((k : ℕ) (z : Z) → slice_get zs k ≡ Some z → sum_by g (option_to_list (f k)) ≡ h z)
+      → (n : ℕ) → n ≤ length zs → sum_by g (made n) ≡ sum_by h (take n zs)
+  sum_made g h zs one zero within = refl
+  sum_made {Z} g h zs one (suc n) within =
+      let z = there zs n (omega (arith, within)) in
+      sum_by-append g (made n) (option_to_list (f n))
+      ∙ ap (λ a. a + sum_by g (option_to_list (f n))) (sum_made g h zs one n (omega (arith, within)))
+      ∙ ap (λ a. sum_by h (take n zs) + a) (one n z.0 z.1 ∙ one_more (h z.0))
+      ∙ sym (sum_by-append h (take n zs) (z.0 ∷ []))
+      ∙ ap (sum_by h) (sym (take_more zs n z.0 z.1))
+    where
+      there : (xs : List Z) (k : ℕ) → k < length xs → (x : Z) × (slice_get xs k ≡ Some x)
+      there [] k less = absurd (omega (arith, less))
+      there (x ∷ xs) zero less = (x, refl)
+      there (x ∷ xs) (suc k) less = there xs k (omega (arith, less))
+
+      take_more : (xs : List Z) (k : ℕ) (x : Z) → slice_get xs k ≡ Some x → take (suc k) xs ≡ take k xs ++ x ∷ []
+      take_more [] k x e = absurd (let none : ⊥ = cc in none)
+      take_more (y ∷ ys) zero x e = ap (λ z. z ∷ []) (same_Some _ _ e)
+      take_more (y ∷ ys) (suc k) x e = ap (λ l. y ∷ l) (take_more ys k x e)
+
+      one_more : (a : ℕ) → a ≡ a + 0
+      one_more a = omega arith
+
+-- ---- the sections of an object
+
+module _ (p : Project) (s : Layout) (t : Arranged) (arranged : IsArranged p s t) (place : ObjectPlace) (o : NamedObject)
+    (at : slice_get p.objects place.0 ≡ Some o) where
+  name_is : object_name p place.0 ≡ o.name
+  name_is = ap (λ m. option_map_or (λ (o : NamedObject). o.name) m []) at
+
+  abbrev key : LinkedSection → SectionKey
+  key x = key_of place (section_of x)
+
+  abbrev listed : List Section
+  listed = map section_of o.object.sections
+
+  abbrev found_spot : ℕ → Option SectionSpot
+  found_spot n = option_and_then (spot_at t place n) (slice_get listed n)
+
+  abbrev spot_number : SectionSpot → ℕ
+  spot_number y = y.index.0
+
+  -- the section that a spot is of
+  record Of (n : ℕ) (y : SectionSpot) : Type 0 where
+    section : LinkedSection
+    there : slice_get o.object.sections n ≡ Some section
+    standing : Standing
+    stands : standing_in t (key section) ≡ Some standing
+    is : spot_with n standing ≡ y
+
+  of : (n : ℕ) (y : SectionSpot) → found_spot n ≡ Some y → Of n y
+  of n y e = go (slice_get o.object.sections n) refl
+    where
+      go : (m : Option LinkedSection) → slice_get o.object.sections n ≡ m → Of n y
+      go None f =
+          let none : None ≡ Some y =
+          sym (ap (option_and_then (spot_at t place n))
+          (slice_get-map section_of o.object.sections n ∙ ap (option_map section_of) f)) ∙ e in
+          absurd (let never : ⊥ = cc in never)
+      go (Some x) f = at_key (standing_in t (key x)) refl
+          (sym (ap (option_and_then (spot_at t place n))
+          (slice_get-map section_of o.object.sections n ∙ ap (option_map section_of) f)) ∙ e)
+        where
+          at_key : (m : Option Standing) → standing_in t (key x) ≡ m → option_map (spot_with n) (standing_in t (key x)) ≡ Some y
+              → Of n y
+          at_key None g h =
+              let none : None ≡ Some y = sym (ap (option_map (spot_with n)) g) ∙ h in
+              absurd (let never : ⊥ = cc in never)
+          at_key (Some a) g h = record {
+            section = x;
+            there = f;
+            standing = a;
+            stands = g;
+            is = same_Some _ _ (sym (ap (option_map (spot_with n)) g) ∙ h);
+          }
+
+  own_number : (n : ℕ) (y : SectionSpot) → found_spot n ≡ Some y → spot_number y ≡ n
+  own_number n y e = sym (ap spot_number (of n y e).is)
+
+  -- where it stands
+  standing_is : (x : LinkedSection) (a : Standing) → standing_in t (key x) ≡ Some a → (v : LinkedPiece)
+      → Contains (linked_pieces p s) v → v.object ≡ o.name → v.part ≡ InTable x.number → IsAt v a
+  standing_is x a e v c object part =
+      let there = in_link p s v c in
+      subst (λ w. IsAt w a) there.is
+      ((shows p s t arranged (key x) there.number there.section there.piece there.at there.among
+      (name_is ∙ sym object ∙ sym (ap (λ (w : LinkedPiece). w.object) there.is))
+      (sym part ∙ sym (ap (λ (w : LinkedPiece). w.part) there.is))).is a e)
+
+  is_spot : (n : ℕ) (y : SectionSpot) → found_spot n ≡ Some y → IsSpot p s o y
+  is_spot n y e =
+      let k = of n y e in
+      let w = stood p s t arranged (key k.section) k.standing k.stands in
+      subst (IsSpot p s o) k.is (record {
+        section = k.section;
+        piece = w.piece;
+        section_is = k.there;
+        placed = ap (λ m. placed_part s m (InTable k.section.number)) (sym name_is ∙ w.object)
+            ∙ ap (λ m. placed_part s w.piece.piece.object m) w.part
+            ∙ found s arranged.apart.once w.number w.section w.piece w.at w.among;
+        stands = λ v c object part.
+            let is = standing_is k.section k.standing k.stands v c object part in
+            (sym is.start, sym is.range);
+      })
+
+  module _ (short : image_length p s ≤ max_image_length) (order : AreInFileOrder (segments s.sections))
+      (all : map (λ (v : SectionInFile). v.section) (in_file (segments s.sections)) ≡ nonempty s.sections)
+      (offset_is : (v : SectionInFile) → Contains (in_file (segments s.sections)) v
+      → file_offset (segments s.sections) v.section ≡ v.offset) where
+    -- a section in the output stands somewhere by the tables
+    has_standing : (x : LinkedSection) (y : PlacedPiece) → placed_part s o.name (InTable x.number) ≡ Some y
+        → (a : Standing) × (standing_in t (key x) ≡ Some a)
+    has_standing x y e =
+        let in_it = find_in (is_part o.name (InTable x.number)) (placed_pieces s) y e in
+        let both = both_of _ _ in_it.1 in
+        let k = in_pieces s.sections y in_it.0 in
+        (shows p s t arranged (key x) k.number k.section y k.at k.among
+        (name_is ∙ sym ((bytes_eq-Decides y.piece.object o.name).0 both.0))
+        (sym (same_part y.piece.part (InTable x.number) both.1))).some
+        (below_64 p s arranged.apart.spread arranged.laying.named order all offset_is k.number k.section y k.at k.among short)
+
+    spot_there : (j : ℕ) (x : LinkedSection) (y : PlacedPiece) → slice_get o.object.sections j ≡ Some x
+        → placed_part s o.name (InTable x.number) ≡ Some y → (u : SectionSpot) × (found_spot j ≡ Some u)
+    spot_there j x y e placed =
+        let a = has_standing x y placed in (
+          spot_with j a.0,
+          ap (option_and_then (spot_at t place j))
+              (slice_get-map section_of o.object.sections j ∙ ap (option_map section_of) e)
+              ∙ ap (option_map (spot_with j)) a.1,
+        )
+
+    abbrev spots : ℕ → List SectionSpot
+    spots = made found_spot spot_number own_number
+
+    spots_are : (n : ℕ) → spots_below t place listed n ≡ spots n
+    spots_are zero = refl
+    spots_are (suc n) = ap (λ l. l ++ spot_of t place n (slice_get listed n)) (spots_are n)
+
+    many : length listed ≡ length o.object.sections
+    many = length-map o.object.sections section_of
+
+    pub has_spots : HasSpots p s o (spots_below t place listed (length listed))
+    has_spots = subst (HasSpots p s o) (sym (spots_are (length listed))) (record {
+      each = all_each (IsSpot p s o) (spots (length listed))
+          (each_made found_spot spot_number own_number (IsSpot p s o) is_spot (length listed));
+      ascending = each_later_pairs (λ (a b : SectionSpot). a.index.0 < b.index.0) (spots (length listed))
+          (ascending found_spot spot_number own_number (length listed));
+      all = λ j x y e placed.
+          let u = spot_there j x y e placed in (
+            u.0,
+            has_made found_spot spot_number own_number (length listed) j u.0
+                (let within = slice_get_within o.object.sections j x e in omega (arith, within, many)) u.1,
+            own_number j u.0 u.1,
+          );
+    })
+
+    -- a sum over them is one over the sections
+    pub sum_spots : (g : SectionSpot → ℕ) (h : LinkedSection → ℕ)
+        → ((k : ℕ) (x : LinkedSection) → slice_get o.object.sections k ≡ Some x
+        → sum_by g (option_to_list (found_spot k)) ≡ h x)
+        → sum_by g (spots_below t place listed (length listed)) ≡ sum_by h o.object.sections
+    sum_spots g h one =
+        ap (sum_by g) (spots_are (length listed))
+        ∙ ap (λ n. sum_by g (spots n)) many
+        ∙ sum_made found_spot spot_number own_number g h o.object.sections one (length o.object.sections) (omega arith)
+        ∙ ap (sum_by h) (take_all (length o.object.sections) o.object.sections (omega arith))
