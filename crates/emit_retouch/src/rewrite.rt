@@ -13,7 +13,7 @@ ghost use Rattle.emit_retouch.specs.Retouches.{IsRetouch};
 ghost use Rattle.emit_retouch.specs.Spots.{HasSpots, bytes_of, sites_of};
 
 use crate::law::{retouched_faults, retouched_image};
-use crate::plan::plan;
+use crate::plan::{commit, plan};
 use crate::spot::SectionSpot;
 use elfobj::Object;
 use emit_fields::canvas::Canvas;
@@ -68,7 +68,7 @@ pub fn retouch(
     match plan(alloc, canvas.len(), key, object, values, spots, meter)? {
         None => Ok(false),
         Some(plan) => {
-            plan.commit(canvas, meter);
+            commit(canvas, &plan, meter);
             Ok(true)
         }
     }
