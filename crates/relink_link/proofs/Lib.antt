@@ -8,6 +8,12 @@ mod Unmarked
 mod FoundSections
 mod SameRows
 mod Resumed
+mod Outlined
+mod Outlines
+mod TouchedSites
+mod Spots
+mod Retouching
+mod Touching
 pub mod Beside
 pub mod Placing
 pub mod Reading

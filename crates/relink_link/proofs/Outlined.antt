@@ -1,9 +1,9 @@
 -- Two projects of which one object differs in what its sections hold alone: what tables of a link say of them is the same.
 use Rattle.std.proofs.Common.{◌≡◌, ◌∙◌, ◌⊎◌, ℕ, zero, suc, ◌+◌, ◌==◌, Bool, true, false, cond, List, [], ◌∷◌, ◌++◌, map}
 use Rattle.std.proofs.Common.{flat_map, find, Option, Some, None, ap, arith, length, refl, slice_get, subst, sym, take}
-use Rattle.std.specs.List.{Contains, enumerate_from, filter_map}
+use Rattle.std.specs.List.{Contains, cons_option, enumerate_from, filter_map}
 use Rattle.std.specs.Option.{option_and_then, option_map, option_map_or}
-use Rattle.std.specs.Prelude.{IsSome, cons_option, sum_by}
+use Rattle.std.specs.Prelude.{IsSome, sum_by}
 use Rattle.std.specs.Vec.{vec_items}
 use Rattle.std.specs.Global.{Global, Vec}
 use Rattle.std.proofs.lemmas.List.{length-map, map-append, take-map}
@@ -47,7 +47,7 @@ same_filter_map f g h (x ∷ xs) =
 
 -- ---- an object, by its outline
 
-pub abbrev outline_at : Project → ℕ → Option ObjectOutline
+abbrev pub outline_at : Project → ℕ → Option ObjectOutline
 outline_at p i = option_map object_outline (slice_get p.objects i)
 
 -- the sections of a number
@@ -55,14 +55,16 @@ outlined : (k : SectionIndex) (xs : List LinkedSection)
     → option_map section_outline (find (λ (x : LinkedSection). x.number.0 == k.0) xs)
     ≡ find (λ (x : SectionOutline). x.number.0 == k.0) (map section_outline xs)
 outlined k [] = refl
-outlined k (x ∷ xs) = go (x.number.0 == k.0)
+outlined k (x ∷ xs) = go (x.number.0 == k.0) (outlined k xs)
   where
     go : (b : Bool)
+        → option_map section_outline (find (λ (y : LinkedSection). y.number.0 == k.0) xs)
+        ≡ find (λ (y : SectionOutline). y.number.0 == k.0) (map section_outline xs)
         → option_map section_outline (cond b (Some x) (find (λ (y : LinkedSection). y.number.0 == k.0) xs))
         ≡ cond b (Some (section_outline x))
         (find (λ (y : SectionOutline). y.number.0 == k.0) (map section_outline xs))
-    go true = refl
-    go false = outlined k xs
+    go true rest = refl
+    go false rest = rest
 
 abbrev name_in : List SectionOutline → SectionIndex → List ℕ
 name_in xs k = option_map_or (λ (x : SectionOutline). x.name) (find (λ (x : SectionOutline). x.number.0 == k.0) xs) []
@@ -124,7 +126,7 @@ ids_of d n o = map (id_in n) o.sections ++ map (λ (s : InputSection). s.id) (bl
 
 abbrev ids_from : (List ℕ → Decision) → ℕ → List ObjectOutline → List SectionId
 ids_from d n [] = []
-ids_from d n (o ∷ os) = ids_of d n o ++ ids_from d (suc n) os
+ids_from d n (o ∷ os) = ids_of d n o ++ ids_from d (n + 1) os
 
 of_object : (p : Project) (n : ℕ) (o : NamedObject)
     → map (λ (s : InputSection). s.id) (object_inputs p n o) ≡ ids_of (decision p) n (object_outline o)
@@ -141,19 +143,19 @@ of_objects : (p : Project) (n : ℕ) (os : List NamedObject)
 of_objects p n [] = refl
 of_objects p n (o ∷ os) =
     map-append (λ (s : InputSection). s.id) (object_inputs p n o)
-    (flat_map (λ (o : ℕ × NamedObject). object_inputs p o.0 o.1) (enumerate_from (suc n) os))
+    (flat_map (λ (o : ℕ × NamedObject). object_inputs p o.0 o.1) (enumerate_from (n + 1) os))
     ∙ ap (λ l. l ++ map (λ (s : InputSection). s.id)
-    (flat_map (λ (o : ℕ × NamedObject). object_inputs p o.0 o.1) (enumerate_from (suc n) os))) (of_object p n o)
-    ∙ ap (λ l. ids_of (decision p) n (object_outline o) ++ l) (of_objects p (suc n) os)
+    (flat_map (λ (o : ℕ × NamedObject). object_inputs p o.0 o.1) (enumerate_from (n + 1) os))) (of_object p n o)
+    ∙ ap (λ l. ids_of (decision p) n (object_outline o) ++ l) (of_objects p (n + 1) os)
 
 same_ids : (d e : List ℕ → Decision) → ((name : List ℕ) → d name ≡ e name) → (n : ℕ) (os : List ObjectOutline)
     → ids_from d n os ≡ ids_from e n os
 same_ids d e h n [] = refl
 same_ids d e h n (o ∷ os) =
-    ap (λ l. (map (id_in n) o.sections ++ map (λ (s : InputSection). s.id) l) ++ ids_from d (suc n) os)
+    ap (λ l. (map (id_in n) o.sections ++ map (λ (s : InputSection). s.id) l) ++ ids_from d (n + 1) os)
     (same_filter_map _ _ (λ s. ap (block_of o.name (record { object = n; symbol = s.0 })) (h s.1.name))
     (enumerate_from 0 o.symbols))
-    ∙ ap (λ l. ids_of e n o ++ l) (same_ids d e h (suc n) os)
+    ∙ ap (λ l. ids_of e n o ++ l) (same_ids d e h (n + 1) os)
 
 -- ---- two projects
 

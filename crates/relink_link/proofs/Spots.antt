@@ -1,5 +1,5 @@
 -- Where the sections of an object stand in a link, as the tables of the link show it.
-use Rattle.std.proofs.Common.{◌≡◌, ◌∙◌, ◌⊎◌, inl, inr, ◌<◌, ◌≤◌, ℕ, zero, suc, ◌+◌, ◌^◌, Bool, true, List, [], ◌∷◌, ◌++◌, map}
+use Rattle.std.proofs.Common.{◌≡◌, ◌∙◌, ◌⊎◌, inl, inr, ◌<◌, ◌≤◌, ℕ, zero, suc, ◌+◌, ◌^◌, Bool, true, List, [], ◌∷◌, ◌++◌, bytes_eq, find, map}
 use Rattle.std.proofs.Common.{Option, Some, None, ap, arith, length, refl, slice_get, subst, sym, take}
 use Rattle.std.specs.List.{All, AllPairs, Contains}
 use Rattle.std.specs.Option.{option_and_then, option_map, option_map_or}
@@ -8,8 +8,9 @@ use Rattle.std.proofs.lemmas.Bool.{cases_lt}
 use Rattle.std.proofs.lemmas.List.{length-map, take_all}
 use Rattle.std.proofs.lemmas.List.Elements.{All-cons, All-nil}
 use Rattle.std.proofs.lemmas.List.Kept.{AllPairs-cons}
-use Rattle.std.proofs.lemmas.List.Sums.{sum_by-append}
+use Rattle.std.proofs.lemmas.List.Sums.{sum_by-append, sum_by-cons}
 use Rattle.std.proofs.lemmas.Option.{same_Some, slice_get-map, slice_get_within}
+use Rattle.elfobj.specs.Profile.{size_in_file}
 use Rattle.elfobj.specs.Sections.{LinkedSection, section_of}
 use Rattle.elfobj.specs.declared.section.Section.{Section}
 use Rattle.ldmodel.specs.Each.{Each}
@@ -19,6 +20,8 @@ use Rattle.ldmodel.specs.NameFaults.{object_name}
 use Rattle.ldmodel.specs.Project.{NamedObject, Project}
 use Rattle.ldmodel.specs.SectionHeaders.{image_length}
 use Rattle.ldmodel.specs.Segments.{SectionInFile, file_offset, in_file, nonempty, segments}
+use Rattle.ldmodel.specs.Sections.{is_same_part}
+use Rattle.ldmodel.specs.Stayed as model
 use Rattle.ldmodel.specs.Stayed.{LinkedPiece, linked_pieces}
 use Rattle.ldmodel.specs.SymbolValues.{is_part, placed_part, placed_pieces}
 use Rattle.ldmodel.specs.declared.names.ObjectPlace.{ObjectPlace}
@@ -26,20 +29,24 @@ use Rattle.ldmodel.specs.declared.sections.Part.TheVariants.{InTable}
 use Rattle.ldmodel.specs.declared.sections.SectionKey.{SectionKey}
 use Rattle.ldmodel_laws.specs.FileOrder.{AreInFileOrder}
 use Rattle.ldmodel_laws.specs.Spread.{EachLater}
+use Rattle.ldmodel_laws.specs.StayedSites.{is_linked_part}
 use Rattle.emit.specs.relocate.Earlier.{range_of}
-use Rattle.emit.specs.retouch.Spots.{HasSpots, IsSpot}
+use Rattle.emit.specs.Beside.{new_link}
+use Rattle.emit.specs.retouch.Spots.{HasSpots, IsSpot, bytes_of}
 use Rattle.emit.specs.retouch.declared.spot.SectionSpot.{SectionSpot}
 use Rattle.place.specs.Arranged.{IsArranged}
 use Rattle.place.specs.declared.arranged.Arranged.{Arranged}
-use Rattle.place.proofs.Members.{both_of, each_join, find_in, here, in_back, in_front}
+use Rattle.place.proofs.Members.{both_of, each_join, find_in, here, in_back, in_front, of_both}
 use Rattle.std.proofs.lemmas.Slice.Eq.{bytes_eq-Decides}
+use Rattle.relink_link.specs.Retouched.{bytes_of_object, own_bytes}
 use Rattle.relink_link.specs.Spots.{key_of, spot_at, spot_of, spot_with, spots_below}
 use Rattle.relink_link.specs.Standing.{standing_in}
 use Rattle.relink_link.specs.declared.standing.Standing.{Standing}
 use Rattle.relink_link.proofs.Inside.{below_64}
 use Rattle.relink_link.proofs.Kept.{IsAt, Shows, same_part}
-use Rattle.relink_link.proofs.Once.{found, in_pieces}
-use Rattle.relink_link.proofs.Standings.{in_link, of_link, shows, stood}
+use Rattle.relink_link.proofs.Once.{found, in_pieces, own_part}
+use Rattle.relink_link.proofs.Standings.{in_link, link_in, of_link, shows, stood}
+use Rattle.relink_link.proofs.TouchedSites.{find_got, found_some}
 
 -- ---- lists that are made number by number
 
@@ -280,3 +287,79 @@ module _ (p : Project) (s : Layout) (t : Arranged) (arranged : IsArranged p s t)
         ∙ ap (λ n. sum_by g (spots n)) many
         ∙ sum_made found_spot spot_number own_number g h o.object.sections one (length o.object.sections) (omega arith)
         ∙ ap (sum_by h) (take_all (length o.object.sections) o.object.sections (omega arith))
+
+    -- ---- their bytes
+
+    abbrev is_mine : LinkedSection → LinkedPiece → Bool
+    is_mine x v = is_linked_part o.name (InTable x.number) v
+
+    mine : (x : LinkedSection) (v : LinkedPiece) → is_mine x v ≡ true → (v.object ≡ o.name) × (v.part ≡ InTable x.number)
+    mine x v e =
+        let both = both_of (bytes_eq v.object o.name) (is_same_part v.part (InTable x.number)) e in
+        ((bytes_eq-Decides v.object o.name).0 both.0, same_part v.part (InTable x.number) both.1)
+
+    -- what stands nowhere by the tables is not in the output
+    not_linked : (x : LinkedSection) → standing_in t (key x) ≡ None → find (is_mine x) (linked_pieces p s) ≡ None
+    not_linked x e = go (find (is_mine x) (linked_pieces p s)) refl
+      where
+        go : (m : Option LinkedPiece) → find (is_mine x) (linked_pieces p s) ≡ m → m ≡ None
+        go None f = refl
+        go (Some v) f =
+            let there = find_got (is_mine x) (linked_pieces p s) v f in
+            let of = mine x v there.1 in
+            let k = in_link p s v there.0 in
+            let w = (shows p s t arranged (key x) k.number k.section k.piece k.at k.among
+            (name_is ∙ sym of.0 ∙ sym (ap (λ (w : LinkedPiece). w.object) k.is))
+            (sym of.1 ∙ sym (ap (λ (w : LinkedPiece). w.part) k.is))).some
+            (below_64 p s arranged.apart.spread arranged.laying.named order all offset_is k.number k.section k.piece k.at
+            k.among short) in
+            let none : None ≡ Some w.0 = sym e ∙ w.1 in
+            absurd (let never : ⊥ = cc in never)
+
+    -- what stands somewhere is
+    linked_there : (x : LinkedSection) (a : Standing) → standing_in t (key x) ≡ Some a
+        → (v : LinkedPiece) × (find (is_mine x) (linked_pieces p s) ≡ Some v)
+    linked_there x a e =
+        let w = stood p s t arranged (key x) a e in
+        let z : LinkedPiece = of_link p s w.section w.piece in
+        found_some (is_mine x) (linked_pieces p s) z (link_in p s w.number w.section w.piece w.at w.among)
+        (of_both (bytes_eq z.object o.name) (is_same_part z.part (InTable x.number))
+        ((bytes_eq-Decides z.object o.name).1 (sym w.object ∙ name_is))
+        (ap (λ m. is_same_part m (InTable x.number)) (sym w.part) ∙ own_part (InTable x.number)))
+
+    spot_bytes : (k : ℕ) (x : LinkedSection) → slice_get o.object.sections k ≡ Some x
+        → sum_by (bytes_of o.object) (option_to_list (found_spot k)) ≡ own_bytes (new_link p s) o.name x
+    spot_bytes k x at = go (standing_in t (key x)) refl
+      where
+        is : found_spot k ≡ option_map (spot_with k) (standing_in t (key x))
+        is = ap (option_and_then (spot_at t place k))
+            (slice_get-map section_of o.object.sections k ∙ ap (option_map section_of) at)
+
+        go : (m : Option Standing) → standing_in t (key x) ≡ m
+            → sum_by (bytes_of o.object) (option_to_list (found_spot k)) ≡ own_bytes (new_link p s) o.name x
+        go None e =
+            ap (λ m. sum_by (bytes_of o.object) (option_to_list m)) (is ∙ ap (option_map (spot_with k)) e)
+            ∙ sym (ap (λ m. option_map_or (λ (y : LinkedPiece). size_in_file x.kind y.range.length) m 0)
+            (not_linked x e))
+        go (Some a) e =
+            let v = linked_there x a e in
+            let there = find_got (is_mine x) (linked_pieces p s) v.0 v.1 in
+            let of = mine x v.0 there.1 in
+            let at_it = standing_is x a e v.0 there.0 of.0 of.1 in
+            let one = sum_by-cons (bytes_of o.object) (spot_with k a) [] in
+            let size : bytes_of o.object (spot_with k a) ≡ size_in_file x.kind a.range.length =
+            ap (λ m. option_map_or (λ (y : LinkedSection). size_in_file y.kind a.range.length) m 0) at in
+            ap (λ m. sum_by (bytes_of o.object) (option_to_list m)) (is ∙ ap (option_map (spot_with k)) e)
+            ∙ one ∙ add_none (bytes_of o.object (spot_with k a)) ∙ size
+            ∙ ap (λ (r : model.FileRange). size_in_file x.kind r.length) at_it.range
+            ∙ sym (ap (λ m. option_map_or (λ (y : LinkedPiece). size_in_file x.kind y.range.length) m 0) v.1)
+          where
+            add_none : (n : ℕ) → n + 0 ≡ n
+            add_none n = omega arith
+
+    pub spots_bytes : sum_by (bytes_of o.object) (spots_below t place listed (length listed))
+        ≡ bytes_of_object (new_link p s) place.0
+    spots_bytes =
+        sum_spots (bytes_of o.object) (own_bytes (new_link p s) o.name) spot_bytes
+        ∙ sym (ap (λ m. option_map_or (λ (n : NamedObject).
+        sum_by (own_bytes (new_link p s) n.name) n.object.sections) m 0) at)

@@ -13,6 +13,7 @@ use Rattle.ldmodel.specs.Project.{NamedObject, Project}
 use Rattle.ldmodel.specs.Relocations.{relocation_faults}
 use Rattle.ldmodel.specs.Rows.{rows}
 use Rattle.ldmodel.specs.Stayed.{GoodLink, LinkedPiece, link_pieces}
+use Rattle.ldmodel.specs.SymbolValues.{name_value}
 use Rattle.ldmodel.specs.declared.sections.Part.TheVariants.{InTable}
 use Rattle.ldmodel_laws.specs.Outline.{HasSameFrame, IsRetouched, section_outline}
 use Rattle.ldmodel_laws.specs.StayedSites.{is_linked_part}
@@ -41,6 +42,7 @@ pub record IsFollowed (x : LastState) (p : Project) (r : ReplacedState) : Type 0
 pub record IsKeptLink (p q : Project) (s : Layout) : Type 0 where
   pub decided : (name : List ℕ) → decision p name ≡ decision q name
   pub provided : provided p ≡ provided q
+  pub worth : (name : List ℕ) → name_value p s name ≡ name_value q s name
   pub rows : rows p ≡ rows q
   pub layout : model.layout p ≡ model.layout q
   pub frame : HasSameFrame p q s
