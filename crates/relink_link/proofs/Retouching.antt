@@ -76,8 +76,17 @@ module _ (old : GoodLink) (p : Project) (x : LastState) (r : ReplacedState) (is 
   pub was : slice_get old.project.objects r.new.0 ≡ Some came.before
   was = ap (slice_get old.project.objects) (sym f.place) ∙ came.old
 
+  abbrev pub came_before : NamedObject
+  came_before = came.before
+
+  pub came_is : came.before.object ≡ r.object
+  came_is = came.object
+
   after_is : came.after ≡ f.after
   after_is = same_Some _ _ (sym came.new ∙ f.at)
+
+  pub same_name_there : f.after.name ≡ came.before.name
+  same_name_there = sym (ap (λ (o : NamedObject). o.name) after_is) ∙ came.name
 
   outline_there : object_outline came.before ≡ object_outline f.after
   outline_there =

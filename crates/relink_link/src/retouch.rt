@@ -1,19 +1,19 @@
 //! Links whose project differs from that of an earlier one in what the input sections of one object hold.
 
-ghost use Rattle.std.specs.Prelude.{◌≡◌, ◌<◌, ℕ, IfOk, IfSome, List, None, OnErr, slice_index_or, true};
-ghost use Rattle.elfobj.specs.Counts.{Counts};
+ghost use Rattle.std.specs.Prelude.{◌≡◌, ◌<◌, ℕ, IfOk, IfSome, None, OnErr, Some, false, slice_index_or, true};
+ghost use Rattle.ldmodel.specs.Project.{Project};
 ghost use Rattle.ldmodel.specs.Stayed.{GoodLink};
 ghost use Rattle.ldmodel_laws.specs.Outline.{IsRetouched};
 ghost use Rattle.relink_link.specs.Ended.{HasLast};
 ghost use Rattle.relink_link.specs.Lent.{project_of};
-ghost use Rattle.relink_link.specs.Retouched.{HasTouched, IsFollowed, origin_beside};
-ghost use Rattle.relink_link.specs.Stays.{IsLastOf, last_of, last_state, replaced_state};
+ghost use Rattle.relink_link.specs.Retouched.{IsFollowed, IsKeptLink, IsRetouchedEnd, origin_beside};
+ghost use Rattle.relink_link.specs.Stays.{last_of, last_state, replaced_state};
+ghost use Rattle.relink_link.specs.Touched.{HasTouched, IsTouchedWork};
 
 use crate::lent::Lent;
 use crate::outline::same_outline;
 use crate::spots::spots_of;
 use crate::stays::{Last, Replaced};
-use elfobj::Object;
 use emit::Canvas;
 use emit::good::is_good;
 use emit::retouch::rewrite::retouch;
@@ -67,8 +67,26 @@ fn find_replaced<'a>(last: &Last<'a>, project: &ProjectView<'_>) -> Option<Repla
     }
 }
 
+/// What the laws on projects whose objects have the same outlines say of a link beside an earlier one. The call does
+/// nothing.
+fn outlines_decide()
+    ensures { (old : GoodLink) (p : Project) (i : ℕ) → IsRetouched old.project p i
+        → IsKeptLink old.project p old.layout }
+{
+    retouched_names();
+    retouched_rows();
+    retouched_values();
+    retouched_frame();
+    retouched_layout();
+    retouched_link();
+}
+
 /// Writes the input sections of an object over those of the one in whose place it came. Answers whether it did: not
 /// where a relocation has a fault. Then the canvas is as it was.
+///
+/// # Errors
+///
+/// Where memory runs out. Then the canvas is as it was.
 fn touched(
     lent: Lent<'_, '_>,
     last: &Last<'_>,
@@ -76,11 +94,29 @@ fn touched(
     canvas: &mut Canvas,
     meter: &mut Meter,
 ) -> Result<bool, NoMemory>
+    requires followed { IsFollowed (last_state last.now) (project_of lent) (replaced_state replaced.now) }
+    requires last { HasLast (project_of lent) canvas.old.bytes (last_state last.now) }
+    ensures link { IfOk result (λ done. done ≡ true
+        → IsRetouchedEnd (project_of lent.entry) (Some (last_state last.now)) canvas.new.bytes) }
+    ensures counted { IfOk result (λ done. done ≡ true → IsTouchedWork (project_of lent.entry) (last_state last.now)
+        replaced.now.new.0 meter.old meter.new) }
+    ensures refused { IfOk result (λ done. done ≡ false → canvas.new.bytes ≡ canvas.old.bytes) }
+    ensures unchanged { OnErr result (canvas.new.bytes ≡ canvas.old.bytes) }
 {
+    outlines_decide();
+    stayed_by_part();
+    stayed_in_image();
+    sections_in_file();
+    files_in_order();
+    nobits_are_bare(replaced.object);
+    are_numbered(lent.project);
+    // so that what a project says of its objects is known
+    let _inputs = lent.project.inputs();
+    let arranged = &last.good.arranged;
+    is_good(lent.project, &arranged.laying);
     let Some(object) = lent.project.object(replaced.new) else {
         return Ok(false);
     };
-    let arranged = &last.good.arranged;
     let spots = spots_of(lent.alloc, arranged, replaced.new, object)?;
     let values = last
         .good
@@ -120,6 +156,8 @@ pub(crate) fn retouched(
     let Some(replaced) = find_replaced(&last, lent.project) else {
         return Ok(false);
     };
+    // so that the ranges of the counts are known
+    let _counts = (meter.fields(), meter.bytes());
     let mut counted = Meter::new();
     let done = touched(lent, &last, &replaced, canvas, &mut counted)?;
     if done {
