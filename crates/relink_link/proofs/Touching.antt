@@ -1,5 +1,5 @@
 -- The sections of an object are written over those of the one in whose place it came.
-use Rattle.std.proofs.Common.{◌≡◌, ◌∙◌, ◌⊎◌, inl, inr, ◌<◌, ◌≤◌, ℕ, zero, suc, ◌+◌, ◌==◌, Bool, true, false, cond, List, []}
+use Rattle.std.proofs.Common.{◌≡◌, ◌∙◌, ◌⊎◌, inl, inr, ◌<◌, ◌≤◌, ℕ, zero, suc, ◌+◌, ◌^◌, ◌==◌, Bool, true, false, cond, List, []}
 use Rattle.std.proofs.Common.{◌∷◌, ◌++◌, map, filter, flat_map, Option, Some, None, ap, arith, drop, length, refl, slice_get}
 use Rattle.std.proofs.Common.{subst, sym, take}
 use Rattle.std.specs.List.{All, Contains, cons_option, filter_map}
@@ -11,7 +11,7 @@ use Rattle.std.proofs.lemmas.Bool.{ltb-false}
 use Rattle.std.proofs.lemmas.List.{get_or-drop, get_or-take, get_or_past, length-map, length-take}
 use Rattle.std.proofs.lemmas.List.Sums.{sum_by-cons}
 use Rattle.std.proofs.lemmas.Option.{same_Some, slice_get_within}
-use Rattle.elfobj.specs.Counts.{Counts}
+use Rattle.elfobj.specs.Counts.{Counts, capped}
 use Rattle.elfobj.specs.Object.{ObjectData}
 use Rattle.elfobj.specs.Raised.{raised}
 use Rattle.elfobj.specs.Sections.{LinkedSection, section_of}
@@ -30,8 +30,11 @@ use Rattle.ldmodel.specs.MapText.{map_text}
 use Rattle.ldmodel.specs.Project.{NamedObject, Project}
 use Rattle.ldmodel.specs.Relocations.{Site, entry_fault, relocation_faults, site_field, site_field_with, site_value, sites}
 use Rattle.ldmodel.specs.Relocations.{sites_of_section}
+use Rattle.ldmodel.specs.Rows.{rows}
+use Rattle.ldmodel.specs.Rows as rows_of
 use Rattle.ldmodel.specs.SectionHeaders.{image_length}
 use Rattle.ldmodel.specs.Segments.{SectionInFile, file_offset, in_file, nonempty, segments}
+use Rattle.ldmodel.specs.SessionWork.{entries_from, sites_to_evaluate}
 use Rattle.ldmodel.specs.Stayed.{GoodLink, LinkedPiece, has_stayed, link_pieces}
 use Rattle.ldmodel.specs.SymbolValues.{SymbolValue, Number, NotDefined, NotInOutput, entry_point}
 use Rattle.ldmodel.specs.SymbolValues as symbol
@@ -57,10 +60,12 @@ use Rattle.emit.specs.retouch.declared.spot.SectionSpot.{SectionSpot}
 use Rattle.place.specs.Arranged.{IsArranged}
 use Rattle.place.proofs.Members.{first_or_later, got, here, later, member_of, none_in_nil}
 use Rattle.ldmodel_laws.proofs.Finding.{flat_map_in}
-use Rattle.relink_link.specs.Retouched.{IsFollowed, IsKeptLink, IsRetouchedEnd, own_bytes}
+use Rattle.relink_link.specs.Reads.{ReadsNothing}
+use Rattle.relink_link.specs.Retouched.{IsFollowed, IsKeptLink, IsRetouchedEnd, bytes_of_object, own_bytes}
 use Rattle.relink_link.specs.Spots.{spots_below}
 use Rattle.relink_link.specs.Stays.{IsLastOf, LastState, ReplacedState}
-use Rattle.relink_link.specs.Touched.{IsTouchedCount}
+use Rattle.relink_link.specs.Touched.{IsTouchedCount, IsTouchedWork, no_counts}
+use Rattle.relink_link.specs.Worked.{IsLinkWork, IsWorkBeside}
 use Rattle.relink_link.proofs.Retouching.{beside_own, came_before, came_is, is_retouched, same_arranged, same_name_there}
 use Rattle.relink_link.proofs.Retouching.{same_symbols, table_of, was}
 use Rattle.relink_link.proofs.Spots.{has_spots, spots_bytes}
@@ -317,3 +322,57 @@ module _ (p : Project) (x : LastState) (r : ReplacedState) (f : IsFollowed x p r
             (member_of (λ (o : NamedObject). EachLater (λ (y z : LinkedSection). (y.number.0 == z.number.0) ≡ false)
             o.object.sections) p.objects b numbers (got p.objects place b f.at)) most);
       }
+
+  -- the work of such a link, counted apart and then added
+  capped_again : (n a : ℕ) → capped n (capped 0 a) ≡ capped n a
+  capped_again n a = omega arith
+
+  none_past : (xs : List (List rows_of.Piece)) → entries_from (length xs) xs ≡ 0
+  none_past [] = refl
+  none_past (y ∷ ys) = none_past ys
+
+  pub touched_work : (m0 m1 m2 : Counts) → m0.pieces < 2 ^ 64 → m2 ≡ raised (raised m0 Fields m1.fields) Bytes m1.bytes
+      → IsTouchedWork p x place no_counts m1 → IsWorkBeside p (Some x) m0 m2
+  touched_work m0 m1 m2 small added counted = λ old y t e is laid_at.
+      let same : x ≡ y = same_Some _ _ e in
+      work old y t (subst (IsLastOf old p) (sym same) is) laid_at same
+    where
+      work : (old : GoodLink) (y : LastState) (t : Layout) → IsLastOf old p x → model.layout p ≡ Ok t → x ≡ y
+          → IsLinkWork old (new_link p t) y m0 m2
+      work old y t is laid_at same =
+          let w = counted old t is laid_at in
+          let last = none_past (rows p) in
+          let rows_are = (kept old is).rows in
+          record {
+            first = length (rows p);
+            pieces = ap (λ (m : Counts). m.pieces) added
+                ∙ (let stay : m0.pieces ≡ capped m0.pieces (entries_from (length (rows p)) (rows p)) =
+                omega (arith, small, last) in stay);
+            same = λ k less. ap (λ rs. slice_index_or rs k []) rows_are;
+            changed = λ next n taken. omega (arith, last);
+            anew = λ other.
+                let never : true ≡ false = sym f.script ∙ ap (λ (z : LastState). z.same_script) same ∙ other in
+                absurd (let none : ⊥ = cc in none);
+            image = record {
+              relocations = ap (λ (m : Counts). m.fields) added
+                  ∙ ap (capped m0.fields) (ap (λ (m : Counts). m.fields) w.counted)
+                  ∙ capped_again m0.fields (sites_to_evaluate old (new_link p t));
+              written = bytes_of_object (new_link p t) place;
+              bytes = ap (λ (m : Counts). m.bytes) added
+                  ∙ ap (capped m0.bytes) (ap (λ (m : Counts). m.bytes) w.counted)
+                  ∙ capped_again m0.bytes (bytes_of_object (new_link p t) place);
+              few = w.few;
+              exactly = inr (record { place = place; retouched = retouched old is; is = refl });
+            };
+          }
+
+  -- and nothing but fields and bytes is counted
+  pub touched_reads : (m0 m1 m2 : Counts) → m0.fields < 2 ^ 64 → m0.bytes < 2 ^ 64
+      → m2 ≡ raised (raised m0 Fields m1.fields) Bytes m1.bytes → ReadsNothing m0 m2
+  touched_reads m0 m1 m2 small few e = record {
+    objects = ap (λ (m : Counts). m.objects) e;
+    names = ap (λ (m : Counts). m.names) e;
+    pieces = (let same = ap (λ (m : Counts). m.pieces) e in omega (arith, same));
+    fields = (let same = ap (λ (m : Counts). m.fields) e in omega (arith, same, small));
+    bytes = (let same = ap (λ (m : Counts). m.bytes) e in omega (arith, same, few));
+  }

@@ -1,7 +1,8 @@
 -- What a link over an earlier one counts.
-use Rattle.std.proofs.Common.{◌≡◌, ◌∙◌, ◌+◌, ◌-◌, ℕ, Bool, true, false, cond, List, [], ◌∷◌}
-use Rattle.std.proofs.Common.{ap, refl, subst, sym}
+use Rattle.std.proofs.Common.{◌≡◌, ◌∙◌, ◌≤◌, ℕ, Bool, true, false, cond, List, [], ◌∷◌}
+use Rattle.std.proofs.Common.{ap, arith, inl, refl, subst, sym}
 use Rattle.std.specs.Prelude.{IfSome, IsSome, Option, None, Some, Ok, Err, nat_lt}
+use Rattle.std.proofs.lemmas.Bool.{ltb-true}
 use Rattle.elfobj.specs.Counts.{Counts, capped}
 use Rattle.elfobj.specs.Raised.{raised}
 use Rattle.elfobj.specs.declared.meter.Count.TheVariants as counts
@@ -17,7 +18,6 @@ use Rattle.ldmodel.specs.Project.{Project}
 use Rattle.ldmodel.specs.SectionHeaders.{image_length}
 use Rattle.ldmodel.specs.SessionWork.{sites_to_evaluate}
 use Rattle.ldmodel.specs.Stayed.{GoodLink}
-use Rattle.ldmodel.specs.WorkBound.{bytes_stayed}
 use Rattle.emit.specs.Beside.{new_link}
 use Rattle.emit.specs.declared.relocated.Relocated.{Relocated}
 use Rattle.relink_link.specs.Counted.{AreDrawn, AreEvaluated, ArePlaced, CountsFields, IsImageCount, IsWritten}
@@ -30,10 +30,11 @@ image_count : (old new : GoodLink) (r : Relocated) (m0 m1 m2 : Counts) → Count
     → m2 ≡ raised m1 counts.Bytes (bytes_spent old new r) → IsImageCount old new m0 m2
 image_count old new r m0 m1 m2 h e = record {
   relocations = ap (λ (m : Counts). m.fields) e ∙ ap (λ (m : Counts). m.fields) h.counted;
-  patched = patch_bytes r.retargeted.items;
-  few = h.few;
+  written = bytes_spent old new r;
   bytes = ap (λ (m : Counts). m.bytes) e
       ∙ ap (λ (n : ℕ). capped n (bytes_spent old new r)) (ap (λ (m : Counts). m.bytes) h.counted);
+  few = omega (arith, h.few);
+  exactly = inl (record { patched = patch_bytes r.retargeted.items; few = h.few; is = refl });
 }
 
 within_length : (b : Bool) (fs : List Fault) (s t : Layout) → cond b (Err fs) (Ok t) ≡ Ok s → t ≡ s
@@ -44,6 +45,15 @@ within_length false fs s t h = cc
 own_layout : (p : Project) (s t : Layout) → layout p ≡ of_length (image_length p t) t → layout p ≡ Ok s → t ≡ s
 own_layout p s t is e =
     within_length (nat_lt max_image_length (image_length p t)) (ImageTooLong (image_length p t) ∷ []) s t (sym is ∙ e)
+
+-- the layout of an image that is not too long
+pub of_short : (p : Project) (s : Layout) → image_length p s ≤ max_image_length → of_length (image_length p s) s ≡ Ok s
+of_short p s short = go (nat_lt max_image_length (image_length p s)) refl
+  where
+    go : (b : Bool) → nat_lt max_image_length (image_length p s) ≡ b
+        → cond b (Err (ImageTooLong (image_length p s) ∷ [])) (Ok s) ≡ Ok s
+    go false e = refl
+    go true e = absurd (omega (arith, short, ltb-true max_image_length (image_length p s) e))
 
 some_last : (l : Option Last) (x : LastState) → last_of l ≡ Some x → IsSome l
 some_last None x e = absurd (let none : ⊥ = cc in none)
@@ -83,10 +93,10 @@ link_work p last m0 m1 m2 placed drawn old x s e is laid =
       image = record {
         relocations = image.relocations
             ∙ ap (λ (n : ℕ). capped n (sites_to_evaluate old new)) (ap (λ (m : Counts). m.fields) placed.counted);
-        patched = image.patched;
-        few = image.few;
+        written = image.written;
         bytes = image.bytes
-            ∙ ap (λ (n : ℕ). capped n (image.patched + (image_length p s - bytes_stayed old new)))
-            (ap (λ (m : Counts). m.bytes) placed.counted);
+            ∙ ap (λ (n : ℕ). capped n image.written) (ap (λ (m : Counts). m.bytes) placed.counted);
+        few = image.few;
+        exactly = image.exactly;
       };
     }

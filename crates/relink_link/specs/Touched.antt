@@ -21,6 +21,10 @@ pub record IsTouchedCount (old new : GoodLink) (place : ℕ) (before after : Cou
       after ≡ raised (raised before Fields (sites_to_evaluate old new)) Bytes (bytes_of_object new place)
   pub few : bytes_of_object new place ≤ bytes_to_write old new
 
+-- a meter that has counted nothing
+abbrev pub no_counts : Counts
+no_counts = record { objects = 0; names = 0; pieces = 0; fields = 0; bytes = 0 }
+
 -- so it is beside each link that the earlier one may be
 abbrev pub IsTouchedWork : Project → LastState → (place : ℕ) → Counts → Counts → Type 0
 IsTouchedWork p x place before after =

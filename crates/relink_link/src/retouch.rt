@@ -157,7 +157,7 @@ pub(crate) fn retouched(
         return Ok(false);
     };
     // so that the ranges of the counts are known
-    let _counts = (meter.fields(), meter.bytes());
+    let _counts = (meter.pieces(), meter.fields(), meter.bytes());
     let mut counted = Meter::new();
     let done = touched(lent, &last, &replaced, canvas, &mut counted)?;
     if done {

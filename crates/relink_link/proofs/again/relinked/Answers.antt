@@ -10,7 +10,7 @@ use Rattle.relink_link.specs.Lent.{project_of}
 use Rattle.relink_link.proofs.Beside.{has_old, one_placement}
 use Rattle.relink_link.proofs.Reading.{ends_reading, reads_ending, reads_then}
 use Rattle.relink_link.proofs.Stopping.{ends_well}
-use Rattle.relink_link.proofs.Working.{are_drawn, link_work}
+use Rattle.relink_link.proofs.Working.{are_drawn, link_work, of_short}
 use Rattle.relink_link.proofs.again.relinked.Goals as goal
 
 pub laid-requires-clause-last : goal.laid-requires-clause-last
@@ -79,6 +79,8 @@ returns-clause-ended c =
             (c.in_ok-symbols.ensures seen.layout valued.naming seen.view
             (subst (AreNameValues (known_link p seen.layout valued.naming)) (sym c.deref-2.ensures.value)
             valued.values.names));
+        layout = k.laying.layout ∙ of_short p s f.short.length;
+        link = all.rest;
       };
       image = same;
     }
