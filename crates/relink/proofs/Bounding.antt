@@ -26,7 +26,7 @@ use Rattle.ldmodel_project.specs.Next.{touched_key}
 use Rattle.ldmodel_project.specs.declared.staged.Staged.{Staged}
 use Rattle.ldscript.specs.statements.declared.statement.Statement.{Statement}
 use Rattle.relink_link.specs.Counted.{IsImageCount}
-use Rattle.relink_link.specs.Worked.{IsLinkWork}
+use Rattle.relink_link.specs.Worked.{IsLinkWork, IsWorkBeside}
 use Rattle.relink.specs.Answer.{is_good, shown}
 use Rattle.relink.specs.Last.{HasFollowed, IsCurrent, IsFrom, IsLast, lent, lent_with, origin_of}
 use Rattle.relink.specs.Work.{HasWorked, IsCounted, IsReadingWork, IsWholeWork, decided_by}
@@ -34,7 +34,7 @@ use Rattle.relink.specs.declared.answer.Answer.{Answer}
 use Rattle.relink.specs.declared.answer.Answer.TheVariants as answer
 use Rattle.relink.specs.declared.last.Effect.{Effect}
 use Rattle.relink.specs.declared.last.Followed.{Followed}
-use Rattle.relink.specs.declared.last.Followed.TheVariants.{Faulty, Good}
+use Rattle.relink.specs.declared.last.Followed.TheVariants.{Faulty, Good, Retouched}
 use Rattle.relink.specs.declared.last.LastGood.{LastGood}
 use Rattle.relink.proofs.Lending.{IsEffect, IsFollowing, from_edit, is_last_of, none_of_last}
 use Rattle.relink.proofs.Succession.{is_next}
@@ -70,11 +70,10 @@ link_work_from old new x m0 m1 m2 none w = record {
   anew = w.anew;
   image = record {
     relocations = w.image.relocations ∙ ap (λ (n : ℕ). capped n (sites_to_evaluate old new)) none.fields;
-    patched = w.image.patched;
+    written = w.image.written;
+    bytes = w.image.bytes ∙ ap (λ (n : ℕ). capped n w.image.written) none.bytes;
     few = w.image.few;
-    bytes = w.image.bytes
-        ∙ ap (λ (n : ℕ). capped n
-        (w.image.patched + (image_length new.project new.layout - bytes_stayed old new))) none.bytes;
+    exactly = w.image.exactly;
   };
 }
 
@@ -82,6 +81,8 @@ pub worked_from : (p : Project) (last : Option LastState) (m0 m1 m2 : Counts) (f
     → HasWorked p last m1 m2 f → HasWorked p last m0 m2 f
 worked_from p last m0 m1 m2 (Faulty t) none w = tt
 worked_from p last m0 m1 m2 (Good x m) none w = λ old y s is of_new laid.
+    link_work_from old (record { project = p; layout = s }) y m0 m1 m2 none (w old y s is of_new laid)
+worked_from p last m0 m1 m2 (Retouched v) none w = λ old y s is of_new laid.
     link_work_from old (record { project = p; layout = s }) y m0 m1 m2 none (w old y s is of_new laid)
 
 -- ---- the link that is kept
@@ -200,8 +201,8 @@ pub whole_work : (h : Holding) (s : Staged) (same : Bool) (bytes new : List ℕ)
     (last : Option LastGood) (from : Option (Vec (Option ℕ) Global)) (f : Followed) (change : Change)
     (m0 m1 m2 : Counts) → IsFollowing h s same bytes a last e → shown bytes a ≡ link (held h)
     → IsFrom last e.known e.gone (keys_of (next_listing h s).entries) from
-    → HasFollowed (next_listing h s) bytes new f
-    → HasWorked (project_of (next_listing h s)) (lent last from e.same_script h.contents.entries s.objects) m1 m2 f
+    → HasFollowed (next_listing h s) (lent last from e h.contents.entries s.objects) bytes new f
+    → HasWorked (project_of (next_listing h s)) (lent last from e h.contents.entries s.objects) m1 m2 f
     → AreSmall m0 → ReadsObjects (objects_read change) m0 m1 → m2.objects ≡ m1.objects
     → m2.names ≡ capped m0.names (length (distinct (decided_by (held h) change (project_of (next_listing h s)))))
     → LeavesScript change s → IsReadingWork (held h) change (project_of (next_listing h s)) m0 m2
@@ -226,22 +227,64 @@ whole_work h s same bytes new a e last from f change m0 m1 m2 given answers orig
     next_of : (m : _) (x : LastGood) (v : Vec (Option ℕ) Global) (c : IsCurrent (listing_of h) bytes x)
         → IsEffect h s same (answer.Good m) (Some x) e
         → IsFrom (Some x) true e.gone (keys_of (next_listing h s).entries) (Some v) → s.script ≡ None
-        → IsNext c.kept.old.project q (lent_with x v.items e.same_script h.contents.entries s.objects)
+        → IsNext c.kept.old.project q (lent_with x v.items e h.contents.entries s.objects)
     next_of m x v c effect origins stays =
         is_next c.kept.old.project q h.contents.entries (next_listing h s).entries s.objects.step
         s.objects.places.after same (origin_of x.origins.items)
-        (lent_with x v.items e.same_script h.contents.entries s.objects) (ap (λ (r : Project). r.objects) c.project)
+        (lent_with x v.items e h.contents.entries s.objects) (ap (λ (r : Project). r.objects) c.project)
         refl given.edit.found given.edit.keys given.edit.placed given.edit.arranged.place_after given.edit.named
         given.edit.puts c.kept.since
         (both_are x.same_script e.same_script c.script (effect.stays stays))
         (from_edit h s same x e v effect.lost origins) refl
 
+    -- over the last link, whatever is kept of this one
+    over_last : (m : _) (x : LastGood) (v : Vec (Option ℕ) Global) (kept : IsCurrent (listing_of h) bytes x)
+        → e.known ≡ true → IsEffect h s same (answer.Good m) (Some x) e
+        → IsFrom (Some x) true e.gone (keys_of (next_listing h s).entries) (Some v)
+        → IsWorkBeside q (Some (lent_with x v.items e h.contents.entries s.objects)) m1 m2 → (t u : Layout)
+        → layout p ≡ Ok t → layout q ≡ Ok u
+        → IsWork (record { project = p; layout = t }) change (record { project = q; layout = u }) m0 m2
+        × IsCounted (record { project = p; layout = t }) change (record { project = q; layout = u }) m0 m2
+    over_last m x v kept are effect origins worked t u laid laid_too =
+        let state : LastState = lent_with x v.items e h.contents.entries s.objects in
+        let old : GoodLink = record { project = p; layout = t } in
+        let now : GoodLink = record { project = q; layout = u } in
+        let of_last : IsLastOf kept.kept.old q state =
+        is_last_of h s same bytes x v.items e kept.kept given.edit
+        (none_of_last h s same bytes (answer.Good m) x e kept given.edit effect are) effect.changed
+        (from_edit h s same x e v effect.lost origins) in
+        let work : IsLinkWork kept.kept.old now state m0 m2 =
+        link_work_from kept.kept.old now state m0 m1 m2 (objects_link_nothing (objects_read change) m0 m1 read)
+        (worked kept.kept.old state u refl of_last laid_too) in
+        let is : kept.kept.old ≡ old = current_is (listing_of h) bytes x p t kept refl laid in
+        let image : IsImageCount old now m0 m2 =
+        subst (λ (g : GoodLink). IsImageCount g now m0 m2) is work.image in
+        (
+          record {
+            objects = reading.objects;
+            names = reading.names;
+            pieces = placed kept.kept.old now state p change s m0 m2 kept.project small.pieces
+                (next_of m x v kept effect origins) leaves work;
+            relocations = rises_by m0.fields m2.fields _ (sites_to_evaluate old now) small.fields image.relocations
+                (omega arith);
+            bytes = rises_by m0.bytes m2.bytes _ (bytes_to_write old now) small.bytes image.bytes image.few;
+          },
+          record {
+            objects = none ∙ read.objects;
+            names = exact;
+            first = work.first;
+            same = subst (λ (g : GoodLink). AreSameBefore g.project q work.first) is work.same;
+            pieces = work.pieces;
+            image = image;
+          },
+        )
+
     between : (b : Answer) (last : Option LastGood) (from : Option (Vec (Option ℕ) Global)) (f : Followed)
         (known : Bool) → e.known ≡ known → IsEffect h s same b last e → IsLast (listing_of h) bytes b last
         → shown bytes b ≡ link p
         → IsFrom last known e.gone (keys_of (next_listing h s).entries) from
-        → HasFollowed (next_listing h s) bytes new f
-        → HasWorked q (lent last from e.same_script h.contents.entries s.objects) m1 m2 f → (t u : Layout)
+        → HasFollowed (next_listing h s) (lent last from e h.contents.entries s.objects) bytes new f
+        → HasWorked q (lent last from e h.contents.entries s.objects) m1 m2 f → (t u : Layout)
         → (link p).status ≡ 0 → (link q).status ≡ 0 → layout p ≡ Ok t → layout q ≡ Ok u
         → IsWork (record { project = p; layout = t }) change (record { project = q; layout = u }) m0 m2
         × IsCounted (record { project = p; layout = t }) change (record { project = q; layout = u }) m0 m2
@@ -262,37 +305,14 @@ whole_work h s same bytes new a e last from f change m0 m1 m2 given answers orig
     between (answer.Good m) (Some x) (Some v) (Good y n) false are effect kept answers origins followed worked =
         λ t u zero zero_too laid laid_too. absurd origins
     between (answer.Good m) (Some x) (Some v) (Good y n) true are effect kept answers origins followed worked =
+        λ t u zero zero_too laid laid_too. over_last m x v kept are effect origins worked t u laid laid_too
+    between (answer.Good m) (Some x) None (Retouched w) true are effect kept answers origins followed worked =
+        λ t u zero zero_too laid laid_too. absurd origins
+    between (answer.Good m) (Some x) None (Retouched w) false are effect kept answers origins followed worked =
         λ t u zero zero_too laid laid_too. (
-        let state : LastState = lent_with x v.items e.same_script h.contents.entries s.objects in
-        let old : GoodLink = record { project = p; layout = t } in
-        let now : GoodLink = record { project = q; layout = u } in
-        let of_last : IsLastOf kept.kept.old q state =
-        is_last_of h s same bytes x v.items e.same_script kept.kept given.edit
-        (none_of_last h s same bytes (answer.Good m) x e kept given.edit effect are) effect.changed
-        (from_edit h s same x e v effect.lost origins) in
-        let work : IsLinkWork kept.kept.old now state m0 m2 =
-        link_work_from kept.kept.old now state m0 m1 m2 (objects_link_nothing (objects_read change) m0 m1 read)
-        (worked kept.kept.old state u refl of_last laid_too) in
-        let is : kept.kept.old ≡ old = current_is (listing_of h) bytes x p t kept refl laid in
-        let image : IsImageCount old now m0 m2 =
-        subst (λ (g : GoodLink). IsImageCount g now m0 m2) is work.image in
-        let written : image.patched + (image_length now.project now.layout - bytes_stayed old now)
-        ≤ bytes_to_write old now = omega (arith, image.few) in (
-          record {
-            objects = reading.objects;
-            names = reading.names;
-            pieces = placed kept.kept.old now state p change s m0 m2 kept.project small.pieces
-                (next_of m x v kept effect origins) leaves work;
-            relocations = rises_by m0.fields m2.fields _ (sites_to_evaluate old now) small.fields image.relocations
-                (omega arith);
-            bytes = rises_by m0.bytes m2.bytes _ (bytes_to_write old now) small.bytes image.bytes written;
-          },
-          record {
-            objects = none ∙ read.objects;
-            names = exact;
-            first = work.first;
-            same = subst (λ (g : GoodLink). AreSameBefore g.project q work.first) is work.same;
-            pieces = work.pieces;
-            image = image;
-          },
-        ))
+        let no : true ≡ false = sym (effect.current refl) ∙ are in
+        absurd (cc))
+    between (answer.Good m) (Some x) (Some v) (Retouched w) false are effect kept answers origins followed worked =
+        λ t u zero zero_too laid laid_too. absurd origins
+    between (answer.Good m) (Some x) (Some v) (Retouched w) true are effect kept answers origins followed worked =
+        λ t u zero zero_too laid laid_too. over_last m x v kept are effect origins worked t u laid laid_too

@@ -1,15 +1,20 @@
 -- The last link without faults beside a next project, and after an edit.
 use Rattle.std.proofs.Common.{◌≡◌, ℕ, Bool, true, false, List, Option, Some, None, Vec, Global, ap, map, refl, sym}
-use Rattle.std.proofs.Common.{◌∙◌, [], subst}
+use Rattle.std.proofs.Common.{◌∙◌, [], arith, length, subst}
 use Rattle.std.specs.List.{position}
 use Rattle.std.specs.Option.{option_map}
 use Rattle.std.specs.Prelude.{◌&&◌, IfSome, is_some, nat_eq, unwrap_or}
-use Rattle.relink_link.specs.Stays.{IsLastOf, IsReplaced}
+use Rattle.std.proofs.lemmas.List.{length-map}
+use Rattle.std.proofs.lemmas.Option.{same_Some}
+use Rattle.relink_link.specs.Stays.{IsLastOf, IsReplaced, LastState}
 use Rattle.relink_link.specs.Table.{IsTable}
 use Rattle.relink_link.specs.Origins.{AreOrigins}
 use Rattle.ldmodel.specs.Edits.{unnamed}
-use Rattle.ldmodel.specs.Link.{link}
+use Rattle.ldmodel.specs.Image.{image}
+use Rattle.ldmodel.specs.Link.{Link, link}
+use Rattle.ldmodel.specs.MapText.{map_text}
 use Rattle.ldmodel.specs.Project.{NamedObject, Project}
+use Rattle.ldmodel.specs.Stayed.{GoodLink}
 use Rattle.gather.specs.declared.matches.Matches.{Matches}
 use Rattle.symres.specs.Naming.{NamingState}
 use Rattle.ldmodel_project.specs.Holding.{Holding, Listing, SameHolding, held, listing_of, next_listing, project_of}
@@ -22,16 +27,18 @@ use Rattle.ldmodel_project.specs.declared.staged.Step.{Step}
 use Rattle.ldmodel_project.specs.declared.staged.Step.TheVariants.{Put, Remove, Move, Stay}
 use Rattle.ldscript.specs.statements.declared.statement.Statement.{Statement}
 use Rattle.relink_link.specs.Ended.{HasLast, IsGoodEnd}
+use Rattle.relink_link.specs.Retouched.{IsRetouchedEnd}
 use Rattle.relink.specs.Answer.{is_good, shown}
 use Rattle.relink.specs.Kept.{IsKept}
-use Rattle.relink.specs.Last.{HasFollowed, HasKept, IsAfterFault, IsCurrent, IsEndOf, IsFrom, IsLast, IsSince}
+use Rattle.relink.specs.Last.{HasFollowed, HasKept, IsAfterFault, IsCurrent, IsEndOf, IsFrom, IsLast, IsRenewed}
+use Rattle.relink.specs.Last.{IsRetouchedBy, IsSince}
 use Rattle.relink.specs.Last.{Knows, PutsByName, PutsNoneOf, PutsSame, lent, lent_with, lost_key}
 use Rattle.relink.specs.Last.{origin_of, replaced_by, replaced_in, without}
 use Rattle.relink.specs.declared.answer.Answer.{Answer}
 use Rattle.relink.specs.declared.answer.Answer.TheVariants as answer
 use Rattle.relink.specs.declared.last.Effect.{Effect}
 use Rattle.relink.specs.declared.last.Followed.{Followed}
-use Rattle.relink.specs.declared.last.Followed.TheVariants.{Faulty, Good}
+use Rattle.relink.specs.declared.last.Followed.TheVariants.{Faulty, Good, Retouched}
 use Rattle.relink.specs.declared.last.LastGood.{LastGood}
 use Rattle.relink.proofs.Putting.{found_counted}
 use Rattle.relink.proofs.Since.{next_put, origins_by_place, since_next, since_places, stands_there, under_key}
@@ -62,6 +69,7 @@ pub record IsEffect (h : Holding) (s : Staged) (same : Bool) (a : Answer) (last 
   pub current : is_good a ≡ true → e.known ≡ true
   pub knows : is_good a ≡ false → e.known ≡ true → IfSome last (λ x. Knows x h.contents.entries s.objects.step)
   pub lost : e.gone ≡ lost_key same s.objects.step
+  pub answered : e.is_current ≡ is_good a
   pub changed : e.same_script ≡ true → s.script ≡ None
   pub stays : s.script ≡ None → e.same_script ≡ true
 
@@ -82,10 +90,11 @@ pub following : (before h : Holding) (s : Staged) (same : Bool) (bytes : List �
     → (same ≡ false → PutsNoneOf (objects_of h.contents.entries) s.objects.step)
     → PutsByName h.contents.entries s.objects.step → (is_good a ≡ true → e.known ≡ true)
     → (is_good a ≡ false → e.known ≡ true → IfSome last (λ x. Knows x h.contents.entries s.objects.step))
+    → e.is_current ≡ is_good a
     → e.gone ≡ lost_key same s.objects.step → (e.same_script ≡ true → s.script ≡ None)
     → (s.script ≡ None → e.same_script ≡ true) → IsFollowing h s same bytes a last e
 following before h s same bytes a last e l keys more kept fits arranged is found are distinct placed puts other named
-    current knows lost changed stays = record {
+    current knows answered lost changed stays = record {
       edit = record {
         found = λ key. sym (ap (λ (x : Listing). found_under x.entries key) is) ∙ found key;
         keys = subst (λ (x : Listing). AreKeysDistinct (keys_of x.entries)) is (subst AreKeysDistinct are distinct);
@@ -96,7 +105,14 @@ following before h s same bytes a last e l keys more kept fits arranged is found
         other = other;
         named = named;
       };
-      effect = record { current = current; knows = knows; lost = lost; changed = changed; stays = stays };
+      effect = record {
+        current = current;
+        knows = knows;
+        lost = lost;
+        answered = answered;
+        changed = changed;
+        stays = stays;
+      };
       kept = subst (λ (x : Listing). IsLast x bytes a last) (same_listing before h more) kept;
     }
 
@@ -160,12 +176,12 @@ replaced_right old h s same origin edit since =
 
 -- what is lent is the last link, for the next project
 pub is_last_of : (h : Holding) (s : Staged) (same : Bool) (bytes : List ℕ) (x : LastGood) (from : List (Option ℕ))
-    (stays : Bool) (kept : HasKept (listing_of h) bytes x) → IsKnownEdit h s same
-    → (same ≡ false → PutsNoneOf kept.old.project.objects s.objects.step) → (stays ≡ true → s.script ≡ None)
+    (e : Effect) (kept : HasKept (listing_of h) bytes x) → IsKnownEdit h s same
+    → (same ≡ false → PutsNoneOf kept.old.project.objects s.objects.step) → (e.same_script ≡ true → s.script ≡ None)
     → from ≡ map (without (origin_of x.origins.items) (lost_key same s.objects.step))
     (keys_of (next_listing h s).entries)
-    → IsLastOf kept.old (project_of (next_listing h s)) (lent_with x from stays h.contents.entries s.objects)
-is_last_of h s same bytes x from stays kept edit none script is =
+    → IsLastOf kept.old (project_of (next_listing h s)) (lent_with x from e h.contents.entries s.objects)
+is_last_of h s same bytes x from e kept edit none script is =
     let p = project_of (next_listing h s) in
     let es = (next_listing h s).entries in
     let origin : ℕ → Option ℕ = origin_of x.origins.items in
@@ -175,10 +191,16 @@ is_last_of h s same bytes x from stays kept edit none script is =
     edit.puts none (λ key. refl) in
     record {
       table = kept.table;
+      objects = (
+          let same = ap length kept.names in
+          let names = length-map x.names.items (λ v. v.items) in
+          let objects = length-map kept.old.project.objects (λ (o : NamedObject). o.name) in
+          omega (arith, same, names, objects));
+      options = kept.options;
       origins = subst (λ (from : List (Option ℕ)). AreOrigins kept.old.project p from) (sym is)
           (origins_by_place kept.old.project p es after edit.keys refl since);
       script = λ stay.
-          let both = both_true x.same_script stays stay in
+          let both = both_true x.same_script e.same_script stay in
           kept.script both.0
           ∙ ap (λ (o : Option (List Statement)). unwrap_or o h.script) (sym (script both.1));
       replaced = replaced_right kept.old.project h s same origin edit kept.since;
@@ -200,7 +222,7 @@ module _ (h : Holding) (s : Staged) (same : Bool) (bytes : List ℕ) (a : Answer
   pub last_lent : (last : Option LastGood) (known : Bool) (from : Option (Vec (Option ℕ) Global)) → e.known ≡ known
       → IsLast (listing_of h) bytes a last → IsEffect h s same a last e
       → IsFrom last known e.gone (keys_of (next_listing h s).entries) from
-      → IfSome (lent last from e.same_script h.contents.entries s.objects)
+      → IfSome (lent last from e h.contents.entries s.objects)
       (HasLast (project_of (next_listing h s)) bytes)
   last_lent None known from are is effect origins = tt
   last_lent (Some x) known None are is effect origins = tt
@@ -209,7 +231,7 @@ module _ (h : Holding) (s : Staged) (same : Bool) (bytes : List ℕ) (a : Answer
       let kept = kept_of (listing_of h) bytes a x is in
       record {
         old = kept.old;
-        is = is_last_of h s same bytes x v.items e.same_script kept edit
+        is = is_last_of h s same bytes x v.items e kept edit
             (none_of_last h s same bytes a x e is edit effect are) effect.changed
             (from_edit h s same x e v effect.lost origins);
         image = kept.image;
@@ -233,6 +255,7 @@ module _ (h : Holding) (s : Staged) (same : Bool) (bytes : List ℕ) (a : Answer
             (origin_of x.origins.items) (origin_of y.origins.items) edit.found kept.since edit.puts
             (none_of_last h s same bytes a x e is edit effect are)
             (λ key. fault.3 key ∙ ap (λ (lost : Option ℕ). without (origin_of x.origins.items) lost key) effect.lost);
+        options = kept.options;
         script = λ stays.
             let both = both_true x.same_script e.same_script (sym fault.2 ∙ stays) in
             kept.script both.0
@@ -259,6 +282,7 @@ followed_good l p keys bytes x m is keys_are distinct end names places found scr
           (sym (ap (λ (q : Project). q.objects) is))
           (since_places l.entries x.origins.items (subst AreKeysDistinct keys_are distinct)
           (subst (λ (ks : List ℕ). HasPlaces ks x.origins.items) keys_are places) found);
+      options = ap (λ (q : Project). q.options) is;
       script = λ stays. ap (λ (q : Project). q.script) is;
       image = end.image;
     };
@@ -267,31 +291,117 @@ followed_good l p keys bytes x m is keys_are distinct end names places found scr
   },
 )
 
+-- the last link with another image is that of the project
+pub followed_again : (l : Listing) (p : Project) (keys : List ℕ) (state : Option LastState) (bytes : List ℕ)
+    (origins : List (Option ℕ)) → p ≡ project_of l → keys ≡ keys_of l.entries → AreKeysDistinct keys
+    → IsRetouchedEnd p state bytes → HasPlaces keys origins
+    → ((key : ℕ) → is_some (position (nat_eq key) (keys_of l.entries)) ≡ is_some (found_under l.entries key))
+    → IsRetouchedBy l state bytes origins
+followed_again l p keys state bytes origins is keys_are distinct end places found = record {
+  end = subst (λ (q : Project). IsRetouchedEnd q state bytes) is end;
+  since = since_places l.entries origins (subst AreKeysDistinct keys_are distinct)
+      (subst (λ (ks : List ℕ). HasPlaces ks origins) keys_are places) found;
+}
+
 -- what is answered is the link, and the last one is kept
-pub ended : (l : Listing) (old new : List ℕ) (f : Followed) (e : Effect) (last after : Option LastGood) (a : Answer)
-    → HasFollowed l old new f → IsEndOf f e last after a
+pub ended : (l : Listing) (state : Option LastState) (old new : List ℕ) (f : Followed) (e : Effect)
+    (last after : Option LastGood) (b a : Answer) → HasFollowed l state old new f → IsEndOf f e last after b a
     → ((later : Option LastGood) → IsAfterFault e.known e.gone e.same_script last later → IfSome later (HasKept l old))
+    → ((v : Vec (Option ℕ) Global) → IsRetouchedBy l state new v.items → IsRenewed v last after
+    → (shown new b ≡ link (project_of l)) × IsLast l new b after)
     → (shown new a ≡ link (project_of l)) × IsLast l new a after
-ended l old new (Faulty text) e last after a followed end kept = (
+ended l state old new (Faulty text) e last after b a followed end kept renewed = (
   ap (shown new) end.0 ∙ sym followed.0,
   subst (λ (b : Answer). IsLast l new b after) (sym end.0)
       (subst (λ (bytes : List ℕ). IfSome after (HasKept l bytes)) (sym followed.1) (kept after end.1)),
 )
-ended l old new (Good x m) e last after a followed end kept = (
+ended l state old new (Good x m) e last after b a followed end kept renewed = (
   ap (shown new) end.0 ∙ sym followed.0,
   subst (λ (b : Answer). IsLast l new b after) (sym end.0)
       (subst (λ (o : Option LastGood). IsLast l new (answer.Good m) o) (sym end.1) followed.1),
 )
+ended l state old new (Retouched v) e last after b a followed end kept renewed =
+    let both = renewed v followed end.1 in (
+      ap (shown new) end.0 ∙ both.0,
+      subst (λ (c : Answer). IsLast l new c after) (sym end.0) both.1,
+    )
+
+-- the last link with another image is that of the next project
+renewed_with : (h : Holding) (s : Staged) (same : Bool) (bytes new : List ℕ) (a : Answer) (e : Effect) (x y : LastGood)
+    (u v : Vec (Option ℕ) Global) → IsKnownEdit h s same → e.known ≡ true → IsLast (listing_of h) bytes a (Some x)
+    → IsEffect h s same a (Some x) e → IsFrom (Some x) true e.gone (keys_of (next_listing h s).entries) (Some u)
+    → shown bytes a ≡ link (held h)
+    → IsRetouchedBy (next_listing h s) (Some (lent_with x u.items e h.contents.entries s.objects)) new v.items
+    → IsRenewed v (Some x) (Some y)
+    → (shown new a ≡ link (project_of (next_listing h s))) × IsLast (next_listing h s) new a (Some y)
+renewed_with h s same bytes new (answer.Faulty t) e x y u v edit are is effect from answers by renewed =
+    let no : false ≡ true =
+    sym effect.answered ∙ ap (λ (z : LastState). z.is_current) (same_Some _ _ by.end.was) ∙ by.end.current in
+    absurd (cc)
+renewed_with h s same bytes new (answer.Good m) e x y u v edit are is effect from answers by renewed =
+    let q : Project = project_of (next_listing h s) in
+    let old : GoodLink = is.kept.old in
+    let lent_as : LastState = lent_with x u.items e h.contents.entries s.objects in
+    let of_lent : IsLastOf old q lent_as =
+    is_last_of h s same bytes x u.items e is.kept edit
+    (none_of_last h s same bytes (answer.Good m) x e is edit effect are) effect.changed
+    (from_edit h s same x e u effect.lost from) in
+    let lent_is : lent_as ≡ by.end.before = same_Some _ _ by.end.was in
+    let of_last : IsLastOf old q by.end.before = subst (IsLastOf old q) lent_is of_lent in
+    let map_is : m.items ≡ map_text q by.end.layout =
+    ap (λ (k : Link). k.map) (answers ∙ ap link (sym is.project) ∙ is.kept.table.link)
+    ∙ sym (by.end.map old of_last) in
+    let made : List ℕ → List ℕ → Link = λ i t. record { status = 0; image = i; map = t; faults = [] } in
+    let good_is : y.good ≡ by.end.before.good = renewed.0 ∙ ap (λ (z : LastState). z.good) lent_is in (
+      ap (λ i. made i m.items) by.end.image ∙ ap (made (image q by.end.layout)) map_is ∙ sym by.end.link,
+      record {
+        kept = record {
+          old = record { project = q; layout = by.end.layout };
+          table = subst (λ g. IsTable (record { project = q; layout = by.end.layout }) g) (sym good_is) by.end.table;
+          names = subst (λ (ns : List _). map (λ v. v.items) ns ≡ map (λ (o : NamedObject). o.name) q.objects)
+              (sym (ap (λ v. v.items) renewed.1)) (is.kept.names ∙ sym (by.end.names old of_last));
+          since = subst (λ (w : Vec (Option ℕ) Global). IsSince q.objects (origin_of w.items) (next_listing h s).entries)
+              (sym renewed.3) by.since;
+          options = refl;
+          script = λ stays. refl;
+          image = by.end.image;
+        };
+        project = refl;
+        script = renewed.2;
+      },
+    )
+
+pub renewed_last : (h : Holding) (s : Staged) (same : Bool) (bytes new : List ℕ) (a : Answer) (e : Effect)
+    (last after : Option LastGood) (known : Bool) (from : Option (Vec (Option ℕ) Global)) (v : Vec (Option ℕ) Global)
+    → IsKnownEdit h s same → e.known ≡ known → IsLast (listing_of h) bytes a last → IsEffect h s same a last e
+    → IsFrom last known e.gone (keys_of (next_listing h s).entries) from → shown bytes a ≡ link (held h)
+    → IsRetouchedBy (next_listing h s) (lent last from e h.contents.entries s.objects) new v.items
+    → IsRenewed v last after
+    → (shown new a ≡ link (project_of (next_listing h s))) × IsLast (next_listing h s) new a after
+renewed_last h s same bytes new a e None after known from v edit are is effect origins answers by renewed =
+    absurd (let was = by.end.was in let never : ⊥ = cc in never)
+renewed_last h s same bytes new a e (Some x) after known None v edit are is effect origins answers by renewed =
+    absurd (let was = by.end.was in let never : ⊥ = cc in never)
+renewed_last h s same bytes new a e (Some x) None known (Some u) v edit are is effect origins answers by renewed =
+    absurd renewed
+renewed_last h s same bytes new a e (Some x) (Some y) false (Some u) v edit are is effect origins answers by renewed =
+    absurd origins
+renewed_last h s same bytes new a e (Some x) (Some y) true (Some u) v edit are is effect origins answers by renewed =
+    renewed_with h s same bytes new a e x y u v edit are is effect origins answers by renewed
 
 -- so it is after an edit that is linked over the last link
 pub ended_after : (h : Holding) (s : Staged) (same : Bool) (bytes new : List ℕ) (a b : Answer) (e : Effect)
-    (last after : Option LastGood) (f : Followed) (later : Holding) (naming : NamingState) (ms : List Matches)
-    → IsFollowing h s same bytes a last e → HasFollowed (next_listing h s) bytes new f → IsEndOf f e last after b
-    → IsKept (next_listing h s) naming ms → listing_of later ≡ next_listing h s
+    (last after : Option LastGood) (from : Option (Vec (Option ℕ) Global)) (f : Followed) (later : Holding)
+    (naming : NamingState) (ms : List Matches) → IsFollowing h s same bytes a last e
+    → IsFrom last e.known e.gone (keys_of (next_listing h s).entries) from → shown bytes a ≡ link (held h)
+    → HasFollowed (next_listing h s) (lent last from e h.contents.entries s.objects) bytes new f
+    → IsEndOf f e last after a b → IsKept (next_listing h s) naming ms → listing_of later ≡ next_listing h s
     → (shown new b ≡ link (held later)) × IsKept (listing_of later) naming ms × IsLast (listing_of later) new b after
-ended_after h s same bytes new a b e last after f later naming ms x followed end kept is =
-    let both = ended (next_listing h s) bytes new f e last after b followed end
-    (λ later. kept_after_fault h s same bytes a e x.edit last later e.known refl x.kept x.effect) in (
+ended_after h s same bytes new a b e last after from f later naming ms x origins answers followed end kept is =
+    let both = ended (next_listing h s) (lent last from e h.contents.entries s.objects) bytes new f e last after a b
+    followed end (λ later. kept_after_fault h s same bytes a e x.edit last later e.known refl x.kept x.effect)
+    (λ v by renewed. renewed_last h s same bytes new a e last after e.known from v x.edit refl x.kept x.effect origins
+    answers by renewed) in (
       subst (λ (l : Listing). shown new b ≡ link (project_of l)) (sym is) both.0,
       subst (λ (l : Listing). IsKept l naming ms) (sym is) kept,
       subst (λ (l : Listing). IsLast l new b after) (sym is) both.1,

@@ -5,6 +5,7 @@ use Rattle.std.specs.Option.{option_map}
 use Rattle.elfobj.specs.Object.{ObjectData}
 use Rattle.relink_link.specs.Stays.{LastState, ReplacedState}
 use Rattle.std.specs.Global.{Global}
+use Rattle.relink_link.specs.Retouched.{IsRetouchedEnd}
 use Rattle.relink_link.specs.Table.{IsTable}
 use Rattle.ldmodel.specs.Image.{image}
 use Rattle.ldmodel.specs.Link.{link}
@@ -21,7 +22,7 @@ use Rattle.relink.specs.declared.answer.Answer.TheVariants as answer
 use Rattle.relink.specs.declared.last.Effect.{Effect}
 use Rattle.relink.specs.declared.last.LastGood.{LastGood}
 use Rattle.relink.specs.declared.last.Followed.{Followed}
-use Rattle.relink.specs.declared.last.Followed.TheVariants.{Faulty, Good}
+use Rattle.relink.specs.declared.last.Followed.TheVariants.{Faulty, Good, Retouched}
 
 -- at which place of the link the object under a key stood; none where it is none of its
 abbrev pub origin_of : List (Option ℕ) → ℕ → Option ℕ
@@ -45,6 +46,7 @@ pub record HasKept (l : Listing) (bytes : List ℕ) (x : LastGood) : Type 0 wher
   pub table : IsTable old x.good
   pub names : map (λ v. v.items) x.names.items ≡ map (λ (o : NamedObject). o.name) old.project.objects
   pub since : IsSince old.project.objects (origin_of x.origins.items) l.entries
+  pub options : old.project.options ≡ l.options
   pub script : x.same_script ≡ true → old.project.script ≡ l.script
   pub image : bytes ≡ image old.project old.layout
 
@@ -103,12 +105,20 @@ lost_key false step = changed_key step
 abbrev pub without : (ℕ → Option ℕ) → Option ℕ → ℕ → Option ℕ
 without origin lost key = if is_other lost key then origin key else None
 
--- what a link over the last one leads to: the last one stays, or this one takes its place
-abbrev pub HasFollowed : Listing → (old new : List ℕ) → Followed → Type 0
-HasFollowed l old new (Faulty text) =
+-- the last link is that of the project, with another image, and these are the origins of its objects
+pub record IsRetouchedBy (l : Listing) (last : Option LastState) (bytes : List ℕ) (origins : List (Option ℕ))
+    : Type 0 where
+  pub end : IsRetouchedEnd (project_of l) last bytes
+  pub since : IsSince (objects_of l.entries) (origin_of origins) l.entries
+
+-- what a link over the last one leads to: the last one stays, or this one takes its place, or it is this one but for the
+-- image
+abbrev pub HasFollowed : Listing → Option LastState → (old new : List ℕ) → Followed → Type 0
+HasFollowed l last old new (Faulty text) =
     (link (project_of l) ≡ record { status = 1; image = []; map = []; faults = text.items }) × (new ≡ old)
-HasFollowed l old new (Good x m) =
+HasFollowed l last old new (Good x m) =
     (link (project_of l) ≡ record { status = 0; image = new; map = m.items; faults = [] }) × IsCurrent l new x
+HasFollowed l last old new (Retouched origins) = IsRetouchedBy l last new origins.items
 
 -- the object that an edit puts is none of the link
 abbrev pub Knows : LastGood → List Entry → Step → Type 0
@@ -135,20 +145,22 @@ replaced_in origin es (Move moved) after = None
 replaced_in origin es Stay after = None
 
 -- the last link as a next project takes it, beside these origins of its objects
-abbrev pub lent_with : LastGood → List (Option ℕ) → Bool → List Entry → StagedObjects → LastState
-lent_with x from same_script es s = record {
+abbrev pub lent_with : LastGood → List (Option ℕ) → Effect → List Entry → StagedObjects → LastState
+lent_with x from e es s = record {
   good = x.good;
+  objects = length x.names.items;
   from = from;
-  same_script = x.same_script && same_script;
+  same_script = x.same_script && e.same_script;
   replaced = replaced_in (origin_of x.origins.items) es s.step s.places.after;
+  is_current = e.is_current;
 }
 
 -- where there are both
-abbrev pub lent : Option LastGood → Option (Vec (Option ℕ) Global) → Bool → List Entry → StagedObjects
+abbrev pub lent : Option LastGood → Option (Vec (Option ℕ) Global) → Effect → List Entry → StagedObjects
     → Option LastState
-lent None from same_script es s = None
-lent (Some x) None same_script es s = None
-lent (Some x) (Some v) same_script es s = Some (lent_with x v.items same_script es s)
+lent None from e es s = None
+lent (Some x) None e es s = None
+lent (Some x) (Some v) e es s = Some (lent_with x v.items e es s)
 
 -- the origins of these keys, if the last link is known to have none of what comes
 abbrev pub IsFrom : Option LastGood → Bool → (lost : Option ℕ) → List ℕ → Option (Vec (Option ℕ) Global) → Type 0
@@ -171,8 +183,17 @@ IsAfterFault true lost same_script (Some x) (Some y) =
     (y.good ≡ x.good) × (y.names ≡ x.names) × (y.same_script ≡ (x.same_script && same_script))
     × ((key : ℕ) → origin_of y.origins.items key ≡ without (origin_of x.origins.items) lost key)
 
+-- the last link stays, if there is one, and its objects have these origins
+abbrev pub IsRenewed : Vec (Option ℕ) Global → (old new : Option LastGood) → Type 0
+IsRenewed v None None = ⊤
+IsRenewed v None (Some y) = ⊥
+IsRenewed v (Some x) None = ⊥
+IsRenewed v (Some x) (Some y) =
+    (y.good ≡ x.good) × (y.names ≡ x.names) × (y.same_script ≡ true) × (y.origins ≡ v)
+
 -- what is answered of a link over the last one, and which one is the last now
-abbrev pub IsEndOf : Followed → Effect → (old new : Option LastGood) → Answer → Type 0
-IsEndOf (Faulty text) e old new a =
+abbrev pub IsEndOf : Followed → Effect → (old new : Option LastGood) → (before after : Answer) → Type 0
+IsEndOf (Faulty text) e old new b a =
     (a ≡ answer.Faulty text) × IsAfterFault e.known e.gone e.same_script old new
-IsEndOf (Good x m) e old new a = (a ≡ answer.Good m) × (new ≡ Some x)
+IsEndOf (Good x m) e old new b a = (a ≡ answer.Good m) × (new ≡ Some x)
+IsEndOf (Retouched origins) e old new b a = (a ≡ b) × IsRenewed origins old new

@@ -115,8 +115,8 @@ impl LinkTables {
         requires kept { IsKept (listing_of project.now) self.old.naming self.old.matches.items }
         requires last { IfSome (last_of last)
             (HasLast (project_of (next_listing project.now staged.now)) canvas.old.bytes) }
-        ensures followed { IfOk result (HasFollowed (next_listing project.now staged.now) canvas.old.bytes
-            canvas.new.bytes) }
+        ensures followed { IfOk result (HasFollowed (next_listing project.now staged.now) (last_of last.entry)
+            canvas.old.bytes canvas.new.bytes) }
         ensures unchanged { OnErr result (canvas.new.bytes ≡ canvas.old.bytes) }
         ensures kept { OnOk result (IsKept (next_listing project.now staged.now) self.new.naming
             self.new.matches.items) }
@@ -175,8 +175,8 @@ impl LinkTables {
         requires kept { IsKept (listing_of project.now) self.old.naming self.old.matches.items }
         requires last { IfSome (last_of last)
             (HasLast (project_of (next_listing project.now staged.now)) canvas.old.bytes) }
-        ensures followed { IfOk result (HasFollowed (next_listing project.now staged.now) canvas.old.bytes
-            canvas.new.bytes) }
+        ensures followed { IfOk result (HasFollowed (next_listing project.now staged.now) (last_of last.entry)
+            canvas.old.bytes canvas.new.bytes) }
         ensures unchanged { OnErr result (canvas.new.bytes ≡ canvas.old.bytes) }
         ensures kept { OnOk result (IsKept (next_listing project.now staged.now) self.new.naming
             self.new.matches.items) }
@@ -224,8 +224,8 @@ impl LinkTables {
         requires kept { IsKept (listing_of project.now) self.old.naming self.old.matches.items }
         requires last { IfSome (last_of last)
             (HasLast (project_of (next_listing project.now staged.now)) canvas.old.bytes) }
-        ensures followed { IfOk result (HasFollowed (next_listing project.now staged.now) canvas.old.bytes
-            canvas.new.bytes) }
+        ensures followed { IfOk result (HasFollowed (next_listing project.now staged.now) (last_of last.entry)
+            canvas.old.bytes canvas.new.bytes) }
         ensures unchanged { OnErr result (canvas.new.bytes ≡ canvas.old.bytes) }
         ensures kept { OnOk result (IsKept (next_listing project.now staged.now) self.new.naming
             self.new.matches.items) }

@@ -6,7 +6,7 @@ ghost use Rattle.relink_link.specs.Stays.{last_of, replaced_state};
 ghost use Rattle.ldmodel.specs.Project.{NamedObject};
 ghost use Rattle.ldmodel_project.specs.Listing.{keys_of};
 ghost use Rattle.relink.specs.Answer.{is_good};
-ghost use Rattle.relink.specs.Last.{IsAfterFault, IsEndOf, IsFrom, IsNamedAt, IsNoneOf, IsSince};
+ghost use Rattle.relink.specs.Last.{IsAfterFault, IsEndOf, IsFrom, IsNamedAt, IsNoneOf, IsRenewed, IsSince};
 ghost use Rattle.relink.specs.Last.{Knows, PutsNoneOf, changed_key, lent, lost_key, origin_of, replaced_by};
 ghost use Rattle.relink.specs.Last.{replaced_in, without};
 
@@ -43,6 +43,8 @@ pub(crate) struct Effect {
     pub gone: Option<usize>,
     /// Whether the script stays.
     pub same_script: bool,
+    /// Whether that link is the one that is answered.
+    pub is_current: bool,
 }
 
 /// What a link over the last one leads to.
@@ -52,6 +54,8 @@ pub(crate) enum Followed {
     Faulty(Vec<u8>),
     /// What is kept of the link, and its map.
     Good(LastGood, Vec<u8>),
+    /// The last link with another image, which is answered with the same map: the origins of the objects of that link.
+    Retouched(Vec<Option<usize>>),
 }
 
 impl Followed {
@@ -59,7 +63,7 @@ impl Followed {
     pub(crate) fn is_good(&self) -> bool {
         match self {
             Followed::Faulty(_) => false,
-            Followed::Good(..) => true,
+            Followed::Good(..) | Followed::Retouched(_) => true,
         }
     }
 }
@@ -277,6 +281,7 @@ pub(crate) fn effect_of(
     ensures current { is_good answer.now ≡ true → result.known ≡ true }
     ensures knows { is_good answer.now ≡ false → result.known ≡ true
         → IfSome last.now (λ x. Knows x project.now.contents.entries staged.now.objects.step) }
+    ensures answered { result.is_current ≡ is_good answer.now }
     ensures gone { result.gone ≡ lost_key same staged.now.objects.step }
     ensures changed { result.same_script ≡ true → staged.now.script ≡ None }
     ensures stays { staged.now.script ≡ None → result.same_script ≡ true }
@@ -285,6 +290,7 @@ pub(crate) fn effect_of(
         known: answer.is_good() || is_known(last, project, staged),
         gone: lost_key(staged, same),
         same_script: leaves_script(staged),
+        is_current: answer.is_good(),
     }
 }
 
@@ -315,8 +321,7 @@ pub(crate) fn lend<'a>(
     project: &'a Project,
     staged: &Staged,
 ) -> Option<Last<'a>>
-    ensures { last_of result ≡ lent last.now from.now effect.same_script project.now.contents.entries
-        staged.now.objects }
+    ensures { last_of result ≡ lent last.now from.now effect project.now.contents.entries staged.now.objects }
 {
     match last {
         None => None,
@@ -324,9 +329,11 @@ pub(crate) fn lend<'a>(
             None => None,
             Some(from) => Some(Last {
                 good: &last.good,
+                objects: last.names.len(),
                 from,
                 same_script: last.same_script && effect.same_script,
                 replaced: last.replaced(project, staged),
+                is_current: effect.is_current,
             }),
         },
     }
@@ -347,18 +354,35 @@ fn keep_after_fault(last: &mut Option<LastGood>, effect: Effect)
     }
 }
 
-/// What is answered of a link over the last one, which stays the last one where the link has faults.
-pub(crate) fn end(followed: Followed, last: &mut Option<LastGood>, effect: Effect) -> Answer
-    ensures { IsEndOf followed effect last.old last.new result }
+/// Keeps the last link, whose objects now have these origins, as that of the project: only its image is another.
+fn renew(last: &mut Option<LastGood>, origins: Vec<Option<usize>>)
+    ensures { IsRenewed origins last.old last.new }
+{
+    if let Some(last) = last {
+        last.origins = origins;
+        last.same_script = true;
+    }
+}
+
+/// Answers a link over the last one, which stays the last one where the link has faults. The answer stays where only
+/// the image is another.
+pub(crate) fn end(
+    followed: Followed,
+    last: &mut Option<LastGood>,
+    answer: &mut Answer,
+    effect: Effect,
+)
+    ensures { IsEndOf followed effect last.old last.new answer.old answer.new }
 {
     match followed {
         Followed::Faulty(text) => {
             keep_after_fault(last, effect);
-            Answer::Faulty(text)
+            *answer = Answer::Faulty(text);
         }
         Followed::Good(good, map) => {
             *last = Some(good);
-            Answer::Good(map)
+            *answer = Answer::Good(map);
         }
+        Followed::Retouched(origins) => renew(last, origins),
     }
 }

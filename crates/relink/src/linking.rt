@@ -1,6 +1,6 @@
 //! A link over what a session keeps.
 
-ghost use Rattle.std.specs.Prelude.{◌≡◌, IfOk, IfSome, OnErr, OnOk, map};
+ghost use Rattle.std.specs.Prelude.{◌≡◌, IfOk, IfSome, None, OnErr, OnOk, map};
 ghost use Rattle.gather.specs.ProjectMatches.{AreMatched};
 ghost use Rattle.relink_link.specs.Stays.{last_of};
 ghost use Rattle.ldmodel.specs.Project.{NamedObject};
@@ -58,7 +58,7 @@ fn link_keyed(
     requires matches { AreMatched project.now matches.now }
     requires last { IfSome (last_of last) (HasLast project.now canvas.old.bytes) }
     ensures followed { IfOk result (λ r. (l : Listing) → project.now ≡ project_of l → keys.now ≡ keys_of l.entries
-        → HasFollowed l canvas.old.bytes canvas.new.bytes r) }
+        → HasFollowed l (last_of last.entry) canvas.old.bytes canvas.new.bytes r) }
     ensures unchanged { OnErr result (canvas.new.bytes ≡ canvas.old.bytes) }
     ensures reads { OnOk result (ReadsNothing meter.old meter.new) }
     ensures worked { IfOk result (HasWorked project.now (last_of last.entry) meter.old meter.new) }
@@ -70,6 +70,7 @@ fn link_keyed(
     match relink(alloc, project, naming, &lent, last, canvas, meter) {
         Err(refused) => Err(refused),
         Ok(Ended::Faulty(text)) => Ok(Followed::Faulty(text)),
+        Ok(Ended::Retouched) => Ok(Followed::Retouched(origins)),
         Ok(Ended::Good(good, map)) => Ok(Followed::Good(
             LastGood {
                 good,
@@ -98,7 +99,7 @@ pub(crate) fn link_next(
 ) -> Result<Followed, NoMemory>
     requires kept { IsKept next.now naming.now matches.now }
     requires last { IfSome (last_of last) (HasLast (project_of next.now) canvas.old.bytes) }
-    ensures followed { IfOk result (HasFollowed next.now canvas.old.bytes canvas.new.bytes) }
+    ensures followed { IfOk result (HasFollowed next.now (last_of last.entry) canvas.old.bytes canvas.new.bytes) }
     ensures unchanged { OnErr result (canvas.new.bytes ≡ canvas.old.bytes) }
     ensures reads { OnOk result (ReadsNothing meter.old meter.new) }
     ensures worked { IfOk result (HasWorked (project_of next.now) (last_of last.entry) meter.old meter.new) }
@@ -131,7 +132,7 @@ pub(crate) fn link_first(
     canvas: &mut Canvas,
 ) -> Result<Followed, NoMemory>
     requires kept { IsKept (listing_of project.now) naming.now matches.now }
-    ensures followed { IfOk result (HasFollowed (listing_of project.now) canvas.old.bytes canvas.new.bytes) }
+    ensures followed { IfOk result (HasFollowed (listing_of project.now) None canvas.old.bytes canvas.new.bytes) }
 {
     naming.names_kept();
     let inputs = project.inputs(alloc)?;

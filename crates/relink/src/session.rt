@@ -96,8 +96,10 @@ impl Session {
             known: true,
             gone: None,
             same_script: true,
+            is_current: false,
         };
-        let answer = end(followed, &mut last, effect);
+        let mut answer = Answer::Faulty(Vec::new(alloc));
+        end(followed, &mut last, &mut answer, effect);
         Ok(Session {
             alloc,
             project,
@@ -153,7 +155,7 @@ impl Session {
             Err(_) => Err(EditRefusal::NoMemory),
             Ok(followed) => {
                 self.project.commit(staged);
-                self.answer = end(followed, &mut self.last, effect);
+                end(followed, &mut self.last, &mut self.answer, effect);
                 Ok(self.answer.summary(&self.canvas))
             }
         }

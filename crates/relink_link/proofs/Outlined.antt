@@ -219,7 +219,7 @@ module _ (p q : Project) (i : ℕ) (h : IsRetouched p q i) where
         subst P there.gives (all there.origin there.among)
 
   -- an object of a name
-  names_of : map (λ (o : NamedObject). o.name) p.objects ≡ map (λ (o : NamedObject). o.name) q.objects
+  pub names_of : map (λ (o : NamedObject). o.name) p.objects ≡ map (λ (o : NamedObject). o.name) q.objects
   names_of =
       sym (map-map (λ (o : ObjectOutline). o.name) object_outline p.objects)
       ∙ ap (map (λ (o : ObjectOutline). o.name)) h.outlines

@@ -66,6 +66,7 @@ use Rattle.relink_link.specs.Spots.{spots_below}
 use Rattle.relink_link.specs.Stays.{IsLastOf, LastState, ReplacedState}
 use Rattle.relink_link.specs.Touched.{IsTouchedCount, IsTouchedWork, no_counts}
 use Rattle.relink_link.specs.Worked.{IsLinkWork, IsWorkBeside}
+use Rattle.relink_link.proofs.Outlined.{names_of}
 use Rattle.relink_link.proofs.Retouching.{beside_own, came_before, came_is, is_retouched, same_arranged, same_name_there}
 use Rattle.relink_link.proofs.Retouching.{same_symbols, table_of, was}
 use Rattle.relink_link.proofs.Spots.{has_spots, spots_bytes}
@@ -264,6 +265,7 @@ module _ (p : Project) (x : LastState) (r : ReplacedState) (f : IsFollowed x p r
         layout = old.layout;
         link = link;
         table = table_of old.project p place (retouched old is) old.layout k x.good is.table names good link;
+        names = λ o h. sym (names_of o.project p place (retouched o h));
         map = λ o h. (
             let same = same_layout_as old is o.layout (laid o h) in
             ap (map_text p) (sym same) ∙ sym (kept o h).map);

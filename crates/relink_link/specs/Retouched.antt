@@ -61,6 +61,8 @@ pub record IsRetouchedEnd (p : Project) (last : Option LastState) (bytes : List 
   pub layout : Layout
   pub link : model.link p ≡ model.good p layout
   pub table : IsTable (record { project = p; layout = layout }) before.good
+  pub names : (old : GoodLink) → IsLastOf old p before
+      → map (λ (o : NamedObject). o.name) p.objects ≡ map (λ (o : NamedObject). o.name) old.project.objects
   pub map : (old : GoodLink) → IsLastOf old p before → map_text p layout ≡ map_text old.project old.layout
   pub image : bytes ≡ image p layout
 

@@ -12,7 +12,7 @@ use Rattle.ldmodel_project.specs.declared.staged.Staged.{Staged}
 use Rattle.relink_link.specs.Ended.{HasLast}
 use Rattle.relink.specs.Answer.{shown}
 use Rattle.relink.specs.Change.{names_of_edit}
-use Rattle.relink.specs.Last.{IsFrom, IsLast}
+use Rattle.relink.specs.Last.{HasFollowed, IsFrom, IsLast}
 use Rattle.relink.specs.Work.{HasWorked, IsWholeWork}
 use Rattle.relink.specs.declared.answer.Answer.{Answer}
 use Rattle.relink.specs.declared.last.Effect.{Effect}
@@ -62,7 +62,7 @@ follow-requires-clause-last c =
     c.next-next.ensures.next c.next-next.ensures.found c.keys-keys.ensures.value c.keys-keys.ensures.distinct
     c.found_where_placed.ensures c.puts_same-same.ensures.same c.puts_same-same.ensures.other
     c.puts_same-same.ensures.named c.effect_of-effect.ensures.current c.effect_of-effect.ensures.knows
-    c.effect_of-effect.ensures.gone c.effect_of-effect.ensures.changed c.effect_of-effect.ensures.stays in
+    c.effect_of-effect.ensures.answered c.effect_of-effect.ensures.gone c.effect_of-effect.ensures.changed c.effect_of-effect.ensures.stays in
     let next : Listing = next_listing h s in
     let from : IsFrom last e.known e.gone (keys_of next.entries) c.in-Ok-origins_for.from =
     subst (λ (l : Listing). IsFrom last e.known e.gone (keys_of l.entries) c.in-Ok-origins_for.from)
@@ -85,10 +85,19 @@ invariant_of-self-in-Ok-follow c =
     c.next-next.ensures.next c.next-next.ensures.found c.keys-keys.ensures.value c.keys-keys.ensures.distinct
     c.found_where_placed.ensures c.puts_same-same.ensures.same c.puts_same-same.ensures.other
     c.puts_same-same.ensures.named c.effect_of-effect.ensures.current c.effect_of-effect.ensures.knows
-    c.effect_of-effect.ensures.gone c.effect_of-effect.ensures.changed c.effect_of-effect.ensures.stays in
-    ended_after h s same bytes c.follow.new.canvas.bytes a c.end.result e last c.end.new.last c.in-Ok-follow.followed
-    c.commit.new.self c.follow.new.self.naming c.follow.new.self.matches.items given c.in-Ok-follow.ensures.followed
-    c.end.ensures c.in-Ok-follow.ensures.kept c.commit.ensures.next
+    c.effect_of-effect.ensures.answered c.effect_of-effect.ensures.gone c.effect_of-effect.ensures.changed c.effect_of-effect.ensures.stays in
+    let next : Listing = next_listing h s in
+    let from : IsFrom last e.known e.gone (keys_of next.entries) c.in-Ok-origins_for.from =
+    subst (λ (l : Listing). IsFrom last e.known e.gone (keys_of l.entries) c.in-Ok-origins_for.from)
+    c.next-next.ensures.next c.in-Ok-origins_for.ensures in
+    let answers : shown bytes a ≡ link (held h) =
+    c.self.invariant.0 ∙ ap link (sym (same_held c.self.inside.project h c.in-Ok.ensures.same)) in
+    let followed = subst (λ (x : Option LastState). HasFollowed next x bytes c.follow.new.canvas.bytes
+    c.in-Ok-follow.followed) c.lend-last.ensures c.in-Ok-follow.ensures.followed in
+    ended_after h s same bytes c.follow.new.canvas.bytes a c.end.new.answer e last c.end.new.last
+    c.in-Ok-origins_for.from c.in-Ok-follow.followed c.commit.new.self c.follow.new.self.naming
+    c.follow.new.self.matches.items given from answers followed c.end.ensures c.in-Ok-follow.ensures.kept
+    c.commit.ensures.next
 
 pub invariant_of-self-in-Ok-follow-2 : goal.invariant_of-self-in-Ok-follow-2
 invariant_of-self-in-Ok-follow-2 c =
@@ -105,10 +114,19 @@ invariant_of-self-in-Ok-follow-2 c =
     c.next-next.ensures.next c.next-next.ensures.found c.keys-keys.ensures.value c.keys-keys.ensures.distinct
     c.found_where_placed.ensures c.puts_same-same.ensures.same c.puts_same-same.ensures.other
     c.puts_same-same.ensures.named c.effect_of-effect.ensures.current c.effect_of-effect.ensures.knows
-    c.effect_of-effect.ensures.gone c.effect_of-effect.ensures.changed c.effect_of-effect.ensures.stays in
-    ended_after h s same bytes c.follow.new.canvas.bytes a c.end.result e last c.end.new.last c.in-Ok-follow.followed
-    c.commit.new.self c.follow.new.self.naming c.follow.new.self.matches.items given c.in-Ok-follow.ensures.followed
-    c.end.ensures c.in-Ok-follow.ensures.kept c.commit.ensures.next
+    c.effect_of-effect.ensures.answered c.effect_of-effect.ensures.gone c.effect_of-effect.ensures.changed c.effect_of-effect.ensures.stays in
+    let next : Listing = next_listing h s in
+    let from : IsFrom last e.known e.gone (keys_of next.entries) c.in-Ok-origins_for.from =
+    subst (λ (l : Listing). IsFrom last e.known e.gone (keys_of l.entries) c.in-Ok-origins_for.from)
+    c.next-next.ensures.next c.in-Ok-origins_for.ensures in
+    let answers : shown bytes a ≡ link (held h) =
+    c.self.invariant.0 ∙ ap link (sym (same_held c.self.inside.project h c.in-Ok.ensures.same)) in
+    let followed = subst (λ (x : Option LastState). HasFollowed next x bytes c.follow.new.canvas.bytes
+    c.in-Ok-follow.followed) c.lend-last.ensures c.in-Ok-follow.ensures.followed in
+    ended_after h s same bytes c.follow.new.canvas.bytes a c.end.new.answer e last c.end.new.last
+    c.in-Ok-origins_for.from c.in-Ok-follow.followed c.commit.new.self c.follow.new.self.naming
+    c.follow.new.self.matches.items given from answers followed c.end.ensures c.in-Ok-follow.ensures.kept
+    c.commit.ensures.next
 
 pub returns-in-Ok-follow-clause-counted : goal.returns-in-Ok-follow-clause-counted
 returns-in-Ok-follow-clause-counted c =
@@ -125,7 +143,7 @@ returns-in-Ok-follow-clause-counted c =
     c.next-next.ensures.next c.next-next.ensures.found c.keys-keys.ensures.value c.keys-keys.ensures.distinct
     c.found_where_placed.ensures c.puts_same-same.ensures.same c.puts_same-same.ensures.other
     c.puts_same-same.ensures.named c.effect_of-effect.ensures.current c.effect_of-effect.ensures.knows
-    c.effect_of-effect.ensures.gone c.effect_of-effect.ensures.changed c.effect_of-effect.ensures.stays in
+    c.effect_of-effect.ensures.answered c.effect_of-effect.ensures.gone c.effect_of-effect.ensures.changed c.effect_of-effect.ensures.stays in
     let next : Listing = next_listing h s in
     let from : IsFrom last e.known e.gone (keys_of next.entries) c.in-Ok-origins_for.from =
     subst (λ (l : Listing). IsFrom last e.known e.gone (keys_of l.entries) c.in-Ok-origins_for.from)
@@ -152,10 +170,11 @@ returns-in-Ok-follow-clause-counted c =
     c.self.invariant.0 ∙ ap link (sym (same_held c.self.inside.project h c.in-Ok.ensures.same)) in
     let worked = subst (λ (x : Option LastState). HasWorked (project_of next) x c.stage.new.meter c.follow.new.meter
     c.in-Ok-follow.followed) c.lend-last.ensures c.in-Ok-follow.ensures.worked in
+    let followed = subst (λ (x : Option LastState). HasFollowed next x bytes c.follow.new.canvas.bytes
+    c.in-Ok-follow.followed) c.lend-last.ensures c.in-Ok-follow.ensures.followed in
     let work : IsWholeWork (held h) change (project_of next) c.args.meter.now c.follow.new.meter =
     whole_work h s same bytes c.follow.new.canvas.bytes a e last c.in-Ok-origins_for.from c.in-Ok-follow.followed change
-    c.args.meter.now c.stage.new.meter c.follow.new.meter given answers from
-    c.in-Ok-follow.ensures.followed worked small read c.in-Ok-follow.ensures.decides.objects exact
+    c.args.meter.now c.stage.new.meter c.follow.new.meter given answers from followed worked small read c.in-Ok-follow.ensures.decides.objects exact
     (leaves_script h change s c.in-Ok.ensures.staged.3 c.in-Ok.ensures.named) reading in
     let counted = subst (λ (p : Project). IsWholeWork p change (held c.commit.new.self) c.args.meter.now
     c.follow.new.meter) (same_held c.self.inside.project h c.in-Ok.ensures.same ∙ c.self.view_is)
