@@ -1,11 +1,10 @@
 -- The map, the headers, the tail and the assertions turn on the layout, on what names stand for, and on their values.
-use Rattle.std.proofs.Common.{◌≡◌, ◌++◌, ℕ, ◌+◌, not, List, [], ◌∷◌, Option, Some, None, length, map, filter, flat_map}
+use Rattle.std.proofs.Common.{◌≡◌, ◌++◌, ℕ, not, [], ◌∷◌, length, map, filter, flat_map}
 use Rattle.std.proofs.Common.{replicate, refl}
-use Rattle.std.specs.Prelude.{codes, slice_get}
+use Rattle.std.specs.Prelude.{codes}
 use Rattle.std.specs.List.{enumerate_from, filter_map}
 use Rattle.std.specs.Option.{option_map_or}
 use Rattle.std.specs.Int.{next_multiple_of}
-use Rattle.elfobj.specs.Symbols.{NamedSymbol}
 use Rattle.elfobj.specs.declared.symbol.Symbol.{Symbol}
 use Rattle.elfobj.specs.file.declared.constants.TheConstants.{SHN_ABS, STT_NOTYPE}
 use Rattle.ldscript.specs.statements.Numbering.{AssertionAt, asserts}
@@ -16,9 +15,9 @@ use Rattle.ldmodel.specs.Image.{file_headers}
 use Rattle.ldmodel.specs.Layout.{Layout, region_numbers, section_numbers}
 use Rattle.ldmodel.specs.Lines.{hex, line_of}
 use Rattle.ldmodel.specs.MapText.{map_text, section_lines, symbol_line, value_word}
-use Rattle.ldmodel.specs.Names.{Common, Decision, Duplicate, Entry, Provided, Script, Strong, Undefined, Weak}
+use Rattle.ldmodel.specs.Names.{Common, Decision, Duplicate, Provided, Script, Strong, Undefined, Weak}
 use Rattle.ldmodel.specs.OutputSymbols.{OutputSymbol, in_byte_order, is_defined, output_symbol, output_symbols, owner}
-use Rattle.ldmodel.specs.Project.{NamedObject, Project}
+use Rattle.ldmodel.specs.Project.{Project}
 use Rattle.ldmodel.specs.SectionHeaders.{end_of_part, header_bytes, header_count, header_name_table, header_names}
 use Rattle.ldmodel.specs.SectionHeaders.{header_names_number, header_part, image_length, output_header, part_at}
 use Rattle.ldmodel.specs.SectionHeaders.{section_headers, table_headers, tables, tail}
@@ -91,8 +90,8 @@ module _ {p q : Project} {place : ℕ} (h : IsRetouched p q place) where
     pub same_map : map_text p s ≡ map_text q s
     unfolding map_text
     same_map =
-        λ i. line_of (codes "entry" ∷ hex (number_or_0 (same_entry_point h s i)) ∷ []) ++ flat_map section_lines s.sections
-        ++ flat_map (same_symbol_line i) (same_output_symbols i)
+        λ i. line_of (codes "entry" ∷ hex (number_or_0 (same_entry_point h s i)) ∷ [])
+        ++ flat_map section_lines s.sections ++ flat_map (same_symbol_line i) (same_output_symbols i)
 
     -- the symbol table
 

@@ -4,8 +4,7 @@ use Rattle.ldmodel.specs.Assertions.{assertion_faults}
 use Rattle.ldmodel.specs.Fault.{Fault}
 use Rattle.ldmodel.specs.Layout.{Layout}
 use Rattle.ldmodel.specs.Link.{Link, gathering_faults, good, laid_out, layout, link, name_faults, of_length, placed}
-use Rattle.ldmodel.specs.Link.{relocated, unless, without_overlaps}
-use Rattle.ldmodel.specs.Names.{provided}
+use Rattle.ldmodel.specs.Link.{unless, without_overlaps}
 use Rattle.ldmodel.specs.Overlaps.{overlaps}
 use Rattle.ldmodel.specs.Placement.{placement}
 use Rattle.ldmodel.specs.Project.{Project}

@@ -1,12 +1,11 @@
 -- Where nothing is collected, rows and the faults of gathering turn on input sections without their relocations.
-use Rattle.std.proofs.Common.{◌≡◌, ◌∙◌, ℕ, ◌+◌, Bool, true, false, cond, not, ◌&&◌, ◌||◌, List, [], ◌∷◌, ◌++◌, Option}
+use Rattle.std.proofs.Common.{◌≡◌, ◌∙◌, ℕ, ◌+◌, Bool, true, false, cond, not, ◌||◌, List, [], ◌∷◌, ◌++◌, Option}
 use Rattle.std.proofs.Common.{Some, None, length, map, filter, flat_map, ap, refl, sym}
 use Rattle.std.specs.Prelude.{◌==◌, if◌then◌else◌, is_none, option_and_then, slice_get}
 use Rattle.std.specs.List.{cons_option, enumerate_from, filter_map, range_with_len}
 use Rattle.std.specs.Option.{option_map_or}
 use Rattle.std.proofs.lemmas.List.{map-append}
 use Rattle.std.proofs.lemmas.Simd.{map-map}
-use Rattle.elfobj.specs.Sections.{LinkedSection}
 use Rattle.elfobj.specs.Symbols.{NamedSymbol}
 use Rattle.ldscript.specs.statements.Numbering.{InputStatementAt, input_statements, output_sections}
 use Rattle.ldmodel.specs.Fault.{Fault, Orphan}
@@ -166,7 +165,8 @@ module _ {p q : Project} {place : ℕ} (h : IsRetouched p q place) where
       ∙ sym (inputs_bare q))
 
   same_taker : taken_by p ≡ taken_by q
-  same_taker = λ i x. option_and_then (slice_get (input_statements (h.script i))) (first_match (h.script i) x.object x.name)
+  same_taker =
+      λ i x. option_and_then (slice_get (input_statements (h.script i))) (first_match (h.script i) x.object x.name)
 
   same_out_under : (x : InputSection) (m : Option InputStatementAt) → is_out_under p x m ≡ is_out_under q x m
   same_out_under x None = λ i. (x.size == 0) || are_discarded (h.options i).orphans

@@ -5,7 +5,7 @@ use Rattle.std.specs.Option.{option_map, option_map_or}
 use Rattle.elfobj.specs.Symbols.{NamedSymbol}
 use Rattle.elfobj.specs.declared.symbol.Symbol.{Symbol}
 use Rattle.ldmodel.specs.Layout.{Layout}
-use Rattle.ldmodel.specs.Names.{Common, Decision, Duplicate, Entry, Provided, Script, Strong, Undefined, Weak}
+use Rattle.ldmodel.specs.Names.{Common, Decision, Duplicate, Provided, Script, Strong, Undefined, Weak}
 use Rattle.ldmodel.specs.Names.{is_local, is_weak_binding}
 use Rattle.ldmodel.specs.Project.{NamedObject, Project}
 use Rattle.ldmodel.specs.SymbolValues.{NotDefined, address_in, decided_value, entry_point, entry_value, name_value}
@@ -53,5 +53,5 @@ module _ {p q : Project} {place : ℕ} (h : IsRetouched p q place) where
     unfolding referenced_value
     same_referenced j a b e f x =
         λ i. if is_local x.symbol.binding
-            then own_value s (same_names_at h j a b e f i) x.symbol.place x.symbol.value
-            else or_weak (is_weak_binding x.symbol.binding) (same_name_value i x.name)
+        then own_value s (same_names_at h j a b e f i) x.symbol.place x.symbol.value
+        else or_weak (is_weak_binding x.symbol.binding) (same_name_value i x.name)
