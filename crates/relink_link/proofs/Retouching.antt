@@ -47,6 +47,7 @@ use Rattle.relink_link.specs.Retouched.{IsFollowed, IsKeptLink, IsRetouchedEnd, 
 use Rattle.relink_link.specs.Stays.{IsLastOf, IsReplaced, LastState, ReplacedState}
 use Rattle.relink_link.specs.Table.{IsTable}
 use Rattle.relink_link.specs.declared.good.Good.{Good}
+use Rattle.relink_link.proofs.Outlines.{same_at}
 use Rattle.relink_link.proofs.Outlined.{input_before, outline_at, outlines_at, same_linked, same_names, same_owned}
 use Rattle.relink_link.proofs.Outlined.{same_rows_in}
 
@@ -57,13 +58,6 @@ beside_other place i other = ap (λ b. cond b None (Some i)) (ne_eqb i place oth
 
 pub beside_own : (place i : ℕ) → i ≡ place → origin_beside place i ≡ None
 beside_own place i same = ap (λ b. cond b None (Some i)) (eq-eqb i place same)
-
--- lists that have the same at each place
-same_at : {X : Type 0} (xs ys : List X) → length xs ≡ length ys
-    → ((k : ℕ) → k < length xs → slice_get xs k ≡ slice_get ys k) → xs ≡ ys
-same_at xs ys long same =
-    same_lists xs ys long (λ k d within.
-    sym (get_or_from_slice_get ys k _ d (sym (same k within) ∙ slice_get-get_or xs k d within)))
 
 module _ (old : GoodLink) (p : Project) (x : LastState) (r : ReplacedState) (is : IsLastOf old p x)
     (f : IsFollowed x p r) where

@@ -3,9 +3,30 @@
 ghost use Rattle.std.specs.Prelude.{◌≡◌, map, true};
 ghost use Rattle.ldmodel_laws.specs.Outline.{section_outline};
 
-use elfobj::Object;
 use elfobj::relocation::SymbolIndex;
 use elfobj::section::LinkedIndex;
+use elfobj::{Object, Section, Symbol};
+
+/// Whether two names are the same.
+fn is_same_name(a: &[u8], b: &[u8]) -> bool
+    ensures { result ≡ true → a.now ≡ b.now }
+{
+    a == b
+}
+
+/// Whether two symbols are the same.
+fn is_same_symbol(a: Symbol, b: Symbol) -> bool
+    ensures { result ≡ true → a ≡ b }
+{
+    a == b
+}
+
+/// Whether two sections are the same, whatever they hold.
+fn is_same_section(a: Section, b: Section) -> bool
+    ensures { result ≡ true → a ≡ b }
+{
+    a == b
+}
 
 /// Whether two objects have the same symbol table.
 fn same_symbols(a: &Object, b: &Object) -> bool
@@ -18,7 +39,9 @@ fn same_symbols(a: &Object, b: &Object) -> bool
     }
     for number in 0..before.len() {
         let index = SymbolIndex(number as u32);
-        if before[number] != now[number] || a.name_of(index) != b.name_of(index) {
+        if !is_same_symbol(before[number], now[number])
+            || !is_same_name(a.name_of(index), b.name_of(index))
+        {
             return false;
         }
     }
@@ -36,7 +59,9 @@ fn same_sections(a: &Object, b: &Object) -> bool
     }
     for number in 0..before.len() {
         let index = LinkedIndex(number);
-        if before[number] != now[number] || a.section_name(index) != b.section_name(index) {
+        if !is_same_section(before[number], now[number])
+            || !is_same_name(a.section_name(index), b.section_name(index))
+        {
             return false;
         }
     }

@@ -1,0 +1,86 @@
+-- Objects of which the code finds that they differ in what their sections hold alone.
+use Rattle.std.proofs.Common.{◌≡◌, ◌∙◌, ◌⊎◌, inl, inr, ◌<◌, ◌≤◌, ℕ, ◌+◌, List, [], ◌∷◌, Option, Some, None, ap, arith, length, map}
+use Rattle.std.proofs.Common.{refl, slice_get, subst, sym}
+use Rattle.std.specs.Option.{option_map}
+use Rattle.std.proofs.lemmas.Bool.{cases_lt}
+use Rattle.std.proofs.lemmas.List.{length-map, same_lists}
+use Rattle.std.proofs.lemmas.Option.{get_or_from_slice_get, same_Some, slice_get-get_or, slice_get-map}
+use Rattle.elfobj.specs.Sections.{LinkedSection, section_of}
+use Rattle.elfobj.specs.Symbols.{NamedSymbol}
+use Rattle.elfobj.specs.declared.section.Section.{Section}
+use Rattle.elfobj.specs.declared.symbol.Symbol.{Symbol}
+use Rattle.ldmodel_laws.specs.Outline.{SectionOutline, section_outline}
+
+-- lists that have the same at each place
+pub same_at : {X : Type 0} (xs ys : List X) → length xs ≡ length ys
+    → ((k : ℕ) → k < length xs → slice_get xs k ≡ slice_get ys k) → xs ≡ ys
+same_at xs ys long same =
+    same_lists xs ys long (λ k d within.
+    sym (get_or_from_slice_get ys k _ d (sym (same k within) ∙ slice_get-get_or xs k d within)))
+
+-- lists have the same at the first places
+abbrev pub AreSame : {X : Type 0} → List X → List X → ℕ → Type 0
+AreSame xs ys n = (k : ℕ) → k < n → slice_get xs k ≡ slice_get ys k
+
+pub none_same : {X : Type 0} (xs ys : List X) → AreSame xs ys 0
+none_same xs ys k less = absurd (omega (arith, less))
+
+module _ {X A B C : Type 0} (g : X → A) (h : X → B) (both : A → B → C) where
+  abbrev of : X → C
+  of x = both (g x) (h x)
+
+  one : (m n : Option X) → option_map g m ≡ option_map g n → option_map h m ≡ option_map h n
+      → option_map of m ≡ option_map of n
+  one None None e f = refl
+  one None (Some y) e f = absurd (let none : ⊥ = cc in none)
+  one (Some x) None e f = absurd (let none : ⊥ = cc in none)
+  one (Some x) (Some y) e f =
+      ap Some (ap (λ a. both a (h x)) (same_Some _ _ e) ∙ ap (both (g y)) (same_Some _ _ f))
+
+  pub same_more : (xs ys : List X) (n : ℕ) → slice_get (map g xs) n ≡ slice_get (map g ys) n
+      → slice_get (map h xs) n ≡ slice_get (map h ys) n → AreSame (map of xs) (map of ys) n
+      → AreSame (map of xs) (map of ys) (n + 1)
+  same_more xs ys n e f before k less = go (cases_lt k n)
+    where
+      here : slice_get (map of xs) n ≡ slice_get (map of ys) n
+      here =
+          slice_get-map of xs n
+          ∙ one (slice_get xs n) (slice_get ys n) (sym (slice_get-map g xs n) ∙ e ∙ slice_get-map g ys n)
+          (sym (slice_get-map h xs n) ∙ f ∙ slice_get-map h ys n) ∙ sym (slice_get-map of ys n)
+
+      go : (k < n) ⊎ (n ≤ k) → slice_get (map of xs) k ≡ slice_get (map of ys) k
+      go (inl earlier) = before k earlier
+      go (inr last) =
+          let same : n ≡ k = omega (arith, less, last) in
+          subst (λ j. slice_get (map of xs) j ≡ slice_get (map of ys) j) same here
+
+  pub all_same : (xs ys : List X) (n : ℕ) → length (map g xs) ≡ length (map g ys) → n ≡ length (map g xs)
+      → AreSame (map of xs) (map of ys) n → map of xs ≡ map of ys
+  all_same xs ys n long is same =
+      let a = length-map xs g in
+      let b = length-map ys g in
+      let c = length-map xs of in
+      let d = length-map ys of in
+      same_at (map of xs) (map of ys) (omega (arith, long, a, b, c, d)) (λ k less. same k (omega (arith, is, a, c, less)))
+
+-- ---- symbols and sections
+
+abbrev pub named_symbol : Symbol → List ℕ → NamedSymbol
+named_symbol x name = record { name = name; symbol = x }
+
+abbrev pub symbols_again : List NamedSymbol → List NamedSymbol
+symbols_again xs = map (λ (x : NamedSymbol). named_symbol x.symbol x.name) xs
+
+pub again : (xs : List NamedSymbol) → symbols_again xs ≡ xs
+again [] = refl
+again (x ∷ xs) = ap (λ ys. x ∷ ys) (again xs)
+
+abbrev pub named_section : Section → List ℕ → SectionOutline
+named_section x name = record {
+  number = x.number;
+  name = name;
+  kind = x.kind;
+  flags = x.flags;
+  size = x.size;
+  alignment = x.alignment;
+}
