@@ -1,6 +1,6 @@
 -- The bytes of an image outside of the input sections of an object turn on what the objects hold besides.
-use Rattle.std.proofs.Common.{◌≡◌, ◌≢◌, ◌+◌, ◌-◌, ◌<◌, ◌≤◌, ◌==◌, ◌⊎◌, inl, inr, ℕ, nat_le, nat_lt, Bool, true, false, cond, not}
-use Rattle.std.proofs.Common.{◌&&◌, List, length, map, filter, find, slice_index, Option, Some, None, refl, sym, ap, ◌∙◌}
+use Rattle.std.proofs.Common.{◌≡◌, ◌+◌, ◌-◌, ◌<◌, ◌≤◌, ◌==◌, inl, inr, ℕ, nat_le, nat_lt, Bool, true, false, cond, not}
+use Rattle.std.proofs.Common.{◌&&◌, List, length, find, slice_index, Option, Some, None, refl, sym, ap, ◌∙◌}
 use Rattle.std.proofs.Common.{subst, arith, bytes_eq}
 use Rattle.std.specs.Prelude.{slice_get}
 use Rattle.std.specs.List.{Contains}
@@ -10,8 +10,8 @@ use Rattle.ldmodel.specs.Each.{Each}
 use Rattle.ldmodel.specs.Image.{byte_at, covering_data, covering_piece, covers, file_headers, file_section_at, tail_at}
 use Rattle.ldmodel.specs.Layout.{Layout, PlacedData, PlacedPiece, PlacedSection}
 use Rattle.ldmodel.specs.Project.{NamedObject, Project}
-use Rattle.ldmodel.specs.SectionHeaders.{FilePart, tail}
-use Rattle.ldmodel.specs.Segments.{SectionInFile, Segment, file_offset, in_file, nonempty, segments}
+use Rattle.ldmodel.specs.SectionHeaders.{FilePart}
+use Rattle.ldmodel.specs.Segments.{SectionInFile, Segment, file_offset, in_file, segments}
 use Rattle.ldmodel.specs.Stayed.{FileRange, GoodLink, LinkedPiece, linked_piece, linked_pieces, range_in}
 use Rattle.ldmodel_laws.specs.ByteCases.{byte_among, byte_past_headers, piece_byte}
 use Rattle.ldmodel_laws.specs.ImageBytes.{AreNamed}

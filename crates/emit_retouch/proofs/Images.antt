@@ -1,27 +1,24 @@
 -- The image of a link, where the sections of one object were written over the image of another link.
-use Rattle.std.proofs.Common.{◌≡◌, ◌≢◌, ◌+◌, ◌-◌, ◌<◌, ◌≤◌, ◌==◌, ◌⊎◌, inl, inr, ⊎_elim, ℕ, zero, suc, nat_le, nat_lt, Bool}
-use Rattle.std.proofs.Common.{true, false, cond, not, ◌&&◌, List, [], ◌∷◌, length, map, find, filter, get_or, slice_index}
+use Rattle.std.proofs.Common.{◌≡◌, ◌+◌, ◌-◌, ◌<◌, ◌≤◌, ◌==◌, ◌⊎◌, inl, inr, ⊎_elim, ℕ, nat_le, nat_lt, Bool}
+use Rattle.std.proofs.Common.{true, false, cond, not, ◌&&◌, List, [], ◌∷◌, length, map, find, filter, slice_index}
 use Rattle.std.proofs.Common.{Option, Some, None, refl, sym, ap, ◌∙◌, subst, arith, bytes_eq}
 use Rattle.std.specs.Prelude.{slice_get}
-use Rattle.std.specs.List.{All, AllZip, Contains, filter_map, range_with_len}
+use Rattle.std.specs.List.{All, AllZip, Contains, filter_map}
 use Rattle.std.specs.Option.{option_map, option_map_or}
-use Rattle.std.proofs.lemmas.Bool.{cases_lt, eq-eqb, eqb-true, false≢true, true≢false, le-leb, leb-true, lt-ltb, ltb-true}
+use Rattle.std.proofs.lemmas.Bool.{cases_lt, eq-eqb, eqb-true, false≢true, le-leb, leb-true, lt-ltb, ltb-true}
 use Rattle.std.proofs.lemmas.List.FromFn.{fill_by_all, get_or-map-range_with_len, length-map-range_with_len}
 use Rattle.std.proofs.lemmas.Option.{same_Some, slice_get-map}
 use Rattle.std.proofs.lemmas.Slice.Eq.{bytes_eq-Decides}
 use Rattle.elfobj.specs.Sections.{LinkedSection}
 use Rattle.elfobj.specs.declared.relocation.Relocation.{Relocation}
 use Rattle.elfobj.specs.declared.section.SectionIndex.{SectionIndex}
-use Rattle.elfobj.specs.declared.section.SectionKind.{SectionKind}
 use Rattle.elfobj.specs.declared.section.SectionKind.TheVariants.{Nobits}
 use Rattle.emit_fields.specs.Patches.{patched_byte}
-use Rattle.emit_fields.specs.declared.patch.Patch.{Patch}
 use Rattle.ldmodel.specs.Each.{Each}
-use Rattle.ldmodel.specs.Edits.{AreNamesDistinct}
 use Rattle.ldmodel.specs.Image.{byte_at, covers, image, object_named, section_numbered}
 use Rattle.ldmodel.specs.Layout.{Layout, PlacedPiece, PlacedSection}
 use Rattle.ldmodel.specs.Project.{NamedObject, Project}
-use Rattle.ldmodel.specs.Relocations.{fields_of, is_evaluated, patch_of, site_field}
+use Rattle.ldmodel.specs.Relocations.{Site, fields_of, is_evaluated, patch_of, site_field, sites_at}
 use Rattle.ldmodel.specs.Sections.{is_same_part}
 use Rattle.ldmodel.specs.SectionHeaders.{image_length}
 use Rattle.ldmodel.specs.Segments.{Segment, file_offset, segments}
@@ -33,7 +30,7 @@ use Rattle.ldmodel.specs.declared.sections.Part.{Part}
 use Rattle.ldmodel.specs.declared.sections.Part.TheVariants.{InTable, InCommon}
 use Rattle.ldmodel_laws.specs.ByteCases.{object_byte, part_byte, section_byte}
 use Rattle.ldmodel_laws.specs.ImageBytes.{AreNamed, offset_in_file}
-use Rattle.ldmodel_laws.specs.Outline.{HasSameFrame, IsRetouched, ObjectOutline, SectionOutline, object_outline}
+use Rattle.ldmodel_laws.specs.Outline.{ObjectOutline, SectionOutline, object_outline}
 use Rattle.ldmodel_laws.specs.Outline.{section_outline}
 use Rattle.ldmodel_laws.specs.Spread.{EachLater, IsSpread}
 use Rattle.ldmodel_laws.proofs.Finding.{NotBoth, find_only, flat_map_in, in_flat_map, in_map, later_imply}
@@ -42,17 +39,17 @@ use Rattle.ldmodel_laws.proofs.InImage.{linked}
 use Rattle.ldmodel_laws.proofs.Once.{later_map, names_later}
 use Rattle.ldmodel_laws.proofs.PieceBytes.{both_of, byte_of_piece, later_of_map, of_both, one_name, same_name}
 use Rattle.emit_relocate.specs.Earlier.{range_of}
-use Rattle.emit_relocate.specs.Fields.{IsRun}
-use Rattle.emit_relocate.specs.KnownLink.{KnownLink, named_object}
-use Rattle.emit_relocate.specs.declared.earlier.FileRange.{FileRange}
-use Rattle.emit_retouch.specs.Plan.{AreWritten, ComesOf, IsKept, IsNothing, IsPlanned, IsPlannedAt, IsWhole, Written}
-use Rattle.emit_retouch.specs.Retouches.{IsBare, IsOutside, IsRetouch}
-use Rattle.emit_retouch.specs.Spots.{HasSpots, IsSpot}
+use Rattle.emit_relocate.specs.Fields.{fault_at}
+use Rattle.emit_relocate.specs.KnownLink.{KnownLink}
+use Rattle.emit_retouch.specs.Plan.{AreWritten, ComesOf, IsKept, IsNothing, IsPlannedAt, IsWhole, Written}
+use Rattle.emit_retouch.specs.Plan.{sites_there}
+use Rattle.emit_retouch.specs.Retouches.{IsBare, IsRetouch}
+use Rattle.emit_retouch.specs.Spots.{HasSpots, IsSpot, sites_of}
 use Rattle.emit_retouch.specs.declared.spot.SectionSpot.{SectionSpot}
 use Rattle.emit_retouch.proofs.Frame.{byte_same}
-use Rattle.emit_retouch.proofs.Others.{name_before, outline_before}
-use Rattle.emit_retouch.proofs.Places.{Found, Placed, at_place, found, place_of}
-use Rattle.emit_retouch.proofs.Sites.{SpotPiece, of_member, spot_piece}
+use Rattle.emit_retouch.proofs.Places.{Found, at_place, found, none_of_one}
+use Rattle.emit_retouch.proofs.Planning.{sites_at_spot}
+use Rattle.emit_retouch.proofs.Sites.{SpotPiece, of_member, spot_piece, spots_have_sites}
 
 -- ---- lists of bytes
 
@@ -470,3 +467,15 @@ module _ (p : Project) (l : KnownLink) (key : ObjectPlace) (o : NamedObject) (h 
 
     pub new_image : new ≡ image q s
     new_image = is_image q s new (over.length ∙ image_bytes p s ∙ h.frame.length) each_byte
+
+-- ---- the faults
+
+pub no_fault : (l : KnownLink) (o : NamedObject) (spots : List SectionSpot) (ws : List Written)
+    → AllZip (IsPlannedAt l o) spots ws → HasSpots l.project l.layout o spots → (t : Site)
+    → Contains (sites_of l.layout o) t → fault_at l t ≡ None
+no_fault l o spots ws planned has t c =
+    let k = in_flat_map (sites_there o) spots t
+    (subst (λ ts. Contains ts t) (sym (spots_have_sites l.project l.layout o spots has)) c) in
+    let r : IsPlannedAt l o k.origin _ = (partner_in (IsPlannedAt l o) spots ws k.origin planned k.among).related in
+    none_of_one (fault_at l) (sites_at o r.section k.origin.start) t r.faultless.faultless
+    (subst (λ ts. Contains ts t) (sym (sites_at_spot o k.origin r.section r.section_is)) k.gives)

@@ -1,12 +1,11 @@
 -- The other objects of two projects of which one object differs: they are the same, with the same values of symbols.
-use Rattle.std.proofs.Common.{◌≡◌, ◌+◌, ◌==◌, ℕ, Bool, true, false, cond, List, map, filter, find, Option, Some, None, refl}
-use Rattle.std.proofs.Common.{sym, ap, ◌∙◌, subst, bytes_eq}
+use Rattle.std.proofs.Common.{◌≡◌, ◌==◌, ℕ, Bool, true, false, cond, List, filter, Option, Some, None, refl}
+use Rattle.std.proofs.Common.{sym, ap, ◌∙◌, bytes_eq}
 use Rattle.std.specs.Prelude.{slice_get}
-use Rattle.std.specs.List.{Contains, filter_map}
+use Rattle.std.specs.List.{Contains}
 use Rattle.std.specs.Option.{option_map, option_map_or}
 use Rattle.std.proofs.lemmas.Bool.{eq-eqb, eqb-true, false≢true}
 use Rattle.std.proofs.lemmas.Option.{same_Some, slice_get-map}
-use Rattle.std.proofs.lemmas.Slice.Eq.{bytes_eq-Decides}
 use Rattle.elfobj.specs.Sections.{LinkedSection}
 use Rattle.elfobj.specs.Symbols.{NamedSymbol}
 use Rattle.elfobj.specs.declared.relocation.Relocation.{Relocation}

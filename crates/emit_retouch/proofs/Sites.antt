@@ -1,6 +1,6 @@
 -- The sites of the sections of an object where they stand are all sites of the object.
-use Rattle.std.proofs.Common.{◌≡◌, ◌+◌, ◌<◌, ◌≤◌, ◌==◌, ◌⊎◌, inl, inr, ⊎_elim, ℕ, zero, suc, Bool, true, false, cond, not}
-use Rattle.std.proofs.Common.{◌&&◌, List, [], ◌∷◌, ◌++◌, length, map, flat_map, get_or, Option, Some, None, refl, sym, ap}
+use Rattle.std.proofs.Common.{◌≡◌, ◌+◌, ◌<◌, ◌≤◌, ◌==◌, ⊎_elim, ℕ, zero, suc, Bool, true, false}
+use Rattle.std.proofs.Common.{List, [], ◌∷◌, ◌++◌, flat_map, Option, Some, None, refl, sym, ap}
 use Rattle.std.proofs.Common.{◌∙◌, subst, arith, bytes_eq}
 use Rattle.std.specs.Prelude.{slice_get}
 use Rattle.std.specs.List.{All, AllPairs, Contains}
@@ -11,13 +11,11 @@ use Rattle.std.proofs.lemmas.Slice.Eq.{bytes_eq-Decides}
 use Rattle.elfobj.specs.Sections.{LinkedSection}
 use Rattle.ldmodel.specs.Layout.{Layout, PlacedPiece, PlacedSection}
 use Rattle.ldmodel.specs.Project.{NamedObject, Project}
-use Rattle.ldmodel.specs.Relocations.{Site, sites_at, sites_of_section}
+use Rattle.ldmodel.specs.Relocations.{sites_at, sites_of_section}
 use Rattle.ldmodel.specs.Sections.{is_same_part}
-use Rattle.ldmodel.specs.Segments.{Segment, segments}
-use Rattle.ldmodel.specs.Stayed as model
-use Rattle.ldmodel.specs.Stayed.{GoodLink, LinkedPiece, linked_piece, linked_pieces, range_in}
+use Rattle.ldmodel.specs.Segments.{segments}
+use Rattle.ldmodel.specs.Stayed.{GoodLink, linked_piece, range_in}
 use Rattle.ldmodel.specs.SymbolValues.{is_part, placed_part, placed_pieces}
-use Rattle.ldmodel.specs.declared.sections.Part.{Part}
 use Rattle.ldmodel.specs.declared.sections.Part.TheVariants.{InTable}
 use Rattle.ldmodel_laws.proofs.Finding.{in_flat_map}
 use Rattle.ldmodel_laws.proofs.InImage.{linked}
@@ -185,11 +183,14 @@ module _ (p : Project) (s : Layout) (o : NamedObject) where
                 (let up = later_above t us u k.ascending c in omega (arith, up, at));
             ascending = rest_ascends t us k.ascending;
             all = λ j z w f g.
-                let b = k.all (suc j) z w f g in
-                (b.0, ⊎_elim
-                (λ is. let i : t.index.0 ≡ b.0.index.0 = ap (λ (u : SectionSpot). u.index.0) is in
-                absurd (omega (arith, i, at, b.2)))
-                (λ c. c) (first_or_later t us b.0 b.1), omega (arith, b.2));
+                let b = k.all (suc j) z w f g in (
+                  b.0,
+                  ⊎_elim
+                      (λ is. let i : t.index.0 ≡ b.0.index.0 = ap (λ (u : SectionSpot). u.index.0) is in
+                      absurd (omega (arith, i, at, b.2)))
+                      (λ c. c) (first_or_later t us b.0 b.1),
+                  omega (arith, b.2),
+                );
           }))
 
   -- ---- all spots

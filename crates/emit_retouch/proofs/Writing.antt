@@ -1,10 +1,10 @@
 -- Bytes written over the bytes of a file, one list after another.
-use Rattle.std.proofs.Common.{◌≡◌, ◌+◌, ◌-◌, ◌<◌, ◌≤◌, ◌^◌, ◌⊎◌, inl, inr, ⊎_elim, ℕ, List, [], ◌∷◌, ◌++◌, length, map, take}
+use Rattle.std.proofs.Common.{◌≡◌, ◌+◌, ◌-◌, ◌<◌, ◌≤◌, ◌^◌, ◌⊎◌, inl, inr, ⊎_elim, ℕ, List, [], ◌∷◌, ◌++◌, length, take}
 use Rattle.std.proofs.Common.{get_or, slice_index, refl, sym, ap, ◌∙◌, subst, arith, add-one, take-suc}
 use Rattle.std.specs.Prelude.{sum_by}
-use Rattle.std.specs.List.{Contains}
+use Rattle.std.specs.List.{All}
 use Rattle.std.proofs.lemmas.Bool.{cases_lt}
-use Rattle.std.proofs.lemmas.List.{map-append}
+use Rattle.std.proofs.lemmas.List.{get_or-map, length-map, map-append}
 use Rattle.std.proofs.lemmas.List.Elements.{Contains-append_cases, Contains-append_left, Contains-append_right}
 use Rattle.std.proofs.lemmas.List.Sums.{sum_by-append, sum_by-cons}
 use Rattle.emit_fields.specs.Patches.{patched_byte}
@@ -12,7 +12,7 @@ use Rattle.ldmodel.specs.Counts.{Counts, capped}
 use Rattle.ldmodel.specs.Raised.{raised}
 use Rattle.elfobj.specs.declared.meter.Count.TheVariants.{Bytes}
 use Rattle.ldmodel_laws.proofs.Members.{first_or_later, here, none_in_nil}
-use Rattle.emit_retouch.specs.Plan.{AreWritten, ComesOf, IsKept, Written, count_of, written, written_all}
+use Rattle.emit_retouch.specs.Plan.{AreWritten, ComesOf, IsKept, IsWithin, Written, count_of, written, written_all}
 use Rattle.emit_retouch.specs.declared.plan.Rewrite.{Rewrite}
 
 -- what a write changes
@@ -102,3 +102,12 @@ more_raised m ws w =
     let last = sum_by-cons count_of w [] in
     let e : sum_by count_of ws + length w.bytes ≡ sum_by count_of (ws ++ w ∷ []) = omega (arith, split, last) in
     both_raised m (sum_by count_of ws) (length w.bytes) ∙ ap (raised m Bytes) e
+
+-- ---- what is planned lies within the file
+
+pub each_within : (limit : ℕ) (rs : List Rewrite) (i : ℕ) (r : Rewrite) → i < length rs → r ≡ get_or rs i r
+    → All (IsWithin limit) (written_all rs) → IsWithin limit (written r)
+each_within limit rs i r low is h =
+    let many = length-map rs written in
+    let here_in : IsWithin limit (get_or (written_all rs) i (written r)) = h i (written r) (omega (arith, many, low)) in
+    subst (IsWithin limit) (get_or-map written rs i r (written r) low ∙ ap written (sym is)) here_in

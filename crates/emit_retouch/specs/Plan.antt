@@ -1,7 +1,7 @@
 -- What is written of each section of an object.
 use Rattle.std.specs.Prelude.{◌≡◌, ◌≢◌, ◌+◌, ◌-◌, ◌<◌, ◌≤◌, ◌⊎◌, ℕ, List, [], Some, Contains, length, map, slice_get}
 use Rattle.std.specs.Prelude.{slice_index, flat_map}
-use Rattle.std.specs.List.{AllZip, filter_map}
+use Rattle.std.specs.List.{filter_map}
 use Rattle.std.specs.Option.{option_map_or}
 use Rattle.elfobj.specs.Object.{ObjectData}
 use Rattle.elfobj.specs.Sections.{LinkedSection}

@@ -1,5 +1,5 @@
 -- Two links of which one object differs in the bytes and the relocations of its sections alone, at one layout.
-use Rattle.std.specs.Prelude.{◌≡◌, ◌+◌, ◌≤◌, ◌<◌, ◌⊎◌, ℕ, List, [], Some, slice_get}
+use Rattle.std.specs.Prelude.{◌≡◌, ◌+◌, ◌≤◌, ◌<◌, ◌⊎◌, ℕ, [], Some, slice_get}
 use Rattle.std.specs.List.{All}
 use Rattle.elfobj.specs.Sections.{LinkedSection}
 use Rattle.elfobj.specs.declared.section.SectionKind.TheVariants.{Nobits}

@@ -12,9 +12,8 @@ ghost use Rattle.emit_relocate.specs.SymbolTable.{IsRow};
 ghost use Rattle.emit_retouch.specs.Retouches.{IsRetouch};
 ghost use Rattle.emit_retouch.specs.Spots.{HasSpots, bytes_of, sites_of};
 
-use crate::law::{retouched_faults, retouched_image};
 use crate::plan::{commit, plan};
-use crate::spot::SectionSpot;
+use crate::spot::{SectionSpot, nobits_are_bare, numbers_differ};
 use elfobj::Object;
 use emit_fields::canvas::Canvas;
 use emit_relocate::value::SymbolValue;
@@ -63,8 +62,8 @@ pub fn retouch(
 {
     // so that the range of the count is known
     let _fields = meter.fields();
-    retouched_image();
-    retouched_faults();
+    nobits_are_bare(object);
+    numbers_differ(object);
     match plan(alloc, canvas.len(), key, object, values, spots, meter)? {
         None => Ok(false),
         Some(plan) => {

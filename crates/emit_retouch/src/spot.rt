@@ -1,6 +1,7 @@
 //! Where an input section of an object stands in a link.
 
-ghost use Rattle.std.specs.Prelude.{All};
+ghost use Rattle.std.specs.Prelude.{◌≡◌, ◌==◌, ℕ, All, Some, find, slice_get};
+ghost use Rattle.elfobj.specs.Sections.{LinkedSection};
 ghost use Rattle.emit_retouch.specs.Retouches.{IsBare};
 
 use elfobj::Object;
@@ -28,4 +29,13 @@ pub fn nobits_are_bare(object: &Object)
     }
     // and of their relocations
     let _relocations = object.relocations(LinkedIndex(0));
+}
+
+/// The number of a section of an object is that of no other. The call does nothing.
+pub(crate) fn numbers_differ(object: &Object)
+    ensures { (j : ℕ) (x : LinkedSection) → slice_get object.now.sections j ≡ Some x
+        → find (λ (y : LinkedSection). y.number.0 == x.number.0) object.now.sections ≡ Some x }
+{
+    // so that their order is known
+    let _sections = object.sections();
 }
