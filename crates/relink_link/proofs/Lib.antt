@@ -11,7 +11,7 @@ mod Resumed
 mod Outlined
 mod Outlines
 mod TouchedSites
-mod Spots
+mod Spotted
 mod Retouching
 mod Touching
 pub mod Beside

@@ -2,6 +2,7 @@
 use Rattle.std.proofs.Common.{◌≡◌, ◌∙◌, ◌⊎◌, inl, inr, ◌<◌, ◌≤◌, ℕ, ◌+◌, List, [], ◌∷◌, Option, Some, None, ap, arith, length, map}
 use Rattle.std.proofs.Common.{refl, slice_get, subst, sym}
 use Rattle.std.specs.Option.{option_map}
+use Rattle.std.specs.Prelude.{slice_index_or}
 use Rattle.std.proofs.lemmas.Bool.{cases_lt}
 use Rattle.std.proofs.lemmas.List.{length-map, same_lists}
 use Rattle.std.proofs.lemmas.Option.{get_or_from_slice_get, same_Some, slice_get-get_or, slice_get-map}
@@ -84,3 +85,10 @@ named_section x name = record {
   size = x.size;
   alignment = x.alignment;
 }
+
+-- what an index reads
+pub read_same : {X : Type 0} (xs ys us vs : List X) (n : ℕ) (d : X) → us ≡ xs → vs ≡ ys → n < length us
+    → length us ≡ length vs → slice_index_or us n d ≡ slice_index_or vs n d → slice_get xs n ≡ slice_get ys n
+read_same xs ys us vs n d e f less long same =
+    ap (λ l. slice_get l n) (sym e) ∙ slice_get-get_or us n d less ∙ ap Some same
+    ∙ sym (slice_get-get_or vs n d (omega (arith, less, long))) ∙ ap (λ l. slice_get l n) f

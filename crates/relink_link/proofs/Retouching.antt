@@ -1,6 +1,6 @@
 -- A link whose project differs from that of an earlier one in what the input sections of one object hold: what is kept of
 -- the earlier link is right for it.
-use Rattle.std.proofs.Common.{◌≡◌, ◌∙◌, ◌⊎◌, inl, inr, ◌<◌, ◌≤◌, ℕ, ◌==◌, Bool, true, false, cond, List, [], Option, Some}
+use Rattle.std.proofs.Common.{◌≡◌, ◌∙◌, ◌⊎◌, inl, inr, ◌<◌, ◌≤◌, ℕ, ◌==◌, Bool, true, false, cond, List, [], ◌∷◌, Option, Some}
 use Rattle.std.proofs.Common.{None, ap, arith, length, map, refl, slice_get, subst, sym}
 use Rattle.std.specs.List.{Contains, list_any}
 use Rattle.std.specs.Option.{option_map, option_map_or}
@@ -12,7 +12,7 @@ use Rattle.elfobj.specs.Object.{ObjectData}
 use Rattle.elfobj.specs.Symbols.{NamedSymbol}
 use Rattle.ldmodel.specs.Each.{Each}
 use Rattle.ldmodel.specs.Edits.{AreNamesDistinct}
-use Rattle.ldmodel.specs.Layout.{Layout, PlacedPiece}
+use Rattle.ldmodel.specs.Layout.{Layout, PlacedPiece, PlacedSection}
 use Rattle.ldmodel.specs.Link as model
 use Rattle.ldmodel.specs.MapText.{map_text}
 use Rattle.ldmodel.specs.Names.{decision, provided}
@@ -64,7 +64,7 @@ module _ (old : GoodLink) (p : Project) (x : LastState) (r : ReplacedState) (is 
   many : length old.project.objects ≡ length p.objects
   many = sym is.objects ∙ f.objects
 
-  came : IsReplaced old.project p r
+  pub came : IsReplaced old.project p r
   came = subst (λ (m : Option ReplacedState). IfSome m (IsReplaced old.project p)) f.replaced is.replaced
 
   pub was : slice_get old.project.objects r.new.0 ≡ Some came.before
@@ -156,7 +156,7 @@ module _ (p q : Project) (i : ℕ) (h : IsRetouched p q i) (s : Layout) (k : IsK
       subst (λ n. placed_part s n key.part ≡ None) (same_names p q i h key.object.0) is
   same_place key (Some x) is =
       subst (λ n. (option_map (λ (y : PlacedPiece). y.start) (placed_part s n key.part) ≡ Some x.start)
-      × (position (λ (q : PlacedSection). list_any (is_part n key.part) q.pieces) s.sections ≡ Some x.section.0)
+      × (position (λ (v : PlacedSection). list_any (is_part n key.part) v.pieces) s.sections ≡ Some x.section.0)
       × (option_map (λ (y : PlacedPiece). y.piece.size) (placed_part s n key.part) ≡ Some x.size))
       (same_names p q i h key.object.0) is
 

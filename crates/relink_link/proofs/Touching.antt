@@ -1,11 +1,11 @@
 -- The sections of an object are written over those of the one in whose place it came.
 use Rattle.std.proofs.Common.{◌≡◌, ◌∙◌, ◌⊎◌, inl, inr, ◌<◌, ◌≤◌, ℕ, zero, suc, ◌+◌, ◌^◌, ◌==◌, Bool, true, false, cond, List, []}
 use Rattle.std.proofs.Common.{◌∷◌, ◌++◌, map, filter, flat_map, Option, Some, None, ap, arith, drop, length, refl, slice_get}
-use Rattle.std.proofs.Common.{subst, sym, take}
+use Rattle.std.proofs.Common.{not, subst, sym, take}
 use Rattle.std.specs.List.{All, Contains, cons_option, filter_map}
 use Rattle.std.specs.List.Sorted.{IsPermutation}
 use Rattle.std.specs.Option.{option_map, option_map_or}
-use Rattle.std.specs.Prelude.{Err, IfSome, Ok, Result, nat_lt, slice_index_or, sum_by}
+use Rattle.std.specs.Prelude.{Err, IfOk, IfSome, Ok, Result, nat_lt, slice_index_or, sum_by}
 use Rattle.std.specs.Result.{result_err}
 use Rattle.std.proofs.lemmas.Bool.{ltb-false}
 use Rattle.std.proofs.lemmas.List.{get_or-drop, get_or-take, get_or_past, length-map, length-take}
@@ -34,7 +34,7 @@ use Rattle.ldmodel.specs.Rows.{rows}
 use Rattle.ldmodel.specs.Rows as rows_of
 use Rattle.ldmodel.specs.SectionHeaders.{image_length}
 use Rattle.ldmodel.specs.Segments.{SectionInFile, file_offset, in_file, nonempty, segments}
-use Rattle.ldmodel.specs.SessionWork.{entries_from, sites_to_evaluate}
+use Rattle.ldmodel.specs.SessionWork.{bytes_to_write, entries_from, sites_to_evaluate}
 use Rattle.ldmodel.specs.Stayed.{GoodLink, LinkedPiece, has_stayed, link_pieces}
 use Rattle.ldmodel.specs.SymbolValues.{SymbolValue, Number, NotDefined, NotInOutput, entry_point}
 use Rattle.ldmodel.specs.SymbolValues as symbol
@@ -69,8 +69,15 @@ use Rattle.relink_link.specs.Worked.{IsLinkWork, IsWorkBeside}
 use Rattle.relink_link.proofs.Outlined.{names_of}
 use Rattle.relink_link.proofs.Retouching.{beside_own, came_before, came_is, is_retouched, same_arranged, same_name_there}
 use Rattle.relink_link.proofs.Retouching.{same_symbols, table_of, was}
-use Rattle.relink_link.proofs.Spots.{has_spots, spots_bytes}
+use Rattle.relink_link.proofs.Spotted.{has_spots, spots_bytes}
 use Rattle.relink_link.proofs.TouchedSites.{touched_bytes, touched_sites}
+
+-- ---- answers that may fail
+
+pub if_both : {A E : Type 0} (P Q R : A → Type 0) (m : Result A E) → ((a : A) → P a → Q a → R a) → IfOk m P → IfOk m Q
+    → IfOk m R
+if_both P Q R (Ok a) h x y = h a x y
+if_both P Q R (Err e) h x y = tt
 
 -- ---- links without faults
 
@@ -190,7 +197,7 @@ module _ (p : Project) (x : LastState) (r : ReplacedState) (f : IsFollowed x p r
   abbrev place : ℕ
   place = r.new.0
 
-  abbrev link_at : Layout → KnownLink
+  abbrev pub link_at : Layout → KnownLink
   link_at s = record { project = p; layout = s; number = λ key. key; name = λ k. None }
 
   module _ (old : GoodLink) (is : IsLastOf old p x) where
@@ -206,7 +213,7 @@ module _ (p : Project) (x : LastState) (r : ReplacedState) (f : IsFollowed x p r
     pub laid : model.layout p ≡ Ok s
     laid = sym kept.layout ∙ is.table.layout
 
-    arranged : IsArranged p s x.good.arranged
+    pub arranged : IsArranged p s x.good.arranged
     arranged = same_arranged old.project p place retouched s kept x.good.arranged is.table.arranged
 
     pub short : image_length p s ≤ max_image_length
@@ -240,11 +247,11 @@ module _ (p : Project) (x : LastState) (r : ReplacedState) (f : IsFollowed x p r
         → (offset_is : (v : SectionInFile) → Contains (in_file (segments s.sections)) v
         → file_offset (segments s.sections) v.section ≡ v.offset)
         → HasSpots p s f.after (spots_below x.good.arranged r.new (map section_of f.after.object.sections)
-        (length (map section_of f.after.object.sections)))
+        (length f.after.object.sections))
     spots_of order all offset_is =
         has_spots p s x.good.arranged arranged r.new f.after f.at short order all offset_is
 
-    same_layout_as : (t : Layout) → model.layout p ≡ Ok t → t ≡ s
+    pub same_layout_as : (t : Layout) → model.layout p ≡ Ok t → t ≡ s
     same_layout_as t e =
         let both = sym e ∙ laid in
         let same : t ≡ s = cc both in
@@ -288,7 +295,7 @@ module _ (p : Project) (x : LastState) (r : ReplacedState) (f : IsFollowed x p r
       → (before after : Counts)
       → after ≡ raised (raised before Fields (evaluations (link_at old.layout) (sites_of old.layout f.after))) Bytes
       (sum_by (bytes_of f.after.object) (spots_below x.good.arranged r.new (map section_of f.after.object.sections)
-      (length (map section_of f.after.object.sections))))
+      (length f.after.object.sections)))
       → IsTouchedCount old (new_link p old.layout) place before after
   touched_count old is numbers none most piece permuted order all offset_is before after counted =
       let s : Layout = old.layout in
@@ -316,9 +323,9 @@ module _ (p : Project) (x : LastState) (r : ReplacedState) (f : IsFollowed x p r
         counted = counted
             ∙ ap (λ n. raised (raised before Fields n) Bytes (sum_by (bytes_of b.object)
             (spots_below x.good.arranged r.new (map section_of b.object.sections)
-            (length (map section_of b.object.sections))))) (fields ∙ sym sites)
+            (length b.object.sections)))) (fields ∙ sym sites)
             ∙ ap (raised (raised before Fields _) Bytes) bytes;
-        few = subst (λ n. n ≤ _) (sym (ap (λ m. option_map_or (λ (o : NamedObject).
+        few = subst (λ n. n ≤ bytes_to_write old (new_link p s)) (sym (ap (λ m. option_map_or (λ (o : NamedObject).
             sum_by (own_bytes (new_link p s) o.name) o.object.sections) m 0) f.at))
             (touched_bytes old.project p s place ret k.frame names a b (was old p x r is f) f.at name fresh
             (member_of (λ (o : NamedObject). EachLater (λ (y z : LinkedSection). (y.number.0 == z.number.0) ≡ false)

@@ -156,6 +156,9 @@ pub(crate) fn retouched(
     let Some(replaced) = find_replaced(&last, lent.project) else {
         return Ok(false);
     };
+    outlines_decide();
+    // so that what a project says of its objects is known
+    let _inputs = lent.project.inputs();
     // so that the ranges of the counts are known
     let _counts = (meter.pieces(), meter.fields(), meter.bytes());
     let mut counted = Meter::new();

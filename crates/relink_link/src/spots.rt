@@ -1,7 +1,8 @@
 //! Where the sections of an object stand in a link.
 
-ghost use Rattle.std.specs.Prelude.{◌≡◌, IfOk};
-ghost use Rattle.relink_link.specs.Spots.{spots_in};
+ghost use Rattle.std.specs.Prelude.{◌≡◌, IfOk, length, map};
+ghost use Rattle.elfobj.specs.Sections.{section_of};
+ghost use Rattle.relink_link.specs.Spots.{spots_below};
 
 use crate::standing::find_standing;
 use elfobj::Object;
@@ -21,7 +22,8 @@ pub(crate) fn spots_of(
     place: ObjectPlace,
     object: &Object,
 ) -> Result<Vec<SectionSpot>, NoMemory>
-    ensures { IfOk result (λ v. v.items ≡ spots_in arranged.now place object.now.sections) }
+    ensures { IfOk result (λ v. v.items ≡ spots_below arranged.now place (map section_of object.now.sections)
+        (length object.now.sections)) }
 {
     let sections = object.sections();
     let mut spots = Vec::with_capacity(alloc, sections.len())?;

@@ -3,13 +3,14 @@ use Rattle.std.proofs.Common.{◌≡◌, ◌∙◌, ◌⊎◌, inl, inr, ◌<◌
 use Rattle.std.proofs.Common.{Option, Some, None, ap, arith, length, refl, slice_get, subst, sym, take}
 use Rattle.std.specs.List.{All, AllPairs, Contains}
 use Rattle.std.specs.Option.{option_and_then, option_map, option_map_or}
-use Rattle.std.specs.Prelude.{option_to_list, sum_by}
+use Rattle.std.specs.Prelude.{option_to_list, slice_index_or, sum_by}
 use Rattle.std.proofs.lemmas.Bool.{cases_lt}
 use Rattle.std.proofs.lemmas.List.{length-map, take_all}
 use Rattle.std.proofs.lemmas.List.Elements.{All-cons, All-nil}
 use Rattle.std.proofs.lemmas.List.Kept.{AllPairs-cons}
 use Rattle.std.proofs.lemmas.List.Sums.{sum_by-append, sum_by-cons}
-use Rattle.std.proofs.lemmas.Option.{same_Some, slice_get-map, slice_get_within}
+use Rattle.std.proofs.Math.Numerals.{add-one}
+use Rattle.std.proofs.lemmas.Option.{same_Some, slice_get-get_or, slice_get-map, slice_get_within}
 use Rattle.elfobj.specs.Profile.{size_in_file}
 use Rattle.elfobj.specs.Sections.{LinkedSection, section_of}
 use Rattle.elfobj.specs.declared.section.Section.{Section}
@@ -77,7 +78,7 @@ later_back R (x ∷ xs) (Some y) h k =
     (each_join (R x) xs (y ∷ []) h.0 ((k y refl).0, tt), later_back R xs (Some y) h.1 (λ z e. (k z e).1))
 
 module _ {T : Type 0} (f : ℕ → Option T) (index : T → ℕ) (own : (n : ℕ) (x : T) → f n ≡ Some x → index x ≡ n) where
-  made : ℕ → List T
+  abbrev made : ℕ → List T
   made zero = []
   made (suc n) = made n ++ option_to_list (f n)
 
@@ -109,11 +110,11 @@ module _ {T : Type 0} (f : ℕ → Option T) (index : T → ℕ) (own : (n : ℕ
 
   has_made : (n k : ℕ) (x : T) → k < n → f k ≡ Some x → Contains (made n) x
   has_made zero k x less e = absurd (omega (arith, less))
-  has_made (suc n) k x less e = go (cases_lt k n)
+  has_made (suc n) k x less e = go (cases_lt k n) (λ earlier. has_made n k x earlier e)
     where
-      go : (k < n) ⊎ (n ≤ k) → Contains (made (suc n)) x
-      go (inl earlier) = in_front (made n) (option_to_list (f n)) x (has_made n k x earlier e)
-      go (inr last) =
+      go : (k < n) ⊎ (n ≤ k) → (k < n → Contains (made n) x) → Contains (made (suc n)) x
+      go (inl earlier) rest = in_front (made n) (option_to_list (f n)) x (rest earlier)
+      go (inr last) rest =
           let same : n ≡ k = omega (arith, less, last) in
           in_back (made n) (option_to_list (f n)) x
           (subst (λ m. Contains (option_to_list m) x) (sym (ap f same ∙ e)) (here x []))
@@ -125,11 +126,13 @@ module _ {T : Type 0} (f : ℕ → Option T) (index : T → ℕ) (own : (n : ℕ
   sum_made g h zs one zero within = refl
   sum_made {Z} g h zs one (suc n) within =
       let z = there zs n (omega (arith, within)) in
-      sum_by-append g (made n) (option_to_list (f n))
-      ∙ ap (λ a. a + sum_by g (option_to_list (f n))) (sum_made g h zs one n (omega (arith, within)))
-      ∙ ap (λ a. sum_by h (take n zs) + a) (one n z.0 z.1 ∙ one_more (h z.0))
-      ∙ sym (sum_by-append h (take n zs) (z.0 ∷ []))
-      ∙ ap (sum_by h) (sym (take_more zs n z.0 z.1))
+      let a = sum_by-append g (made n) (option_to_list (f n)) in
+      let b = sum_made g h zs one n (omega (arith, within)) in
+      let c = one n z.0 z.1 in
+      let d = sum_by-append h (take n zs) (z.0 ∷ []) in
+      let e = sum_by-cons h z.0 [] in
+      let more = ap (sum_by h) (take_more zs n z.0 z.1) in
+      omega (arith, a, b, c, d, e, more)
     where
       there : (xs : List Z) (k : ℕ) → k < length xs → (x : Z) × (slice_get xs k ≡ Some x)
       there [] k less = absurd (omega (arith, less))
@@ -141,8 +144,16 @@ module _ {T : Type 0} (f : ℕ → Option T) (index : T → ℕ) (own : (n : ℕ
       take_more (y ∷ ys) zero x e = ap (λ z. z ∷ []) (same_Some _ _ e)
       take_more (y ∷ ys) (suc k) x e = ap (λ l. y ∷ l) (take_more ys k x e)
 
-      one_more : (a : ℕ) → a ≡ a + 0
-      one_more a = omega arith
+-- one more section
+pub one_more_spot : (t : Arranged) (place : ObjectPlace) (xs us : List Section) (n : ℕ) (d : Section)
+    (m : Option Standing) → us ≡ xs → n < length us → m ≡ standing_in t (key_of place (slice_index_or us n d))
+    → spots_below t place xs (n + 1) ≡ spots_below t place xs n ++ option_to_list (option_map (spot_with n) m)
+one_more_spot t place xs us n d m is less stands =
+    let at : slice_get xs n ≡ Some (slice_index_or us n d) =
+    ap (λ l. slice_get l n) (sym is) ∙ slice_get-get_or us n d less in
+    ap (spots_below t place xs) (add-one n)
+    ∙ ap (λ o. spots_below t place xs n ++ spot_of t place n o) at
+    ∙ ap (λ o. spots_below t place xs n ++ option_to_list (option_map (spot_with n) o)) (sym stands)
 
 -- ---- the sections of an object
 
@@ -262,16 +273,16 @@ module _ (p : Project) (s : Layout) (t : Arranged) (arranged : IsArranged p s t)
     many : length listed ≡ length o.object.sections
     many = length-map o.object.sections section_of
 
-    pub has_spots : HasSpots p s o (spots_below t place listed (length listed))
-    has_spots = subst (HasSpots p s o) (sym (spots_are (length listed))) (record {
-      each = all_each (IsSpot p s o) (spots (length listed))
-          (each_made found_spot spot_number own_number (IsSpot p s o) is_spot (length listed));
-      ascending = each_later_pairs (λ (a b : SectionSpot). a.index.0 < b.index.0) (spots (length listed))
-          (ascending found_spot spot_number own_number (length listed));
+    pub has_spots : HasSpots p s o (spots_below t place listed (length o.object.sections))
+    has_spots = subst (HasSpots p s o) (sym (spots_are (length o.object.sections))) (record {
+      each = all_each (IsSpot p s o) (spots (length o.object.sections))
+          (each_made found_spot spot_number own_number (IsSpot p s o) is_spot (length o.object.sections));
+      ascending = each_later_pairs (λ (a b : SectionSpot). a.index.0 < b.index.0) (spots (length o.object.sections))
+          (ascending found_spot spot_number own_number (length o.object.sections));
       all = λ j x y e placed.
           let u = spot_there j x y e placed in (
             u.0,
-            has_made found_spot spot_number own_number (length listed) j u.0
+            has_made found_spot spot_number own_number (length o.object.sections) j u.0
                 (let within = slice_get_within o.object.sections j x e in omega (arith, within, many)) u.1,
             own_number j u.0 u.1,
           );
@@ -281,10 +292,9 @@ module _ (p : Project) (s : Layout) (t : Arranged) (arranged : IsArranged p s t)
     pub sum_spots : (g : SectionSpot → ℕ) (h : LinkedSection → ℕ)
         → ((k : ℕ) (x : LinkedSection) → slice_get o.object.sections k ≡ Some x
         → sum_by g (option_to_list (found_spot k)) ≡ h x)
-        → sum_by g (spots_below t place listed (length listed)) ≡ sum_by h o.object.sections
+        → sum_by g (spots_below t place listed (length o.object.sections)) ≡ sum_by h o.object.sections
     sum_spots g h one =
-        ap (sum_by g) (spots_are (length listed))
-        ∙ ap (λ n. sum_by g (spots n)) many
+        ap (sum_by g) (spots_are (length o.object.sections))
         ∙ sum_made found_spot spot_number own_number g h o.object.sections one (length o.object.sections) (omega arith)
         ∙ ap (sum_by h) (take_all (length o.object.sections) o.object.sections (omega arith))
 
@@ -357,7 +367,7 @@ module _ (p : Project) (s : Layout) (t : Arranged) (arranged : IsArranged p s t)
             add_none : (n : ℕ) → n + 0 ≡ n
             add_none n = omega arith
 
-    pub spots_bytes : sum_by (bytes_of o.object) (spots_below t place listed (length listed))
+    pub spots_bytes : sum_by (bytes_of o.object) (spots_below t place listed (length o.object.sections))
         ≡ bytes_of_object (new_link p s) place.0
     spots_bytes =
         sum_spots (bytes_of o.object) (own_bytes (new_link p s) o.name) spot_bytes

@@ -1,0 +1,107 @@
+use Rattle.std.proofs.Common.{◌≡◌, ◌∙◌, List, ap, length, map, subst, sym}
+use Rattle.std.specs.Option.{option_map}
+use Rattle.std.specs.Prelude.{sum_by}
+use Rattle.std.proofs.lemmas.List.{length-map}
+use Rattle.std.proofs.lemmas.Option.{same_Some}
+use Rattle.elfobj.specs.Object.{ObjectData}
+use Rattle.elfobj.specs.Raised.{raised}
+use Rattle.elfobj.specs.Sections.{section_of}
+use Rattle.elfobj.specs.Symbols.{NamedSymbol}
+use Rattle.elfobj.specs.declared.meter.Count.TheVariants.{Bytes, Fields}
+use Rattle.ldmodel.specs.Layout.{Layout}
+use Rattle.ldmodel.specs.Project.{NamedObject, Project}
+use Rattle.ldmodel.specs.Stayed.{GoodLink}
+use Rattle.emit.specs.Beside.{new_link}
+use Rattle.emit.specs.relocate.Fields.{evaluations}
+use Rattle.emit.specs.relocate.KnownLink.{KnownLink}
+use Rattle.emit.specs.relocate.SymbolTable.{IsRow}
+use Rattle.emit.specs.retouch.Spots.{HasSpots, bytes_of, sites_of}
+use Rattle.emit.specs.retouch.declared.spot.SectionSpot.{SectionSpot}
+use Rattle.relink_link.specs.Lent.{project_of}
+use Rattle.relink_link.specs.Spots.{spots_below}
+use Rattle.relink_link.specs.Stays.{IsLastOf, LastState, ReplacedState, last_state, replaced_state}
+use Rattle.relink_link.specs.Touched.{IsTouchedCount}
+use Rattle.relink_link.proofs.Touching as touching
+use Rattle.relink_link.proofs.retouch.touched.Goals as goal
+
+pub returns-clause-link : goal.returns-clause-link
+returns-clause-link c =
+    let p : Project = project_of c.args.lent in
+    let x : LastState = last_state c.args.last.now in
+    let r : ReplacedState = replaced_state c.args.replaced.now in
+    let f = c.requires.followed in
+    let names = c.inputs-inputs.ensures.distinct in
+    let keeps = λ (o : GoodLink). c.outlines_decide.ensures o p r.new.0 in
+    let old : GoodLink = c.requires.last.old in
+    let is : IsLastOf old p x = c.requires.last.is in
+    let s : Layout = old.layout in
+    let object : f.after.object ≡ c.in-Some.object.now =
+    sym (same_Some _ _ (c.in-Some.ensures ∙ ap (option_map (λ (o : NamedObject). o.object)) f.at)) in
+    let count : length c.symbols.result.now ≡ length f.after.object.symbols =
+    ap length c.symbols.ensures.value ∙ length-map c.in-Some.object.now.symbols (λ (y : NamedSymbol). y.symbol)
+    ∙ ap (λ (d : ObjectData). length d.symbols) (sym object) in
+    let l : KnownLink = touching.link_at p x r f names keeps s in
+    let row : IsRow l f.after c.row-values.result.now =
+    touching.values p x r f names keeps old is (length c.symbols.result.now) c.row-values.result.now count
+    c.row-values.ensures in
+    let order = c.files_in_order.ensures s.sections in
+    let all = c.sections_in_file.ensures.all s.sections in
+    let offset_is = c.sections_in_file.ensures.offset s.sections is.table.arranged.laying.named in
+    let spots : HasSpots p s f.after c.deref.result.now =
+    subst (HasSpots p s f.after) (sym (c.deref.ensures.value ∙ c.in_ok-spots.ensures
+    ∙ ap (λ (d : ObjectData). spots_below x.good.arranged r.new (map section_of d.sections) (length d.sections))
+    (sym object))) (touching.spots_of p x r f names keeps old is order all offset_is) in
+    let retouch = touching.retouch_of p x r f names keeps old is c.nobits_are_bare.ensures in
+    touching.if_both _ _ _ c.retouch.result (λ done image faultless yes.
+    let none = faultless yes old.project l f.after retouch object row spots
+    (touching.before_faultless p x r f names keeps old is) in
+    touching.retouched_end p x r f names keeps old is c.retouch.new.canvas.bytes none
+    (c.is_good.ensures s (touching.arranged p x r f names keeps old is).laying
+    (touching.short p x r f names keeps old is) none)
+    (image yes old.project l f.after retouch object row spots c.requires.last.image))
+    c.retouch.ensures.image c.retouch.ensures.faultless
+
+pub returns-clause-counted : goal.returns-clause-counted
+returns-clause-counted c =
+    let p : Project = project_of c.args.lent in
+    let x : LastState = last_state c.args.last.now in
+    let r : ReplacedState = replaced_state c.args.replaced.now in
+    let f = c.requires.followed in
+    let names = c.inputs-inputs.ensures.distinct in
+    let keeps = λ (o : GoodLink). c.outlines_decide.ensures o p r.new.0 in
+    let object : f.after.object ≡ c.in-Some.object.now =
+    sym (same_Some _ _ (c.in-Some.ensures ∙ ap (option_map (λ (o : NamedObject). o.object)) f.at)) in
+    let count : length c.symbols.result.now ≡ length f.after.object.symbols =
+    ap length c.symbols.ensures.value ∙ length-map c.in-Some.object.now.symbols (λ (y : NamedSymbol). y.symbol)
+    ∙ ap (λ (d : ObjectData). length d.symbols) (sym object) in
+    let spots_are = c.deref.ensures.value ∙ c.in_ok-spots.ensures
+    ∙ ap (λ (d : ObjectData). spots_below x.good.arranged r.new (map section_of d.sections) (length d.sections))
+    (sym object) in
+    touching.if_both _ _ _ c.retouch.result (λ done counted faultless yes old t is laid_at.
+    let s : Layout = old.layout in
+    let l : KnownLink = touching.link_at p x r f names keeps s in
+    let row : IsRow l f.after c.row-values.result.now =
+    touching.values p x r f names keeps old is (length c.symbols.result.now) c.row-values.result.now count
+    c.row-values.ensures in
+    let order = c.files_in_order.ensures s.sections in
+    let all = c.sections_in_file.ensures.all s.sections in
+    let offset_is = c.sections_in_file.ensures.offset s.sections is.table.arranged.laying.named in
+    let spots : HasSpots p s f.after c.deref.result.now =
+    subst (HasSpots p s f.after) (sym spots_are) (touching.spots_of p x r f names keeps old is order all offset_is) in
+    let retouch = touching.retouch_of p x r f names keeps old is c.nobits_are_bare.ensures in
+    let none = faultless yes old.project l f.after retouch object row spots
+    (touching.before_faultless p x r f names keeps old is) in
+    let good = c.is_good.ensures s (touching.arranged p x r f names keeps old is).laying
+    (touching.short p x r f names keeps old is) none in
+    let raised_by = counted yes l f.after f.at object row spots
+    ∙ ap (λ (d : ObjectData). raised (raised c.args.meter.now Fields (evaluations l (sites_of s f.after))) Bytes
+    (sum_by (bytes_of d) c.deref.result.now)) (sym object)
+    ∙ ap (λ (us : List SectionSpot). raised (raised c.args.meter.now Fields (evaluations l (sites_of s f.after))) Bytes
+    (sum_by (bytes_of f.after.object) us)) spots_are in
+    subst (λ (u : Layout). IsTouchedCount old (new_link p u) r.new.0 c.args.meter.now c.retouch.new.meter)
+    (sym (touching.same_layout_as p x r f names keeps old is t laid_at))
+    (touching.touched_count p x r f names keeps old is c.are_numbered.ensures none
+    (c.stayed_in_image.ensures (new_link p s) (new_link p s) good)
+    (c.stayed_by_part.ensures.piece old (new_link p s)) (c.stayed_by_part.ensures.outside old (new_link p s))
+    order all offset_is c.args.meter.now c.retouch.new.meter raised_by))
+    c.retouch.ensures.counted c.retouch.ensures.faultless
