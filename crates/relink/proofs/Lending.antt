@@ -195,7 +195,7 @@ is_last_of h s same bytes x from e kept edit none script is =
           let same = ap length kept.names in
           let names = length-map x.names.items (λ v. v.items) in
           let objects = length-map kept.old.project.objects (λ (o : NamedObject). o.name) in
-          omega (arith, same, names, objects));
+          omega (arith, same, names, objects, x.names.ok.0, x.names.ok.1));
       options = kept.options;
       origins = subst (λ (from : List (Option ℕ)). AreOrigins kept.old.project p from) (sym is)
           (origins_by_place kept.old.project p es after edit.keys refl since);

@@ -5,6 +5,7 @@ use Rattle.std.specs.Option.{option_map}
 use Rattle.elfobj.specs.Object.{ObjectData}
 use Rattle.relink_link.specs.Stays.{LastState, ReplacedState}
 use Rattle.std.specs.Global.{Global}
+use Rattle.std.specs.Vec.{vec_len}
 use Rattle.relink_link.specs.Retouched.{IsRetouchedEnd}
 use Rattle.relink_link.specs.Table.{IsTable}
 use Rattle.ldmodel.specs.Image.{image}
@@ -148,7 +149,7 @@ replaced_in origin es Stay after = None
 abbrev pub lent_with : LastGood → List (Option ℕ) → Effect → List Entry → StagedObjects → LastState
 lent_with x from e es s = record {
   good = x.good;
-  objects = length x.names.items;
+  objects = vec_len x.names;
   from = from;
   same_script = x.same_script && e.same_script;
   replaced = replaced_in (origin_of x.origins.items) es s.step s.places.after;

@@ -1,4 +1,4 @@
-use Rattle.std.proofs.Common.{subst, sym}
+use Rattle.std.proofs.Common.{◌∙◌, subst, sym}
 use Rattle.std.proofs.lemmas.Result.{err_from_is_err_and}
 use Rattle.relink_link.specs.Marks.{AreMarks}
 use Rattle.emit.specs.relocate.SymbolTable.{AreSymbolValues}
