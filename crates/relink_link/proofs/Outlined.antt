@@ -1,35 +1,30 @@
 -- Two projects of which one object differs in what its sections hold alone: what tables of a link say of them is the same.
-use Rattle.std.proofs.Common.{◌≡◌, ◌∙◌, ◌⊎◌, ℕ, zero, suc, ◌+◌, ◌==◌, Bool, true, false, cond, List, [], ◌∷◌, ◌++◌, map}
+use Rattle.std.proofs.Common.{◌≡◌, ◌∙◌, ℕ, ◌+◌, ◌==◌, Bool, true, false, cond, List, [], ◌∷◌, ◌++◌, map}
 use Rattle.std.proofs.Common.{Global, Vec, flat_map, find, Option, Some, None, ap, arith, length, refl, slice_get, subst, sym, take}
 use Rattle.std.specs.List.{Contains, cons_option, enumerate_from, filter_map}
 use Rattle.std.specs.Option.{option_and_then, option_map, option_map_or}
-use Rattle.std.specs.Prelude.{IsSome, sum_by}
+use Rattle.std.specs.Prelude.{sum_by}
 use Rattle.std.specs.Vec.{vec_items}
 use Rattle.std.proofs.lemmas.List.{length-map, map-append, take-map}
 use Rattle.std.proofs.lemmas.List.Sums.{sum_by-cons}
-use Rattle.std.proofs.lemmas.Option.{same_Some, slice_get-map}
+use Rattle.std.proofs.lemmas.Option.{slice_get-map}
 use Rattle.std.proofs.lemmas.Simd.{map-map}
 use Rattle.elfobj.specs.Sections.{LinkedSection}
 use Rattle.elfobj.specs.Symbols.{NamedSymbol}
 use Rattle.elfobj.specs.declared.section.SectionIndex.{SectionIndex}
-use Rattle.ldmodel.specs.Each.{Each}
 use Rattle.ldmodel.specs.FaultCode.{name_of_part, name_of_section}
-use Rattle.ldmodel.specs.InputSections.{block_at, block_of, common_blocks, input_sections, linked_input, object_inputs}
-use Rattle.ldmodel.specs.Layout.{Layout, PlacedPiece}
-use Rattle.ldmodel.specs.Names.{Decision, decision, provided}
+use Rattle.ldmodel.specs.InputSections.{block_of, common_blocks, input_sections, linked_input, object_inputs}
+use Rattle.ldmodel.specs.Names.{Decision, decision}
 use Rattle.ldmodel.specs.NameFaults.{object_name}
-use Rattle.ldmodel.specs.Placement.{placement}
 use Rattle.ldmodel.specs.Project.{NamedObject, Project}
 use Rattle.ldmodel.specs.Rows as model
 use Rattle.ldmodel.specs.Sections.{InputSection, SectionId}
-use Rattle.ldmodel.specs.SymbolValues.{placed_part}
 use Rattle.ldmodel.specs.declared.rows.Piece.{Piece}
 use Rattle.ldmodel.specs.declared.sections.Part.{Part}
 use Rattle.ldmodel.specs.declared.sections.Part.TheVariants.{InTable, InCommon}
-use Rattle.ldmodel.specs.declared.sections.SectionKey.{SectionKey}
 use Rattle.ldmodel_laws.specs.Outline.{IsRetouched, ObjectOutline, SectionOutline, object_outline, section_outline}
 use Rattle.ldmodel_project.specs.ByPlace.{name_of_section as section_name_in, piece_in, rows_in}
-use Rattle.place.specs.InPlace.{IsObjectName, IsOwned}
+use Rattle.place.specs.InPlace.{IsOwned}
 use Rattle.place.proofs.Members.{in_map, map_in}
 
 -- ---- lists

@@ -2,48 +2,43 @@
 -- the earlier link is right for it.
 use Rattle.std.proofs.Common.{◌≡◌, ◌∙◌, ◌⊎◌, inl, inr, ◌<◌, ◌≤◌, ℕ, ◌==◌, Bool, true, false, cond, List, [], ◌∷◌, Option, Some}
 use Rattle.std.proofs.Common.{None, ap, arith, length, map, refl, slice_get, subst, sym}
-use Rattle.std.specs.List.{Contains, list_any}
-use Rattle.std.specs.Option.{option_map, option_map_or}
-use Rattle.std.specs.Prelude.{IfSome, IsSome, Ok, position, slice_index_or}
+use Rattle.std.specs.List.{list_any}
+use Rattle.std.specs.Option.{option_map}
+use Rattle.std.specs.Prelude.{IfSome, IsSome, position}
 use Rattle.std.proofs.lemmas.Bool.{cases_lt, eq-eqb, eqb-false, eqb-true, ne_eqb}
-use Rattle.std.proofs.lemmas.List.{length-map, same_lists}
-use Rattle.std.proofs.lemmas.Option.{get_or_from_slice_get, same_Some, slice_get-get_or, slice_get-map, slice_get_past}
+use Rattle.std.proofs.lemmas.List.{length-map}
+use Rattle.std.proofs.lemmas.Option.{same_Some, slice_get-map, slice_get_past}
 use Rattle.elfobj.specs.Object.{ObjectData}
 use Rattle.elfobj.specs.Symbols.{NamedSymbol}
 use Rattle.ldmodel.specs.Each.{Each}
 use Rattle.ldmodel.specs.Edits.{AreNamesDistinct}
 use Rattle.ldmodel.specs.Layout.{Layout, PlacedPiece, PlacedSection}
 use Rattle.ldmodel.specs.Link as model
-use Rattle.ldmodel.specs.MapText.{map_text}
-use Rattle.ldmodel.specs.Names.{decision, provided}
-use Rattle.ldmodel.specs.NameFaults.{object_name}
+use Rattle.ldmodel.specs.Names.{provided}
 use Rattle.ldmodel.specs.Options.{LinkOptions}
 use Rattle.ldmodel.specs.Placement.{placement}
 use Rattle.ldmodel.specs.Project.{NamedObject, Project}
 use Rattle.ldmodel.specs.Rows.{rows}
 use Rattle.ldmodel.specs.Rows as rows_of
-use Rattle.ldmodel.specs.SectionHeaders.{image_length}
 use Rattle.ldmodel.specs.Stayed.{GoodLink}
 use Rattle.ldmodel.specs.SymbolValues.{is_part, placed_part}
-use Rattle.ldmodel.specs.Targets.{referenced_value}
 use Rattle.ldmodel.specs.declared.sections.SectionKey.{SectionKey}
 use Rattle.ldmodel_laws.specs.Outline.{IsRetouched, ObjectOutline, SectionOutline, object_outline, section_outline}
 use Rattle.ldmodel_laws.specs.Untouched.{IsGood}
 use Rattle.ldscript.specs.statements.declared.statement.Statement.{Statement}
 use Rattle.emit.specs.Beside.{new_link}
-use Rattle.emit.specs.relocate.SymbolTable.{AreSymbolValues, value_at}
-use Rattle.emit.specs.relocate.Values.{value_of}
+use Rattle.emit.specs.relocate.SymbolTable.{AreSymbolValues}
 use Rattle.emit.specs.relocate.declared.symbol_table.SymbolTable.{SymbolTable}
 use Rattle.gather.specs.sections.SectionTable.{IsTableOf, number_of}
 use Rattle.gather.specs.sections.declared.section_table.SectionTable.{SectionTable}
 use Rattle.place.specs.Arranged.{IsArranged, IsPartPlace}
-use Rattle.place.specs.InPlace.{AreInPlace, IsOwned, entries_of}
+use Rattle.place.specs.InPlace.{IsOwned, entries_of}
 use Rattle.place.specs.Laying.{IsLaying}
 use Rattle.place.specs.declared.arranged.Arranged.{Arranged}
 use Rattle.place.specs.declared.arranged.PartPlace.{PartPlace}
 use Rattle.place.specs.declared.laying.Laying.{Laying}
 use Rattle.place.specs.sections.Places.{AreOf, IsPlacement}
-use Rattle.relink_link.specs.Retouched.{IsFollowed, IsKeptLink, IsRetouchedEnd, origin_beside}
+use Rattle.relink_link.specs.Retouched.{IsFollowed, IsKeptLink, origin_beside}
 use Rattle.relink_link.specs.Stays.{IsLastOf, IsReplaced, LastState, ReplacedState}
 use Rattle.relink_link.specs.Table.{IsTable}
 use Rattle.relink_link.specs.declared.good.Good.{Good}

@@ -1,5 +1,5 @@
 -- Where the sections of an object stand in a link, as the tables of the link show it.
-use Rattle.std.proofs.Common.{◌≡◌, ◌∙◌, ◌⊎◌, inl, inr, ◌<◌, ◌≤◌, ℕ, zero, suc, ◌+◌, ◌^◌, Bool, true, List, [], ◌∷◌, ◌++◌, bytes_eq, find, map}
+use Rattle.std.proofs.Common.{◌≡◌, ◌∙◌, ◌⊎◌, inl, inr, ◌<◌, ◌≤◌, ℕ, zero, suc, ◌+◌, Bool, true, List, [], ◌∷◌, ◌++◌, bytes_eq, find, map}
 use Rattle.std.proofs.Common.{Option, Some, None, ap, arith, length, refl, slice_get, subst, sym, take}
 use Rattle.std.specs.List.{All, AllPairs, Contains}
 use Rattle.std.specs.Option.{option_and_then, option_map, option_map_or}
@@ -31,7 +31,6 @@ use Rattle.ldmodel.specs.declared.sections.SectionKey.{SectionKey}
 use Rattle.ldmodel_laws.specs.FileOrder.{AreInFileOrder}
 use Rattle.ldmodel_laws.specs.Spread.{EachLater}
 use Rattle.ldmodel_laws.specs.StayedSites.{is_linked_part}
-use Rattle.emit.specs.relocate.Earlier.{range_of}
 use Rattle.emit.specs.Beside.{new_link}
 use Rattle.emit.specs.retouch.Spots.{HasSpots, IsSpot, bytes_of}
 use Rattle.emit.specs.retouch.declared.spot.SectionSpot.{SectionSpot}
@@ -44,7 +43,7 @@ use Rattle.relink_link.specs.Spots.{key_of, spot_at, spot_of, spot_with, spots_b
 use Rattle.relink_link.specs.Standing.{standing_in}
 use Rattle.relink_link.specs.declared.standing.Standing.{Standing}
 use Rattle.relink_link.proofs.Inside.{below_64}
-use Rattle.relink_link.proofs.Kept.{IsAt, Shows, same_part}
+use Rattle.relink_link.proofs.Kept.{IsAt, same_part}
 use Rattle.relink_link.proofs.Once.{found, in_pieces, own_part}
 use Rattle.relink_link.proofs.Standings.{in_link, link_in, of_link, shows, stood}
 use Rattle.relink_link.proofs.TouchedSites.{find_got, found_some}

@@ -1,11 +1,11 @@
 -- Of two links at one layout of which one object differs, the input sections of all others stayed, and no symbol has
 -- another value: the sites outside of what stayed are those of the object, and its bytes lie outside of what stayed.
-use Rattle.std.proofs.Common.{◌≡◌, ◌∙◌, ◌⊎◌, inl, inr, ◌<◌, ◌≤◌, ℕ, zero, suc, ◌+◌, ◌-◌, ◌==◌, Bool, true, false, cond, not}
-use Rattle.std.proofs.Common.{◌&&◌, List, [], ◌∷◌, ◌++◌, map, filter, flat_map, find, Option, Some, None, ap, arith, length}
+use Rattle.std.proofs.Common.{◌≡◌, ◌∙◌, ◌⊎◌, inl, inr, ◌≤◌, ℕ, zero, suc, ◌+◌, ◌==◌, Bool, true, false, cond, not}
+use Rattle.std.proofs.Common.{◌&&◌, List, [], ◌∷◌, map, filter, flat_map, find, Option, Some, None, ap, arith, length}
 use Rattle.std.proofs.Common.{refl, slice_get, subst, sym, bytes_eq}
-use Rattle.std.specs.List.{Contains, list_any}
+use Rattle.std.specs.List.{Contains}
 use Rattle.std.specs.List.Sorted.{IsPermutation}
-use Rattle.std.specs.Option.{option_map, option_map_or}
+use Rattle.std.specs.Option.{option_map_or}
 use Rattle.std.specs.Prelude.{if◌then◌else◌, sum_by}
 use Rattle.std.proofs.lemmas.Bool.{eq-eqb, eqb-true, false≢true}
 use Rattle.std.proofs.lemmas.List.{length-map}
@@ -29,7 +29,7 @@ use Rattle.ldmodel.specs.Project.{NamedObject, Project}
 use Rattle.ldmodel.specs.Relocations.{Site, is_evaluated, site_symbol, site_value, sites, sites_at, sites_of_section}
 use Rattle.ldmodel.specs.SectionHeaders.{image_length}
 use Rattle.ldmodel.specs.Sections.{is_same_part}
-use Rattle.ldmodel.specs.Segments.{Segment, segments}
+use Rattle.ldmodel.specs.Segments.{segments}
 use Rattle.ldmodel.specs.SessionWork.{bytes_to_write, sites_to_evaluate}
 use Rattle.ldmodel.specs.Stayed.{GoodLink, LinkedPiece, has_stayed, is_moved, linked_piece, link_pieces, linked_pieces}
 use Rattle.ldmodel.specs.Stayed.{retargeted, same_piece, same_range, sites_in, stayed, text_of}
@@ -41,11 +41,10 @@ use Rattle.ldmodel.specs.WorkBound.{bytes_stayed, sites_outside}
 use Rattle.ldmodel.specs.declared.sections.Part.{Part}
 use Rattle.ldmodel.specs.declared.sections.Part.TheVariants.{InTable, InCommon}
 use Rattle.ldmodel_laws.specs.Outline.{HasSameFrame, IsRetouched, object_outline}
-use Rattle.ldmodel_laws.specs.PlacedOnce.{IsPlacedOnce}
 use Rattle.ldmodel_laws.specs.Spread.{EachLater}
 use Rattle.ldmodel_laws.specs.StayedSites.{has_part_stayed, is_linked_part, lies_in_stayed}
-use Rattle.ldmodel_laws.proofs.Finding.{Comes, ComesOf, NotBoth, find_only, flat_map_in, in_flat_map, in_map, later_imply}
-use Rattle.ldmodel_laws.proofs.Finding.{map_in, member_of}
+use Rattle.ldmodel_laws.proofs.Finding.{ComesOf, NotBoth, find_only, flat_map_in, in_flat_map, in_map, later_imply}
+use Rattle.ldmodel_laws.proofs.Finding.{map_in}
 use Rattle.ldmodel_laws.proofs.Joined.{filter_joined, found_joined, joined_same}
 use Rattle.ldmodel_laws.proofs.Members.{any_in, filter_in, first_or_later, here, in_any, later, none_in_nil}
 use Rattle.ldmodel_laws.proofs.Once.{names_later}

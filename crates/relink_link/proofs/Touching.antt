@@ -1,14 +1,14 @@
 -- The sections of an object are written over those of the one in whose place it came.
-use Rattle.std.proofs.Common.{◌≡◌, ◌∙◌, ◌⊎◌, inl, inr, ◌<◌, ◌≤◌, ℕ, zero, suc, ◌+◌, ◌^◌, ◌==◌, Bool, true, false, cond, List, []}
+use Rattle.std.proofs.Common.{◌≡◌, ◌∙◌, ◌⊎◌, inl, inr, ◌<◌, ◌≤◌, ℕ, zero, suc, ◌^◌, ◌==◌, Bool, true, false, cond, List, []}
 use Rattle.std.proofs.Common.{◌∷◌, ◌++◌, map, filter, flat_map, Option, Some, None, ap, arith, drop, length, refl, slice_get}
 use Rattle.std.proofs.Common.{not, subst, sym, take}
 use Rattle.std.specs.List.{All, Contains, cons_option, filter_map}
 use Rattle.std.specs.List.Sorted.{IsPermutation}
-use Rattle.std.specs.Option.{option_map, option_map_or}
-use Rattle.std.specs.Prelude.{Err, IfOk, IfSome, Ok, Result, nat_lt, slice_index_or, sum_by}
+use Rattle.std.specs.Option.{option_map_or}
+use Rattle.std.specs.Prelude.{Err, IfOk, Ok, Result, nat_lt, slice_index_or, sum_by}
 use Rattle.std.specs.Result.{result_err}
 use Rattle.std.proofs.lemmas.Bool.{ltb-false}
-use Rattle.std.proofs.lemmas.List.{get_or-drop, get_or-take, get_or_past, length-map, length-take}
+use Rattle.std.proofs.lemmas.List.{get_or-drop, get_or-take, get_or_past, length-take}
 use Rattle.std.proofs.lemmas.List.Sums.{sum_by-cons}
 use Rattle.std.proofs.lemmas.Option.{same_Some, slice_get_within}
 use Rattle.elfobj.specs.Counts.{Counts, capped}
@@ -17,9 +17,7 @@ use Rattle.elfobj.specs.Raised.{raised}
 use Rattle.elfobj.specs.Sections.{LinkedSection, section_of}
 use Rattle.elfobj.specs.Symbols.{NamedSymbol}
 use Rattle.elfobj.specs.declared.meter.Count.TheVariants.{Bytes, Fields}
-use Rattle.elfobj.specs.declared.symbol.Symbol.{Symbol}
 use Rattle.ldmodel.specs.Assertions.{assertion_faults}
-use Rattle.ldmodel.specs.Each.{Each}
 use Rattle.ldmodel.specs.Edits.{AreNamesDistinct}
 use Rattle.ldmodel.specs.Fault.{Fault, ImageTooLong}
 use Rattle.ldmodel.specs.Image.{image}
@@ -56,7 +54,6 @@ use Rattle.emit.specs.relocate.declared.value.SymbolValue as code
 use Rattle.emit.specs.relocate.declared.value.SymbolValue.TheVariants as value
 use Rattle.emit.specs.retouch.Retouches.{IsBare, IsRetouch}
 use Rattle.emit.specs.retouch.Spots.{HasSpots, bytes_of, sites_of}
-use Rattle.emit.specs.retouch.declared.spot.SectionSpot.{SectionSpot}
 use Rattle.place.specs.Arranged.{IsArranged}
 use Rattle.place.proofs.Members.{first_or_later, got, here, later, member_of, none_in_nil}
 use Rattle.ldmodel_laws.proofs.Finding.{flat_map_in}

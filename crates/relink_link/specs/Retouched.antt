@@ -1,5 +1,5 @@
 -- A link whose project differs from that of an earlier one in what the input sections of one object hold.
-use Rattle.std.specs.Prelude.{◌≡◌, ◌<◌, ◌==◌, ℕ, Bool, true, false, List, Option, Some, None, length, map, slice_get}
+use Rattle.std.specs.Prelude.{◌≡◌, ◌<◌, ◌==◌, ℕ, true, false, List, Option, Some, None, length, map, slice_get}
 use Rattle.std.specs.Prelude.{[], Ok, find, if◌then◌else◌, slice_index_or, sum_by}
 use Rattle.std.specs.Option.{option_map_or}
 use Rattle.elfobj.specs.Profile.{size_in_file}

@@ -1,5 +1,5 @@
 -- Where the sections of an object stand in a link, as the code finds them.
-use Rattle.std.specs.Prelude.{ℕ, zero, suc, ◌++◌, List, [], Option, None, Some, option_and_then, option_to_list, slice_get}
+use Rattle.std.specs.Prelude.{ℕ, zero, suc, ◌++◌, List, [], Option, option_and_then, option_to_list, slice_get}
 use Rattle.std.specs.Option.{option_map}
 use Rattle.elfobj.specs.declared.section.Section.{Section}
 use Rattle.emit.specs.retouch.declared.spot.SectionSpot.{SectionSpot}

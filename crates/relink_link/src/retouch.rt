@@ -118,10 +118,7 @@ fn touched(
         return Ok(false);
     };
     let spots = spots_of(lent.alloc, arranged, replaced.new, object)?;
-    let values = last
-        .good
-        .symbols
-        .row(replaced.new, object.symbols().len());
+    let values = last.good.symbols.row(replaced.new, object.symbols().len());
     retouch(
         lent.alloc,
         canvas,

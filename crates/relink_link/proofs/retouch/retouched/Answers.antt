@@ -1,4 +1,4 @@
-use Rattle.std.proofs.Common.{◌≡◌, ◌∙◌, ◌<◌, ◌^◌, ℕ, Option, ap, arith, subst, sym}
+use Rattle.std.proofs.Common.{◌≡◌, ◌∙◌, ◌<◌, ◌^◌, Option, ap, arith, subst, sym}
 use Rattle.std.specs.Prelude.{Some, true}
 use Rattle.elfobj.specs.Counts.{Counts}
 use Rattle.elfobj.specs.Raised.{raised}
@@ -6,7 +6,6 @@ use Rattle.elfobj.specs.declared.meter.Count.TheVariants.{Bytes, Fields}
 use Rattle.ldmodel.specs.Project.{Project}
 use Rattle.ldmodel.specs.Stayed.{GoodLink}
 use Rattle.relink_link.specs.Lent.{project_of}
-use Rattle.relink_link.specs.Retouched.{IsRetouchedEnd}
 use Rattle.relink_link.specs.Stays.{LastState, ReplacedState, last_of, last_state, replaced_state}
 use Rattle.relink_link.specs.Touched.{HasTouched, IsTouchedWork}
 use Rattle.relink_link.proofs.Touching.{touched_reads, touched_work}

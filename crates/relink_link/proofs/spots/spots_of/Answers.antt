@@ -10,13 +10,13 @@ use Rattle.relink_link.proofs.spots.spots_of.Goals.{in-Some+in_ok-push, in_defau
 pub loop-index-preserved : goal.loop-index-preserved
 loop-index-preserved c = elim c.match-find_standing.branch [
   | in-Some+in_ok-push w ↦
-    ap (λ v. v.items) w.spots-is ∙ w.in_ok-push.ensures.items ∙ ap (λ l. l ++ spot_with c.loop-index.index w.in-Some.standing ∷ []) c.loop-index.invariant
-    ∙ sym (one_more_spot c.args.arranged.now c.args.place (map section_of c.args.object.now.sections)
-    c.sections-sections.result.now c.loop-index.index _ (Some w.in-Some.standing) c.sections-sections.ensures.value
-    c.loop-index-test.true (sym w.in-Some.is ∙ c.find_standing.ensures))
+      ap (λ v. v.items) w.spots-is ∙ w.in_ok-push.ensures.items ∙ ap (λ l. l ++ spot_with c.loop-index.index w.in-Some.standing ∷ []) c.loop-index.invariant
+      ∙ sym (one_more_spot c.args.arranged.now c.args.place (map section_of c.args.object.now.sections)
+      c.sections-sections.result.now c.loop-index.index _ (Some w.in-Some.standing) c.sections-sections.ensures.value
+      c.loop-index-test.true (sym w.in-Some.is ∙ c.find_standing.ensures))
   | in_default w ↦
-    ap (λ v. v.items) w.spots-is ∙ c.loop-index.invariant ∙ sym (append-nil _)
-    ∙ sym (one_more_spot c.args.arranged.now c.args.place (map section_of c.args.object.now.sections)
-    c.sections-sections.result.now c.loop-index.index _ None c.sections-sections.ensures.value
-    c.loop-index-test.true (sym w.in_default.is ∙ c.find_standing.ensures))
+      ap (λ v. v.items) w.spots-is ∙ c.loop-index.invariant ∙ sym (append-nil _)
+      ∙ sym (one_more_spot c.args.arranged.now c.args.place (map section_of c.args.object.now.sections)
+      c.sections-sections.result.now c.loop-index.index _ None c.sections-sections.ensures.value
+      c.loop-index-test.true (sym w.in_default.is ∙ c.find_standing.ensures))
 ]
