@@ -36,7 +36,8 @@ use Rattle.emit_relocate.specs.SymbolTable.{IsRow}
 use Rattle.emit_relocate.specs.declared.site.PlacedSection.{PlacedSection}
 use Rattle.emit_relocate.specs.declared.value.SymbolValue.{SymbolValue}
 use Rattle.emit_retouch.specs.Plan.{IsAtHand, IsFaultlessRun, IsNothing, IsPlanned, IsPlannedAt, IsRefused}
-use Rattle.emit_retouch.specs.Plan.{IsWhole, IsWithin, Written, count_of, sites_in_all, sites_there, written, written_all}
+use Rattle.emit_retouch.specs.Plan.{IsWhole, IsWithin, Written, count_of, sites_in_all, sites_there, written}
+use Rattle.emit_retouch.specs.Plan.{written_all}
 use Rattle.emit_retouch.specs.declared.plan.Rewrite.{Rewrite}
 use Rattle.emit_retouch.specs.Spots.{bytes_of}
 use Rattle.emit_retouch.specs.declared.spot.SectionSpot.{SectionSpot}

@@ -56,7 +56,8 @@ fn are_in_order(fields: &[Patch], limit: usize) -> bool
     end <= limit
 }
 
-/// The fields of a section of an object that starts at an address; none where, and only where, a relocation has a fault.
+/// The fields of a section of an object that starts at an address; none where, and only where, a relocation has a
+/// fault.
 fn fields_of(
     alloc: Global,
     key: ObjectPlace,

@@ -30,8 +30,8 @@ use std::alloc::Global;
 ///
 /// # Errors
 ///
-/// Where memory runs out; spots that no link has, as one past the end of the image, count as that. Then the canvas is as
-/// it was.
+/// Where memory runs out; spots that no link has, as one past the end of the image, count as that. Then the canvas is
+/// as it was.
 pub fn retouch(
     alloc: Global,
     canvas: &mut Canvas,
