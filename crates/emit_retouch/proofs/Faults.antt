@@ -62,3 +62,11 @@ module _ (p q : Project) (s : Layout) (i : ℕ) (b : NamedObject) (h : IsRetouch
       ap (λ fs. fs ++ filter_map (fault_in q s) (flat_map (sites_of s) q.objects))
       (ap entry_fault (sym frame.entry) ∙ parts.0)
       ∙ none_of_each (fault_in q s) (sites_of s) q.objects of_object
+
+-- a link without faults of relocation has none of an object
+pub none_of_object : (q : Project) (s : Layout) (j : ℕ) (o : NamedObject) → relocation_faults q s ≡ []
+    → slice_get q.objects j ≡ Some o → filter_map (fault_in q s) (sites_of s o) ≡ []
+unfolding relocation_faults sites
+none_of_object q s j o none is =
+    none_at (fault_in q s) (sites_of s) q.objects j o
+    (both_nil (entry_fault (entry_point q s)) (filter_map (fault_in q s) (flat_map (sites_of s) q.objects)) none).1 is

@@ -11,7 +11,7 @@ use Rattle.std.proofs.lemmas.List.Sums.{sum_by-append, sum_by-cons}
 use Rattle.std.proofs.lemmas.Grind.{flat_map-append}
 use Rattle.std.proofs.lemmas.Option.{get_or_from_slice_get, same_Some, slice_get-map, slice_get_within}
 use Rattle.elfobj.specs.Object.{ObjectData}
-use Rattle.elfobj.specs.Profile.{size_in_file}
+use Rattle.elfobj.specs.Profile.{IsSectionOfProfile, size_in_file}
 use Rattle.elfobj.specs.Relocations.{field_end}
 use Rattle.elfobj.specs.Sections.{LinkedSection, section_of}
 use Rattle.elfobj.specs.declared.meter.Count.TheVariants as count
@@ -54,6 +54,21 @@ module _ (ps : List Patch) (i : ℕ) where
 
   pub order_all : (end n : ℕ) → length ps ≤ i → end ≤ n → AreInOrder end n (drop i ps)
   order_all end n long low = subst (λ qs. AreInOrder end n qs) (sym (drop_all i ps long)) low
+
+  pub order_next : (end n : ℕ) (d : Patch) → i < length ps → d ≡ get_or ps i d → AreInOrder end n (drop i ps)
+      → (end ≤ d.offset) × AreInOrder (patch_end d) n (drop (i + 1) ps)
+  order_next end n d low is h =
+      let all : drop i ps ≡ d ∷ drop (suc i) ps = drop-cons ps i d low ∙ ap (λ q. q ∷ drop (suc i) ps) (sym is) in
+      let both : (end ≤ d.offset) × AreInOrder (patch_end d) n (drop (suc i) ps) =
+      subst (λ qs. AreInOrder end n qs) all h in
+      (both.0, subst (λ k. AreInOrder (patch_end d) n (drop k ps)) (sym (add-one i)) both.1)
+
+  pub order_last : (end n : ℕ) → length ps ≤ i → AreInOrder end n (drop i ps) → end ≤ n
+  order_last end n long h = subst (λ qs. AreInOrder end n qs) (drop_all i ps long) h
+
+pub order_below : (from n : ℕ) (ps : List Patch) → AreInOrder from n ps → from ≤ n
+order_below from n [] h = h
+order_below from n (p ∷ ps) h = let rest = order_below (patch_end p) n ps h.1 in omega (arith, h.0, rest)
 
 -- ---- a section of an object
 
@@ -151,11 +166,27 @@ module _ (l : KnownLink) (o : NamedObject) (x : LinkedSection) (start : ℕ) (ol
   abbrev faults : List Fault
   faults = filter_map (fault_at l) (sites_at o x start)
 
-  pub faultless : old ≡ [] → gs ≡ [] → hs ≡ [] → IsFaultlessRun l o x start new
-  faultless none nogs nohs = record {
-    is_run = subst (IsRun l o x start) (sym (h.fields ∙ ap (λ fs. fs ++ h.run) none)) h.is_run;
-    faultless = sym (ap (λ fs. faults_of l fs ++ faults) nogs) ∙ sym h.counts.faults ∙ ap (faults_of l) nohs;
-  }
+  all_faults : gs ≡ [] → faults ≡ faults_of l hs
+  all_faults nogs = sym (ap (λ fs. faults_of l fs ++ faults) nogs) ∙ sym h.counts.faults
+
+  pub faultless : old ≡ [] → gs ≡ [] → hs ≡ [] → All (λ r. field_end r ≤ x.size) x.relocations
+      → IsFaultlessRun l o x start new
+  faultless none nogs nohs ends =
+      let is_run : IsRun l o x start new =
+      subst (IsRun l o x start) (sym (h.fields ∙ ap (λ fs. fs ++ h.run) none)) h.is_run in
+      record {
+        is_run = is_run;
+        order = is_run.order x.size ends;
+        faultless = all_faults nogs ∙ ap (faults_of l) nohs;
+      }
+
+  -- where a fault was found, there is one
+  pub faulty : gs ≡ [] → (hs ≡ [] → ⊥) → faults ≡ [] → ⊥
+  faulty nogs some none = some (no_faults hs (sym (all_faults nogs) ∙ none))
+    where
+      no_faults : (fs : List code.Fault) → faults_of l fs ≡ [] → fs ≡ []
+      no_faults [] e = refl
+      no_faults (f ∷ fs) e = absurd (let no : ⊥ = cc in no)
 
 -- ---- a number stands for one section
 
@@ -273,3 +304,21 @@ planned_more l o ts i d rs r low h k =
     subst (λ us. AllZip (IsPlannedAt l o) us (written_all (rs ++ r ∷ []))) (sym (take_more ts i d low))
     (subst (AllZip (IsPlannedAt l o) (take i ts ++ get_or ts i d ∷ [])) (sym (map-append written rs (r ∷ [])))
     (zip_more (IsPlannedAt l o) (take i ts) (written_all rs) (get_or ts i d) (written r) h k))
+
+pub both_none : {X : Type 0} (A B P : Type 0) (m : Option X) → (A → B → P) → IfNone m A → IfNone m B → IfNone m P
+both_none A B P None f a b = f a b
+both_none A B P (Some x) f a b = tt
+
+pub all_at : {X : Type 0} (P : X → Type 0) (xs : List X) (i : ℕ) (x : X) → All P xs → slice_get xs i ≡ Some x → P x
+all_at P xs i x h is = subst P (get_or_from_slice_get xs i x x is) (h i x (slice_get_within xs i x is))
+
+pub some_get : {X : Type 0} (xs : List X) (i : ℕ) (d : X) → i < length xs → slice_get xs i ≡ Some (get_or xs i d)
+some_get [] i d low = absurd (omega (arith, low))
+some_get (x ∷ xs) zero d low = refl
+some_get (x ∷ xs) (suc i) d low = some_get xs i d (omega (arith, low))
+
+-- a section that fits where it stands has its fields within its bytes
+pub whole_order : (x : LinkedSection) (run : List Patch) → IsSectionOfProfile x → x.kind ≢ Nobits
+    → AreInOrder 0 x.size run → AreInOrder 0 (length x.bytes) run
+whole_order x run h own order =
+    subst (λ n. AreInOrder 0 n run) (sym (h.bytes ∙ size_kept x.kind x.size own)) order

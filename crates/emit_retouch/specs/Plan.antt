@@ -62,10 +62,11 @@ pub record IsAtHand (l : KnownLink) (key : ObjectPlace) (object : ObjectData) (v
   pub same : o.object ≡ object
   pub row : IsRow l o values
 
--- the fields of a section that starts at an address, of whose relocations none has a fault
+-- the fields of a section that starts at an address, in the order of their offsets; none of its relocations has a fault
 pub record IsFaultlessRun (l : KnownLink) (o : NamedObject) (x : LinkedSection) (start : ℕ) (run : List Patch)
     : Type 0 where
   pub is_run : IsRun l o x start run
+  pub order : AreInOrder 0 x.size run
   pub faultless : filter_map (fault_at l) (sites_at o x start) ≡ []
 
 -- what is written of a section where it stands

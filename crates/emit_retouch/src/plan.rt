@@ -1,16 +1,18 @@
 //! What is written of each section of an object: its bytes, with its fields in them.
 
-ghost use Rattle.std.specs.Prelude.{◌≡◌, ◌<◌, ℕ, All, IfNone, IfOk, IfSome, Some, length, slice_get, sum_by, true};
-ghost use Rattle.std.specs.List.{AllZip};
+ghost use Rattle.std.specs.Prelude.{◌≡◌, ◌≢◌, ◌+◌, ◌<◌, ◌≤◌, ◌^◌, ℕ, [], All, IfNone, IfOk, IfSome, Some, length, slice_get, sum_by, true};
+ghost use Rattle.std.specs.List.{AllZip, filter_map};
 ghost use Rattle.elfobj.specs.Raised.{raised};
 ghost use Rattle.elfobj.specs.Sections.{LinkedSection};
 ghost use Rattle.elfobj.specs.declared.meter.Count.TheVariants.{Bytes, Fields};
+ghost use Rattle.elfobj.specs.declared.section.SectionKind.TheVariants.{Nobits};
 ghost use Rattle.emit_fields.specs.Patches.{AreInOrder};
 ghost use Rattle.ldmodel.specs.Project.{NamedObject};
 ghost use Rattle.ldmodel.specs.Relocations.{sites_at};
-ghost use Rattle.emit_relocate.specs.Fields.{evaluations};
+ghost use Rattle.emit_relocate.specs.Fields.{evaluations, fault_at};
 ghost use Rattle.emit_relocate.specs.KnownLink.{KnownLink};
 ghost use Rattle.emit_retouch.specs.Plan.{AreWritten, IsAtHand, IsFaultlessRun, IsPlanned, IsPlannedAt, IsWithin};
+ghost use Rattle.emit_retouch.specs.Spots.{IsFitting};
 ghost use Rattle.emit_retouch.specs.Plan.{count_of, sites_in_all, sites_there, written, written_all};
 
 use crate::spot::SectionSpot;
@@ -40,7 +42,8 @@ pub struct Rewrite<'a> {
 
 /// Whether fields lie one after another, and end at a limit at the latest.
 fn are_in_order(fields: &[Patch], limit: usize) -> bool
-    ensures { result ≡ true → AreInOrder 0 limit fields.now }
+    ensures order { result ≡ true → AreInOrder 0 limit fields.now }
+    ensures all { AreInOrder 0 limit fields.now → result ≡ true }
 {
     let mut end: usize = 0;
     for patch in fields {
@@ -73,6 +76,9 @@ fn fields_of(
     ensures none { IfOk result (λ r. IfNone r ((l : KnownLink) (o : NamedObject) (x : LinkedSection)
         → IsAtHand l key object.now values.now o → slice_get o.object.sections index.0 ≡ Some x
         → (n : ℕ) × (meter.new ≡ raised meter.old Fields n))) }
+    ensures fault { IfOk result (λ r. IfNone r ((l : KnownLink) (o : NamedObject) (x : LinkedSection)
+        → IsAtHand l key object.now values.now o → slice_get o.object.sections index.0 ≡ Some x
+        → start + x.size < 2 ^ 64 → filter_map (fault_at l) (sites_at o x start) ≢ [])) }
 {
     // so that the range of the count is known
     let _fields = meter.fields();
@@ -104,6 +110,9 @@ fn rewrite_of<'a>(
 ) -> Option<Rewrite<'a>>
     ensures within { IfSome result (λ w. IsWithin limit (written w)) }
     ensures planned { IfSome result (λ w. IsPlanned kind bytes.now range fields.items (written w)) }
+    ensures own { IfNone result ((kind ≢ Nobits) × (0 < range.length)) }
+    ensures fits { IfNone result (range.length ≡ length bytes.now → range.offset + range.length ≤ limit
+        → AreInOrder 0 (length bytes.now) fields.items → ⊥) }
 {
     if range.length == 0 || matches!(kind, SectionKind::Nobits) {
         return Some(Rewrite {
@@ -139,6 +148,9 @@ fn plan_section<'a>(
         × (meter.new ≡ raised meter.old Fields (evaluations l (sites_there o spot))))) }
     ensures none { IfOk result (λ r. IfNone r ((l : KnownLink) (o : NamedObject)
         → IsAtHand l key object.now values.now o → (n : ℕ) × (meter.new ≡ raised meter.old Fields n))) }
+    ensures fault { IfOk result (λ r. IfNone r ((l : KnownLink) (o : NamedObject)
+        → IsAtHand l key object.now values.now o → IsFitting limit object.now spot
+        → filter_map (fault_at l) (sites_there o spot) ≢ [])) }
 {
     // so that the range of the count is known
     let _fields = meter.fields();
@@ -174,6 +186,9 @@ pub(crate) fn plan<'a>(
         × (meter.new ≡ raised meter.old Fields (evaluations l (sites_in_all o spots.now))))) }
     ensures none { IfOk result (λ r. IfNone r ((l : KnownLink) (o : NamedObject)
         → IsAtHand l key object.now values.now o → (n : ℕ) × (meter.new ≡ raised meter.old Fields n))) }
+    ensures fault { IfOk result (λ r. IfNone r ((l : KnownLink) (o : NamedObject)
+        → IsAtHand l key object.now values.now o → All (IsFitting limit object.now) spots.now
+        → filter_map (fault_at l) (sites_in_all o spots.now) ≢ [])) }
 {
     // so that the range of the count is known
     let _fields = meter.fields();

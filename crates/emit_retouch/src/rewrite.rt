@@ -1,6 +1,6 @@
 //! Writing the sections of an object anew.
 
-ghost use Rattle.std.specs.Prelude.{◌≡◌, ℕ, IfOk, OnErr, [], sum_by, true, false};
+ghost use Rattle.std.specs.Prelude.{◌≡◌, ◌≢◌, ℕ, All, IfOk, OnErr, [], length, sum_by, true, false};
 ghost use Rattle.elfobj.specs.Raised.{raised};
 ghost use Rattle.elfobj.specs.declared.meter.Count.TheVariants.{Bytes, Fields};
 ghost use Rattle.ldmodel.specs.Image.{image};
@@ -10,7 +10,7 @@ ghost use Rattle.emit_relocate.specs.Fields.{evaluations};
 ghost use Rattle.emit_relocate.specs.KnownLink.{KnownLink, named_object};
 ghost use Rattle.emit_relocate.specs.SymbolTable.{IsRow};
 ghost use Rattle.emit_retouch.specs.Retouches.{IsRetouch};
-ghost use Rattle.emit_retouch.specs.Spots.{HasSpots, bytes_of, sites_of};
+ghost use Rattle.emit_retouch.specs.Spots.{HasSpots, IsFitting, bytes_of, sites_of};
 
 use crate::plan::{commit, plan};
 use crate::spot::{SectionSpot, nobits_are_bare, numbers_differ};
@@ -56,6 +56,11 @@ pub fn retouch(
     ensures counted_refused { IfOk result (λ done. done ≡ false → (l : KnownLink) (o : NamedObject)
         → named_object l key ≡ Some o → o.object ≡ object.now → IsRow l o values.now
         → HasSpots l.project l.layout o spots.now → (n : ℕ) × (meter.new ≡ raised meter.old Fields n)) }
+    ensures only_on_a_fault { IfOk result (λ done. done ≡ false → (l : KnownLink) (o : NamedObject)
+        → named_object l key ≡ Some o → o.object ≡ object.now → IsRow l o values.now
+        → HasSpots l.project l.layout o spots.now
+        → All (IsFitting (length canvas.old.bytes) object.now) spots.now
+        → relocation_faults l.project l.layout ≢ []) }
     ensures refused { IfOk result (λ done. done ≡ false → canvas.new.bytes ≡ canvas.old.bytes) }
     ensures unchanged { OnErr result (canvas.new.bytes ≡ canvas.old.bytes) }
     ensures room { canvas.new.room ≡ canvas.old.room }

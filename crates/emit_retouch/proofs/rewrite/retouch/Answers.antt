@@ -1,17 +1,17 @@
 use Rattle.std.proofs.Common.{◌∙◌, ap, find, subst, sym, ◌==◌}
 use Rattle.std.specs.Prelude.{slice_get, sum_by}
-use Rattle.std.specs.List.{All}
+use Rattle.std.specs.List.{All, filter_map}
 use Rattle.elfobj.specs.Object.{ObjectData}
 use Rattle.elfobj.specs.Sections.{LinkedSection}
 use Rattle.elfobj.specs.declared.meter.Count.TheVariants.{Bytes, Fields}
 use Rattle.ldmodel.specs.Counts.{Counts}
 use Rattle.ldmodel.specs.Image.{image}
 use Rattle.ldmodel.specs.Raised.{raised}
-use Rattle.emit_relocate.specs.Fields.{evaluations}
+use Rattle.emit_relocate.specs.Fields.{evaluations, fault_at}
 use Rattle.emit_retouch.specs.Plan.{AreWritten, count_of, written_all}
 use Rattle.emit_retouch.specs.Retouches.{IsBare}
-use Rattle.emit_retouch.specs.Spots.{bytes_of}
-use Rattle.emit_retouch.proofs.Faults.{still_none}
+use Rattle.emit_retouch.specs.Spots.{IsFitting, bytes_of}
+use Rattle.emit_retouch.proofs.Faults.{none_of_object, still_none}
 use Rattle.emit_retouch.proofs.Images.{new_image, no_fault}
 use Rattle.emit_retouch.proofs.Planning.{all_count}
 use Rattle.emit_retouch.proofs.Sites.{spots_have_sites}
@@ -55,3 +55,11 @@ returns-in-Some-clause-counted c = λ done l o named same row has.
     ∙ ap (λ (m : Counts). raised m Bytes (sum_by (bytes_of c.args.object.now) c.args.spots.now))
     (all.1 ∙ ap (λ ss. raised c.args.meter.now Fields (evaluations l ss))
     (spots_have_sites l.project l.layout o c.args.spots.now has))
+
+pub returns-in-None-clause-only_on_a_fault : goal.returns-in-None-clause-only_on_a_fault
+returns-in-None-clause-only_on_a_fault c = λ done l o named same row has fit none.
+    let fault = (rw c.in-None.is at c.in_ok-plan.ensures.fault) l o
+    (record { named = named; same = same; row = row })
+    (subst (λ n. All (IsFitting n c.args.object.now) c.args.spots.now) (sym c.len.ensures.len) fit) in
+    fault (ap (filter_map (fault_at l)) (spots_have_sites l.project l.layout o c.args.spots.now has)
+    ∙ none_of_object l.project l.layout (l.number c.args.key.0) o none named)
