@@ -6,3 +6,4 @@ mod Sites
 mod Writing
 mod Planning
 mod Images
+mod Fitting

@@ -1,6 +1,8 @@
 -- What is planned for each section of an object.
-use Rattle.std.proofs.Common.{◌≡◌, ◌≢◌, ◌+◌, ◌<◌, ◌≤◌, ◌^◌, ◌==◌, ⊎_elim, cond, ℕ, zero, suc, List, [], ◌∷◌, ◌++◌, length, map, find, take, drop}
-use Rattle.std.proofs.Common.{get_or, Option, Some, None, refl, sym, ap, ◌∙◌, subst, arith, add-one, append-nil, take-suc, drop-cons}
+use Rattle.std.proofs.Common.{◌≡◌, ◌≢◌, ◌+◌, ◌<◌, ◌≤◌, ◌^◌, ◌==◌, ⊎_elim, cond, ℕ, zero, suc, List, [], ◌∷◌, ◌++◌}
+use Rattle.std.proofs.Common.{length, map, find, take, drop}
+use Rattle.std.proofs.Common.{get_or, Option, Some, None, refl, sym, ap, ◌∙◌, subst, arith, add-one, append-nil}
+use Rattle.std.proofs.Common.{take-suc, drop-cons}
 use Rattle.std.specs.Prelude.{IfNone, IfSome, slice_get, sum_by}
 use Rattle.std.specs.List.{All, AllPairs, AllZip, filter_map}
 use Rattle.std.specs.Option.{option_map, option_map_or}
@@ -219,7 +221,7 @@ found_by_number xs ss are pairs i x is =
 
 -- ---- how many bytes are written
 
-size_kept : (k : SectionKind) (n : ℕ) → k ≢ Nobits → size_in_file k n ≡ n
+pub size_kept : (k : SectionKind) (n : ℕ) → k ≢ Nobits → size_in_file k n ≡ n
 size_kept Nobits n h = absurd (h refl)
 size_kept _ n h = refl
 

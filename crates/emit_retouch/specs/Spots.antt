@@ -32,8 +32,8 @@ pub record HasSpots (p : Project) (s : Layout) (o : NamedObject) (spots : List S
       → placed_part s o.name (InTable x.number) ≡ Some y
       → (t : SectionSpot) × Contains spots t × (t.index.0 ≡ j)
 
--- a section fits where it stands: it ends below 2^64; its bytes in the file, if there are any, are as many as it has of its
--- own, and lie below a limit
+-- a section fits where it stands: it ends below 2^64; its bytes in the file, if there are any, are as many as it has of
+-- its own, and lie below a limit
 pub record IsFitting (limit : ℕ) (o : ObjectData) (t : SectionSpot) : Type 0 where
   pub section : LinkedSection
   pub section_is : slice_get o.sections t.index.0 ≡ Some section
@@ -41,10 +41,17 @@ pub record IsFitting (limit : ℕ) (o : ObjectData) (t : SectionSpot) : Type 0 w
   pub whole : section.kind ≢ Nobits → 0 < t.range.length → t.range.length ≡ length section.bytes
   pub within : section.kind ≢ Nobits → 0 < t.range.length → t.range.offset + t.range.length ≤ limit
 
+-- the sections of an object that are in the output have their sizes there, and end below 2^64
+abbrev pub HasSizes : Layout → NamedObject → Type 0
+HasSizes s o =
+    (x : LinkedSection) (y : PlacedPiece) → Contains o.object.sections x
+    → placed_part s o.name (InTable x.number) ≡ Some y → (y.piece.size ≡ x.size) × (y.start + x.size < 2 ^ 64)
+
 -- the sites of an object
 abbrev pub sites_of : Layout → NamedObject → List Site
 sites_of s o = flat_map (sites_of_section s o) o.object.sections
 
 -- how many bytes of a section stand in the file as the object has them: none of a NOBITS section, which is 0 there
 abbrev pub bytes_of : ObjectData → SectionSpot → ℕ
-bytes_of o t = option_map_or (λ (x : LinkedSection). size_in_file x.kind t.range.length) (slice_get o.sections t.index.0) 0
+bytes_of o t =
+    option_map_or (λ (x : LinkedSection). size_in_file x.kind t.range.length) (slice_get o.sections t.index.0) 0

@@ -1,6 +1,7 @@
 //! What is written of each section of an object: its bytes, with its fields in them.
 
-ghost use Rattle.std.specs.Prelude.{◌≡◌, ◌≢◌, ◌+◌, ◌<◌, ◌≤◌, ◌^◌, ℕ, [], All, IfNone, IfOk, IfSome, Some, length, slice_get, sum_by, true};
+ghost use Rattle.std.specs.Prelude.{◌≡◌, ◌≢◌, ◌+◌, ◌<◌, ◌≤◌, ◌^◌, ℕ, [], All, IfNone, IfOk, IfSome, Some, length};
+ghost use Rattle.std.specs.Prelude.{slice_get, sum_by, true};
 ghost use Rattle.std.specs.List.{AllZip, filter_map};
 ghost use Rattle.elfobj.specs.Raised.{raised};
 ghost use Rattle.elfobj.specs.Sections.{LinkedSection};

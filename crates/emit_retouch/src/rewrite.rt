@@ -24,7 +24,8 @@ use std::alloc::Global;
 
 /// Writes the input sections of an object anew, onto a canvas that holds the image of a link in which they held
 /// something else. `values` are the values of the object's symbols, and `spots` has each section that is in the output.
-/// Answers whether it did: not where a relocation has a fault. Then the canvas is as it was.
+/// Answers whether it did: not where a relocation has a fault. Then the canvas is as it was. Nor does it where a section
+/// doesn't fit where it is said to stand, but in a layout each does (`law::sections_fit`).
 ///
 /// Each relocation whose symbol has a value counts as one, and each byte of a section that has bytes in the file.
 ///

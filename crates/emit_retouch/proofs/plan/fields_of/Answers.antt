@@ -30,8 +30,7 @@ returns-then-is_empty-clause-some c = λ l o x h is.
     c.add_fields.new.faults.items c.args.meter.now c.add_fields.new.meter) c.new-section.ensures.start
     (c.in_ok-add_fields.ensures l o x
     (placed_of l c.args.key c.args.object.now c.args.values.now c.new-section.result o x h section
-    c.new-section.ensures.values)) in
-    (
+    c.new-section.ensures.values)) in (
       faultless l o x c.args.start c.new-fields.result.items c.add_fields.new.fields.items c.new-faults.result.items
           c.add_fields.new.faults.items c.args.meter.now c.add_fields.new.meter added c.new-fields.ensures.items
           c.new-faults.ensures.items

@@ -48,4 +48,5 @@ returns-in-None-clause-fault c = λ l o h fit none.
     let spots = c.args.spots.now in
     let i = c.loop-spot.spot-index in
     let last = (rw c.in-None.is at c.in_ok-plan_section.ensures.fault) l o h (fit i d c.loop-spot-test.true) in
-    last (none_at (fault_at l) (sites_there o) spots i (get_or spots i d) none (some_get spots i d c.loop-spot-test.true))
+    last
+    (none_at (fault_at l) (sites_there o) spots i (get_or spots i d) none (some_get spots i d c.loop-spot-test.true))
