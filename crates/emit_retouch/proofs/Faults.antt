@@ -36,6 +36,14 @@ own_object s o t c =
     go x None d = absurd (none_in_nil t d)
     go x (Some y) d = object_of_site o x y.start t d
 
+-- where a link has no faults of relocation, no object of it has one
+pub none_of_object : (p : Project) (s : Layout) (i : ℕ) (o : NamedObject) → slice_get p.objects i ≡ Some o
+    → relocation_faults p s ≡ [] → filter_map (fault_in p s) (sites_of s o) ≡ []
+unfolding relocation_faults sites
+none_of_object p s i o is none =
+    none_at (fault_in p s) (sites_of s) p.objects i o
+    (both_nil (entry_fault (entry_point p s)) (filter_map (fault_in p s) (flat_map (sites_of s) p.objects)) none).1 is
+
 module _ (p q : Project) (s : Layout) (i : ℕ) (b : NamedObject) (h : IsRetouched p q i) (frame : HasSameFrame p q s)
     (at_i : slice_get q.objects i ≡ Some b) (none : relocation_faults p s ≡ [])
     (own : (t : Site) → Contains (sites_of s b) t → result_err (site_field q s t) ≡ None) where
@@ -63,11 +71,3 @@ module _ (p q : Project) (s : Layout) (i : ℕ) (b : NamedObject) (h : IsRetouch
       ap (λ fs. fs ++ filter_map (fault_in q s) (flat_map (sites_of s) q.objects))
       (ap entry_fault (sym frame.entry) ∙ parts.0)
       ∙ none_of_each (fault_in q s) (sites_of s) q.objects of_object
-
--- a link without faults of relocation has none of an object
-pub none_of_object : (q : Project) (s : Layout) (j : ℕ) (o : NamedObject) → relocation_faults q s ≡ []
-    → slice_get q.objects j ≡ Some o → filter_map (fault_in q s) (sites_of s o) ≡ []
-unfolding relocation_faults sites
-none_of_object q s j o none is =
-    none_at (fault_in q s) (sites_of s) q.objects j o
-    (both_nil (entry_fault (entry_point q s)) (filter_map (fault_in q s) (flat_map (sites_of s) q.objects)) none).1 is

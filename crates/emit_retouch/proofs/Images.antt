@@ -68,12 +68,12 @@ is_image p s bytes l each = fill_by_all (byte_at p s) bytes (image_length p s) 0
 
 -- ---- a file range that is not empty is that of an input section with file bytes
 
-pub record HasBytes (q : PlacedSection) (y : PlacedPiece) (gs : List Segment) (r : model.FileRange) : Type 0 where
-  pub bytes : q.has_file_bytes ≡ true
-  pub offset : r.offset ≡ offset_in_file gs q y
-  pub length : r.length ≡ y.piece.size
+record HasBytes (q : PlacedSection) (y : PlacedPiece) (gs : List Segment) (r : model.FileRange) : Type 0 where
+  bytes : q.has_file_bytes ≡ true
+  offset : r.offset ≡ offset_in_file gs q y
+  length : r.length ≡ y.piece.size
 
-pub has_bytes : (gs : List Segment) (q : PlacedSection) (y : PlacedPiece) (r : model.FileRange) → range_in gs q y ≡ r
+has_bytes : (gs : List Segment) (q : PlacedSection) (y : PlacedPiece) (r : model.FileRange) → range_in gs q y ≡ r
     → 0 < r.length → HasBytes q y gs r
 has_bytes gs q y r is some = go (q.has_file_bytes && not (y.piece.size == 0)) refl is
   where

@@ -6,4 +6,3 @@ mod Sites
 mod Writing
 mod Planning
 mod Images
-mod Fitting

@@ -3,7 +3,7 @@ use Rattle.std.proofs.Common.{◌≡◌, ◌≢◌, ◌+◌, ◌<◌, ◌≤◌,
 use Rattle.std.proofs.Common.{length, map, find, take, drop}
 use Rattle.std.proofs.Common.{get_or, Option, Some, None, refl, sym, ap, ◌∙◌, subst, arith, add-one, append-nil}
 use Rattle.std.proofs.Common.{take-suc, drop-cons}
-use Rattle.std.specs.Prelude.{IfNone, IfSome, slice_get, sum_by}
+use Rattle.std.specs.Prelude.{slice_get, sum_by}
 use Rattle.std.specs.List.{All, AllPairs, AllZip, filter_map}
 use Rattle.std.specs.Option.{option_map, option_map_or}
 use Rattle.std.proofs.lemmas.Bool.{eq-eqb, ne_eqb}
@@ -13,7 +13,7 @@ use Rattle.std.proofs.lemmas.List.Sums.{sum_by-append, sum_by-cons}
 use Rattle.std.proofs.lemmas.Grind.{flat_map-append}
 use Rattle.std.proofs.lemmas.Option.{get_or_from_slice_get, same_Some, slice_get-map, slice_get_within}
 use Rattle.elfobj.specs.Object.{ObjectData}
-use Rattle.elfobj.specs.Profile.{IsSectionOfProfile, size_in_file}
+use Rattle.elfobj.specs.Profile.{size_in_file}
 use Rattle.elfobj.specs.Relocations.{field_end}
 use Rattle.elfobj.specs.Sections.{LinkedSection, section_of}
 use Rattle.elfobj.specs.declared.meter.Count.TheVariants as count
@@ -28,6 +28,7 @@ use Rattle.ldmodel.specs.Project.{NamedObject}
 use Rattle.ldmodel.specs.Raised.{raised}
 use Rattle.ldmodel.specs.Relocations.{Site, site_value, sites_at}
 use Rattle.ldmodel.specs.Fault.{Fault}
+use Rattle.ldmodel.specs.FaultCode.{fault_of}
 use Rattle.ldmodel.specs.declared.fault.Fault as code
 use Rattle.ldmodel.specs.declared.names.ObjectPlace.{ObjectPlace}
 use Rattle.emit_relocate.specs.Fields.{IsAdded, IsRun, evaluations, fault_at, faults_of, work_of}
@@ -36,8 +37,9 @@ use Rattle.emit_relocate.specs.Sites.{IsPlaced, IsSectionOf}
 use Rattle.emit_relocate.specs.SymbolTable.{IsRow}
 use Rattle.emit_relocate.specs.declared.site.PlacedSection.{PlacedSection}
 use Rattle.emit_relocate.specs.declared.value.SymbolValue.{SymbolValue}
-use Rattle.emit_retouch.specs.Plan.{IsAtHand, IsFaultlessRun, IsNothing, IsPlanned, IsPlannedAt, IsWhole, IsWithin}
-use Rattle.emit_retouch.specs.Plan.{Written, count_of, sites_in_all, sites_there, written, written_all}
+use Rattle.emit_retouch.specs.Plan.{IsAtHand, IsFaultlessRun, IsNothing, IsPlanned, IsPlannedAt, IsRefused}
+use Rattle.emit_retouch.specs.Plan.{IsWhole, IsWithin, Written, count_of, sites_in_all, sites_there, written}
+use Rattle.emit_retouch.specs.Plan.{written_all}
 use Rattle.emit_retouch.specs.declared.plan.Rewrite.{Rewrite}
 use Rattle.emit_retouch.specs.Spots.{bytes_of}
 use Rattle.emit_retouch.specs.declared.spot.SectionSpot.{SectionSpot}
@@ -56,21 +58,6 @@ module _ (ps : List Patch) (i : ℕ) where
 
   pub order_all : (end n : ℕ) → length ps ≤ i → end ≤ n → AreInOrder end n (drop i ps)
   order_all end n long low = subst (λ qs. AreInOrder end n qs) (sym (drop_all i ps long)) low
-
-  pub order_next : (end n : ℕ) (d : Patch) → i < length ps → d ≡ get_or ps i d → AreInOrder end n (drop i ps)
-      → (end ≤ d.offset) × AreInOrder (patch_end d) n (drop (i + 1) ps)
-  order_next end n d low is h =
-      let all : drop i ps ≡ d ∷ drop (suc i) ps = drop-cons ps i d low ∙ ap (λ q. q ∷ drop (suc i) ps) (sym is) in
-      let both : (end ≤ d.offset) × AreInOrder (patch_end d) n (drop (suc i) ps) =
-      subst (λ qs. AreInOrder end n qs) all h in
-      (both.0, subst (λ k. AreInOrder (patch_end d) n (drop k ps)) (sym (add-one i)) both.1)
-
-  pub order_last : (end n : ℕ) → length ps ≤ i → AreInOrder end n (drop i ps) → end ≤ n
-  order_last end n long h = subst (λ qs. AreInOrder end n qs) (drop_all i ps long) h
-
-pub order_below : (from n : ℕ) (ps : List Patch) → AreInOrder from n ps → from ≤ n
-order_below from n [] h = h
-order_below from n (p ∷ ps) h = let rest = order_below (patch_end p) n ps h.1 in omega (arith, h.0, rest)
 
 -- ---- a section of an object
 
@@ -168,27 +155,22 @@ module _ (l : KnownLink) (o : NamedObject) (x : LinkedSection) (start : ℕ) (ol
   abbrev faults : List Fault
   faults = filter_map (fault_at l) (sites_at o x start)
 
-  all_faults : gs ≡ [] → faults ≡ faults_of l hs
-  all_faults nogs = sym (ap (λ fs. faults_of l fs ++ faults) nogs) ∙ sym h.counts.faults
+  pub faultless : old ≡ [] → gs ≡ [] → hs ≡ [] → IsFaultlessRun l o x start new
+  faultless none nogs nohs = record {
+    is_run = subst (IsRun l o x start) (sym (h.fields ∙ ap (λ fs. fs ++ h.run) none)) h.is_run;
+    faultless = sym (ap (λ fs. faults_of l fs ++ faults) nogs) ∙ sym h.counts.faults ∙ ap (faults_of l) nohs;
+  }
 
-  pub faultless : old ≡ [] → gs ≡ [] → hs ≡ [] → All (λ r. field_end r ≤ x.size) x.relocations
-      → IsFaultlessRun l o x start new
-  faultless none nogs nohs ends =
-      let is_run : IsRun l o x start new =
-      subst (IsRun l o x start) (sym (h.fields ∙ ap (λ fs. fs ++ h.run) none)) h.is_run in
-      record {
-        is_run = is_run;
-        order = is_run.order x.size ends;
-        faultless = all_faults nogs ∙ ap (faults_of l) nohs;
-      }
-
-  -- where a fault was found, there is one
-  pub faulty : gs ≡ [] → (hs ≡ [] → ⊥) → faults ≡ [] → ⊥
-  faulty nogs some none = some (no_faults hs (sym (all_faults nogs) ∙ none))
-    where
-      no_faults : (fs : List code.Fault) → faults_of l fs ≡ [] → fs ≡ []
-      no_faults [] e = refl
-      no_faults (f ∷ fs) e = absurd (let no : ⊥ = cc in no)
+  -- some fault was added
+  pub refused : gs ≡ [] → length hs ≢ 0 → IsRefused l (sites_at o x start) m0 m1
+  refused nogs some = record {
+    evaluated = evaluations l (sites_at o x start);
+    counted = h.counts.counted;
+    faulty = λ none.
+        some
+        (sym (length-map hs (fault_of l.project l.number))
+        ∙ ap length (h.counts.faults ∙ ap (λ fs. faults_of l fs ++ faults) nogs ∙ none));
+  }
 
 -- ---- a number stands for one section
 
@@ -221,7 +203,7 @@ found_by_number xs ss are pairs i x is =
 
 -- ---- how many bytes are written
 
-pub size_kept : (k : SectionKind) (n : ℕ) → k ≢ Nobits → size_in_file k n ≡ n
+size_kept : (k : SectionKind) (n : ℕ) → k ≢ Nobits → size_in_file k n ≡ n
 size_kept Nobits n h = absurd (h refl)
 size_kept _ n h = refl
 
@@ -252,15 +234,7 @@ all_count l o (t ∷ ts) (w ∷ ws) h =
     sum_by-cons count_of w ws ∙ ap (λ n. n + sum_by count_of ws) (one_count l o t w h.0)
     ∙ ap (λ n. bytes_of o.object t + n) (all_count l o ts ws h.1) ∙ sym (sum_by-cons (bytes_of o.object) t ts)
 
--- ---- from one outcome to another
-
-pub imply_some : {X : Type 0} (P Q : X → Type 0) (m : Option X) → ((x : X) → P x → Q x) → IfSome m P → IfSome m Q
-imply_some P Q None f h = tt
-imply_some P Q (Some x) f h = f x h
-
-pub imply_none : {X : Type 0} (P : Type 0) (m : Option X) → P → IfNone m P
-imply_none P None h = h
-imply_none P (Some x) h = tt
+-- ---- what was planned
 
 -- the bytes of a section
 pub bytes_at : (xs : List LinkedSection) (i : ℕ) (bytes : List ℕ)
@@ -306,21 +280,3 @@ planned_more l o ts i d rs r low h k =
     subst (λ us. AllZip (IsPlannedAt l o) us (written_all (rs ++ r ∷ []))) (sym (take_more ts i d low))
     (subst (AllZip (IsPlannedAt l o) (take i ts ++ get_or ts i d ∷ [])) (sym (map-append written rs (r ∷ [])))
     (zip_more (IsPlannedAt l o) (take i ts) (written_all rs) (get_or ts i d) (written r) h k))
-
-pub both_none : {X : Type 0} (A B P : Type 0) (m : Option X) → (A → B → P) → IfNone m A → IfNone m B → IfNone m P
-both_none A B P None f a b = f a b
-both_none A B P (Some x) f a b = tt
-
-pub all_at : {X : Type 0} (P : X → Type 0) (xs : List X) (i : ℕ) (x : X) → All P xs → slice_get xs i ≡ Some x → P x
-all_at P xs i x h is = subst P (get_or_from_slice_get xs i x x is) (h i x (slice_get_within xs i x is))
-
-pub some_get : {X : Type 0} (xs : List X) (i : ℕ) (d : X) → i < length xs → slice_get xs i ≡ Some (get_or xs i d)
-some_get [] i d low = absurd (omega (arith, low))
-some_get (x ∷ xs) zero d low = refl
-some_get (x ∷ xs) (suc i) d low = some_get xs i d (omega (arith, low))
-
--- a section that fits where it stands has its fields within its bytes
-pub whole_order : (x : LinkedSection) (run : List Patch) → IsSectionOfProfile x → x.kind ≢ Nobits
-    → AreInOrder 0 x.size run → AreInOrder 0 (length x.bytes) run
-whole_order x run h own order =
-    subst (λ n. AreInOrder 0 n run) (sym (h.bytes ∙ size_kept x.kind x.size own)) order

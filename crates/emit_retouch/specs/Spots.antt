@@ -1,11 +1,10 @@
 -- Where the input sections of an object stand in a link.
-use Rattle.std.specs.Prelude.{◌≡◌, ◌≢◌, ◌+◌, ◌<◌, ◌≤◌, ◌^◌, ℕ, List, Some, Contains, flat_map, length, slice_get}
+use Rattle.std.specs.Prelude.{◌≡◌, ◌<◌, ℕ, List, Some, Contains, flat_map, slice_get}
 use Rattle.std.specs.List.{All, AllPairs}
 use Rattle.std.specs.Option.{option_map_or}
 use Rattle.elfobj.specs.Object.{ObjectData}
 use Rattle.elfobj.specs.Profile.{size_in_file}
 use Rattle.elfobj.specs.Sections.{LinkedSection}
-use Rattle.elfobj.specs.declared.section.SectionKind.TheVariants.{Nobits}
 use Rattle.ldmodel.specs.Layout.{Layout, PlacedPiece}
 use Rattle.ldmodel.specs.Project.{NamedObject, Project}
 use Rattle.ldmodel.specs.Relocations.{Site, sites_of_section}
@@ -31,21 +30,6 @@ pub record HasSpots (p : Project) (s : Layout) (o : NamedObject) (spots : List S
   pub all : (j : ℕ) (x : LinkedSection) (y : PlacedPiece) → slice_get o.object.sections j ≡ Some x
       → placed_part s o.name (InTable x.number) ≡ Some y
       → (t : SectionSpot) × Contains spots t × (t.index.0 ≡ j)
-
--- a section fits where it stands: it ends below 2^64; its bytes in the file, if there are any, are as many as it has of
--- its own, and lie below a limit
-pub record IsFitting (limit : ℕ) (o : ObjectData) (t : SectionSpot) : Type 0 where
-  pub section : LinkedSection
-  pub section_is : slice_get o.sections t.index.0 ≡ Some section
-  pub short : t.start + section.size < 2 ^ 64
-  pub whole : section.kind ≢ Nobits → 0 < t.range.length → t.range.length ≡ length section.bytes
-  pub within : section.kind ≢ Nobits → 0 < t.range.length → t.range.offset + t.range.length ≤ limit
-
--- the sections of an object that are in the output have their sizes there, and end below 2^64
-abbrev pub HasSizes : Layout → NamedObject → Type 0
-HasSizes s o =
-    (x : LinkedSection) (y : PlacedPiece) → Contains o.object.sections x
-    → placed_part s o.name (InTable x.number) ≡ Some y → (y.piece.size ≡ x.size) × (y.start + x.size < 2 ^ 64)
 
 -- the sites of an object
 abbrev pub sites_of : Layout → NamedObject → List Site

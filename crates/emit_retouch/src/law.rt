@@ -1,8 +1,7 @@
 //! Laws of two links of which one object differs in the bytes and the relocations of its sections alone.
 
-ghost use Rattle.std.specs.Prelude.{◌≡◌, ℕ, All, Contains, List, None, Some, [], slice_get};
+ghost use Rattle.std.specs.Prelude.{◌≡◌, ℕ, Contains, None, Some, [], slice_get};
 ghost use Rattle.std.specs.Result.{result_err};
-ghost use Rattle.elfobj.specs.Profile.{IsSectionOfProfile};
 ghost use Rattle.ldmodel.specs.Each.{Each};
 ghost use Rattle.ldmodel.specs.Image.{byte_at};
 ghost use Rattle.ldmodel.specs.Layout.{Layout};
@@ -14,8 +13,7 @@ ghost use Rattle.ldmodel_laws.specs.ImageBytes.{AreNamed};
 ghost use Rattle.ldmodel_laws.specs.Outline.{HasSameFrame, IsRetouched};
 ghost use Rattle.ldmodel_laws.specs.Spread.{IsSpread};
 ghost use Rattle.emit_retouch.specs.Retouches.{IsOutside};
-ghost use Rattle.emit_retouch.specs.Spots.{HasSizes, HasSpots, IsFitting, sites_of};
-ghost use Rattle.emit_retouch.specs.declared.spot.SectionSpot.{SectionSpot};
+ghost use Rattle.emit_retouch.specs.Spots.{sites_of};
 
 /// The images have the same length, and the same byte at each offset that no input section of the object covers.
 /// Nothing meets in output sections, and these have different names.
@@ -34,11 +32,4 @@ pub fn retouched_faults()
         → slice_get q.objects i ≡ Some b → relocation_faults p s ≡ []
         → ((t : Site) → Contains (sites_of s b) t → result_err (site_field q s t) ≡ None)
         → relocation_faults q s ≡ [] }
-{}
-
-/// The sections of an object fit where they stand in a layout, in which they have their sizes and end below 2^64.
-pub fn sections_fit()
-    ensures { (p : Project) (s : Layout) (o : NamedObject) (spots : List SectionSpot) → Each IsSpread s.sections
-        → AreNamed s.sections → All IsSectionOfProfile o.object.sections → HasSizes s o → HasSpots p s o spots
-        → All (IsFitting (image_length p s) o.object) spots }
 {}

@@ -1,6 +1,6 @@
 //! Writing the sections of an object anew.
 
-ghost use Rattle.std.specs.Prelude.{◌≡◌, ◌≢◌, ℕ, All, IfOk, OnErr, [], length, sum_by, true, false};
+ghost use Rattle.std.specs.Prelude.{◌≡◌, ℕ, IfOk, OnErr, [], sum_by, true, false};
 ghost use Rattle.elfobj.specs.Raised.{raised};
 ghost use Rattle.elfobj.specs.declared.meter.Count.TheVariants.{Bytes, Fields};
 ghost use Rattle.ldmodel.specs.Image.{image};
@@ -10,7 +10,7 @@ ghost use Rattle.emit_relocate.specs.Fields.{evaluations};
 ghost use Rattle.emit_relocate.specs.KnownLink.{KnownLink, named_object};
 ghost use Rattle.emit_relocate.specs.SymbolTable.{IsRow};
 ghost use Rattle.emit_retouch.specs.Retouches.{IsRetouch};
-ghost use Rattle.emit_retouch.specs.Spots.{HasSpots, IsFitting, bytes_of, sites_of};
+ghost use Rattle.emit_retouch.specs.Spots.{HasSpots, bytes_of, sites_of};
 
 use crate::plan::{commit, plan};
 use crate::spot::{SectionSpot, nobits_are_bare, numbers_differ};
@@ -24,14 +24,14 @@ use std::alloc::Global;
 
 /// Writes the input sections of an object anew, onto a canvas that holds the image of a link in which they held
 /// something else. `values` are the values of the object's symbols, and `spots` has each section that is in the output.
-/// Answers whether it did: not where a relocation has a fault. Then the canvas is as it was. Nor does it where a section
-/// doesn't fit where it is said to stand, but in a layout each does (`law::sections_fit`).
+/// Answers whether it did: not where, and only where, a relocation has a fault. Then the canvas is as it was.
 ///
 /// Each relocation whose symbol has a value counts as one, and each byte of a section that has bytes in the file.
 ///
 /// # Errors
 ///
-/// Where memory runs out. Then the canvas is as it was.
+/// Where memory runs out; spots that no link has, as one past the end of the image, count as that. Then the canvas is
+/// as it was.
 pub fn retouch(
     alloc: Global,
     canvas: &mut Canvas,
@@ -57,11 +57,9 @@ pub fn retouch(
     ensures counted_refused { IfOk result (λ done. done ≡ false → (l : KnownLink) (o : NamedObject)
         → named_object l key ≡ Some o → o.object ≡ object.now → IsRow l o values.now
         → HasSpots l.project l.layout o spots.now → (n : ℕ) × (meter.new ≡ raised meter.old Fields n)) }
-    ensures only_on_a_fault { IfOk result (λ done. done ≡ false → (l : KnownLink) (o : NamedObject)
+    ensures refused_faulty { IfOk result (λ done. done ≡ false → (l : KnownLink) (o : NamedObject)
         → named_object l key ≡ Some o → o.object ≡ object.now → IsRow l o values.now
-        → HasSpots l.project l.layout o spots.now
-        → All (IsFitting (length canvas.old.bytes) object.now) spots.now
-        → relocation_faults l.project l.layout ≢ []) }
+        → HasSpots l.project l.layout o spots.now → relocation_faults l.project l.layout ≡ [] → ⊥) }
     ensures refused { IfOk result (λ done. done ≡ false → canvas.new.bytes ≡ canvas.old.bytes) }
     ensures unchanged { OnErr result (canvas.new.bytes ≡ canvas.old.bytes) }
     ensures room { canvas.new.room ≡ canvas.old.room }

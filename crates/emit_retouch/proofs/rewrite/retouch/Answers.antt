@@ -10,7 +10,7 @@ use Rattle.ldmodel.specs.Raised.{raised}
 use Rattle.emit_relocate.specs.Fields.{evaluations, fault_at}
 use Rattle.emit_retouch.specs.Plan.{AreWritten, count_of, written_all}
 use Rattle.emit_retouch.specs.Retouches.{IsBare}
-use Rattle.emit_retouch.specs.Spots.{IsFitting, bytes_of}
+use Rattle.emit_retouch.specs.Spots.{bytes_of}
 use Rattle.emit_retouch.proofs.Faults.{none_of_object, still_none}
 use Rattle.emit_retouch.proofs.Images.{new_image, no_fault}
 use Rattle.emit_retouch.proofs.Planning.{all_count}
@@ -19,7 +19,15 @@ use Rattle.emit_retouch.proofs.rewrite.retouch.Goals as goal
 
 pub returns-in-None-clause-counted_refused : goal.returns-in-None-clause-counted_refused
 returns-in-None-clause-counted_refused c = λ done l o named same row has.
-    (rw c.in-None.is at c.in_ok-plan.ensures.none) l o (record { named = named; same = same; row = row })
+    let h = (rw c.in-None.is at c.in_ok-plan.ensures.none) l o (record { named = named; same = same; row = row }) in
+    (h.evaluated, h.counted)
+
+pub returns-in-None-clause-refused_faulty : goal.returns-in-None-clause-refused_faulty
+returns-in-None-clause-refused_faulty c = λ done l o named same row has none.
+    let h = (rw c.in-None.is at c.in_ok-plan.ensures.none) l o (record { named = named; same = same; row = row }) in
+    h.faulty
+    (ap (λ ts. filter_map (fault_at l) ts) (spots_have_sites l.project l.layout o c.args.spots.now has)
+    ∙ none_of_object l.project l.layout (l.number c.args.key.0) o named none)
 
 pub returns-in-Some-clause-image : goal.returns-in-Some-clause-image
 returns-in-Some-clause-image c = λ done old l o h same row has start.
@@ -55,11 +63,3 @@ returns-in-Some-clause-counted c = λ done l o named same row has.
     ∙ ap (λ (m : Counts). raised m Bytes (sum_by (bytes_of c.args.object.now) c.args.spots.now))
     (all.1 ∙ ap (λ ss. raised c.args.meter.now Fields (evaluations l ss))
     (spots_have_sites l.project l.layout o c.args.spots.now has))
-
-pub returns-in-None-clause-only_on_a_fault : goal.returns-in-None-clause-only_on_a_fault
-returns-in-None-clause-only_on_a_fault c = λ done l o named same row has fit none.
-    let fault = (rw c.in-None.is at c.in_ok-plan.ensures.fault) l o
-    (record { named = named; same = same; row = row })
-    (subst (λ n. All (IsFitting n c.args.object.now) c.args.spots.now) (sym c.len.ensures.len) fit) in
-    fault (ap (filter_map (fault_at l)) (spots_have_sites l.project l.layout o c.args.spots.now has)
-    ∙ none_of_object l.project l.layout (l.number c.args.key.0) o none named)
