@@ -11,7 +11,8 @@ use Rattle.elfobj.specs.Sections.{LinkedSection}
 use Rattle.ldmodel.specs.Fault.{Fault}
 use Rattle.ldmodel.specs.Layout.{Layout, PlacedPiece}
 use Rattle.ldmodel.specs.Project.{NamedObject, Project}
-use Rattle.ldmodel.specs.Relocations.{Site, entry_fault, relocation_faults, site_field, sites, sites_at, sites_of_section}
+use Rattle.ldmodel.specs.Relocations.{Site, entry_fault, relocation_faults, site_field, sites, sites_at}
+use Rattle.ldmodel.specs.Relocations.{sites_of_section}
 use Rattle.ldmodel.specs.SymbolValues.{entry_point, placed_part}
 use Rattle.ldmodel.specs.declared.sections.Part.TheVariants.{InTable}
 use Rattle.ldmodel_laws.specs.Outline.{HasSameFrame, IsRetouched}
