@@ -13,7 +13,7 @@ use Rattle.gather.specs.Apart.{AscendingSections}
 use Rattle.ldmodel.specs.FaultCode.{section_at}
 use Rattle.ldmodel.specs.Image.{section_numbered}
 use Rattle.ldmodel.specs.Project.{NamedObject, Project}
-use Rattle.gather.specs.ProjectMembers.{IsAscending}
+use Rattle.gather.specs.Apart.{IsAscending}
 
 abbrev Ascend : List LinkedSection → Type 0
 Ascend xs = AllPairs (λ (s t : Section). s.number.0 < t.number.0) (map section_of xs)

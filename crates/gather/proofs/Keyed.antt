@@ -14,7 +14,6 @@ use Rattle.ldmodel.specs.InputSections.{input_sections}
 use Rattle.ldmodel.specs.Project.{Project}
 use Rattle.ldmodel.specs.Sections.{InputSection, SectionId, is_same, is_same_part}
 use Rattle.ldmodel.specs.declared.sections.SectionKey.{SectionKey}
-use Rattle.gather.specs.ProjectMembers.{by_place}
 use Rattle.gather.specs.SectionPlaces.{ArePlaces, AreProjectPlaces, IsPlaceOf}
 use Rattle.gather_sections.specs.SectionTable.{IsTableOf, number_of}
 use Rattle.gather_sections.specs.declared.section_table.SectionTable.{SectionTable}
@@ -49,10 +48,10 @@ the_some : (o : Option ℕ) → IsSome o → (m : ℕ) × (o ≡ Some m)
 the_some None h = absurd (cc)
 the_some (Some m) h = (m, refl)
 
-module _ (p : Project) (xs : List Gathered) (are : AreGathered p (by_place p) xs) where
+module _ (p : Project) (xs : List Gathered) (are : AreGathered p xs) where
   pub as_many : length xs ≡ length (input_sections p)
   as_many =
-      sym (length-map xs (shown_facts (by_place p))) ∙ (ap length are.facts
+      sym (length-map xs shown_facts) ∙ (ap length are
       ∙ length-map (input_sections p) (facts p))
 
   -- the key of a section is that of its place
@@ -61,12 +60,12 @@ module _ (p : Project) (xs : List Gathered) (are : AreGathered p (by_place p) xs
   id_at b s x at is =
       let within : b < length (input_sections p) = slice_get_within (input_sections p) b s at in
       let low : b < length xs = omega (arith, within, as_many) in
-      let left : get_or (map (shown_facts (by_place p)) xs) b (facts p s) ≡ shown_facts (by_place p) x =
-      get_or-map (shown_facts (by_place p)) xs b x (facts p s) low ∙ ap (shown_facts (by_place p)) is in
+      let left : get_or (map shown_facts xs) b (facts p s) ≡ shown_facts x =
+      get_or-map shown_facts xs b x (facts p s) low ∙ ap shown_facts is in
       let right : get_or (map (facts p) (input_sections p)) b (facts p s) ≡ facts p s =
       get_or-map (facts p) (input_sections p) b s (facts p s) within
       ∙ ap (facts p) (get_or_from_slice_get (input_sections p) b s s at) in
-      ap (λ (f : Facts). f.id) (sym left ∙ (ap (λ l. get_or l b (facts p s)) are.facts ∙ right))
+      ap (λ (f : Facts). f.id) (sym left ∙ (ap (λ l. get_or l b (facts p s)) are ∙ right))
 
   pub within_gathered : (b : ℕ) (s : InputSection) → IsSectionAt p b s → b < length xs
   within_gathered b s at =

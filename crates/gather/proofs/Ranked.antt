@@ -11,9 +11,9 @@ use Rattle.std.proofs.lemmas.Option.{get_or_from_slice_get, same_Some, slice_get
 use Rattle.ldmodel.specs.Project.{NamedObject, Project}
 use Rattle.ldmodel.specs.Sections.{InputSection}
 use Rattle.gather_sections.specs.SectionTable.{AreBlockRanks, IsBlockAmong}
-use Rattle.gather.specs.Members.{block_of}
-use Rattle.gather.specs.ProjectMembers.{AreBlocks, AreBlocksOf, block_rank}
-use Rattle.gather.specs.declared.member.CommonBlock.{CommonBlock}
+use Rattle.gather.specs.Blocks.{block_of}
+use Rattle.gather.specs.Blocks.{AreBlocks, AreBlocksOf, block_rank}
+use Rattle.gather.specs.declared.blocks.CommonBlock.{CommonBlock}
 
 abbrev Blocks : Type 0
 Blocks = Vec CommonBlock Global

@@ -25,14 +25,13 @@ use Rattle.gather.specs.SectionPlaces.{AddsTargets, AreProjectPlaces, IsPlaceOf}
 use Rattle.gather.proofs.ByNumber.{found, at_place}
 use Rattle.gather.proofs.Keyed.{place_of_key, there}
 
--- the relocations of the section of a header number
-pub relocations_there : (xs : List LinkedSection) (i : ℕ) (number : SectionIndex) (rs : List Relocation)
-    → IsNumberedAt (map section_of xs) number i
+-- what is asked of the section of a header number
+pub asked_there : {A : Type 0} (f : LinkedSection → A) (d : A) (xs : List LinkedSection) (i : ℕ)
+    (number : SectionIndex) (y : A) → IsNumberedAt (map section_of xs) number i
     → AllPairs (λ (s t : Section). s.number.0 < t.number.0) (map section_of xs)
-    → slice_get (map (λ (s : LinkedSection). s.relocations) xs) i ≡ Some rs
-    → rs ≡ option_map_or (λ (x : LinkedSection). x.relocations)
-    (find (λ (x : LinkedSection). nat_eq x.number.0 number.0) xs) []
-relocations_there xs i number rs at up is =
+    → slice_get (map f xs) i ≡ Some y
+    → y ≡ option_map_or f (find (λ (x : LinkedSection). nat_eq x.number.0 number.0) xs) d
+asked_there f d xs i number y at up is =
     let long : length (map section_of xs) ≡ length xs = length-map xs section_of in
     let low : i < length (map section_of xs) = at.within in
     let x = there xs i (omega (arith, low, long)) in
@@ -40,9 +39,8 @@ relocations_there xs i number rs at up is =
     ap (λ (s : Section). s.number.0) (sym (at_place xs i x.0 (section_of x.0) x.1)) ∙ at.number_is (section_of x.0) in
     let one : find (λ (y : LinkedSection). nat_eq y.number.0 number.0) xs ≡ Some x.0 =
     ap (λ (n : ℕ). find (λ (y : LinkedSection). nat_eq y.number.0 n) xs) (sym same) ∙ found xs i x.0 up x.1 in
-    let own : x.0.relocations ≡ rs = same_Some _ _ (ap (λ o. option_map (λ (s : LinkedSection). s.relocations) o)
-    (sym x.1) ∙ (sym (slice_get-map (λ (s : LinkedSection). s.relocations) xs i) ∙ is)) in
-    sym own ∙ ap (λ o. option_map_or (λ (x : LinkedSection). x.relocations) o []) (sym one)
+    let own : f x.0 ≡ y = same_Some _ _ (ap (λ o. option_map f o) (sym x.1) ∙ (sym (slice_get-map f xs i) ∙ is)) in
+    sym own ∙ ap (λ o. option_map_or f o d) (sym one)
 
 none_numbered : (xs : List LinkedSection) (number : SectionIndex)
     → All (λ (s : Section). s.number.0 ≡ number.0 → ⊥) (map section_of xs)
@@ -54,12 +52,10 @@ none_numbered (x ∷ xs) number h =
     (none_numbered xs number
     (All-tail (λ (s : Section). s.number.0 ≡ number.0 → ⊥) (section_of x) (map section_of xs) h))
 
-pub relocations_nowhere : (xs : List LinkedSection) (number : SectionIndex)
+pub asked_nowhere : {A : Type 0} (f : LinkedSection → A) (d : A) (xs : List LinkedSection) (number : SectionIndex)
     → All (λ (s : Section). s.number.0 ≡ number.0 → ⊥) (map section_of xs)
-    → [] ≡ option_map_or (λ (x : LinkedSection). x.relocations)
-    (find (λ (x : LinkedSection). nat_eq x.number.0 number.0) xs) []
-relocations_nowhere xs number h =
-    ap (λ o. option_map_or (λ (x : LinkedSection). x.relocations) o []) (sym (none_numbered xs number h))
+    → d ≡ option_map_or f (find (λ (x : LinkedSection). nat_eq x.number.0 number.0) xs) d
+asked_nowhere f d xs number h = ap (λ o. option_map_or f o d) (sym (none_numbered xs number h))
 
 -- nothing refers to nothing
 pub no_targets : (p : Project) (i : ℕ) (old : List ℕ) → AddsTargets p i [] old old

@@ -7,15 +7,14 @@ pub mod FileSearches
 pub mod Matches
 pub mod Graphs
 pub mod LiveMarks
-pub mod RowPieces
 pub mod Gathered
+pub mod RowPieces
 pub mod LeftOut
-pub mod Members
 pub mod Roots
 pub mod Apart
 pub mod Symbols
 pub mod ProjectMatches
-pub mod ProjectMembers
+pub mod Blocks
 pub mod Found
 pub mod SectionPlaces
 pub mod Gathering

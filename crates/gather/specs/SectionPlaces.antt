@@ -14,7 +14,6 @@ use Rattle.ldmodel.specs.Project.{Project}
 use Rattle.ldmodel.specs.Sections.{InputSection, SectionId, is_same_part}
 use Rattle.ldmodel.specs.declared.sections.SectionKey.{SectionKey}
 use Rattle.symres.specs.Naming.{IsNaming, NamingState}
-use Rattle.gather.specs.ProjectMembers.{by_place}
 use Rattle.gather.specs.declared.places.Places.{Places}
 use Rattle.gather_sections.specs.SectionTable.{number_of}
 use Rattle.gather_sections.specs.declared.section_table.SectionId as code
@@ -74,5 +73,5 @@ pub record AreProjectReferences (p : Project) (naming : NamingState) (places : P
     : Type 0 where
   pub named : IsNaming p naming
   pub ascending : AscendingSections p
-  pub sections : AreGathered p (by_place p) xs
+  pub sections : AreGathered p xs
   pub placed : AreProjectPlaces p (place_in places)

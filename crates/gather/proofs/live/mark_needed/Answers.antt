@@ -7,7 +7,6 @@ use Rattle.ldmodel.specs.Gathering.{is_out, taken_by}
 use Rattle.ldmodel.specs.InputSections.{input_sections}
 use Rattle.ldmodel.specs.Live.{entry_section, is_kept}
 use Rattle.ldmodel.specs.Sections.{InputSection}
-use Rattle.gather.specs.ProjectMembers.{by_place}
 use Rattle.gather.specs.SectionPlaces.{AreProjectPlaces, IsPlaceOf, place_under}
 use Rattle.gather.proofs.Keyed.{place_of_key}
 use Rattle.gather.proofs.Starting.{graph_is}
@@ -30,7 +29,7 @@ returns c =
     subst (λ (l : List ℕ). (k : ℕ) (s : InputSection) → IsSectionAt p k s
     → (IsTrue (is_kept (taken_by p s)) ⊎ (c.find-entry.result ≡ Some k)) ↔ Contains l k)
     (sym c.deref-2.ensures.value)
-    (c.in_ok-roots.ensures p (by_place p) (sym c.script.ensures) c.requires.sections) in
+    (c.in_ok-roots.ensures p (sym c.script.ensures) c.requires.sections) in
     IfOk-weaker c.mark.result _ _
     (λ (marks : Vec Bool Global) h. h p c.requires.collected
     (graph_is p c.args.out.now c.deref-2.result.now c.find-entry.result c.requires.out place roots))
