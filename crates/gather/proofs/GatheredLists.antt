@@ -32,6 +32,7 @@ use Rattle.gather.specs.LiveMarks.{marked}
 use Rattle.gather.specs.Matches.{number_of}
 use Rattle.gather.specs.RowPieces.{AreBuckets, taken_piece}
 use Rattle.gather.specs.declared.gathered.Gathered.{Gathered}
+use Rattle.gather.proofs.Named.{all_found}
 
 map_again : {X Y Z : Type 0} (g : Y → Z) (f : X → Y) (xs : List X) → map (λ x. g (f x)) xs ≡ map g (map f xs)
 map_again g f [] = refl
@@ -63,7 +64,7 @@ pub out_are : (p : Project) (xs : List Gathered) → AreGathered p xs
 out_are p xs a =
     map_again (λ (f : Facts). is_out_of (input_statements p.script) p.options.orphans f.size f.statement)
     shown_facts xs
-    ∙ ap (map (λ (f : Facts). is_out_of (input_statements p.script) p.options.orphans f.size f.statement)) a
+    ∙ ap (map (λ (f : Facts). is_out_of (input_statements p.script) p.options.orphans f.size f.statement)) a.facts
     ∙ sym (map_again (λ (f : Facts). is_out_of (input_statements p.script) p.options.orphans f.size f.statement)
     (facts p) (input_sections p))
     ∙ out_is p (input_sections p)
@@ -166,11 +167,10 @@ pieces_are p (b ∷ bs) (x ∷ xs) (s ∷ ss) e a =
         one x.statement (first_match p.script s.object s.name) l r (ap (λ (f : Facts). f.statement) h) h f rest
 
 -- so those of the live sections are those that statements take
-pub taken_are : (p : Project) (marks : List Bool) (xs : List Gathered) → AreGathered p xs
-    → All (IsFound p) (input_sections p) → marked marks (input_sections p) ≡ live p
+pub taken_are : (p : Project) (marks : List Bool) (xs : List Gathered) → AreGathered p xs → marked marks (input_sections p) ≡ live p
     → map (piece_in p) (taken_in marks xs) ≡ filter_map (taken_piece p) (live p)
-taken_are p marks xs a found l =
-    pieces_are p marks xs (input_sections p) a found ∙ ap (filter_map (taken_piece p)) l
+taken_are p marks xs a l =
+    pieces_are p marks xs (input_sections p) a.facts (all_found p a.ascending) ∙ ap (filter_map (taken_piece p)) l
 
 -- a section that no statement takes, by the number of the statement
 is_there : {X : Type 0} (xs : List X) (i : ℕ) → i < length xs → is_none (slice_get xs i) ≡ false
@@ -237,7 +237,7 @@ pub orphans_are : (p : Project) (marks : List Bool) (xs : List Gathered) (found 
     → map (section_id (λ key. key)) found ≡ map (λ (s : InputSection). s.id) (orphans p)
 unfolding orphans
 orphans_are p marks xs found is a l =
-    ap (map (section_id (λ key. key))) is ∙ orphans_in p marks xs (input_sections p) a
+    ap (map (section_id (λ key. key))) is ∙ orphans_in p marks xs (input_sections p) a.facts
     ∙ ap (λ ss. map (λ (s : InputSection). s.id) (filter (λ s. is_none (taken_by p s)) ss)) l
 
 -- what is found, one section later

@@ -115,11 +115,11 @@ pub kept_are : (p : Project) (xs : List Gathered) (found : List ℕ) → found
 kept_are p xs found is a k s at = (to, from)
   where
     mine : (x : Gathered) × (slice_get xs k ≡ Some x)
-    mine = also_there p xs (input_sections p) a k s at
+    mine = also_there p xs (input_sections p) a.facts k s at
 
     by_number : (x : Gathered) → slice_get xs k ≡ Some x → keeps (input_statements p.script) x ≡ is_kept (taken_by p s)
     by_number x e = ap (is_kept_by (input_statements p.script))
-        (statement_at p xs (input_sections p) a k x s e at)
+        (statement_at p xs (input_sections p) a.facts k x s e at)
 
     to : IsTrue (is_kept (taken_by p s)) → Contains found k
     to h =

@@ -51,7 +51,7 @@ the_some (Some m) h = (m, refl)
 module _ (p : Project) (xs : List Gathered) (are : AreGathered p xs) where
   pub as_many : length xs ≡ length (input_sections p)
   as_many =
-      sym (length-map xs shown_facts) ∙ (ap length are
+      sym (length-map xs shown_facts) ∙ (ap length are.facts
       ∙ length-map (input_sections p) (facts p))
 
   -- the key of a section is that of its place
@@ -65,7 +65,7 @@ module _ (p : Project) (xs : List Gathered) (are : AreGathered p xs) where
       let right : get_or (map (facts p) (input_sections p)) b (facts p s) ≡ facts p s =
       get_or-map (facts p) (input_sections p) b s (facts p s) within
       ∙ ap (facts p) (get_or_from_slice_get (input_sections p) b s s at) in
-      ap (λ (f : Facts). f.id) (sym left ∙ (ap (λ l. get_or l b (facts p s)) are ∙ right))
+      ap (λ (f : Facts). f.id) (sym left ∙ (ap (λ l. get_or l b (facts p s)) are.facts ∙ right))
 
   pub within_gathered : (b : ℕ) (s : InputSection) → IsSectionAt p b s → b < length xs
   within_gathered b s at =

@@ -10,7 +10,7 @@ use Rattle.std.proofs.lemmas.List.Elements.{All-more}
 use Rattle.std.proofs.lemmas.List.FromFn.{length-enumerate_from}
 use Rattle.std.proofs.lemmas.Option.{get_or_from_slice_get, slice_get-get_or, slice_get_within}
 use Rattle.std.proofs.lemmas.Slice.Zip.{AllZip-long}
-use Rattle.gather.specs.Apart.{AscendingSections, IsAscending}
+use Rattle.gather.specs.Apart.{IsAscending}
 use Rattle.gather.specs.Blocks.{AreBlocks, AreBlocksOf, blocks_at}
 use Rattle.gather.specs.Gathered.{AddsFacts, AreGathered, facts, shown_facts}
 use Rattle.gather.specs.ProjectMatches.{AreMatched, IsMatched}
@@ -119,10 +119,10 @@ more_gathered p n o xs new at added up h =
 pub all_gathered : (p : Project) (n : ℕ) (xs : List Gathered) → length p.objects ≤ n → GatheredBefore p n xs
     → AreGathered p xs
 unfolding input_sections
-all_gathered p n xs past h =
-    h.are ∙ ap (λ (l : List (ℕ × NamedObject)). map (facts p) (flat_map (λ (o : ℕ × NamedObject). object_inputs p o.0 o.1) l))
-    (take_all n (enumerate_from 0 p.objects) (omega (arith, past, length-enumerate_from 0 p.objects)))
-
-pub all_ascending : (p : Project) (n : ℕ) (xs : List Gathered) → length p.objects ≤ n → GatheredBefore p n xs
-    → AscendingSections p
-all_ascending p n xs past h = subst (All IsAscending) (take_all n p.objects past) h.ascending
+all_gathered p n xs past h = record {
+  facts = h.are
+      ∙ ap (λ (l : List (ℕ × NamedObject)). map (facts p) (flat_map (λ
+      (o : ℕ × NamedObject). object_inputs p o.0 o.1) l))
+      (take_all n (enumerate_from 0 p.objects) (omega (arith, past, length-enumerate_from 0 p.objects)));
+  ascending = subst (All IsAscending) (take_all n p.objects past) h.ascending;
+}

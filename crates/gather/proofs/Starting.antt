@@ -10,7 +10,6 @@ use Rattle.std.proofs.lemmas.Option.{get_or_from_slice_get, same_Some, slice_get
 use Rattle.elfobj.specs.Object.{ObjectData}
 use Rattle.elfobj.specs.Sections.{LinkedSection}
 use Rattle.elfobj.specs.declared.section.SectionIndex.{SectionIndex}
-use Rattle.gather.specs.Apart.{AscendingSections}
 use Rattle.gather.specs.Gathered.{AreGathered}
 use Rattle.gather.specs.Graphs.{graph_of}
 use Rattle.gather.specs.LiveMarks.{IsGraphOf, IsSectionAt}
@@ -53,20 +52,20 @@ asked_of_none f d p i number e = go (slice_get p.objects i) e
     go (Some o) e = absurd (cc)
 
 -- of the section of a key
-pub own_row : (p : Project) (xs : List Gathered) (n : ℕ) (x : Gathered) → AscendingSections p
+pub own_row : (p : Project) (xs : List Gathered) (n : ℕ) (x : Gathered)
     → AreGathered p xs → get_or xs n x ≡ x → (s : InputSection) → IsSectionAt p n s
     → (s.id.object ≡ x.section.object.0)
     × (s.relocations ≡ relocations_of p x.section.object.0 x.section.part)
-own_row p xs n x up are here s at =
+own_row p xs n x are here s at =
     let same : id_in x.section ≡ s.id = id_at p xs are n s x at here in
     let inside : Contains (input_sections p) s =
     (n, slice_get_within (input_sections p) n s at, get_or_from_slice_get (input_sections p) n s s at) in (
       ap (λ (i : SectionId). i.object) (sym same),
-      sym (found_one p up s inside).relocations ∙ ap (λ (i : SectionId). relocations_of p i.object i.part) (sym same),
+      sym (found_one p are.ascending s inside).relocations ∙ ap (λ (i : SectionId). relocations_of p i.object i.part) (sym same),
     )
 
 -- what was added for a section, which is x, are the numbers of those that it refers to
-module _ (p : Project) (xs : List Gathered) (n b : ℕ) (x : Gathered) (new : List ℕ) (up : AscendingSections p)
+module _ (p : Project) (xs : List Gathered) (n b : ℕ) (x : Gathered) (new : List ℕ)
     (are : AreGathered p xs) (here : get_or xs n x ≡ x) (low : n < length (input_sections p))
     (below : b < length (input_sections p))
     (adds : AddsTargets p x.section.object.0 (relocations_of p x.section.object.0 x.section.part) [] new) where
@@ -74,7 +73,7 @@ module _ (p : Project) (xs : List Gathered) (n b : ℕ) (x : Gathered) (new : Li
       ≡ list_any (λ r. is_section (target_section p x.section.object.0 r) t)
       (relocations_of p x.section.object.0 x.section.part)
   as_added s t at =
-      let own = own_row p xs n x up are here s at in
+      let own = own_row p xs n x are here s at in
       ap (λ (i : ℕ). list_any (λ r. is_section (target_section p i r) t) s.relocations) own.0
       ∙ ap (list_any (λ r. is_section (target_section p x.section.object.0 r) t)) own.1
 
@@ -93,15 +92,15 @@ module _ (p : Project) (xs : List Gathered) (n b : ℕ) (x : Gathered) (new : Li
   refers_as = (refers_in, in_refers)
 
 -- the same of the section at a place
-pub refers_at : (p : Project) (xs : List Gathered) (n : ℕ) (d : Gathered) (old new : List ℕ) → AscendingSections p
+pub refers_at : (p : Project) (xs : List Gathered) (n : ℕ) (d : Gathered) (old new : List ℕ)
     → AreGathered p xs → n < length (input_sections p) → old ≡ []
     → AddsTargets p (get_or xs n d).section.object.0
     (relocations_of p (get_or xs n d).section.object.0 (get_or xs n d).section.part) old new
     → (b : ℕ) → b < length (input_sections p) → Refers p n b ↔ Contains new b
-refers_at p xs n d old new up are low none adds b below =
+refers_at p xs n d old new are low none adds b below =
     let x = get_or xs n d in
     let many : length xs ≡ length (input_sections p) = as_many p xs are in
-    refers_as p xs n b x new up are (get_or_default xs n x d (omega (arith, low, many))) low below
+    refers_as p xs n b x new are (get_or_default xs n x d (omega (arith, low, many))) low below
     (subst (λ (l : List ℕ). AddsTargets p x.section.object.0
     (relocations_of p x.section.object.0 x.section.part) l new) none adds)
 

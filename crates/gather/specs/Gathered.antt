@@ -15,6 +15,7 @@ use Rattle.ldmodel.specs.declared.rows.InputIndex.{InputIndex}
 use Rattle.ldmodel.specs.declared.rows.Piece.{Piece}
 use Rattle.ldmodel.specs.declared.sections.Part.TheVariants.{InTable, InCommon}
 use Rattle.ldmodel.specs.declared.sections.SectionKey.{SectionKey}
+use Rattle.gather.specs.Apart.{AscendingSections}
 use Rattle.gather.specs.declared.blocks.CommonBlock.{CommonBlock}
 use Rattle.gather.specs.declared.gathered.Gathered.{Gathered}
 use Rattle.gather.specs.LiveMarks.{marked}
@@ -49,9 +50,10 @@ shown_facts x = record {
   statement = number_of x.statement;
 }
 
--- these are the input sections of the project, in their order
-abbrev pub AreGathered : Project → List Gathered → Type 0
-AreGathered p xs = map shown_facts xs ≡ map (facts p) (input_sections p)
+-- these are the input sections of the project, in their order, whose objects have their sections in order
+pub record AreGathered (p : Project) (xs : List Gathered) : Type 0 where
+  pub facts : map shown_facts xs ≡ map (facts p) (input_sections p)
+  pub ascending : AscendingSections p
 
 -- what is known of linked section s of object number i, whose match has this number
 abbrev pub linked_facts : ℕ → LinkedSection → Option ℕ → Facts

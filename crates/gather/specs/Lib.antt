@@ -7,11 +7,11 @@ pub mod FileSearches
 pub mod Matches
 pub mod Graphs
 pub mod LiveMarks
+pub mod Apart
 pub mod Gathered
 pub mod RowPieces
 pub mod LeftOut
 pub mod Roots
-pub mod Apart
 pub mod Symbols
 pub mod ProjectMatches
 pub mod Blocks

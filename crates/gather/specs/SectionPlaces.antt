@@ -4,7 +4,6 @@ use Rattle.std.specs.Prelude.{IsSome, option_and_then, slice_set}
 use Rattle.std.specs.Prelude.{IsTrue, slice_index_or}
 use Rattle.std.specs.List.{list_any}
 use Rattle.elfobj.specs.declared.relocation.Relocation.{Relocation}
-use Rattle.gather.specs.Apart.{AscendingSections}
 use Rattle.gather.specs.Gathered.{AreGathered}
 use Rattle.gather.specs.LiveMarks.{IsSectionAt}
 use Rattle.gather.specs.declared.gathered.Gathered.{Gathered}
@@ -72,6 +71,5 @@ Refers p a b = (s t : InputSection) → IsSectionAt p a s → IsSectionAt p b t 
 pub record AreProjectReferences (p : Project) (naming : NamingState) (places : Places) (xs : List Gathered)
     : Type 0 where
   pub named : IsNaming p naming
-  pub ascending : AscendingSections p
   pub sections : AreGathered p xs
   pub placed : AreProjectPlaces p (place_in places)

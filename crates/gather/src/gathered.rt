@@ -3,7 +3,7 @@
 
 ghost use Rattle.std.specs.Prelude.{◌≡◌, ◌<◌, IfOk, None, OnOk, Some, length, map, slice_get, slice_index_or};
 ghost use Rattle.elfobj.specs.Sections.{LinkedSection};
-ghost use Rattle.gather.specs.Apart.{AscendingSections, IsAscending};
+ghost use Rattle.gather.specs.Apart.{IsAscending};
 ghost use Rattle.gather.specs.Blocks.{AreBlocks, AreBlocksOf};
 ghost use Rattle.gather.specs.Gathered.{AddsFacts, AreGathered, as_piece, beside, block_facts, facts, linked_facts};
 ghost use Rattle.gather.specs.Gathered.{shown_facts};
@@ -28,24 +28,24 @@ use std::alloc::{AllocError, Global};
 
 /// An input section: a linked section of an object, or a common block that an object owns.
 #[derive(Clone, Copy)]
-pub(crate) struct Gathered {
+pub struct Gathered {
     /// Which one it is.
-    pub(crate) section: SectionKey,
+    pub section: SectionKey,
     /// What it holds; `Nobits` for a common block.
-    pub(crate) kind: SectionKind,
+    pub kind: SectionKind,
     /// `sh_flags`; `SHF_ALLOC` and `SHF_WRITE` for a common block.
-    pub(crate) flags: u64,
+    pub flags: u64,
     /// How many bytes it takes in memory.
-    pub(crate) size: u64,
+    pub size: u64,
     /// `sh_addralign`; for a common block the greatest that its entries ask for.
-    pub(crate) alignment: u64,
+    pub alignment: u64,
     /// The input statement that takes it, if one does.
-    pub(crate) statement: Option<InputIndex>,
+    pub statement: Option<InputIndex>,
 }
 
 impl Gathered {
     /// It as an entry of the row of a statement.
-    pub(crate) fn piece(&self, statement: InputIndex) -> Piece
+    pub fn piece(&self, statement: InputIndex) -> Piece
         ensures { result ≡ as_piece self.now statement }
     {
         Piece {
@@ -184,8 +184,7 @@ pub(crate) fn input_sections(
 ) -> Result<Vec<Gathered>, NoMemory>
     requires matches { AreMatched project.now (map (λ x. x.now) matches.now) }
     requires blocks { AreBlocks project.now blocks.now }
-    ensures gathered { IfOk result (λ sections. AreGathered project.now sections.items) }
-    ensures ascending { IfOk result (λ sections. AscendingSections project.now) }
+    ensures { IfOk result (λ sections. AreGathered project.now sections.items) }
 {
     let inputs = project.inputs();
     let mut sections = Vec::with_capacity(alloc, count_sections(inputs, blocks)?)?;

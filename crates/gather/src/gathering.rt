@@ -1,7 +1,6 @@
 //! What gathering finds.
 
 ghost use Rattle.std.specs.Prelude.{◌≡◌, IfOk, map};
-ghost use Rattle.gather.specs.Apart.{AscendingSections};
 ghost use Rattle.gather.specs.Gathered.{AreGathered};
 ghost use Rattle.gather.specs.LiveMarks.{marked};
 ghost use Rattle.gather.specs.Gathering.{IsGathering};
@@ -47,7 +46,6 @@ fn sorted_out(
     table: SectionTable,
 ) -> Result<Gathering, NoMemory>
     requires table { IsTableOf project.now table }
-    requires ascending { AscendingSections project.now }
     requires sections { AreGathered project.now sections.now }
     requires marks { marked marks.now (input_sections project.now) ≡ live project.now }
     ensures { IfOk result (λ g. IsGathering project.now g) }

@@ -19,7 +19,7 @@ use std::alloc::Global;
 
 /// Whether a section is left out: one that `/DISCARD/` takes; and of those that no statement takes the empty ones,
 /// and all where orphans are discarded.
-fn is_out(statements: &[InputStatementAt<'_>], orphans: Orphans, section: &Gathered) -> bool
+pub fn is_out(statements: &[InputStatementAt<'_>], orphans: Orphans, section: &Gathered) -> bool
     ensures { result ≡ is_out_of (shown_inputs statements.now) orphans section.now.size
         (number_of section.now.statement) }
 {
@@ -56,7 +56,7 @@ fn each_out(
 /// # Errors
 ///
 /// Where memory runs out.
-pub(crate) fn left_out(
+pub fn left_out(
     alloc: Global,
     script: &Script,
     orphans: Orphans,

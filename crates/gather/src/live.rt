@@ -1,7 +1,6 @@
 //! Which input sections are live.
 
 ghost use Rattle.std.specs.Prelude.{◌≡◌, IfOk, map, true};
-ghost use Rattle.gather.specs.Apart.{AscendingSections};
 ghost use Rattle.gather.specs.Gathered.{AreGathered};
 ghost use Rattle.gather.specs.LiveMarks.{marked};
 ghost use Rattle.ldmodel.specs.Gathering.{is_out};
@@ -36,7 +35,6 @@ fn mark_needed(
     requires naming { IsNaming project.now naming.now }
     requires table { IsTableOf project.now table.now }
     requires collected { project.now.options.gc ≡ true }
-    requires ascending { AscendingSections project.now }
     requires sections { AreGathered project.now sections.now }
     requires out { out.now ≡ map (is_out project.now) (input_sections project.now) }
     ensures { IfOk result (λ marks. marked marks.items (input_sections project.now) ≡ live project.now) }
@@ -72,7 +70,6 @@ pub(crate) fn mark_live(
 ) -> Result<Vec<bool>, NoMemory>
     requires naming { IsNaming project.now naming.now }
     requires table { IsTableOf project.now table.now }
-    requires ascending { AscendingSections project.now }
     requires sections { AreGathered project.now sections.now }
     requires out { out.now ≡ map (is_out project.now) (input_sections project.now) }
     ensures { IfOk result (λ marks. marked marks.items (input_sections project.now) ≡ live project.now) }

@@ -22,7 +22,7 @@ use std::alloc::Global;
 /// # Errors
 ///
 /// Where memory runs out.
-pub(crate) fn not_out(alloc: Global, out: &[bool]) -> Result<Vec<bool>, NoMemory>
+pub fn not_out(alloc: Global, out: &[bool]) -> Result<Vec<bool>, NoMemory>
     ensures marks { IfOk result (λ marks. marks.items ≡ map not out.now) }
     ensures live { IfOk result (λ marks. (p : Project) → p.options.gc ≡ false → out.now
         ≡ map (is_out p) (input_sections p) → marked marks.items (input_sections p) ≡ live p) }
@@ -66,7 +66,7 @@ fn add_untaken(
 /// # Errors
 ///
 /// Where memory runs out.
-pub(crate) fn orphans(
+pub fn orphans(
     alloc: Global,
     sections: &[Gathered],
     marks: &[bool],

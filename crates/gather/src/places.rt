@@ -1,7 +1,6 @@
 //! Where input sections stand in a list, by their numbers.
 
 ghost use Rattle.std.specs.Prelude.{◌≡◌, ◌<◌, IfOk, IfSome, length, option_and_then};
-ghost use Rattle.gather.specs.Apart.{AscendingSections};
 ghost use Rattle.gather.specs.Gathered.{AreGathered};
 ghost use Rattle.gather.specs.SectionPlaces.{AreProjectPlaces, place_in, place_under, with_place};
 ghost use Rattle.gather_sections.specs.SectionTable.{IsTableOf};
@@ -45,7 +44,6 @@ pub(crate) fn places_of(
     sections: &[Gathered],
 ) -> Result<Vec<Option<usize>>, NoMemory>
     requires table { IsTableOf project.now table.now }
-    requires ascending { AscendingSections project.now }
     requires sections { AreGathered project.now sections.now }
     ensures { IfOk result (λ v. AreProjectPlaces project.now (place_under table.now v.items)) }
 {

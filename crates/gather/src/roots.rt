@@ -77,7 +77,7 @@ fn add_entry(found: &mut Vec<usize>, entry: Option<usize>) -> Result<(), NoMemor
 /// # Errors
 ///
 /// Where memory runs out.
-pub(crate) fn roots(
+pub fn roots(
     alloc: Global,
     script: &Script,
     sections: &[Gathered],

@@ -2,7 +2,6 @@
 
 ghost use Rattle.std.specs.Prelude.{◌≡◌, ◌++◌, ◌∷◌, [], ℕ, IfOk, List, OnOk, if◌then◌else◌};
 ghost use Rattle.std.specs.List.{filter_map};
-ghost use Rattle.gather.specs.Apart.{AscendingSections};
 ghost use Rattle.gather.specs.Gathered.{AreGathered, own_piece, taken_in};
 ghost use Rattle.gather.specs.LiveMarks.{marked};
 ghost use Rattle.gather.specs.RowPieces.{AddsTo, AreBuckets, AreEmpty};
@@ -105,16 +104,15 @@ fn add_statement(
 /// # Errors
 ///
 /// Where memory runs out.
-pub(crate) fn rows(
+pub fn rows(
     alloc: Global,
     project: &ProjectView<'_>,
     sections: &[Gathered],
     marks: &[bool],
 ) -> Result<Vec<Vec<Piece>>, NoMemory>
-    requires ascending { AscendingSections project.now }
-    requires sections { AreGathered project.now sections.now }
-    requires marks { marked marks.now (input_sections project.now) ≡ live project.now }
-    ensures { IfOk result (λ found. rows_in project.now found.items ≡ rows project.now) }
+    ensures { IfOk result (λ found. AreGathered project.now sections.now
+        → marked marks.now (input_sections project.now) ≡ live project.now
+        → rows_in project.now found.items ≡ rows project.now) }
 {
     let script = project.script();
     let statements = script.input_statements(alloc)?;

@@ -30,11 +30,7 @@ fn alignment(piece: &Piece) -> u64
 }
 
 /// Puts pieces in the order of a sort.
-fn order_by(
-    project: &ProjectView<'_>,
-    pieces: &mut Vec<Piece>,
-    sort: Sort,
-) -> Result<(), NoMemory>
+fn order_by(project: &ProjectView<'_>, pieces: &mut Vec<Piece>, sort: Sort) -> Result<(), NoMemory>
     ensures { OnOk result (Orders project.now (Some sort) pieces.old.items pieces.new.items) }
 {
     row_by_order();

@@ -2,7 +2,7 @@ use Rattle.std.proofs.Common.{◌≡◌, ◌∙◌, ◌≤◌, arith, sym, subst
 use Rattle.std.specs.Prelude.{slice_get, length}
 use Rattle.ldmodel_project.specs.Inputs.{shown_input}
 use Rattle.gather.specs.Blocks.{AreBlocksOf}
-use Rattle.gather.proofs.Preparing.{all_ascending, all_gathered, as_many, as_many_blocks, as_many_matched}
+use Rattle.gather.proofs.Preparing.{all_gathered, as_many, as_many_blocks, as_many_matched}
 use Rattle.gather.proofs.Preparing.{blocks_given, matched_at, more_gathered, object_here}
 use Rattle.gather.proofs.gathered.input_sections.Goals as goal
 
@@ -41,16 +41,9 @@ loop-place-preserved c =
     c.index-blocks-place.is at)))
     c.in_ok-add_object.ensures.ascending c.loop-place.invariant
 
-pub returns-clause-gathered : goal.returns-clause-gathered
-returns-clause-gathered c =
+pub returns : goal.returns
+returns c =
     let p = c.args.project.now in
     let past : length p.objects ≤ c.loop-place.place =
     omega (arith, c.loop-place-test.false, as_many p c.inputs-inputs.result.now c.inputs-inputs.ensures.same) in
     all_gathered p c.loop-place.place c.loop-place.sections.items past c.loop-place.invariant
-
-pub returns-clause-ascending : goal.returns-clause-ascending
-returns-clause-ascending c =
-    let p = c.args.project.now in
-    let past : length p.objects ≤ c.loop-place.place =
-    omega (arith, c.loop-place-test.false, as_many p c.inputs-inputs.result.now c.inputs-inputs.ensures.same) in
-    all_ascending p c.loop-place.place c.loop-place.sections.items past c.loop-place.invariant

@@ -7,8 +7,8 @@ returns c =
     let in_order = c.live_by_path.ensures.in_order p in
     record {
       table = c.requires.table;
-      rows = c.in_ok-rows.ensures;
-      orphans = orphan_faults p c.requires.ascending in_order.0
+      rows = c.in_ok-rows.ensures c.requires.sections c.requires.marks;
+      orphans = orphan_faults p c.requires.sections.ascending in_order.0
           c.in_ok-orphans.orphans.items in_order.1
           (c.in_ok-orphans.ensures p c.requires.sections c.requires.marks);
     }

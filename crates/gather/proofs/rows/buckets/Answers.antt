@@ -6,7 +6,7 @@ use Rattle.gather.proofs.GatheredLists.{found_all, found_step}
 use Rattle.gather.proofs.rows.buckets.Goals as goal
 
 pub loop-place-init : goal.loop-place-init
-loop-place-init c = 
+loop-place-init c =
     let none = c.in_ok-buckets.ensures in
     record { done = []; are = record { long = none.long; bucket = none.each }; rest = refl }
 

@@ -9,7 +9,6 @@ use Rattle.ldscript.specs.statements.Numbered.{shown_inputs}
 use Rattle.std.specs.Prelude.{flat_map}
 use Rattle.gather.specs.RowPieces.{pieces_at, shown_row}
 use Rattle.gather.proofs.GatheredLists.{taken_are}
-use Rattle.gather.proofs.Named.{all_found}
 use Rattle.gather.proofs.RowSteps.{rows_step, rows_end, rows_are}
 use Rattle.gather.proofs.rows.rows.Goals as goal
 
@@ -47,7 +46,7 @@ loop-number-preserved c =
     }
 
 pub returns : goal.returns
-returns c =
+returns c = λ gathered lives.
     let p = c.args.project.now in
     let xs = taken_in c.args.marks.now c.args.sections.now in
     let i = c.loop-number.number in
@@ -58,7 +57,6 @@ returns c =
     ap shown_inputs c.deref-statement-items.ensures.value ∙ c.in_ok-statements.ensures
     ∙ ap input_statements c.script-script.ensures in
     rows_are p xs c.loop-number.found.items
-    (taken_are p c.args.marks.now c.args.sections.now c.requires.sections (all_found p c.requires.ascending)
-    c.requires.marks) inv.long
+    (taken_are p c.args.marks.now c.args.sections.now gathered lives) inv.long
     (λ k d l. rows_end p xs k i (shown_inputs (drop i items)) _ _ (ap shown_inputs none) (inv.rows k d l)
     ∙ ap (λ s. flat_map (pieces_at p xs k) (enumerate_from 0 s)) all)

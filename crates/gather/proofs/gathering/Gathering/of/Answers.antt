@@ -10,7 +10,7 @@ mark_live-requires-clause-out c =
     c.deref-5.ensures.value
     ∙ c.in_ok-out.ensures p (sym c.script.ensures)
     (ap (λ (o : LinkOptions). o.orphans) (sym c.options-options.ensures) ∙ sym c.orphans.ensures)
-    (subst (AreGathered p) (sym c.deref-2.ensures.value) c.in_ok-sections.ensures.gathered)
+    (subst (AreGathered p) (sym c.deref-2.ensures.value) c.in_ok-sections.ensures)
 
 pub of-requires : goal.of-requires
 of-requires c =
