@@ -20,25 +20,6 @@ use Rattle.gather.specs.Roots.{is_kept_by, kept_numbers}
 use Rattle.gather.specs.declared.gathered.Gathered.{Gathered}
 use Rattle.gather.proofs.InLists.{here, later, first_or_later, none_in_nil}
 
--- one section later
-pub kept_step : (statements : List InputStatementAt) (old new all : List ℕ) (xs : List Gathered) (i : ℕ) (d : Gathered)
-    (b : Bool) → i < length xs
-    → b ≡ is_kept_by statements (number_of (get_or xs i d).statement) → new ≡ old ++ cond b (i ∷ []) []
-    → old ++ kept_numbers statements i (drop i xs) ≡ all → new ++ kept_numbers statements (i + 1) (drop (i + 1) xs)
-    ≡ all
-kept_step statements old new all xs i d b h is added before =
-    ap (λ l. l ++ kept_numbers statements (i + 1) (drop (i + 1) xs)) added
-    ∙ append_assoc old (cond b (i ∷ []) []) (kept_numbers statements (i + 1) (drop (i + 1) xs))
-    ∙ ap (λ l. old ++ l) (go b (kept_numbers statements (i + 1) (drop (i + 1) xs))
-    ∙ ap (λ c. cond c (i ∷ kept_numbers statements (i + 1) (drop (i + 1) xs))
-    (kept_numbers statements (i + 1) (drop (i + 1) xs))) is
-    ∙ ap (kept_numbers statements i) (sym (drop_more xs i d h)))
-    ∙ before
-  where
-    go : (c : Bool) (rest : List ℕ) → cond c (i ∷ []) [] ++ rest ≡ cond c (i ∷ rest) rest
-    go true rest = refl
-    go false rest = refl
-
 module _ (statements : List InputStatementAt) where
   abbrev keeps : Gathered → Bool
   keeps x = is_kept_by statements (number_of x.statement)

@@ -3,7 +3,6 @@ pub mod Marks
 pub mod NamedLists
 pub mod InLists
 pub mod LivePaths
-pub mod NumberedLive
 pub mod Sorts
 pub mod RowSteps
 pub mod GatheredLists
