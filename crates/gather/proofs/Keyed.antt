@@ -17,15 +17,11 @@ use Rattle.ldmodel.specs.declared.sections.SectionKey.{SectionKey}
 use Rattle.gather.specs.SectionPlaces.{ArePlaces, AreProjectPlaces, IsPlaceOf}
 use Rattle.gather_sections.specs.SectionTable.{IsTableOf, number_of}
 use Rattle.gather_sections.specs.declared.section_table.SectionTable.{SectionTable}
+use Rattle.gather.proofs.InLists.{there}
 use Rattle.gather.proofs.PlacesUnder.{part_itself, same_part}
 
 abbrev pub id_in : SectionKey → SectionId
 id_in k = section_id (λ key. key) k
-
-pub there : {X : Type 0} (xs : List X) (i : ℕ) → i < length xs → (x : X) × (slice_get xs i ≡ Some x)
-there [] i h = absurd (omega (arith, h))
-there (x ∷ xs) zero h = (x, refl)
-there (x ∷ xs) (suc i) h = there xs i (omega (arith, h))
 
 same_id : (a b : SectionId) → is_same a b ≡ true → a ≡ b
 same_id a b h =

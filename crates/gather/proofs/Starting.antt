@@ -24,32 +24,11 @@ use Rattle.ldmodel.specs.Sections.{InputSection, SectionId}
 use Rattle.gather.specs.Found.{relocations_of}
 use Rattle.gather.specs.SectionPlaces.{AddsTargets, IsPlaceOf, Refers}
 use Rattle.gather.specs.Symbols.{IsObjectAt}
-use Rattle.gather.proofs.Keyed.{as_many, id_at, id_in, there}
+use Rattle.gather.proofs.InLists.{there}
+use Rattle.gather.proofs.Keyed.{as_many, id_at, id_in}
 use Rattle.gather.proofs.Named.{found_one}
 use Rattle.gather.proofs.Refers.{or_cases, or_left, or_right}
 use Rattle.gather.proofs.Seen.{object_at}
-
--- what is asked of a section of an object of the project
-pub asked_at : {A : Type 0} (f : LinkedSection → A) (d : A) (p : Project) (i : ℕ) (object : ObjectData)
-    (number : SectionIndex) (y : A) → IsObjectAt p i object
-    → y ≡ option_map_or f (section_numbered (record { name = []; object = object }) number) d
-    → y ≡ option_map_or f (section_at p i number) d
-asked_at f d p i object number y at are =
-    let o = object_at p i object at in
-    are
-    ∙ ap (λ (x : ObjectData). option_map_or f (section_numbered (record { name = []; object = x }) number) d) (sym o.2)
-    ∙ ap (λ m. option_map_or f (option_and_then (λ (o : NamedObject). section_numbered o number) m) d) (sym o.1)
-
--- where there is no object
-pub asked_of_none : {A : Type 0} (f : LinkedSection → A) (d : A) (p : Project) (i : ℕ) (number : SectionIndex)
-    → option_map (λ (o : NamedObject). o.object) (slice_get p.objects i) ≡ None
-    → d ≡ option_map_or f (section_at p i number) d
-asked_of_none f d p i number e = go (slice_get p.objects i) e
-  where
-    go : (m : Option NamedObject) → option_map (λ (o : NamedObject). o.object) m ≡ None
-        → d ≡ option_map_or f (option_and_then (λ (o : NamedObject). section_numbered o number) m) d
-    go None e = refl
-    go (Some o) e = absurd (cc)
 
 -- of the section of a key
 pub own_row : (p : Project) (xs : List Gathered) (n : ℕ) (x : Gathered)

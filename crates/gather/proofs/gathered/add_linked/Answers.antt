@@ -1,7 +1,7 @@
 use Rattle.std.proofs.Common.{◌<◌, length, arith, ap}
 use Rattle.std.proofs.lemmas.List.{length-map}
 use Rattle.elfobj.specs.Sections.{section_of}
-use Rattle.gather.proofs.Keyed.{there}
+use Rattle.gather.proofs.InLists.{there}
 use Rattle.gather.proofs.ObjectFacts.{linked_step}
 use Rattle.gather.proofs.gathered.add_linked.Goals as goal
 

@@ -4,7 +4,7 @@ use Rattle.elfobj.specs.Sections.{LinkedSection}
 use Rattle.elfobj.specs.declared.relocation.Relocation.{Relocation}
 use Rattle.gather.specs.Found.{relocations_of}
 use Rattle.gather.specs.SectionPlaces.{AddsTargets}
-use Rattle.gather.proofs.Starting.{asked_at}
+use Rattle.gather.proofs.ByNumber.{asked_at}
 use Rattle.gather.proofs.referring.add_row.Goals as goal
 
 pub returns-in-Some : goal.returns-in-Some

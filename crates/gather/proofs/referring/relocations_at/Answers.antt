@@ -2,7 +2,7 @@ use Rattle.std.proofs.Common.{subst, ◌<◌, []}
 use Rattle.std.specs.List.{AllPairs}
 use Rattle.elfobj.specs.Sections.{LinkedSection}
 use Rattle.elfobj.specs.declared.section.Section.{Section}
-use Rattle.gather.proofs.Refers.{asked_nowhere, asked_there}
+use Rattle.gather.proofs.ByNumber.{asked_nowhere, asked_there}
 use Rattle.gather.proofs.referring.relocations_at.Goals as goal
 
 pub returns-in-Some : goal.returns-in-Some

@@ -2,7 +2,7 @@ use Rattle.std.proofs.Common.{[], ap, sym, ◌∙◌}
 use Rattle.std.specs.Prelude.{option_copied}
 use Rattle.elfobj.specs.Sections.{LinkedSection}
 use Rattle.ldmodel.specs.FaultCode.{name_of_part}
-use Rattle.gather.proofs.Starting.{asked_at, asked_of_none}
+use Rattle.gather.proofs.ByNumber.{asked_at, asked_of_none}
 use Rattle.gather.proofs.section_names.section_name.Goals as goal
 
 pub returns-in-Some : goal.returns-in-Some
