@@ -7,8 +7,8 @@ use Rattle.gather.specs.Matches.{number_of}
 use Rattle.gather.proofs.ObjectFacts.{object_added}
 use Rattle.gather.proofs.gathered.add_object.Goals as goal
 
-pub returns-in_ok-add_linked-clause-added : goal.returns-in_ok-add_linked-clause-added
-returns-in_ok-add_linked-clause-added c =
+pub returns-clause-added : goal.returns-clause-added
+returns-clause-added c =
     let o = shown_input c.args.input.now in
     let before = c.args.sections.now.items in
     let mid = c.add_linked.new.sections.items in
