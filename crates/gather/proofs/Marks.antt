@@ -25,22 +25,8 @@ pub marked_within : (live : List Bool) (s : ℕ) → IsMarked live s → s < len
 marked_within live s m =
     ⊎_elim (λ h. h) (λ h. absurd (false≢true (sym (get_or_past live s false h) ∙ m))) (cases_lt s (length live))
 
-none_marked : (n s : ℕ) → IsMarked (replicate n false) s → ⊥
-none_marked n s m = ⊎_elim
-    (λ h. false≢true (sym (get_or-replicate n s false false h) ∙ m))
-    (λ h. false≢true (sym (get_or_past (replicate n false) s false (omega (arith, length-replicate n false))) ∙ m))
-    (cases_lt s n)
-
 none_contained : (s : ℕ) → Contains [] s → ⊥
 none_contained s h = omega (arith, h.1)
-
-pub marks_start : (g : Graph) (n : ℕ) → n ≡ length g.out → Marks g (replicate n false) [] n
-marks_start g n e = record {
-  long = omega (arith, length-replicate n false);
-  sound = λ s m. absurd (none_marked n s m);
-  on_stack = λ s h. absurd (none_contained s h);
-  closed = λ a b m. absurd (none_marked n a m);
-}
 
 -- what a visit keeps and adds
 pub record Visited (g : Graph) (live : List Bool) (stack : List ℕ) (at next : ℕ) (live' : List Bool) (stack' : List ℕ)

@@ -106,11 +106,6 @@ OneOrder = (sort : Option Sort) (pieces sorted : List Piece) → IsOrdered (belo
 abbrev pub below_in : Project → Option Sort → code.Piece → code.Piece → Bool
 below_in p sort x y = below sort (piece_in p x) (piece_in p y)
 
-pub unsorted : OneOrder → (p : Project) (xs : List code.Piece) → Orders p None xs xs
-unsorted law p xs =
-    (law None (map (piece_in p) xs) (map (piece_in p) xs)).0
-    (record { sorted = λ k d l h. refl; stable = λ a. refl })
-
 -- what a sort by a closure says, where the closure compares by the order
 pub ordered_by : {F : Type 0} {g : Mut F (Bor code.Piece × (Bor code.Piece × Unit {0})) Ordering} {f : F}
     {T E : Type 0} (r : Result T E) (law : OneOrder) (p : Project) (sort : Option Sort) (xs ys : List code.Piece)
