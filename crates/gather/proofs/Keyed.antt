@@ -1,7 +1,7 @@
 -- Input sections of a project under their keys.
-use Rattle.std.proofs.Common.{◌≡◌, ◌∙◌, ◌<◌, ℕ, zero, suc, true, eqb, List, [], ◌∷◌, length, get_or, map, ap, sym}
+use Rattle.std.proofs.Common.{◌≡◌, ◌∙◌, ◌<◌, ℕ, true, eqb, List, length, get_or, map, ap, sym}
 use Rattle.std.proofs.Common.{subst, arith, refl, Option, Some, None}
-use Rattle.std.specs.Prelude.{slice_get, Contains, IsSome, option_and_then}
+use Rattle.std.specs.Prelude.{Contains, IsSome, option_and_then}
 use Rattle.std.specs.Option.{option_map}
 use Rattle.std.proofs.lemmas.Bool.{and_parts, and_from, eqb-true, eq-eqb}
 use Rattle.std.proofs.lemmas.List.{length-map, get_or-map, get_or_default}

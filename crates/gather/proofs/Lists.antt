@@ -1,5 +1,5 @@
 -- Lists of objects and of symbols with their numbers.
-use Rattle.std.proofs.Common.{◌≡◌, ◌∙◌, ℕ, zero, suc, ◌+◌, ◌<◌, ◌≤◌, List, [], ◌∷◌, ◌++◌, length, get_or, take, ap}
+use Rattle.std.proofs.Common.{◌≡◌, ◌∙◌, ℕ, zero, suc, ◌+◌, ◌<◌, List, [], ◌∷◌, ◌++◌, length, get_or, take, ap}
 use Rattle.std.proofs.Common.{sym, subst, arith, refl, add-zero}
 use Rattle.std.specs.Prelude.{Option, Some, None, slice_get, flat_map, option_to_list}
 use Rattle.std.specs.List.{All, AllZip, cons_option, enumerate_from, filter_map}

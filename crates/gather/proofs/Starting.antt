@@ -1,34 +1,26 @@
 -- The graph of a project, and what its sections refer to.
 use Rattle.std.proofs.Common.{◌≡◌, ◌∙◌, ◌<◌, ◌⊎◌, ◌↔◌, ℕ, Bool, List, []}
-use Rattle.std.proofs.Common.{length, get_or, map, ap, sym, subst, arith, refl, Option, Some, None, inl, inr}
+use Rattle.std.proofs.Common.{length, get_or, map, ap, sym, subst, arith, Option, Some, inl, inr}
 use Rattle.std.proofs.Common.{⊎_elim}
-use Rattle.std.specs.Prelude.{IsTrue, slice_get}
+use Rattle.std.specs.Prelude.{IsTrue}
 use Rattle.std.specs.List.{Contains, list_any}
-use Rattle.std.specs.Option.{option_map, option_map_or, option_and_then}
 use Rattle.std.proofs.lemmas.List.{get_or_default, length-map}
 use Rattle.std.proofs.lemmas.Option.{get_or_from_slice_get, same_Some, slice_get_within}
-use Rattle.elfobj.specs.Object.{ObjectData}
-use Rattle.elfobj.specs.Sections.{LinkedSection}
-use Rattle.elfobj.specs.declared.section.SectionIndex.{SectionIndex}
 use Rattle.gather.specs.Gathered.{AreGathered}
 use Rattle.gather.specs.Graphs.{graph_of}
 use Rattle.gather.specs.LiveMarks.{IsGraphOf, IsSectionAt}
 use Rattle.gather.specs.declared.gathered.Gathered.{Gathered}
-use Rattle.ldmodel.specs.FaultCode.{section_at}
 use Rattle.ldmodel.specs.Gathering.{is_out, taken_by}
-use Rattle.ldmodel.specs.Image.{section_numbered}
 use Rattle.ldmodel.specs.InputSections.{input_sections}
 use Rattle.ldmodel.specs.Live.{entry_section, is_kept, is_section, refers_to, target_section}
-use Rattle.ldmodel.specs.Project.{NamedObject, Project}
+use Rattle.ldmodel.specs.Project.{Project}
 use Rattle.ldmodel.specs.Sections.{InputSection, SectionId}
 use Rattle.gather.specs.Found.{relocations_of}
 use Rattle.gather.specs.SectionPlaces.{AddsTargets, IsPlaceOf, Refers}
-use Rattle.gather.specs.Symbols.{IsObjectAt}
 use Rattle.gather.proofs.InLists.{there}
 use Rattle.gather.proofs.Keyed.{as_many, id_at, id_in}
 use Rattle.gather.proofs.Named.{found_one}
 use Rattle.gather.proofs.Refers.{or_cases, or_left, or_right}
-use Rattle.gather.proofs.Seen.{object_at}
 
 -- of the section of a key
 pub own_row : (p : Project) (xs : List Gathered) (n : ℕ) (x : Gathered)

@@ -1,5 +1,5 @@
 -- The common blocks of the objects of a project.
-use Rattle.std.specs.Prelude.{◌≡◌, ◌<◌, ◌==◌, ℕ, List, [], map, Option, Some, None, Vec, if◌then◌else◌, slice_index_or}
+use Rattle.std.specs.Prelude.{◌≡◌, ◌==◌, ℕ, List, [], map, Option, Some, None, Vec, if◌then◌else◌, slice_index_or}
 use Rattle.std.specs.Prelude.{Bool, true}
 use Rattle.std.specs.Global.{Global}
 use Rattle.std.specs.List.{AllZip, enumerate_from}

@@ -1,5 +1,5 @@
 -- Input sections as the code gathers them.
-use Rattle.std.specs.Prelude.{ℕ, ◌≡◌, ◌++◌, List, [], ◌∷◌, map, Bool, Option, Some, None, codes, bit_or}
+use Rattle.std.specs.Prelude.{ℕ, ◌≡◌, ◌++◌, List, [], ◌∷◌, map, Bool, Option, Some, None, bit_or}
 use Rattle.std.specs.List.{filter_map}
 use Rattle.std.specs.Option.{option_map}
 use Rattle.elfobj.specs.Sections.{LinkedSection}

@@ -1,4 +1,4 @@
-use Rattle.std.proofs.Common.{◌≡◌, ◌∙◌, ◌≤◌, arith, sym, subst, Some}
+use Rattle.std.proofs.Common.{◌≡◌, ◌≤◌, arith, sym, subst, Some}
 use Rattle.std.specs.Prelude.{slice_get, length}
 use Rattle.ldmodel_project.specs.Inputs.{shown_input}
 use Rattle.gather.specs.Blocks.{AreBlocksOf}

@@ -1,4 +1,4 @@
-use Rattle.std.proofs.Common.{◌≡◌, ◌≢◌, ◌<◌, ◌+◌, ◌∷◌, [], length, drop, get_or, arith, ap, refl, sym, ◌∙◌}
+use Rattle.std.proofs.Common.{◌≡◌, ◌≢◌, ◌<◌, ◌+◌, ◌∷◌, [], length, drop, get_or, arith, ap, sym, ◌∙◌}
 use Rattle.std.proofs.Common.{get_or-set_other}
 use Rattle.std.specs.List.{enumerate_from}
 use Rattle.gather.specs.Gathered.{taken_in}
