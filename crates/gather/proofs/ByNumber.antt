@@ -1,6 +1,6 @@
 -- A section of an object by its header number, and what is asked of it.
-use Rattle.std.proofs.Common.{◌≡◌, ◌∙◌, ◌<◌, ℕ, zero, suc, List, [], ◌∷◌, length, map, find, get_or, ap, sym, subst, arith}
-use Rattle.std.proofs.Common.{refl, Option, Some, None, nat_eq}
+use Rattle.std.proofs.Common.{◌≡◌, ◌∙◌, ◌<◌, ℕ, zero, suc, List, [], ◌∷◌, length, map, find, get_or, ap, sym, subst}
+use Rattle.std.proofs.Common.{arith, refl, Option, Some, None, nat_eq}
 use Rattle.std.specs.Prelude.{slice_get, option_and_then}
 use Rattle.std.specs.List.{All, AllPairs}
 use Rattle.std.specs.Option.{option_map, option_map_or}

@@ -167,7 +167,8 @@ pieces_are p (b ∷ bs) (x ∷ xs) (s ∷ ss) e a =
         one x.statement (first_match p.script s.object s.name) l r (ap (λ (f : Facts). f.statement) h) h f rest
 
 -- so those of the live sections are those that statements take
-pub taken_are : (p : Project) (marks : List Bool) (xs : List Gathered) → AreGathered p xs → marked marks (input_sections p) ≡ live p
+pub taken_are : (p : Project) (marks : List Bool) (xs : List Gathered) → AreGathered p xs
+    → marked marks (input_sections p) ≡ live p
     → map (piece_in p) (taken_in marks xs) ≡ filter_map (taken_piece p) (live p)
 taken_are p marks xs a l =
     pieces_are p marks xs (input_sections p) a.facts (all_found p a.ascending) ∙ ap (filter_map (taken_piece p)) l

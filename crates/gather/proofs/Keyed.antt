@@ -131,7 +131,8 @@ module _ (p : Project) (xs : List Gathered) (are : AreGathered p xs) where
     )
 
 -- of a key, if there is one
-pub place_of_key : (p : Project) (place : SectionKey → Option ℕ) (key : Option SectionKey) (id : Option SectionId) (number : Option ℕ)
+pub place_of_key : (p : Project) (place : SectionKey → Option ℕ) (key : Option SectionKey) (id : Option SectionId)
+    (number : Option ℕ)
     → AreProjectPlaces p place → option_map (section_id (λ key. key)) key ≡ id
     → number ≡ option_and_then (place) key → IsPlaceOf p id number
 place_of_key p place key id number are same is =

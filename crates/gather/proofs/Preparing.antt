@@ -93,8 +93,8 @@ blocks_given p n o xs x h here at =
 
 -- the sections of the objects so far
 pub record GatheredBefore (p : Project) (n : ℕ) (xs : List Gathered) : Type 0 where
-  pub are : map shown_facts xs
-      ≡ map (facts p) (flat_map (λ (o : ℕ × NamedObject). object_inputs p o.0 o.1) (take n (enumerate_from 0 p.objects)))
+  pub are : map shown_facts xs ≡ map (facts p) (flat_map (λ (o : ℕ × NamedObject). object_inputs p o.0 o.1)
+      (take n (enumerate_from 0 p.objects)))
   pub ascending : All IsAscending (take n p.objects)
 
 pub more_gathered : (p : Project) (n : ℕ) (o : NamedObject) (xs new : List Gathered) → slice_get p.objects n ≡ Some o

@@ -80,7 +80,8 @@ module _ (p : Project) (i : ℕ) (rs : List Relocation) (n : ℕ) (r : Relocatio
   }
 
 -- the number of the target of a relocation
-pub target_place : (p : Project) (place : SectionKey → Option ℕ) (i : ℕ) (r : Relocation) (key : Option SectionKey) (number : Option ℕ)
+pub target_place : (p : Project) (place : SectionKey → Option ℕ) (i : ℕ) (r : Relocation) (key : Option SectionKey)
+    (number : Option ℕ)
     → AreProjectPlaces p place
     → option_map (section_id (λ key. key)) key ≡ option_and_then (section_of_symbol p i) (symbol_at p i r.symbol.0)
     → number ≡ option_and_then (place) key → IsPlaceOf p (target_section p i r) number

@@ -32,7 +32,8 @@ own_row p xs n x are here s at =
     let inside : Contains (input_sections p) s =
     (n, slice_get_within (input_sections p) n s at, get_or_from_slice_get (input_sections p) n s s at) in (
       ap (λ (i : SectionId). i.object) (sym same),
-      sym (found_one p are.ascending s inside).relocations ∙ ap (λ (i : SectionId). relocations_of p i.object i.part) (sym same),
+      sym (found_one p are.ascending s inside).relocations
+          ∙ ap (λ (i : SectionId). relocations_of p i.object i.part) (sym same),
     )
 
 -- what was added for a section, which is x, are the numbers of those that it refers to

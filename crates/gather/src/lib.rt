@@ -7,7 +7,8 @@
 //! - `gathered`, `blocks`, `cases`: the input sections, common blocks among them; `left_out`;
 //! - `roots`, `marking`, `references`, and of a project `live`, `referring`, `targets`, `places`: which sections are
 //!   live;
-//! - `rows`, `sorting`, `section_names`, `live_sections`: rows and orphans; `gathering`: all of it, for a project; `law`;
+//! - `rows`, `sorting`, `section_names`, `live_sections`: rows and orphans; `gathering`: all of it, for a project;
+//!   `law`;
 //! - the part `sections`: the table of input sections. Other families name this crate alone.
 #![tactic(auto)]
 

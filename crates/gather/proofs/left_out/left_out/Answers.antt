@@ -19,7 +19,8 @@ returns c =
     let all : shown_inputs c.deref.result.now ≡ input_statements c.args.script.now =
     ap shown_inputs c.deref.ensures.value ∙ c.in_ok-statements.ensures in
     IfOk-weaker c.each_out.result _ _
-    (λ (out : Vec Bool Global) (h : out.items ≡ each (shown_inputs c.deref.result.now) c.args.orphans xs) (p : Project) is o a.
+    (λ (out : Vec Bool Global) (h : out.items ≡ each (shown_inputs c.deref.result.now) c.args.orphans xs)
+    (p : Project) is o a.
     h ∙ ap (λ st. each st c.args.orphans xs) (all ∙ ap input_statements (sym is))
     ∙ ap (λ or. each (input_statements p.script) or xs) (sym o) ∙ out_are p xs a)
     c.each_out.ensures

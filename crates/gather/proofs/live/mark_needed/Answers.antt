@@ -21,7 +21,8 @@ pub returns : goal.returns
 returns c =
     let p = c.args.project.now in
     let place : IsPlaceOf p (entry_section p) c.find-entry.result =
-    place_of_key p (place_under c.args.table.now c.deref.result.now) c.entry_section.result (entry_section p) c.find-entry.result
+    place_of_key p (place_under c.args.table.now c.deref.result.now) c.entry_section.result (entry_section p)
+    c.find-entry.result
     (subst (λ (l : List (Option ℕ)). AreProjectPlaces p (place_under c.args.table.now l)) (sym c.deref.ensures.value)
     c.in_ok-column.ensures) c.entry_section.ensures c.find-entry.ensures in
     let roots : (k : ℕ) (s : InputSection) → IsSectionAt p k s
