@@ -1,27 +1,19 @@
--- What is found of each object of a project before its sections are listed.
-use Rattle.std.specs.Prelude.{◌≡◌, ◌<◌, ◌==◌, ℕ, List, [], map, Option, Some, None, Vec, if◌then◌else◌, slice_index_or}
+-- The common blocks of the objects of a project.
+use Rattle.std.specs.Prelude.{◌≡◌, ◌==◌, ℕ, List, [], map, Option, Some, None, Vec, if◌then◌else◌, slice_index_or}
 use Rattle.std.specs.Prelude.{Bool, true}
 use Rattle.std.specs.Global.{Global}
-use Rattle.std.specs.List.{AllPairs, AllZip, enumerate_from}
+use Rattle.std.specs.List.{AllZip, enumerate_from}
 use Rattle.std.specs.List.Sorted.{IsNonDecreasingBy, IsPermutation}
-use Rattle.elfobj.specs.Sections.{section_of}
-use Rattle.elfobj.specs.file.declared.section.Section.{Section}
-use Rattle.gather.specs.Gathered.{Keys}
-use Rattle.gather.specs.Members.{block_of}
-use Rattle.gather.specs.declared.member.CommonBlock.{CommonBlock}
+use Rattle.gather.specs.declared.blocks.CommonBlock.{CommonBlock}
 use Rattle.ldmodel.specs.InputSections as model
-use Rattle.ldmodel.specs.NameFaults.{object_name}
 use Rattle.ldmodel.specs.Project.{NamedObject, Project}
+use Rattle.ldmodel.specs.Sections.{InputSection}
 use Rattle.ldmodel.specs.declared.names.Case.{Case}
 use Rattle.ldmodel.specs.declared.names.Case.TheVariants as case
-use Rattle.ldmodel_project.specs.ByPlace.{name_of_section}
 
--- the key of an object is its place
-abbrev pub by_place : Project → Keys
-by_place p = record {
-  number = λ key. key;
-  naming = record { object = object_name p; section = name_of_section p };
-}
+-- the block as the definition has it, owned by object number i of this name
+abbrev pub block_of : ℕ → List ℕ → CommonBlock → InputSection
+block_of i name b = model.common_block name (record { object = i; symbol = b.symbol.0 }) b.size b.alignment
 
 -- the common block that a name stands for, if object number i owns it
 abbrev pub block_here : ℕ → Option Case → Option CommonBlock
@@ -51,7 +43,3 @@ AreBlocksOf p i o blocks = map (block_of i o.name) blocks ≡ model.common_block
 abbrev pub AreBlocks : Project → List (Vec CommonBlock Global) → Type 0
 AreBlocks p xs = AllZip (λ (o : ℕ × NamedObject) (x : Vec CommonBlock Global). AreBlocksOf p o.0 o.1 x.items)
     (enumerate_from 0 p.objects) xs
-
--- the header numbers of its linked sections ascend
-abbrev pub IsAscending : NamedObject → Type 0
-IsAscending o = AllPairs (λ (s t : Section). s.number.0 < t.number.0) (map section_of o.object.sections)
