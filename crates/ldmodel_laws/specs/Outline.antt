@@ -1,5 +1,6 @@
 -- What names, layout and map of a link turn on, of an object: all of it but the bytes and the relocations of its
--- sections (this project's own). An object that is compiled anew often differs from the one before it in these alone.
+-- sections; and where sections are dropped that nothing refers to, also the symbols that its relocations name (this
+-- project's own). An object that is compiled anew often differs from the one before it in the rest alone.
 use Rattle.std.specs.Prelude.{◌≡◌, ℕ, List, Some, map, slice_get, true}
 use Rattle.elfobj.specs.Sections.{LinkedSection}
 use Rattle.elfobj.specs.Symbols.{NamedSymbol}
@@ -55,7 +56,8 @@ abbrev pub object_targets : NamedObject → List (List SymbolIndex)
 object_targets o = map section_targets o.object.sections
 
 -- the second project has, in one place, an object that differs from that of the first in what its sections hold alone;
--- where sections are dropped that nothing refers to, each of its sections refers to the same symbols, in their order
+-- where sections are dropped that nothing refers to, the relocations of each section name the same symbols, in their
+-- order
 pub record IsRetouched (p q : Project) (place : ℕ) : Type 0 where
   pub script : p.script ≡ q.script
   pub options : p.options ≡ q.options

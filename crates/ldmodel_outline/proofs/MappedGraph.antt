@@ -1,5 +1,5 @@
--- What is reached in a graph, mapped, is what is reached in the mapped graph, where roots and steps turn on what the map
--- keeps of a node.
+-- What is reached in a graph, mapped, is what is reached in the mapped graph, where starts and steps turn on what the
+-- map keeps of a node.
 use Rattle.std.proofs.Common.{◌≡◌, ◌∙◌, ℕ, zero, suc, Bool, true, false, cond, ◌||◌, List, [], ◌∷◌, length, map}
 use Rattle.std.proofs.Common.{filter, ap, refl, sym}
 use Rattle.std.specs.List.{list_any}

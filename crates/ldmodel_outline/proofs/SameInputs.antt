@@ -16,7 +16,7 @@ use Rattle.ldmodel.specs.Names.{Common, Decision, Duplicate, Entry, Provided, Sc
 use Rattle.ldmodel.specs.Project.{NamedObject, Project}
 use Rattle.ldmodel.specs.Sections.{InputSection}
 use Rattle.ldmodel.specs.declared.sections.Part.TheVariants.{InTable}
-use Rattle.ldmodel_laws.specs.Outline.{IsRetouched, ObjectOutline, SectionOutline, object_outline, object_targets}
+use Rattle.ldmodel_laws.specs.Outline.{IsRetouched, ObjectOutline, SectionOutline, object_outline}
 use Rattle.ldmodel_laws.specs.Outline.{section_outline}
 use Rattle.ldmodel_outline.proofs.SameNames.{same_decision}
 

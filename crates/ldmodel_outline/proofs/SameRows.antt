@@ -1,7 +1,7 @@
 -- Rows and the faults of gathering turn on input sections without their relocations; where sections are dropped that
 -- nothing refers to, also on the symbols that relocations name.
-use Rattle.std.proofs.Common.{◌≡◌, ◌∙◌, ℕ, Bool, true, false, cond, not, ◌||◌, List, [], Option, Some, None, length, map}
-use Rattle.std.proofs.Common.{filter, flat_map, ap, refl, sym}
+use Rattle.std.proofs.Common.{◌≡◌, ◌∙◌, ℕ, Bool, true, false, cond, not, ◌||◌, List, [], Option, Some, None, length}
+use Rattle.std.proofs.Common.{map, filter, flat_map, ap, refl, sym}
 use Rattle.std.specs.Prelude.{◌==◌, if◌then◌else◌, is_none, option_and_then, slice_get}
 use Rattle.std.specs.List.{enumerate_from, list_any, range_with_len}
 use Rattle.std.specs.Option.{option_map_or}
