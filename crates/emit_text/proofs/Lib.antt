@@ -1,5 +1,5 @@
 -- Lemmas of the crate.
-pub mod Draftings
+pub mod Appending
 pub mod HexDigits
 pub mod MapLines
 pub mod Spelling

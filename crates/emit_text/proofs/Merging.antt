@@ -4,8 +4,7 @@ use Rattle.std.proofs.Common.{append_assoc}
 use Rattle.std.proofs.lemmas.List.{at_drop_more, at_drop_all}
 use Rattle.std.specs.declared.cmp.Ordering.TheVariants.{Less, Equal, Greater}
 use Rattle.ldmodel.specs.Project.{Project}
-use Rattle.emit_text.specs.Drafts.{Drafted, added}
-use Rattle.emit_text.proofs.Draftings.{added_both, added_step}
+use Rattle.emit_text.proofs.Appending.{written_both, written_step}
 use Rattle.emit_text.specs.ShownMap.{after, before, by_order, compared, merged, symbol_text, symbols_text}
 use Rattle.emit_text.specs.declared.symbols.MapSymbol.{MapSymbol}
 
@@ -73,18 +72,18 @@ pub merged_none : (p : Project) (number : ℕ → ℕ) (named : List MapSymbol) 
 merged_none p number named i given h = at_drop_all (λ xs. symbols_text p number (merged xs given)) named i h
 
 -- one symbol further: the lines before it, its own, and what follows
-pub merged_step : (p : Project) (number : ℕ → ℕ) (start once twice end : Drafted) (named from to : List MapSymbol)
+pub merged_step : (p : Project) (number : ℕ → ℕ) (start once twice end : List ℕ) (named from to : List MapSymbol)
     (i : ℕ) (d : MapSymbol) → i < length named
-    → once ≡ added start (symbols_text p number (before (get_or named i d) from)) → twice
-    ≡ added once (symbol_text p number (get_or named i d))
-    → to ≡ after (get_or named i d) from → added start (symbols_text p number (merged (drop i named) from)) ≡ end
-    → added twice (symbols_text p number (merged (drop (i + 1) named) to)) ≡ end
+    → once ≡ start ++ symbols_text p number (before (get_or named i d) from) → twice
+    ≡ once ++ symbol_text p number (get_or named i d)
+    → to ≡ after (get_or named i d) from → start ++ symbols_text p number (merged (drop i named) from) ≡ end
+    → twice ++ symbols_text p number (merged (drop (i + 1) named) to) ≡ end
 merged_step p number start once twice end named from to i d h e f r v =
     let x = get_or named i d in
     let front = symbols_text p number (before x from) ++ symbol_text p number x in
-    added_step start twice front (symbols_text p number (merged (drop (i + 1) named) to))
+    written_step start twice front (symbols_text p number (merged (drop (i + 1) named) to))
     (symbols_text p number (merged (drop i named) from)) end
-    (added_both start once twice (symbols_text p number (before x from)) (symbol_text p number x) e f)
+    (written_both start once twice (symbols_text p number (before x from)) (symbol_text p number x) e f)
     (merged_more p number named i d from h
     ∙ ap (λ ys. front ++ symbols_text p number (merged (drop (i + 1) named) ys)) (sym r))
     v

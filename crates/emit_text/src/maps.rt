@@ -1,15 +1,13 @@
 //! The map.
 
-ghost use Rattle.std.specs.Prelude.{◌≡◌, OnOk, IfOk, length, drop, map};
+ghost use Rattle.std.specs.Prelude.{◌≡◌, ◌++◌, OnOk, IfOk, length, drop, map};
 ghost use Rattle.std.specs.Vec.{vec_items};
 ghost use Rattle.ldscript.specs.Numbered.{shown_sections};
 ghost use Rattle.ldmodel.specs.Layout.{Layout};
 ghost use Rattle.ldmodel.specs.MapText.{map_text};
-ghost use Rattle.emit_text.specs.Drafts.{added};
 ghost use Rattle.emit_text.specs.MapOf.{IsMapOf};
 ghost use Rattle.emit_text.specs.ShownMap.{letters, piece_text, pieces_text, section_text, sections_text, shown_map};
 
-use crate::draft::Draft;
 use crate::map_line::{put_entry_line, put_piece_line, put_section_line};
 use crate::members::Members;
 use crate::named::next_part_name;
@@ -18,7 +16,7 @@ use ldmodel::laid::{Laid, Placed};
 use ldmodel::memory::NoMemory;
 use ldmodel::rows::Piece;
 use ldscript::tree::OutputSectionAt;
-use std::alloc::Global;
+use std::alloc::{AllocError, Global};
 
 /// What the map shows of a link.
 #[derive(Clone, Copy)]
@@ -50,39 +48,39 @@ fn flags(placed: &Placed) -> &'static [u8]
 }
 
 /// `section NAME START LOAD SIZE FLAGS`
-fn put_section(draft: &mut Draft, name: &[u8], placed: &Placed) -> Result<(), NoMemory>
-    ensures { OnOk result (draft.new ≡ added draft.old (section_text name.now placed.now)) }
+fn put_section(text: &mut Vec<u8>, name: &[u8], placed: &Placed) -> Result<(), AllocError>
+    ensures { OnOk result (text.new.items ≡ text.old.items ++ section_text name.now placed.now) }
 {
     let numbers = (placed.start, placed.load, placed.size);
-    put_section_line(draft, name, numbers, flags(placed))
+    put_section_line(text, name, numbers, flags(placed))
 }
 
 /// `piece ADDRESS SIZE OBJECT SECTION`; and the place of its section, given that of the piece before.
 fn put_piece<M: Members>(
-    draft: &mut Draft,
+    text: &mut Vec<u8>,
     members: &M,
     piece: &Piece,
     start: u64,
     last: usize,
-) -> Result<usize, NoMemory>
-    ensures { OnOk result (draft.new
-        ≡ added draft.old (piece_text (M.project members.now) (M.number members.now) piece.now start)) }
+) -> Result<usize, AllocError>
+    ensures { OnOk result (text.new.items
+        ≡ text.old.items ++ piece_text (M.project members.now) (M.number members.now) piece.now start) }
 {
     let object = members.name(piece.section.object);
     let (name, place) = next_part_name(members, piece.section, last);
-    put_piece_line(draft, start, piece.size, object, name)?;
+    put_piece_line(text, start, piece.size, object, name)?;
     Ok(place)
 }
 
 /// The lines of a row, whose addresses are the first of `starts`, and the others of these.
 fn put_pieces<'a, M: Members>(
-    draft: &mut Draft,
+    text: &mut Vec<u8>,
     members: &M,
     row: &[Piece],
     starts: &'a [u64],
-) -> Result<&'a [u64], NoMemory>
-    ensures text { OnOk result (draft.new
-        ≡ added draft.old (pieces_text (M.project members.now) (M.number members.now) row.now starts.now)) }
+) -> Result<&'a [u64], AllocError>
+    ensures text { OnOk result (text.new.items
+        ≡ text.old.items ++ pieces_text (M.project members.now) (M.number members.now) row.now starts.now) }
     ensures rest { IfOk result (λ rest. rest.now ≡ drop (length row.now) starts.now) }
 {
     let mut rest = starts;
@@ -91,7 +89,7 @@ fn put_pieces<'a, M: Members>(
         let Some((start, others)) = rest.split_first() else {
             return Ok(rest);
         };
-        place = put_piece(draft, members, piece, *start, place)?;
+        place = put_piece(text, members, piece, *start, place)?;
         rest = others;
     }
     Ok(rest)
@@ -99,13 +97,13 @@ fn put_pieces<'a, M: Members>(
 
 /// The lines of all output sections, each with its row.
 fn put_sections<M: Members>(
-    draft: &mut Draft,
+    text: &mut Vec<u8>,
     members: &M,
     parts: &MapParts<'_>,
-) -> Result<(), NoMemory>
-    ensures { OnOk result (draft.new
-        ≡ added draft.old (sections_text (M.project members.now) (M.number members.now) parts.now.laid.sections.now
-        (shown_sections parts.now.sections.now) (map vec_items parts.now.rows.now) parts.now.laid.starts.now)) }
+) -> Result<(), AllocError>
+    ensures { OnOk result (text.new.items
+        ≡ text.old.items ++ sections_text (M.project members.now) (M.number members.now) parts.now.laid.sections.now
+        (shown_sections parts.now.sections.now) (map vec_items parts.now.rows.now) parts.now.laid.starts.now) }
 {
     let mut starts = parts.laid.starts;
     // three tables side by side
@@ -117,20 +115,24 @@ fn put_sections<M: Members>(
             return Ok(());
         };
         let placed = &parts.laid.sections[k];
-        put_section(draft, section.section.name.as_bytes(), placed)?;
-        starts = put_pieces(draft, members, row, starts)?;
+        put_section(text, section.section.name.as_bytes(), placed)?;
+        starts = put_pieces(text, members, row, starts)?;
     }
     Ok(())
 }
 
 /// The lines of the map.
-fn put_map<M: Members>(draft: &mut Draft, members: &M, parts: &MapParts<'_>) -> Result<(), NoMemory>
-    ensures { OnOk result (draft.new
-        ≡ added draft.old (shown_map (M.project members.now) (M.number members.now) parts.now)) }
+fn put_map<M: Members>(
+    text: &mut Vec<u8>,
+    members: &M,
+    parts: &MapParts<'_>,
+) -> Result<(), AllocError>
+    ensures { OnOk result (text.new.items
+        ≡ text.old.items ++ shown_map (M.project members.now) (M.number members.now) parts.now) }
 {
-    put_entry_line(draft, parts.entry)?;
-    put_sections(draft, members, parts)?;
-    put_symbols(draft, members, parts.named, parts.given)
+    put_entry_line(text, parts.entry)?;
+    put_sections(text, members, parts)?;
+    put_symbols(text, members, parts.named, parts.given)
 }
 
 /// Room for the line of an input section: 42 bytes, and both names.
@@ -169,7 +171,7 @@ pub fn map_text<M: Members>(
     ensures { (s : Layout) → IsMapOf (M.project members.now) (M.number members.now) s parts.now
         → IfOk result (λ text. text.items ≡ map_text (M.project members.now) s) }
 {
-    let mut written = Draft::to_write(alloc, likely_size(parts))?;
-    put_map(&mut written, members, parts)?;
-    Ok(written.into_bytes())
+    let mut text = Vec::with_capacity(alloc, likely_size(parts))?;
+    put_map(&mut text, members, parts)?;
+    Ok(text)
 }

@@ -1,11 +1,10 @@
 -- With the lines still to come, the text is the whole one.
-use Rattle.std.proofs.Common.{◌≡◌, drop}
-use Rattle.emit_text.specs.Drafts.{added}
+use Rattle.std.proofs.Common.{◌≡◌, ◌++◌, drop}
 use Rattle.emit_text.specs.ShownMap.{symbols_text}
 use Rattle.emit_text.proofs.symbols.put_all.Given as goal
 
 abbrev pub invariant-loop-symbol : goal.invariant-loop-symbol
 invariant-loop-symbol g l =
-    added l.draft (symbols_text (g.M.Members.project l.members) (g.M.Members.number l.members)
-    (drop l.symbol-index l.symbols))
-    ≡ added l.initial.draft (symbols_text (g.M.Members.project l.members) (g.M.Members.number l.members) l.symbols)
+    l.text.items ++ symbols_text (g.M.Members.project l.members) (g.M.Members.number l.members)
+    (drop l.symbol-index l.symbols)
+    ≡ l.initial.text.items ++ symbols_text (g.M.Members.project l.members) (g.M.Members.number l.members) l.symbols

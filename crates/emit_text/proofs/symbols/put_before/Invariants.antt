@@ -1,15 +1,13 @@
 -- Of those passed all stand before the symbol; with the lines still to come, the text is the whole one.
-use Rattle.std.proofs.Common.{◌≡◌, drop}
-use Rattle.emit_text.specs.Drafts.{added}
+use Rattle.std.proofs.Common.{◌≡◌, ◌++◌, drop}
 use Rattle.emit_text.specs.ShownMap.{after, before, symbols_text}
 use Rattle.emit_text.proofs.symbols.put_before.Given as goal
 
 abbrev pub invariant-loop-i : goal.invariant-loop-i
 invariant-loop-i g l = record {
-  text : added l.draft (symbols_text (g.M.Members.project l.members) (g.M.Members.number l.members)
-      (before l.symbol (drop l.i l.given)))
-      ≡ added l.initial.draft
-      (symbols_text (g.M.Members.project l.members) (g.M.Members.number l.members)
-      (before l.symbol (drop l.from l.given)));
+  text : l.text.items ++ symbols_text (g.M.Members.project l.members) (g.M.Members.number l.members)
+      (before l.symbol (drop l.i l.given))
+      ≡ l.initial.text.items ++ symbols_text (g.M.Members.project l.members) (g.M.Members.number l.members)
+      (before l.symbol (drop l.from l.given));
   rest : after l.symbol (drop l.i l.given) ≡ after l.symbol (drop l.from l.given);
 }
