@@ -4,8 +4,7 @@ pub mod HexDigits
 pub mod MapLines
 pub mod Spelling
 pub mod FoundSections
-pub mod Merging
 pub mod SideBySide
 pub mod Mapped
 pub mod ByteOrder
-pub mod MergedNames
+pub mod MapNames

@@ -29,10 +29,8 @@ pub struct MapParts<'a> {
     pub laid: Laid<'a>,
     /// The input sections in each.
     pub rows: &'a [Vec<Piece>],
-    /// Names in byte order, among them all that objects declare and that stand for something.
-    pub named: &'a [MapSymbol<'a>],
-    /// Names in byte order, among them all others that the script gives a value.
-    pub given: &'a [MapSymbol<'a>],
+    /// Names in byte order, among them all that stand for something.
+    pub symbols: &'a [MapSymbol<'a>],
 }
 
 /// What may be done with the bytes of an output section.
@@ -132,7 +130,7 @@ fn put_map<M: Members>(
 {
     put_entry_line(text, parts.entry)?;
     put_sections(text, members, parts)?;
-    put_symbols(text, members, parts.named, parts.given)
+    put_symbols(text, members, parts.symbols)
 }
 
 /// Room for the line of an input section: 42 bytes, and both names.
@@ -148,11 +146,10 @@ fn likely_size(parts: &MapParts<'_>) -> usize {
     for row in parts.rows {
         pieces = pieces.saturating_add(row.len());
     }
-    let symbols = parts.named.len().saturating_add(parts.given.len());
     let sections = parts.sections.len().saturating_add(1);
     pieces
         .saturating_mul(PIECE_ROOM)
-        .saturating_add(symbols.saturating_mul(SYMBOL_ROOM))
+        .saturating_add(parts.symbols.len().saturating_mul(SYMBOL_ROOM))
         .saturating_add(sections.saturating_mul(SECTION_ROOM))
 }
 

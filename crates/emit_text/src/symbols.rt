@@ -1,15 +1,14 @@
 //! The map's lines of symbols.
 
-ghost use Rattle.std.specs.Prelude.{◌≡◌, ◌++◌, ◌≤◌, OnOk, IfOk, drop, length};
+ghost use Rattle.std.specs.Prelude.{◌≡◌, ◌++◌, OnOk};
 ghost use Rattle.ldmodel.specs.HandedOver.{decision_of};
 ghost use Rattle.ldmodel.specs.OutputSymbols.{owner};
-ghost use Rattle.emit_text.specs.ShownMap.{after, before, merged, symbol_text, symbols_text};
+ghost use Rattle.emit_text.specs.ShownMap.{symbol_text, symbols_text};
 
 use crate::map_line::put_symbol_line;
 use crate::members::Members;
 use ldmodel::names::{Case, Entry, ObjectPlace};
 use std::alloc::AllocError;
-use std::cmp::Ordering;
 
 /// A name, what it stands for, and its value.
 #[derive(Clone, Copy, Debug)]
@@ -58,8 +57,8 @@ fn put_symbol<M: Members>(
     }
 }
 
-/// The lines of these symbols.
-fn put_all<M: Members>(
+/// The lines of these symbols, in this order.
+pub(crate) fn put_symbols<M: Members>(
     text: &mut Vec<u8>,
     members: &M,
     symbols: &[MapSymbol<'_>],
@@ -71,50 +70,4 @@ fn put_all<M: Members>(
         put_symbol(text, members, symbol)?;
     }
     Ok(())
-}
-
-/// The lines of those of `given` from a place on that stand before a symbol, and the place after them and after one of
-/// the same name.
-fn put_before<M: Members>(
-    text: &mut Vec<u8>,
-    members: &M,
-    given: &[MapSymbol<'_>],
-    from: usize,
-    symbol: &MapSymbol<'_>,
-) -> Result<usize, AllocError>
-    requires { from ≤ length given.now }
-    ensures text { OnOk result (text.new.items
-        ≡ text.old.items ++ symbols_text (M.project members.now) (M.number members.now)
-        (before symbol.now (drop from given.now))) }
-    ensures rest { IfOk result (λ next. drop next given.now ≡ after symbol.now (drop from given.now)) }
-    ensures within { IfOk result (λ next. next ≤ length given.now) }
-{
-    for i in from..given.len() {
-        let first = &given[i];
-        match first.name.cmp(symbol.name) {
-            Ordering::Less => put_symbol(text, members, first)?,
-            Ordering::Equal => return Ok(i + 1),
-            Ordering::Greater => return Ok(i),
-        }
-    }
-    Ok(given.len())
-}
-
-/// The lines of two lists of symbols, each in byte order of names, as one in that order. Of a name that both have, the
-/// line is that of `named`.
-pub(crate) fn put_symbols<M: Members>(
-    text: &mut Vec<u8>,
-    members: &M,
-    named: &[MapSymbol<'_>],
-    given: &[MapSymbol<'_>],
-) -> Result<(), AllocError>
-    ensures { OnOk result (text.new.items
-        ≡ text.old.items ++ symbols_text (M.project members.now) (M.number members.now) (merged named.now given.now)) }
-{
-    let mut next = 0;
-    for symbol in named {
-        next = put_before(text, members, given, next, symbol)?;
-        put_symbol(text, members, symbol)?;
-    }
-    put_all(text, members, &given[next..])
 }
