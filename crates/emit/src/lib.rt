@@ -5,7 +5,7 @@
 //! - `drawing` over `output`, `parts`, `pieces`, `data_runs`, `section_fields`, `symbols`: the image; `length`;
 //! - `good`: a link without faults is one that the laws on two links speak of;
 //! - `map`, `fault_lines` over `by_place`: the texts;
-//! - the parts `fields`, `relocate`, `values`, `image`, `text`. Other families name this crate alone.
+//! - the parts `fields`, `relocate`, `values`, `image`, `retouch`, `text`. Other families name this crate alone.
 #![tactic(auto)]
 
 mod by_place;
@@ -34,5 +34,6 @@ pub use emit_image as image;
 pub use emit_image::headers::headers;
 pub use emit_relocate as relocate;
 pub use emit_relocate::index::Index;
+pub use emit_retouch as retouch;
 pub use emit_text as text;
 pub use emit_values as values;

@@ -1,6 +1,6 @@
--- What names, layout and map of a link turn on, of an object: all of it but the bytes and the relocations of its sections
--- (this project's own). An object that is compiled anew often differs from the one before it in these alone.
-use Rattle.std.specs.Prelude.{◌≡◌, ℕ, List, Some, map, false, ⊥, slice_get}
+-- What names, layout and map of a link turn on, of an object: all of it but the bytes and the relocations of its
+-- sections (this project's own). An object that is compiled anew often differs from the one before it in these alone.
+use Rattle.std.specs.Prelude.{◌≡◌, ℕ, List, Some, map, false, slice_get}
 use Rattle.elfobj.specs.Sections.{LinkedSection}
 use Rattle.elfobj.specs.Symbols.{NamedSymbol}
 use Rattle.elfobj.specs.declared.section.SectionIndex.{SectionIndex}

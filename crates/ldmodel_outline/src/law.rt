@@ -14,7 +14,7 @@ ghost use Rattle.ldmodel.specs.Rows.{rows};
 ghost use Rattle.ldmodel.specs.SectionHeaders.{image_length, tail};
 ghost use Rattle.ldmodel.specs.SymbolValues.{entry_point, name_value};
 ghost use Rattle.ldmodel.specs.Targets.{referenced_value};
-ghost use Rattle.ldmodel_laws.specs.Outline.{IsRetouched};
+ghost use Rattle.ldmodel_laws.specs.Outline.{HasSameFrame, IsRetouched};
 
 /// Names stand for the same, and have the same faults.
 pub fn retouched_names()
@@ -48,6 +48,7 @@ pub fn retouched_frame()
     ensures tail { (p q : Project) (i : ℕ) → IsRetouched p q i → (s : Layout) → tail p s ≡ tail q s }
     ensures length { (p q : Project) (i : ℕ) → IsRetouched p q i → (s : Layout)
         → image_length p s ≡ image_length q s }
+    ensures frame { (p q : Project) (i : ℕ) → IsRetouched p q i → (s : Layout) → HasSameFrame p q s }
     ensures assertions { (p q : Project) (i : ℕ) → IsRetouched p q i → (s : Layout)
         → assertion_faults p s ≡ assertion_faults q s }
 {}

@@ -1,0 +1,51 @@
+use Rattle.std.proofs.Common.{◌∙◌, ap, arith, length, sym}
+use Rattle.std.specs.Prelude.{slice_get}
+use Rattle.std.proofs.lemmas.List.{length-map}
+use Rattle.elfobj.specs.Object.{ObjectData}
+use Rattle.elfobj.specs.Sections.{section_of}
+use Rattle.elfobj.specs.declared.section.Section.{Section}
+use Rattle.elfobj.specs.declared.section.SectionKind.TheVariants.{Progbits}
+use Rattle.ldmodel.specs.Raised.{raised}
+use Rattle.elfobj.specs.declared.meter.Count.TheVariants.{Fields}
+use Rattle.emit_relocate.specs.Fields.{evaluations}
+use Rattle.emit_retouch.proofs.Planning.{at_index, bytes_at, has, imply_none, imply_some, planned_at, sites_at_spot}
+use Rattle.emit_retouch.proofs.plan.plan_section.Goals as goal
+
+pub returns-in-None-clause-none : goal.returns-in-None-clause-none
+returns-in-None-clause-none c = λ l o h.
+    let many = ap length c.sections.ensures.value ∙ length-map c.args.object.now.sections section_of in
+    let same = ap (λ (r : ObjectData). length r.sections) h.same in
+    let own = has o.object.sections c.args.spot.index.0 (omega (arith, many, same, c.if-spot-sections.false)) in
+    (rw c.in-None.is at c.in_ok-fields_of.ensures.none) l o own.section h own.is
+
+pub returns-in-Some-clause-planned : goal.returns-in-Some-clause-planned
+returns-in-Some-clause-planned c =
+    imply_some _ _ c.rewrite_of.result
+    (λ w k l o h.
+    let many = ap length c.sections.ensures.value ∙ length-map c.args.object.now.sections section_of in
+    let same = ap (λ (r : ObjectData). length r.sections) h.same in
+    let own = has o.object.sections c.args.spot.index.0 (omega (arith, many, same, c.if-spot-sections.false)) in
+    let run = (rw c.in-Some.is at c.in_ok-fields_of.ensures.some) l o own.section h own.is in
+    let there = ap (λ (r : ObjectData). slice_get r.sections c.args.spot.index.0) (sym h.same) ∙ own.is in
+    let d : Section = record { number = record { 0 = 0 }; kind = Progbits; flags = 0; size = 0; alignment = 0 } in (
+      planned_at l o c.args.spot own.section own.is c.in-Some.fields.items run.0 _ c.section_bytes-bytes.result.now
+          (ap (λ (s : Section). s.kind)
+          (at_index c.args.object.now.sections c.args.spot.index.0 d c.sections-2.result.now c.sections-2.ensures.value
+          own.section there))
+          (bytes_at c.args.object.now.sections c.args.spot.index.0 c.section_bytes-bytes.result.now
+          c.section_bytes-bytes.ensures own.section there)
+          _ k,
+      run.1 ∙ ap (λ ts. raised c.args.meter.now Fields (evaluations l ts))
+          (sites_at_spot o c.args.spot own.section own.is),
+    ))
+    c.rewrite_of.ensures.planned
+
+pub returns-in-Some-clause-none : goal.returns-in-Some-clause-none
+returns-in-Some-clause-none c =
+    imply_none _ c.rewrite_of.result
+    (λ l o h.
+    let many = ap length c.sections.ensures.value ∙ length-map c.args.object.now.sections section_of in
+    let same = ap (λ (r : ObjectData). length r.sections) h.same in
+    let own = has o.object.sections c.args.spot.index.0 (omega (arith, many, same, c.if-spot-sections.false)) in
+    let run = (rw c.in-Some.is at c.in_ok-fields_of.ensures.some) l o own.section h own.is in
+    (_, run.1))

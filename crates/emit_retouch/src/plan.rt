@@ -1,0 +1,202 @@
+//! What is written of each section of an object: its bytes, with its fields in them.
+
+ghost use Rattle.std.specs.Prelude.{◌≡◌, ◌<◌, ℕ, All, IfNone, IfOk, IfSome, Some, length, slice_get, sum_by, true};
+ghost use Rattle.std.specs.List.{AllZip};
+ghost use Rattle.elfobj.specs.Raised.{raised};
+ghost use Rattle.elfobj.specs.Sections.{LinkedSection};
+ghost use Rattle.elfobj.specs.declared.meter.Count.TheVariants.{Bytes, Fields};
+ghost use Rattle.emit_fields.specs.Patches.{AreInOrder};
+ghost use Rattle.ldmodel.specs.Project.{NamedObject};
+ghost use Rattle.ldmodel.specs.Relocations.{sites_at};
+ghost use Rattle.emit_relocate.specs.Fields.{evaluations};
+ghost use Rattle.emit_relocate.specs.KnownLink.{KnownLink};
+ghost use Rattle.emit_retouch.specs.Plan.{AreWritten, IsAtHand, IsFaultlessRun, IsPlanned, IsPlannedAt, IsWithin};
+ghost use Rattle.emit_retouch.specs.Plan.{count_of, sites_in_all, sites_there, written, written_all};
+
+use crate::spot::SectionSpot;
+use elfobj::Object;
+use elfobj::section::{LinkedIndex, SectionKind};
+use emit_fields::canvas::Canvas;
+use emit_fields::patch::{Patch, write_patched};
+use emit_relocate::earlier::FileRange;
+use emit_relocate::fields::add_fields;
+use emit_relocate::site::PlacedSection;
+use emit_relocate::value::SymbolValue;
+use ldmodel::memory::NoMemory;
+use ldmodel::meter::Meter;
+use ldmodel::names::ObjectPlace;
+use std::alloc::Global;
+
+/// The bytes of a section, where they begin in the file, and the fields that lie in them.
+#[derive(Drop)]
+pub struct Rewrite<'a> {
+    /// Where they begin.
+    pub at: usize,
+    /// The bytes of the section itself.
+    pub bytes: &'a [u8],
+    /// Its fields, in the order of their offsets.
+    pub fields: Vec<Patch>,
+}
+
+/// Whether fields lie one after another, and end at a limit at the latest.
+fn are_in_order(fields: &[Patch], limit: usize) -> bool
+    ensures { result ≡ true → AreInOrder 0 limit fields.now }
+{
+    let mut end: usize = 0;
+    for patch in fields {
+        if patch.offset < end {
+            return false;
+        }
+        match patch.offset.checked_add(patch.field.bytes().len()) {
+            None => return false,
+            Some(next) => end = next,
+        }
+    }
+    end <= limit
+}
+
+/// The fields of a section of an object that starts at an address; none where a relocation has a fault.
+fn fields_of(
+    alloc: Global,
+    key: ObjectPlace,
+    object: &Object,
+    values: &[SymbolValue],
+    index: LinkedIndex,
+    start: u64,
+    meter: &mut Meter,
+) -> Result<Option<Vec<Patch>>, NoMemory>
+    requires { index.0 < length object.now.sections }
+    ensures some { IfOk result (λ r. IfSome r (λ run. (l : KnownLink) (o : NamedObject) (x : LinkedSection)
+        → IsAtHand l key object.now values.now o → slice_get o.object.sections index.0 ≡ Some x
+        → IsFaultlessRun l o x start run.items
+        × (meter.new ≡ raised meter.old Fields (evaluations l (sites_at o x start))))) }
+    ensures none { IfOk result (λ r. IfNone r ((l : KnownLink) (o : NamedObject) (x : LinkedSection)
+        → IsAtHand l key object.now values.now o → slice_get o.object.sections index.0 ≡ Some x
+        → (n : ℕ) × (meter.new ≡ raised meter.old Fields n))) }
+{
+    // so that the range of the count is known
+    let _fields = meter.fields();
+    let section = object.sections()[index.0];
+    if u64::MAX - start < section.size {
+        // no layout has a section past the end of the address space
+        return Ok(None);
+    }
+    let section = PlacedSection::new(key, object, index, start, values);
+    let mut fields = Vec::new(alloc);
+    let mut faults = Vec::new(alloc);
+    add_fields(alloc, &section, &mut fields, &mut faults, meter)?;
+    if faults.is_empty() {
+        Ok(Some(fields))
+    } else {
+        Ok(None)
+    }
+}
+
+/// What is written of a section of this kind with these bytes and fields; none where its bytes do not fit its range or
+/// the file, as those of a layout do.
+fn rewrite_of<'a>(
+    alloc: Global,
+    kind: SectionKind,
+    bytes: &'a [u8],
+    fields: Vec<Patch>,
+    range: FileRange,
+    limit: usize,
+) -> Option<Rewrite<'a>>
+    ensures within { IfSome result (λ w. IsWithin limit (written w)) }
+    ensures planned { IfSome result (λ w. IsPlanned kind bytes.now range fields.items (written w)) }
+{
+    if range.length == 0 || matches!(kind, SectionKind::Nobits) {
+        return Some(Rewrite {
+            at: 0,
+            bytes: &[],
+            fields: Vec::new(alloc),
+        });
+    }
+    let at = range.offset as usize;
+    let length = bytes.len();
+    if range.length != length as u64 || length > limit || at > limit - length {
+        return None;
+    }
+    if !are_in_order(&fields, length) {
+        return None;
+    }
+    Some(Rewrite { at, bytes, fields })
+}
+
+/// What is written of a section of an object; none where a relocation has a fault.
+fn plan_section<'a>(
+    alloc: Global,
+    limit: usize,
+    key: ObjectPlace,
+    object: &'a Object,
+    values: &[SymbolValue],
+    spot: SectionSpot,
+    meter: &mut Meter,
+) -> Result<Option<Rewrite<'a>>, NoMemory>
+    ensures within { IfOk result (λ r. IfSome r (λ w. IsWithin limit (written w))) }
+    ensures planned { IfOk result (λ r. IfSome r (λ w. (l : KnownLink) (o : NamedObject)
+        → IsAtHand l key object.now values.now o → IsPlannedAt l o spot (written w)
+        × (meter.new ≡ raised meter.old Fields (evaluations l (sites_there o spot))))) }
+    ensures none { IfOk result (λ r. IfNone r ((l : KnownLink) (o : NamedObject)
+        → IsAtHand l key object.now values.now o → (n : ℕ) × (meter.new ≡ raised meter.old Fields n))) }
+{
+    // so that the range of the count is known
+    let _fields = meter.fields();
+    if spot.index.0 >= object.sections().len() {
+        return Ok(None);
+    }
+    let kind = object.sections()[spot.index.0].kind;
+    let bytes = object.section_bytes(spot.index);
+    match fields_of(alloc, key, object, values, spot.index, spot.start, meter)? {
+        None => Ok(None),
+        Some(fields) => Ok(rewrite_of(alloc, kind, bytes, fields, spot.range, limit)),
+    }
+}
+
+/// What is written of the sections of an object, onto a canvas of this length; none where a relocation has a fault.
+/// Each relocation whose symbol has a value counts as one.
+///
+/// # Errors
+///
+/// Where memory runs out.
+pub(crate) fn plan<'a>(
+    alloc: Global,
+    limit: usize,
+    key: ObjectPlace,
+    object: &'a Object,
+    values: &[SymbolValue],
+    spots: &[SectionSpot],
+    meter: &mut Meter,
+) -> Result<Option<Vec<Rewrite<'a>>>, NoMemory>
+    ensures within { IfOk result (λ r. IfSome r (λ ws. All (IsWithin limit) (written_all ws.items))) }
+    ensures planned { IfOk result (λ r. IfSome r (λ ws. (l : KnownLink) (o : NamedObject)
+        → IsAtHand l key object.now values.now o → AllZip (IsPlannedAt l o) spots.now (written_all ws.items)
+        × (meter.new ≡ raised meter.old Fields (evaluations l (sites_in_all o spots.now))))) }
+    ensures none { IfOk result (λ r. IfNone r ((l : KnownLink) (o : NamedObject)
+        → IsAtHand l key object.now values.now o → (n : ℕ) × (meter.new ≡ raised meter.old Fields n))) }
+{
+    // so that the range of the count is known
+    let _fields = meter.fields();
+    let mut rewrites = Vec::with_capacity(alloc, spots.len())?;
+    for spot in spots {
+        match plan_section(alloc, limit, key, object, values, *spot, meter)? {
+            None => return Ok(None),
+            Some(rewrite) => rewrites.push(rewrite)?,
+        }
+    }
+    Ok(Some(rewrites))
+}
+
+/// Writes what was planned, each byte once. It takes no memory.
+pub(crate) fn commit(canvas: &mut Canvas, rewrites: &[Rewrite<'_>], meter: &mut Meter)
+    requires { All (IsWithin (length canvas.old.bytes)) (written_all rewrites.now) }
+    ensures written { AreWritten (written_all rewrites.now) canvas.old.bytes canvas.new.bytes }
+    ensures room { canvas.new.room ≡ canvas.old.room }
+    ensures counted { meter.new ≡ raised meter.old Bytes (sum_by count_of (written_all rewrites.now)) }
+{
+    // so that the range of the count is known
+    let _bytes = meter.bytes();
+    for rewrite in rewrites {
+        write_patched(canvas, rewrite.at, rewrite.bytes, &rewrite.fields, meter);
+    }
+}
