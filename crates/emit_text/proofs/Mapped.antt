@@ -1,6 +1,6 @@
 -- The map by the code's values is the map of the link.
 use Rattle.std.proofs.Common.{◌≡◌, ℕ, List, [], ◌∷◌, ◌++◌, drop, filter, flat_map, length, map, refl, ap, sym}
-use Rattle.std.proofs.Common.{◌∙◌, subst, Bool, true, false, cond, Option, codes}
+use Rattle.std.proofs.Common.{◌∙◌, Bool, true, false, cond, Option, codes}
 use Rattle.std.proofs.Common.{append_assoc}
 use Rattle.std.specs.Prelude.{Contains}
 use Rattle.std.specs.Vec.{vec_items}

@@ -1,5 +1,5 @@
 -- Which values the map of a link is made of. `number` says which place in the project the object of a key has.
-use Rattle.std.specs.Prelude.{◌≡◌, ℕ, List, ◌++◌, map, Option, Some, None, true, All, AllPairs, Contains}
+use Rattle.std.specs.Prelude.{◌≡◌, ℕ, List, map, Option, Some, None, true, All, AllPairs, Contains}
 use Rattle.std.specs.Vec.{vec_items}
 use Rattle.ldscript.specs.Numbered.{shown_sections}
 use Rattle.ldscript.specs.Numbering.{OutputSectionAt, output_sections}

@@ -1,6 +1,6 @@
 //! The map.
 
-ghost use Rattle.std.specs.Prelude.{◌≡◌, ◌++◌, OnOk, IfOk, length, drop, map};
+ghost use Rattle.std.specs.Prelude.{◌≡◌, ◌++◌, OnOk, IfOk, map};
 ghost use Rattle.std.specs.Vec.{vec_items};
 ghost use Rattle.ldscript.specs.Numbered.{shown_sections};
 ghost use Rattle.ldmodel.specs.Layout.{Layout};
@@ -70,27 +70,21 @@ fn put_piece<M: Members>(
     Ok(place)
 }
 
-/// The lines of a row, whose addresses are the first of `starts`, and the others of these.
-fn put_pieces<'a, M: Members>(
+/// The lines of a row, whose addresses are the first of `starts`.
+fn put_pieces<M: Members>(
     text: &mut Vec<u8>,
     members: &M,
     row: &[Piece],
-    starts: &'a [u64],
-) -> Result<&'a [u64], AllocError>
-    ensures text { OnOk result (text.new.items
+    starts: &[u64],
+) -> Result<(), AllocError>
+    ensures { OnOk result (text.new.items
         ≡ text.old.items ++ pieces_text (M.project members.now) (M.number members.now) row.now starts.now) }
-    ensures rest { IfOk result (λ rest. rest.now ≡ drop (length row.now) starts.now) }
 {
-    let mut rest = starts;
     let mut place = 0;
-    for piece in row {
-        let Some((start, others)) = rest.split_first() else {
-            return Ok(rest);
-        };
-        place = put_piece(text, members, piece, *start, place)?;
-        rest = others;
+    for i in 0..row.len().min(starts.len()) {
+        place = put_piece(text, members, &row[i], starts[i], place)?;
     }
-    Ok(rest)
+    Ok(())
 }
 
 /// The lines of all output sections, each with its row.
@@ -114,7 +108,8 @@ fn put_sections<M: Members>(
         };
         let placed = &parts.laid.sections[k];
         put_section(text, section.section.name.as_bytes(), placed)?;
-        starts = put_pieces(text, members, row, starts)?;
+        put_pieces(text, members, row, starts)?;
+        starts = &starts[row.len().min(starts.len())..];
     }
     Ok(())
 }

@@ -1,7 +1,7 @@
 -- Output sections with their rows.
-use Rattle.std.proofs.Common.{◌≡◌, ◌∙◌, ◌∷◌, [], ◌+◌, ◌++◌, ◌<◌, ap, sym, drop, get_or, length, map, ℕ, List, refl}
-use Rattle.std.proofs.Common.{append_assoc}
-use Rattle.std.proofs.lemmas.List.{at_drop_more, at_drop_all}
+use Rattle.std.proofs.Common.{◌≡◌, ◌∙◌, ◌∷◌, [], ◌+◌, ◌++◌, ◌<◌, ap, sym, drop, get_or, length, map, min, ℕ, List, refl}
+use Rattle.std.proofs.Common.{append_assoc, arith, take, ◌-◌}
+use Rattle.std.proofs.lemmas.List.{at_drop_more, at_drop_all, drop_min, length-drop, take_all}
 use Rattle.std.specs.Vec.{vec_items}
 use Rattle.ldscript.specs.Numbering.{OutputSectionAt}
 use Rattle.ldscript.specs.Numbered.{shown_sections}
@@ -70,21 +70,30 @@ no_rows p number (q ∷ qs) [] rows starts h = refl
 no_rows p number (q ∷ qs) (o ∷ os) [] starts h = refl
 no_rows p number (q ∷ qs) (o ∷ os) (r ∷ rs) starts h = cc
 
+-- what a row leaves of the addresses
+starts_left : (row : List Piece) (starts : List ℕ) (n : ℕ) → n ≡ min (length row) (length starts)
+    → take (length starts - n) (drop n starts) ≡ drop (length row) starts
+starts_left row starts n e =
+    take_all (length starts - n) (drop n starts) (omega (arith, length-drop n starts))
+    ∙ ap (λ m. drop m starts) e ∙ drop_min (length row) starts
+
 pub loop-k-preserved : goal.loop-k-preserved
 loop-k-preserved g c =
     sections_lent (g.M.Members.project c.args.members.now) (g.M.Members.number c.args.members.now) c.loop-k.text.items
     c.put_section.new.text.items c.put_pieces.new.text.items _
     c.args.parts.now.laid.sections.now (shown_sections c.args.parts.now.sections.now)
     (map vec_items c.args.parts.now.rows.now) c.loop-k.starts.now
-    c.in_ok-starts.starts.now c.loop-k.k _ (shown_one c.in-Some.section.now) (vec_items c.in-Some-get.row.now)
+    _ c.loop-k.k _ (shown_one c.in-Some.section.now) (vec_items c.in-Some-get.row.now)
     c.as_bytes.result.now c.deref.result.now
     c.loop-k-test.true
     (some_left shown_one c.args.parts.now.sections.now c.loop-k.k c.in-Some.section.now c.in-Some.ensures.lookup.3.0
     c.in-Some.ensures.lookup.1)
     (some_left vec_items c.args.parts.now.rows.now c.loop-k.k c.in-Some-get.row.now c.in-Some-get.ensures.lookup.3.0
     c.in-Some-get.ensures.lookup.1)
-    c.as_bytes.ensures c.deref.ensures.value c.in_ok-put_section.ensures c.in_ok-starts.ensures.text
-    c.in_ok-starts.ensures.rest c.loop-k.invariant
+    c.as_bytes.ensures c.deref.ensures.value c.in_ok-put_section.ensures c.in_ok-put_pieces.ensures
+    (starts_left c.deref.result.now c.loop-k.starts.now c.min.result
+    (c.min.ensures ∙ ap (λ n. min n (length c.loop-k.starts.now)) (c.len.ensures ∙ sym c.deref.ensures.len)))
+    c.loop-k.invariant
 
 pub returns-in_default : goal.returns-in_default
 returns-in_default g c =
