@@ -137,15 +137,11 @@ const SECTION_ROOM: usize = 96;
 
 /// Room for the lines of the map, if names are of common length. What is not written of it is not touched.
 fn likely_size(parts: &MapParts<'_>) -> usize {
-    let mut pieces = 0usize;
-    for row in parts.rows {
-        pieces = pieces.saturating_add(row.len());
-    }
-    let sections = parts.sections.len().saturating_add(1);
-    pieces
-        .saturating_mul(PIECE_ROOM)
-        .saturating_add(parts.symbols.len().saturating_mul(SYMBOL_ROOM))
-        .saturating_add(sections.saturating_mul(SECTION_ROOM))
+    let pieces = parts.laid.starts.len().saturating_mul(PIECE_ROOM);
+    let symbols = parts.symbols.len().saturating_mul(SYMBOL_ROOM);
+    let lines = parts.laid.sections.len().saturating_add(1);
+    let sections = lines.saturating_mul(SECTION_ROOM);
+    pieces.saturating_add(symbols).saturating_add(sections)
 }
 
 /// The map of a link: the entry point, the output sections with their rows, and the symbols in byte order of names.
