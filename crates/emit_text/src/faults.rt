@@ -30,7 +30,7 @@ fn put_faults<M: Members>(
 }
 
 /// Room for the line of a fault, if names are of common length. What is not written of it is not touched.
-const FAULT_ROOM: usize = 96;
+const FAULT_ROOM: usize = 64;
 
 /// The text of these faults: a line for each, in this order. `names` are those of the project's script.
 ///
