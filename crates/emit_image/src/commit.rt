@@ -6,10 +6,11 @@ ghost use Rattle.elfobj.specs.declared.meter.Count.TheVariants.{Bytes};
 ghost use Rattle.emit_image.specs.Stretches.{EndsBy, Fills, IsPatchOf, IsPlanFor, Stand, content_byte, drawn_byte};
 ghost use Rattle.emit_image.specs.Stretches.{is_patched, patch_bytes, stays_at, written, written_in};
 
+use crate::patched::write_piece;
 use crate::stretch::{Content, Stretch};
 use elfobj::Meter;
 use emit_fields::canvas::Canvas;
-use emit_fields::patch::{Patch, write_patched};
+use emit_fields::patch::Patch;
 use emit_fields::run::write_run;
 
 /// Writes the bytes of a content from `from` up to `end`.
@@ -36,7 +37,7 @@ fn write_content(
             let bytes = value.to_le_bytes();
             canvas.write(from, &bytes[..end - from], meter);
         }
-        Content::Bytes(bytes, fields) => write_patched(canvas, from, bytes, fields, meter),
+        Content::Bytes(bytes, fields) => write_piece(canvas, from, bytes, fields, meter),
     }
 }
 

@@ -15,6 +15,7 @@ pub mod draw;
 pub mod headers;
 pub mod law;
 mod number;
+mod patched;
 pub mod plan;
 pub mod redraw;
 pub mod row;
