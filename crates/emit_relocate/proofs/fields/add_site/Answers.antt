@@ -27,8 +27,8 @@ returns-then-not-is_evaluated-clause-tried c =
     c.args.faults.now.items c.args.meter.now (sym c.is_evaluated.ensures ∙ c.if-not-is_evaluated.true)
     (omega (arith, c.fields-fields.type_inv, c.fields-fields.ensures))
 
-pub returns-in_ok-push-in-Ok-evaluate-clause-tried : goal.returns-in_ok-push-in-Ok-evaluate-clause-tried
-returns-in_ok-push-in-Ok-evaluate-clause-tried c =
+pub returns-in-Ok-evaluate-clause-tried : goal.returns-in-Ok-evaluate-clause-tried
+returns-in-Ok-evaluate-clause-tried c =
     λ l o x h.
     let same : c.in-Ok.entry ≡ c.args.entry = omega (arith, c.in-Ok.ensures) in
     let at = at_entry l c.args.section.now o x c.args.relocation.now c.args.entry c.in-Ok.entry h c.requires.entry_is
@@ -36,7 +36,7 @@ returns-in_ok-push-in-Ok-evaluate-clause-tried c =
     let field = c.in-Ok-evaluate.ensures.evaluated l _ at refl in
     tried_field l o x c.args.section.now.start c.args.relocation.now
     (sym c.is_evaluated.ensures ∙ c.if-not-is_evaluated.false)
-    _ _ c.in-Ok-evaluate.field _ _ _ field.0 field.1 c.in_ok-push-in-Ok-evaluate.ensures.items
+    _ _ c.in-Ok-evaluate.field _ _ _ field.0 field.1 c.push_reserved.ensures.items
     (c.in-Ok-evaluate.ensures.counted l _ at refl)
 
 pub returns-in_ok-push-in-Err-clause-tried : goal.returns-in_ok-push-in-Err-clause-tried
