@@ -1,5 +1,5 @@
-//! Input sections with the fields that lie in them. A short one is put together beside the canvas and written at once,
-//! which takes less time than to write each field and what lies before it.
+//! Input sections with the fields that lie in them. All but long ones are put together beside the canvas and written at
+//! once, which takes less time than to write each field and what lies before it.
 
 ghost use Rattle.std.specs.Prelude.{◌≡◌, ◌≤◌, ◌<◌, ◌+◌, ℕ, length, slice_index};
 ghost use Rattle.elfobj.specs.Raised.{raised};
@@ -11,7 +11,7 @@ use emit_fields::canvas::Canvas;
 use emit_fields::patch::{Patch, write_patched};
 
 /// How long an input section is at most that is put together beside the canvas.
-const SHORT: usize = 1024;
+pub(crate) const DESK: usize = 4096;
 
 /// Copies bytes over as many others. Four of them, as most fields have, are copied as one word.
 #[inline(always)]
@@ -29,8 +29,8 @@ fn copy_over(to: &mut [u8], from: &[u8])
 
 /// Copies bytes over those from `at` on.
 #[inline(always)]
-fn put(whole: &mut [u8; SHORT], at: usize, bytes: &[u8])
-    requires { at + length bytes.now ≤ 1024 }
+fn put(whole: &mut [u8; DESK], at: usize, bytes: &[u8])
+    requires { at + length bytes.now ≤ 4096 }
     ensures written { (i : ℕ) → i < length bytes.now
         → slice_index whole.new (at + i) ≡ slice_index bytes.now i }
     ensures before { (o : ℕ) → o < at → slice_index whole.new o ≡ slice_index whole.old o }
@@ -40,26 +40,23 @@ fn put(whole: &mut [u8; SHORT], at: usize, bytes: &[u8])
     copy_over(&mut whole[at..end], bytes);
 }
 
-/// The bytes of the fields that lie in a short section, and its own between them; zeros after them.
-fn put_together(bytes: &[u8], patches: &[Patch]) -> [u8; SHORT]
-    requires few { length bytes.now ≤ 1024 }
+/// Puts the bytes of the fields that lie in a section, and its own between them, over the first of `whole`.
+fn put_together(whole: &mut [u8; DESK], bytes: &[u8], patches: &[Patch])
+    requires few { length bytes.now ≤ 4096 }
     requires order { AreInOrder 0 (length bytes.now) patches.now }
-    ensures len { length result ≡ 1024 }
-    ensures patched { (i : ℕ) → i < length bytes.now → slice_index result i
-        ≡ patched_byte bytes.now patches.now i }
+    ensures { (i : ℕ) → i < length bytes.now → slice_index whole.new i ≡ patched_byte bytes.now patches.now i }
 {
-    let mut whole = [0; SHORT];
-    whole[..bytes.len()].copy_from_slice(bytes);
+    put(whole, 0, bytes);
     for patch in patches {
-        put(&mut whole, patch.offset, patch.field.bytes());
+        put(whole, patch.offset, patch.field.bytes());
     }
-    whole
 }
 
 /// Writes an input section from `at` on: the bytes of the fields that lie in it, and its own between them, each byte
-/// once.
+/// once. `desk` is where it may be put together; what stands there before and after has no meaning.
 pub(crate) fn write_piece(
     canvas: &mut Canvas,
+    desk: &mut [u8; DESK],
     at: usize,
     bytes: &[u8],
     patches: &[Patch],
@@ -76,10 +73,10 @@ pub(crate) fn write_piece(
     ensures room { canvas.new.room ≡ canvas.old.room }
     ensures counted { meter.new ≡ raised meter.old Bytes (length bytes.now) }
 {
-    if bytes.len() > SHORT || patches.is_empty() {
+    if bytes.len() > DESK || patches.is_empty() {
         write_patched(canvas, at, bytes, patches, meter);
         return;
     }
-    let whole = put_together(bytes, patches);
-    canvas.write(at, &whole[..bytes.len()], meter);
+    put_together(desk, bytes, patches);
+    canvas.write(at, &desk[..bytes.len()], meter);
 }
