@@ -25,7 +25,7 @@ use std::alloc::Global;
 #[inline(always)]
 fn add_site(
     section: &PlacedSection<'_>,
-    entry: usize,
+    entry: u32,
     relocation: &Relocation,
     fields: &mut Vec<Patch>,
     faults: &mut Vec<Fault>,
@@ -46,10 +46,6 @@ fn add_site(
     if !is_evaluated(relocation.kind) {
         return Ok(());
     }
-    let Ok(entry) = u32::try_from(entry) else {
-        // No section has 2^32 relocations
-        return Err(impossible());
-    };
     match evaluate(section, entry, relocation, meter) {
         Ok(field) => {
             fields.push_reserved(field);
@@ -60,6 +56,13 @@ fn add_site(
             Ok(())
         }
     }
+}
+
+/// Whether the number of each relocation of a section fits 32 bits.
+fn is_numbered(relocations: &[Relocation]) -> bool
+    ensures { result ≡ true → length relocations.now < 2 ^ 32 }
+{
+    relocations.len() <= u32::MAX as usize
 }
 
 /// Evaluates relocations of a section, of which the first has the number `first`, in the order of their table. It is
@@ -84,14 +87,21 @@ pub(crate) fn add_sites(
 {
     // so that the range of the count is known
     let _fields = meter.fields();
+    if !is_numbered(section.relocations) {
+        // No section has 2^32 relocations
+        return Err(impossible());
+    }
     fields.reserve(relocations.len())?;
     for entry in 0..relocations.len() {
-        let relocation = &relocations[entry];
-        let Some(number) = first.checked_add(entry) else {
-            // No section has 2^64 relocations
-            return Err(impossible());
-        };
-        add_site(section, number, relocation, fields, faults, meter)?;
+        let number = (first + entry) as u32;
+        add_site(
+            section,
+            number,
+            &relocations[entry],
+            fields,
+            faults,
+            meter,
+        )?;
     }
     Ok(())
 }
