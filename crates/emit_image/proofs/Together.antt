@@ -1,5 +1,5 @@
 -- A short section that is put together: its bytes, and the first of its fields over them.
-use Rattle.std.proofs.Common.{◌≡◌, ◌∙◌, ◌+◌, ◌-◌, ◌<◌, ◌≤◌, ℕ, List, length, drop, get_or, refl, sym, inl, inr, arith}
+use Rattle.std.proofs.Common.{◌≡◌, ◌∙◌, ◌+◌, ◌-◌, ◌<◌, ◌≤◌, ℕ, List, length, drop, get_or, sym, inl, inr, arith}
 use Rattle.std.proofs.lemmas.Bool.{cases_lt}
 use Rattle.emit_fields.specs.Patches.{AreInOrder, patch_end, patched_byte}
 use Rattle.emit_fields.specs.declared.patch.Patch.{Patch}

@@ -1,33 +1,28 @@
 -- Sites of sections that stayed, of which those are evaluated whose symbol has another value.
 use Rattle.std.proofs.Common.{◌≡◌, ◌<◌, ◌≤◌, ◌^◌, ℕ, ◌+◌, List, [], ◌∷◌, ◌++◌, length, map, filter, take, get_or, false}
-use Rattle.std.proofs.Common.{true, Option, Some, None, Ok, Err, not, refl, ap, sym, ◌∙◌, arith, append_assoc}
+use Rattle.std.proofs.Common.{true, Option, Some, None, not, refl, ap, sym, ◌∙◌, arith, append_assoc}
 use Rattle.std.proofs.Common.{append-nil, subst}
 use Rattle.std.proofs.Math.Seq.{take-length}
-use Rattle.std.specs.Prelude.{option_to_list}
-use Rattle.std.specs.List.{cons_option, filter_map}
-use Rattle.std.specs.Option.{option_and_then, option_map_or}
+use Rattle.std.specs.List.{filter_map}
+use Rattle.std.specs.Option.{option_map_or}
 use Rattle.std.proofs.lemmas.Bool.{eq-eqb}
-use Rattle.std.proofs.lemmas.List.{map-append}
 use Rattle.std.proofs.lemmas.List.Elements.{filter-append, filter_map-append}
 use Rattle.elfobj.specs.Sections.{LinkedSection}
 use Rattle.elfobj.specs.declared.relocation.Relocation.{Relocation}
 use Rattle.elfobj.specs.declared.section.SectionIndex.{SectionIndex}
 use Rattle.emit_fields.specs.declared.patch.Patch.{Patch}
 use Rattle.ldmodel.specs.Counts.{Counts}
-use Rattle.ldmodel.specs.FaultCode.{fault_of}
 use Rattle.ldmodel.specs.Layout.{PlacedPiece}
 use Rattle.ldmodel.specs.Project.{NamedObject}
-use Rattle.ldmodel.specs.Raised.{raised}
-use Rattle.ldmodel.specs.Relocations.{Site, is_evaluated, site_field, site_value, sites_at}
+use Rattle.ldmodel.specs.Relocations.{Site, is_evaluated, site_value, sites_at}
 use Rattle.ldmodel.specs.Stayed.{GoodLink}
 use Rattle.ldmodel.specs.SymbolValues.{SymbolValue, Number, NotDefined, NotInOutput, placed_part}
 use Rattle.ldmodel.specs.declared.fault.Fault as code
 use Rattle.ldmodel.specs.declared.names.ObjectPlace.{ObjectPlace}
 use Rattle.ldmodel.specs.declared.sections.Part.TheVariants.{InTable}
-use Rattle.elfobj.specs.declared.meter.Count.TheVariants as count
 use Rattle.emit_relocate.specs.Changes.{IsFiled, IsMoved, file_patch_at, own_sites}
 use Rattle.emit_relocate.specs.Earlier.{HasSameValues, has_moved, is_same_value}
-use Rattle.emit_relocate.specs.Fields.{IsCounted, evaluations, faults_of, field_at, sites_among}
+use Rattle.emit_relocate.specs.Fields.{IsCounted, sites_among}
 use Rattle.emit_relocate.specs.KnownLink.{KnownLink, named_object, start_of}
 use Rattle.emit_relocate.specs.declared.earlier.FileRange.{FileRange}
 use Rattle.emit_relocate.proofs.Added.{among_more, counted_more, tried_nothing}
@@ -85,7 +80,8 @@ module _ (old : GoodLink) (l : KnownLink) where
           → IsMoved old l r (sites_among o x start (a ∷ [])) p0 p1 g0 g1 m0 m1
       moved_filed differs p0 p1 g0 g1 m0 m1 h =
           let one : sites_among o x start (a ∷ []) ≡ site ∷ [] = rw own refl in
-          let filed : IsFiled l r (site ∷ []) p0 p1 g0 g1 m0 m1 = subst (λ ts. IsFiled l r ts p0 p1 g0 g1 m0 m1) one h in
+          let filed : IsFiled l r (site ∷ []) p0 p1 g0 g1 m0 m1 =
+          subst (λ ts. IsFiled l r ts p0 p1 g0 g1 m0 m1) one h in
           rw own (moved_by (site ∷ []) (site ∷ []) p0 p1 g0 g1 m0 m1 (rw differs refl) filed.patches filed.counts)
 
     -- first some sites, then others

@@ -23,8 +23,8 @@ use crate::moved::add_moved;
 use crate::site::PlacedSection;
 use crate::symbol_table::SymbolTable;
 use crate::value::SymbolValue;
-use elfobj::section::LinkedIndex;
 use elfobj::Object;
+use elfobj::section::LinkedIndex;
 use emit_fields::patch::Patch;
 use ldmodel::fault::Fault;
 use ldmodel::memory::NoMemory;
@@ -322,8 +322,8 @@ fn count_of_object<L: Known>(link: &L, key: ObjectPlace, object: &Object) -> usi
     count
 }
 
-/// How many fields there will be at most, where there is no earlier link. Beside one it is 0: to know the number, each section
-/// would have to be asked once more whether it stayed, and the list may grow as well.
+/// How many fields there will be at most, where there is no earlier link. Beside one it is 0: to know the number, each
+/// section would have to be asked once more whether it stayed, and the list may grow as well.
 fn count_fields<L: Known, E: Earlier>(link: &L, earlier: &E, objects: &[ObjectPlace]) -> usize {
     if !earlier.is_none() {
         return 0;

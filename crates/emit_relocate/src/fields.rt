@@ -1,6 +1,6 @@
 //! The fields of whole input sections, in one flat list, and the faults of their relocations.
 
-ghost use Rattle.std.specs.Prelude.{◌≡◌, ◌+◌, ◌++◌, ◌<◌, ◌^◌, ℕ, All, List, OnOk, Some, [], ◌∷◌, length, slice_get, true};
+ghost use Rattle.std.specs.Prelude.{◌≡◌, ◌+◌, ◌<◌, ◌^◌, ℕ, All, OnOk, Some, [], ◌∷◌, length, slice_get, true};
 ghost use Rattle.std.specs.Prelude.{vec_capacity, vec_len};
 ghost use Rattle.std.specs.List.Sorted.{IsNonDecreasingBy};
 ghost use Rattle.elfobj.specs.Profile.{AreApart};
@@ -94,14 +94,7 @@ pub(crate) fn add_sites(
     fields.reserve(relocations.len())?;
     for entry in 0..relocations.len() {
         let number = (first + entry) as u32;
-        add_site(
-            section,
-            number,
-            &relocations[entry],
-            fields,
-            faults,
-            meter,
-        )?;
+        add_site(section, number, &relocations[entry], fields, faults, meter)?;
     }
     Ok(())
 }

@@ -10,8 +10,8 @@ put-requires-in-loop-patch c =
 
 pub loop-patch-preserved : goal.loop-patch-preserved
 loop-patch-preserved c =
-    put_next c.args.bytes.now c.args.patches.now c.loop-patch.patch-index c.loop-patch.whole c.put-in-loop-patch.new.whole
-    c.patch-item.result c.loop-patch-test.true c.patch-item.is c.loop-patch.invariant
+    put_next c.args.bytes.now c.args.patches.now c.loop-patch.patch-index c.loop-patch.whole
+    c.put-in-loop-patch.new.whole c.patch-item.result c.loop-patch-test.true c.patch-item.is c.loop-patch.invariant
     (record {
       written = rw c.bytes.ensures at c.put-in-loop-patch.ensures.written;
       before = c.put-in-loop-patch.ensures.before;

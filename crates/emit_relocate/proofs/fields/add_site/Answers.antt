@@ -1,9 +1,9 @@
-use Rattle.std.proofs.Common.{◌≡◌, ℕ, Some, arith, refl, subst, sym, true, ◌∙◌}
+use Rattle.std.proofs.Common.{◌≡◌, ℕ, Some, arith, refl, sym, ◌∙◌}
 use Rattle.std.specs.Prelude.{slice_get}
 use Rattle.elfobj.specs.Sections.{LinkedSection}
 use Rattle.elfobj.specs.declared.relocation.Relocation.{Relocation}
 use Rattle.ldmodel.specs.Project.{NamedObject}
-use Rattle.ldmodel.specs.Relocations.{Site, is_evaluated}
+use Rattle.ldmodel.specs.Relocations.{Site}
 use Rattle.emit_relocate.specs.KnownLink.{KnownLink}
 use Rattle.emit_relocate.specs.Sites.{IsPlaced, IsSiteAt}
 use Rattle.emit_relocate.specs.declared.site.PlacedSection.{PlacedSection}
