@@ -111,7 +111,9 @@ module _ (old : GoodLink) (p : Project) (x : LastState) (r : ReplacedState) (is 
   is_retouched = record {
     script = is.script f.script;
     options = is.options;
-    all_kept = ap (λ (o : LinkOptions). o.gc) is.options ∙ f.all_kept;
+    references = λ on.
+        let off : old.project.options.gc ≡ false = ap (λ (o : LinkOptions). o.gc) is.options ∙ f.all_kept in
+        absurd (let none : ⊥ = cc in none);
     outlines = same_at (map object_outline old.project.objects) (map object_outline p.objects)
         (length-map old.project.objects object_outline ∙ many ∙ sym (length-map p.objects object_outline))
         (λ k within. slice_get-map object_outline old.project.objects k ∙ same_outline k

@@ -61,8 +61,11 @@ use Rattle.relink_link.specs.Reads.{ReadsNothing}
 use Rattle.relink_link.specs.Retouched.{IsFollowed, IsKeptLink, IsRetouchedEnd, bytes_of_object, own_bytes}
 use Rattle.relink_link.specs.Spots.{spots_below}
 use Rattle.relink_link.specs.Stays.{IsLastOf, LastState, ReplacedState}
-use Rattle.relink_link.specs.Touched.{IsTouchedCount, IsTouchedWork, no_counts}
-use Rattle.relink_link.specs.Worked.{IsLinkWork, IsWorkBeside}
+use Rattle.relink_link.specs.Touched.{HasFault, HasTouched, IsTouchedCount, IsTouchedWork}
+use Rattle.relink_link.specs.Ended.{HasEnded}
+use Rattle.relink_link.specs.Worked.{HasWorked, IsLinkWork, IsWorkBeside}
+use Rattle.relink_link.specs.declared.again.Ended.{Ended}
+use Rattle.relink_link.specs.declared.again.Ended.TheVariants as ended
 use Rattle.relink_link.proofs.Outlined.{names_of}
 use Rattle.relink_link.proofs.Retouching.{beside_own, came_before, came_is, is_retouched, same_arranged, same_name_there}
 use Rattle.relink_link.proofs.Retouching.{same_symbols, table_of, was}
@@ -75,6 +78,24 @@ pub if_both : {A E : Type 0} (P Q R : A → Type 0) (m : Result A E) → ((a : A
     → IfOk m R
 if_both P Q R (Ok a) h x y = h a x y
 if_both P Q R (Err e) h x y = tt
+
+pub if_one : {A E : Type 0} (P R : A → Type 0) (m : Result A E) → ((a : A) → P a → R a) → IfOk m P → IfOk m R
+if_one P R (Ok a) h x = h a x
+if_one P R (Err e) h x = tt
+
+pub if_pair : {A E : Type 0} (P Q : A → Type 0) (m : Result A E) → IfOk m P → IfOk m Q → IfOk m (λ a. P a × Q a)
+if_pair P Q (Ok a) x y = (x, y)
+if_pair P Q (Err e) x y = tt
+
+pub by_answer : {X : Type 0} (done : Bool) → (done ≡ true → X) → (done ≡ false → X) → X
+by_answer true f g = f refl
+by_answer false f g = g refl
+
+pub has_touched : (q : Project) (last : Option LastState) (old new : List ℕ) (m0 m1 : Counts) (done : Bool)
+    → (done ≡ true → IsRetouchedEnd q last new × IsWorkBeside q last m0 m1)
+    → (done ≡ false → (new ≡ old) × HasFault q) → ReadsNothing m0 m1 → HasTouched q last old new m0 m1 done
+has_touched q last old new m0 m1 true f g r = ((f refl).0, r, (f refl).1)
+has_touched q last old new m0 m1 false f g r = ((g refl).0, inr ((g refl).1, r))
 
 -- ---- links without faults
 
@@ -329,29 +350,26 @@ module _ (p : Project) (x : LastState) (r : ReplacedState) (f : IsFollowed x p r
             o.object.sections) p.objects b numbers (got p.objects place b f.at)) most);
       }
 
-  -- the work of such a link, counted apart and then added
-  capped_again : (n a : ℕ) → capped n (capped 0 a) ≡ capped n a
-  capped_again n a = omega arith
-
   none_past : (xs : List (List rows_of.Piece)) → entries_from (length xs) xs ≡ 0
   none_past [] = refl
   none_past (y ∷ ys) = none_past ys
 
-  pub touched_work : (m0 m1 m2 : Counts) → m0.pieces < 2 ^ 64 → m2 ≡ raised (raised m0 Fields m1.fields) Bytes m1.bytes
-      → IsTouchedWork p x place no_counts m1 → IsWorkBeside p (Some x) m0 m2
-  touched_work m0 m1 m2 small added counted = λ old y t e is laid_at.
+  -- the work of such a link
+  pub touched_work : (m0 m1 : Counts) → m0.pieces < 2 ^ 64 → IsTouchedWork p x place m0 m1
+      → IsWorkBeside p (Some x) m0 m1
+  touched_work m0 m1 small counted = λ old y t e is laid_at.
       let same : x ≡ y = same_Some _ _ e in
       work old y t (subst (IsLastOf old p) (sym same) is) laid_at same
     where
       work : (old : GoodLink) (y : LastState) (t : Layout) → IsLastOf old p x → model.layout p ≡ Ok t → x ≡ y
-          → IsLinkWork old (new_link p t) y m0 m2
+          → IsLinkWork old (new_link p t) y m0 m1
       work old y t is laid_at same =
           let w = counted old t is laid_at in
           let last = none_past (rows p) in
           let rows_are = (kept old is).rows in
           record {
             first = length (rows p);
-            pieces = ap (λ (m : Counts). m.pieces) added
+            pieces = ap (λ (m : Counts). m.pieces) w.counted
                 ∙ (let stay : m0.pieces ≡ capped m0.pieces (entries_from (length (rows p)) (rows p)) =
                 omega (arith, small, last) in stay);
             same = λ k less. ap (λ rs. slice_index_or rs k []) rows_are;
@@ -360,25 +378,36 @@ module _ (p : Project) (x : LastState) (r : ReplacedState) (f : IsFollowed x p r
                 let never : true ≡ false = sym f.script ∙ ap (λ (z : LastState). z.same_script) same ∙ other in
                 absurd (let none : ⊥ = cc in none);
             image = record {
-              relocations = ap (λ (m : Counts). m.fields) added
-                  ∙ ap (capped m0.fields) (ap (λ (m : Counts). m.fields) w.counted)
-                  ∙ capped_again m0.fields (sites_to_evaluate old (new_link p t));
+              relocations = ap (λ (m : Counts). m.fields) w.counted;
               written = bytes_of_object (new_link p t) place;
-              bytes = ap (λ (m : Counts). m.bytes) added
-                  ∙ ap (capped m0.bytes) (ap (λ (m : Counts). m.bytes) w.counted)
-                  ∙ capped_again m0.bytes (bytes_of_object (new_link p t) place);
+              bytes = ap (λ (m : Counts). m.bytes) w.counted;
               few = w.few;
               exactly = inr (record { place = place; retouched = retouched old is; is = refl });
             };
           }
 
-  -- and nothing but fields and bytes is counted
-  pub touched_reads : (m0 m1 m2 : Counts) → m0.fields < 2 ^ 64 → m0.bytes < 2 ^ 64
-      → m2 ≡ raised (raised m0 Fields m1.fields) Bytes m1.bytes → ReadsNothing m0 m2
-  touched_reads m0 m1 m2 small few e = record {
-    objects = ap (λ (m : Counts). m.objects) e;
-    names = ap (λ (m : Counts). m.names) e;
-    pieces = (let same = ap (λ (m : Counts). m.pieces) e in omega (arith, same));
-    fields = (let same = ap (λ (m : Counts). m.fields) e in omega (arith, same, small));
-    bytes = (let same = ap (λ (m : Counts). m.bytes) e in omega (arith, same, few));
-  }
+-- nothing but fields and bytes is counted
+pub touched_reads : (m0 m1 : Counts) (a b : ℕ) → m0.fields < 2 ^ 64 → m0.bytes < 2 ^ 64
+    → m1 ≡ raised (raised m0 Fields a) Bytes b → ReadsNothing m0 m1
+touched_reads m0 m1 a b small few e = record {
+  objects = ap (λ (m : Counts). m.objects) e;
+  names = ap (λ (m : Counts). m.names) e;
+  pieces = (let same = ap (λ (m : Counts). m.pieces) e in omega (arith, same));
+  fields = (let same = ap (λ (m : Counts). m.fields) e in omega (arith, same, small));
+  bytes = (let same = ap (λ (m : Counts). m.bytes) e in omega (arith, same, few));
+}
+
+-- the passes that follow where a relocation has a fault end with fault lines
+pub worked_after : (q : Project) (last : Option LastState) (a b d : List ℕ) (m0 m1 m2 : Counts) (e : Ended)
+    → HasTouched q last a b m0 m1 false → HasEnded q last b d e → HasWorked q last m1 m2 e → HasWorked q last m0 m2 e
+worked_after q last a b d m0 m1 m2 (ended.Faulty t) h k w = w
+worked_after q last a b d m0 m1 m2 (ended.Good g m) h k w = go h.1
+  where
+    go : (m1 ≡ m0) ⊎ (HasFault q × ReadsNothing m0 m1) → IsWorkBeside q last m0 m2
+    go (inl same) = subst (λ (z : Counts). IsWorkBeside q last z m2) same w
+    go (inr faulty) = absurd (faulty.0 k.layout k.table.layout (faultless q k.layout k.table.layout k.table.link))
+worked_after q last a b d m0 m1 m2 ended.Retouched h k w = go h.1
+  where
+    go : (m1 ≡ m0) ⊎ (HasFault q × ReadsNothing m0 m1) → IsWorkBeside q last m0 m2
+    go (inl same) = subst (λ (z : Counts). IsWorkBeside q last z m2) same w
+    go (inr faulty) = absurd (faulty.0 k.layout k.table.layout (faultless q k.layout k.table.layout k.link))

@@ -1,11 +1,12 @@
 -- What writing the sections of one object over an earlier image comes to.
-use Rattle.std.specs.Prelude.{◌≡◌, ◌≤◌, ℕ, Bool, true, false, List, Ok, Option}
+use Rattle.std.specs.Prelude.{◌≡◌, ◌≤◌, ◌⊎◌, ℕ, Bool, true, false, List, [], Ok, Option}
 use Rattle.elfobj.specs.Counts.{Counts}
 use Rattle.elfobj.specs.Raised.{raised}
 use Rattle.elfobj.specs.declared.meter.Count.TheVariants.{Bytes, Fields}
 use Rattle.ldmodel.specs.Layout.{Layout}
 use Rattle.ldmodel.specs.Link.{layout}
 use Rattle.ldmodel.specs.Project.{Project}
+use Rattle.ldmodel.specs.Relocations.{relocation_faults}
 use Rattle.ldmodel.specs.SessionWork.{bytes_to_write, sites_to_evaluate}
 use Rattle.ldmodel.specs.Stayed.{GoodLink}
 use Rattle.emit.specs.Beside.{new_link}
@@ -21,9 +22,9 @@ pub record IsTouchedCount (old new : GoodLink) (place : ℕ) (before after : Cou
       after ≡ raised (raised before Fields (sites_to_evaluate old new)) Bytes (bytes_of_object new place)
   pub few : bytes_of_object new place ≤ bytes_to_write old new
 
--- a meter that has counted nothing
-abbrev pub no_counts : Counts
-no_counts = record { objects = 0; names = 0; pieces = 0; fields = 0; bytes = 0 }
+-- a relocation has a fault
+abbrev pub HasFault : Project → Type 0
+HasFault p = (s : Layout) → layout p ≡ Ok s → relocation_faults p s ≡ [] → ⊥
 
 -- so it is beside each link that the earlier one may be
 abbrev pub IsTouchedWork : Project → LastState → (place : ℕ) → Counts → Counts → Type 0
@@ -31,8 +32,10 @@ IsTouchedWork p x place before after =
     (old : GoodLink) (s : Layout) → IsLastOf old p x → layout p ≡ Ok s
     → IsTouchedCount old (new_link p s) place before after
 
--- the link is the earlier one with another image; or the canvas is as it was, and nothing is counted
+-- the link is the earlier one with another image; or the canvas is as it was, and nothing is counted unless a relocation
+-- has a fault
 abbrev pub HasTouched : Project → Option LastState → (old new : List ℕ) → Counts → Counts → Bool → Type 0
 HasTouched p last old new before after true =
     IsRetouchedEnd p last new × ReadsNothing before after × IsWorkBeside p last before after
-HasTouched p last old new before after false = (new ≡ old) × (after ≡ before)
+HasTouched p last old new before after false =
+    (new ≡ old) × ((after ≡ before) ⊎ (HasFault p × ReadsNothing before after))

@@ -1,6 +1,6 @@
 //! Links whose project differs from that of an earlier one in what the input sections of one object hold.
 
-ghost use Rattle.std.specs.Prelude.{◌≡◌, ◌<◌, ℕ, IfOk, IfSome, None, OnErr, Some, false, slice_index_or, true};
+ghost use Rattle.std.specs.Prelude.{◌≡◌, ◌<◌, ℕ, IfOk, IfSome, None, OnErr, OnOk, Some, false, slice_index_or, true};
 ghost use Rattle.ldmodel.specs.Project.{Project};
 ghost use Rattle.ldmodel.specs.Stayed.{GoodLink};
 ghost use Rattle.ldmodel_laws.specs.Outline.{IsRetouched};
@@ -8,7 +8,8 @@ ghost use Rattle.relink_link.specs.Ended.{HasLast};
 ghost use Rattle.relink_link.specs.Lent.{project_of};
 ghost use Rattle.relink_link.specs.Retouched.{IsFollowed, IsKeptLink, IsRetouchedEnd, origin_beside};
 ghost use Rattle.relink_link.specs.Stays.{last_of, last_state, replaced_state};
-ghost use Rattle.relink_link.specs.Touched.{HasTouched, IsTouchedWork};
+ghost use Rattle.relink_link.specs.Reads.{ReadsNothing};
+ghost use Rattle.relink_link.specs.Touched.{HasFault, HasTouched, IsTouchedWork};
 
 use crate::lent::Lent;
 use crate::outline::same_outline;
@@ -18,8 +19,9 @@ use emit::Canvas;
 use emit::good::is_good;
 use emit::retouch::rewrite::retouch;
 use emit::retouch::spot::nobits_are_bare;
+use ldmodel::impossible::impossible;
 use ldmodel::memory::NoMemory;
-use ldmodel::meter::{Count, Meter};
+use ldmodel::meter::Meter;
 use ldmodel::names::ObjectPlace;
 use ldmodel_laws::segments::{files_in_order, sections_in_file};
 use ldmodel_laws::stayed::{stayed_by_part, stayed_in_image};
@@ -101,8 +103,12 @@ fn touched(
     ensures counted { IfOk result (λ done. done ≡ true → IsTouchedWork (project_of lent.entry) (last_state last.now)
         replaced.now.new.0 meter.old meter.new) }
     ensures refused { IfOk result (λ done. done ≡ false → canvas.new.bytes ≡ canvas.old.bytes) }
+    ensures faulty { IfOk result (λ done. done ≡ false → HasFault (project_of lent.entry)) }
+    ensures reads { OnOk result (ReadsNothing meter.old meter.new) }
     ensures unchanged { OnErr result (canvas.new.bytes ≡ canvas.old.bytes) }
 {
+    // so that the ranges of the counts are known
+    let _counts = (meter.fields(), meter.bytes());
     outlines_decide();
     stayed_by_part();
     stayed_in_image();
@@ -115,7 +121,8 @@ fn touched(
     let arranged = &last.good.arranged;
     is_good(lent.project, &arranged.laying);
     let Some(object) = lent.project.object(replaced.new) else {
-        return Ok(false);
+        // the object in whose place it came was compared with it
+        return Err(impossible());
     };
     let spots = spots_of(lent.alloc, arranged, replaced.new, object)?;
     let values = last.good.symbols.row(replaced.new, object.symbols().len());
@@ -132,7 +139,7 @@ fn touched(
 
 /// Where the project follows the earlier one by an object that differs in what its sections hold alone, writes these
 /// sections over the earlier image. Answers whether it did: not where a relocation has a fault. Then the canvas is as it
-/// was, and nothing is counted.
+/// was.
 ///
 /// # Errors
 ///
@@ -156,13 +163,7 @@ pub(crate) fn retouched(
     outlines_decide();
     // so that what a project says of its objects is known
     let _inputs = lent.project.inputs();
-    // so that the ranges of the counts are known
-    let _counts = (meter.pieces(), meter.fields(), meter.bytes());
-    let mut counted = Meter::new();
-    let done = touched(lent, &last, &replaced, canvas, &mut counted)?;
-    if done {
-        meter.raise(Count::Fields, counted.fields());
-        meter.raise(Count::Bytes, counted.bytes());
-    }
-    Ok(done)
+    // so that the range of the count is known
+    let _pieces = meter.pieces();
+    touched(lent, &last, &replaced, canvas, meter)
 }

@@ -1,4 +1,4 @@
-use Rattle.std.proofs.Common.{◌≡◌, ◌∙◌, List, ap, length, map, subst, sym}
+use Rattle.std.proofs.Common.{◌≡◌, ◌∙◌, ◌<◌, ◌^◌, List, [], ap, arith, length, map, subst, sym}
 use Rattle.std.specs.Option.{option_map}
 use Rattle.std.specs.Prelude.{sum_by}
 use Rattle.std.proofs.lemmas.List.{length-map}
@@ -10,6 +10,7 @@ use Rattle.elfobj.specs.Symbols.{NamedSymbol}
 use Rattle.elfobj.specs.declared.meter.Count.TheVariants.{Bytes, Fields}
 use Rattle.ldmodel.specs.Layout.{Layout}
 use Rattle.ldmodel.specs.Project.{NamedObject, Project}
+use Rattle.ldmodel.specs.Relocations.{relocation_faults}
 use Rattle.ldmodel.specs.Stayed.{GoodLink}
 use Rattle.emit.specs.Beside.{new_link}
 use Rattle.emit.specs.relocate.Fields.{evaluations}
@@ -21,6 +22,7 @@ use Rattle.relink_link.specs.Lent.{project_of}
 use Rattle.relink_link.specs.Spots.{spots_below}
 use Rattle.relink_link.specs.Stays.{IsLastOf, LastState, ReplacedState, last_state, replaced_state}
 use Rattle.relink_link.specs.Touched.{IsTouchedCount}
+use Rattle.relink_link.proofs.Reading.{fields_read_nothing}
 use Rattle.relink_link.proofs.Touching as touching
 use Rattle.relink_link.proofs.retouch.touched.Goals as goal
 
@@ -105,3 +107,70 @@ returns-clause-counted c =
     (c.stayed_by_part.ensures.piece old (new_link p s)) (c.stayed_by_part.ensures.outside old (new_link p s))
     order all offset_is c.args.meter.now c.retouch.new.meter raised_by))
     c.retouch.ensures.counted c.retouch.ensures.faultless
+
+pub returns-clause-faulty : goal.returns-clause-faulty
+returns-clause-faulty c =
+    let p : Project = project_of c.args.lent in
+    let x : LastState = last_state c.args.last.now in
+    let r : ReplacedState = replaced_state c.args.replaced.now in
+    let f = c.requires.followed in
+    let names = c.inputs-inputs.ensures.distinct in
+    let keeps = λ (o : GoodLink). c.outlines_decide.ensures o p r.new.0 in
+    let old : GoodLink = c.requires.last.old in
+    let is : IsLastOf old p x = c.requires.last.is in
+    let s : Layout = old.layout in
+    let object : f.after.object ≡ c.in-Some.object.now =
+    sym (same_Some _ _ (c.in-Some.ensures ∙ ap (option_map (λ (o : NamedObject). o.object)) f.at)) in
+    let count : length c.symbols.result.now ≡ length f.after.object.symbols =
+    ap length c.symbols.ensures.value ∙ length-map c.in-Some.object.now.symbols (λ (y : NamedSymbol). y.symbol)
+    ∙ ap (λ (d : ObjectData). length d.symbols) (sym object) in
+    let l : KnownLink = touching.link_at p x r f names keeps s in
+    let row : IsRow l f.after c.row-values.result.now =
+    touching.values p x r f names keeps old is (length c.symbols.result.now) c.row-values.result.now count
+    c.row-values.ensures in
+    let order = c.files_in_order.ensures s.sections in
+    let all = c.sections_in_file.ensures.all s.sections in
+    let offset_is = c.sections_in_file.ensures.offset s.sections is.table.arranged.laying.named in
+    let spots : HasSpots p s f.after c.deref.result.now =
+    subst (HasSpots p s f.after) (sym (c.deref.ensures.value ∙ c.in_ok-spots.ensures
+    ∙ ap (λ (d : ObjectData). spots_below x.good.arranged r.new (map section_of d.sections) (length d.sections))
+    (sym object))) (touching.spots_of p x r f names keeps old is order all offset_is) in
+    touching.if_one _ _ c.retouch.result (λ done refused no t laid none. refused no l f.after f.at object row spots
+    (subst (λ (u : Layout). relocation_faults p u ≡ []) (touching.same_layout_as p x r f names keeps old is t laid) none))
+    c.retouch.ensures.refused_faulty
+
+pub returns-clause-reads : goal.returns-clause-reads
+returns-clause-reads c =
+    let p : Project = project_of c.args.lent in
+    let x : LastState = last_state c.args.last.now in
+    let r : ReplacedState = replaced_state c.args.replaced.now in
+    let f = c.requires.followed in
+    let names = c.inputs-inputs.ensures.distinct in
+    let keeps = λ (o : GoodLink). c.outlines_decide.ensures o p r.new.0 in
+    let old : GoodLink = c.requires.last.old in
+    let is : IsLastOf old p x = c.requires.last.is in
+    let s : Layout = old.layout in
+    let object : f.after.object ≡ c.in-Some.object.now =
+    sym (same_Some _ _ (c.in-Some.ensures ∙ ap (option_map (λ (o : NamedObject). o.object)) f.at)) in
+    let count : length c.symbols.result.now ≡ length f.after.object.symbols =
+    ap length c.symbols.ensures.value ∙ length-map c.in-Some.object.now.symbols (λ (y : NamedSymbol). y.symbol)
+    ∙ ap (λ (d : ObjectData). length d.symbols) (sym object) in
+    let l : KnownLink = touching.link_at p x r f names keeps s in
+    let row : IsRow l f.after c.row-values.result.now =
+    touching.values p x r f names keeps old is (length c.symbols.result.now) c.row-values.result.now count
+    c.row-values.ensures in
+    let order = c.files_in_order.ensures s.sections in
+    let all = c.sections_in_file.ensures.all s.sections in
+    let offset_is = c.sections_in_file.ensures.offset s.sections is.table.arranged.laying.named in
+    let spots : HasSpots p s f.after c.deref.result.now =
+    subst (HasSpots p s f.after) (sym (c.deref.ensures.value ∙ c.in_ok-spots.ensures
+    ∙ ap (λ (d : ObjectData). spots_below x.good.arranged r.new (map section_of d.sections) (length d.sections))
+    (sym object))) (touching.spots_of p x r f names keeps old is order all offset_is) in
+    let fields : c.args.meter.now.fields < 2 ^ 64 = omega (arith, c.fields.type_inv, c.fields.ensures) in
+    let bytes : c.args.meter.now.bytes < 2 ^ 64 = omega (arith, c.bytes.type_inv, c.bytes.ensures) in
+    touching.if_both _ _ _ c.retouch.result (λ done counted refused. touching.by_answer done
+    (λ yes. touching.touched_reads c.args.meter.now c.retouch.new.meter _ _ fields bytes
+    (counted yes l f.after f.at object row spots))
+    (λ no. let n = refused no l f.after f.at object row spots in
+    fields_read_nothing c.args.meter.now c.retouch.new.meter n.0 fields n.1))
+    c.retouch.ensures.counted c.retouch.ensures.counted_refused
