@@ -1,4 +1,4 @@
-use Rattle.std.proofs.Common.{◌∙◌, ap, map, refl, subst, sym, true}
+use Rattle.std.proofs.Common.{◌∙◌, ap, map, refl, subst, true}
 use Rattle.ldmodel.specs.Project.{NamedObject}
 use Rattle.relink_link.specs.Stays.{last_of}
 use Rattle.relink_link.specs.Ended.{HasEnded}
