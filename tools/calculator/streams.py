@@ -4,9 +4,11 @@
 
 writes COUNT streams and prints which answers, faults and refusals they have. A seed always gives the same streams.
 Objects and scripts are mostly good; each stream has a measure of trouble, by which names are missing or doubled,
-addresses meet, fields overflow, and bytes are broken.
+addresses meet, fields overflow, and bytes are broken. In every other stream most edits replace an object by one that is
+alike but for what its sections hold, or for one thing more.
 """
 import collections
+import dataclasses
 import os
 import random
 import re
@@ -60,13 +62,53 @@ class Objects(Chance):
 
     serial = 0
 
+    def __init__(self, source, trouble):
+        super().__init__(source, trouble)
+        self.parts = {}
+
     def object(self):
         """The bytes of an object, now and then with broken bytes."""
         self.serial += 1
         sections = [self.section() for _ in range(self.random.randint(0, 5))]
-        symbols = self.symbols(sections)
+        return self.built(sections, self.symbols(sections))
+
+    def built(self, sections, symbols):
+        """An object of these, with any relocations. Its parts are kept, unless its bytes are broken."""
         data = build(sections, symbols, self.relocations(sections, symbols))
-        return self.broken(data) if self.bad(0.35) else data
+        if self.bad(0.35):
+            return self.broken(data)
+        self.parts[data] = sections, symbols
+        return data
+
+    def alike(self, data):
+        """An object that differs from one that was made in what its sections hold; at times in one thing more."""
+        if data not in self.parts:
+            return self.object()
+        sections, symbols = self.parts[data]
+        if self.chance(0.8):
+            sections = [dataclasses.replace(section, content=self.random.randbytes(len(section.content)))
+                        for section in sections]
+        if self.chance(0.3):
+            sections, symbols = self.near(list(sections), list(symbols))
+        return self.built(sections, symbols)
+
+    def near(self, sections, symbols):
+        """The same sections and symbols, but for one thing."""
+        of = self.one(sections, symbols)
+        if not of:
+            return sections, symbols
+        at = self.upto(len(of) - 1)
+        one = of[at]
+        if of is symbols:
+            of[at] = self.one(dataclasses.replace(one, size=one.size + 1), dataclasses.replace(one, value=one.value + 1),
+                              dataclasses.replace(one, kind=1 - min(one.kind, 1)),
+                              dataclasses.replace(one, name=self.of(SHARED)))
+        else:
+            of[at] = self.one(dataclasses.replace(one, alignment=2 * one.alignment),
+                              dataclasses.replace(one, flags=one.flags ^ elf.SHF_WRITE),
+                              dataclasses.replace(one, name=self.of(SECTION_NAMES)),
+                              dataclasses.replace(one, content=one.content + b"\x90"))
+        return sections, symbols
 
     def section(self):
         name = self.of(SECTION_NAMES)
@@ -405,8 +447,9 @@ class Scripts(Expressions):
 class Streams:
     """One stream: commands from a maker, answered as they come, so that most of them fit the project."""
 
-    def __init__(self, seed):
+    def __init__(self, seed, alike=False):
         source, trouble = random.Random(seed), (0.0, 0.15, 0.4, 1.0)[seed % 4]
+        self.alike, self.latest = alike, {}
         self.objects, self.scripts = Objects(source, trouble), Scripts(source, trouble)
         self.maker = maker = Chance(source, trouble)
         entry = self.maker.one("_start", "w", "own1", "own1") if maker.chance(0.05) else None
@@ -457,7 +500,9 @@ class Streams:
         return self
 
     def edit(self):
-        """One of the five edits."""
+        """One of the five edits; where alike objects are wanted, mostly one by such an object."""
+        if self.alike and self.project.members and self.maker.chance(0.7):
+            return self.replace_alike()
         return self.maker.one(self.add, self.replace, self.replace, self.move, self.remove, self.script)()
 
     def name(self, known):
@@ -471,11 +516,22 @@ class Streams:
     def position(self, most):
         return most + 1 + self.maker.upto(3) if self.maker.bad(0.1) else self.maker.upto(most)
 
+    def kept(self, name, data):
+        """The bytes, which are the latest that were sent under this name."""
+        self.latest[name] = data
+        return data
+
     def add(self):
-        return rows.add(self.name(False), self.position(len(self.project.members)), self.objects.object())
+        name = self.name(False)
+        return rows.add(name, self.position(len(self.project.members)), self.kept(name, self.objects.object()))
 
     def replace(self):
-        return rows.replace(self.name(True), self.objects.object())
+        name = self.name(True)
+        return rows.replace(name, self.kept(name, self.objects.object()))
+
+    def replace_alike(self):
+        name = self.name(True)
+        return rows.replace(name, self.kept(name, self.objects.alike(self.latest.get(name))))
 
     def move(self):
         return rows.move(self.name(True), self.position(max(0, len(self.project.members) - 1)))
@@ -496,7 +552,7 @@ def main(folder, count, seed=0):
     os.makedirs(folder, exist_ok=True)
     seen = collections.Counter()
     for at in range(seed, seed + count):
-        made = Streams(at).make()
+        made = Streams(at, alike=at // 4 % 2 == 1).make()
         seen.update(made.seen)
         rows.store(folder, f"{at:05}", made.options, made.data)
     for what, times in sorted(seen.items()):

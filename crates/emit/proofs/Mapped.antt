@@ -1,6 +1,6 @@
 -- The map that is made of the values of a link.
-use Rattle.std.proofs.Common.{◌≡◌, ◌∙◌, ℕ, ◌<◌, zero, suc, Bool, true, false, cond, List, [], ◌∷◌, ◌++◌, length, map}
-use Rattle.std.proofs.Common.{inl, inr, filter, get_or, ap, sym, subst, refl, arith, append-nil, Vec, Global}
+use Rattle.std.proofs.Common.{◌≡◌, ◌∙◌, ℕ, ◌<◌, zero, suc, Bool, true, false, cond, List, [], ◌∷◌, length, map}
+use Rattle.std.proofs.Common.{inl, inr, filter, get_or, ap, sym, subst, refl, arith, Vec, Global}
 use Rattle.std.specs.Prelude.{Contains, Result, Ok, Err, IfOk}
 use Rattle.std.specs.List.{All, AllPairs}
 use Rattle.std.specs.Ordering.{is_lt}
@@ -162,12 +162,6 @@ are_symbols p s xs same = record {
   order = pairs_from (map map_symbol xs) (subst Asc (sym (code_names p s xs same)) (names_asc p s));
 }
 
-no_symbols : (p : Project) (s : Layout) → AreSymbolsOf p (λ key. key) s []
-no_symbols p s = record {
-  each = λ k d h. absurd (omega (arith, h));
-  order = λ i j d l h. absurd (omega (arith, h));
-}
-
 all_there : (p : Project) (s : Layout) (xs : List OutputSymbol) (name : Name)
     → map shown_symbol xs ≡ output_symbols p s → Contains (declared_names p) name → stands p name ≡ true
     → Contains (symbol_names (map map_symbol xs)) name
@@ -185,8 +179,7 @@ pub record Makes (p : Project) (l : Laying) (v : Values) (m : MapParts) : Type 0
   pub laid : (s : Layout) → IsLaying p s l → IsLaid p.script s m.laid
   pub lent : rows_in p m.rows.now ≡ rows p
   pub placed : (s : Layout) → IsLaying p s l → map entries_in s.sections ≡ rows p
-  pub named : m.named.now ≡ map map_symbol v.symbols.items
-  pub given : m.given.now ≡ []
+  pub symbols : m.symbols.now ≡ map map_symbol v.symbols.items
 
 is_map : (p : Project) (s : Layout) (a : NamingState) (l : Laying) (v : Values) (m : MapParts) → Makes p l v m
     → IsLaying p s l → AreValues p s a v → IsMapOf p (λ key. key) s m
@@ -196,11 +189,9 @@ is_map p s a l v m h laying values = record {
   names = h.outputs s laying;
   laid = h.laid s laying;
   rows = h.lent ∙ sym (h.placed s laying);
-  named = subst (AreSymbolsOf p (λ key. key) s) (sym h.named) (are_symbols p s v.symbols.items values.symbols);
-  given = subst (AreSymbolsOf p (λ key. key) s) (sym h.given) (no_symbols p s);
+  symbols = subst (AreSymbolsOf p (λ key. key) s) (sym h.symbols) (are_symbols p s v.symbols.items values.symbols);
   complete = λ name declared is.
-      subst (λ (xs : List MapSymbol). Contains (symbol_names xs) name)
-      (sym (ap (λ (xs : List MapSymbol). m.named.now ++ xs) h.given ∙ (append-nil m.named.now ∙ h.named)))
+      subst (λ (xs : List MapSymbol). Contains (symbol_names xs) name) (sym h.symbols)
       (all_there p s v.symbols.items name values.symbols declared is);
 }
 

@@ -61,14 +61,13 @@ pub fn map_text(
     outputs_are_of_script();
     let script = project.script();
     let sections = script.output_sections(alloc)?;
-    let named = map_symbols(alloc, &values.symbols)?;
+    let symbols = map_symbols(alloc, &values.symbols)?;
     let parts = MapParts {
         entry: values.entry.number_or_0(),
         sections: &sections,
         laid: laying.placement.laid(),
         rows,
-        named: &named,
-        given: &[],
+        symbols: &symbols,
     };
     maps::map_text(alloc, &parts, &ByPlace { project })
 }

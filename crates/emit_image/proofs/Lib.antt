@@ -21,4 +21,5 @@ pub mod Settling
 pub mod Sparing
 mod Spending
 pub mod Standing
+pub mod Together
 pub mod Walking

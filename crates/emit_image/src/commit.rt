@@ -6,15 +6,17 @@ ghost use Rattle.elfobj.specs.declared.meter.Count.TheVariants.{Bytes};
 ghost use Rattle.emit_image.specs.Stretches.{EndsBy, Fills, IsPatchOf, IsPlanFor, Stand, content_byte, drawn_byte};
 ghost use Rattle.emit_image.specs.Stretches.{is_patched, patch_bytes, stays_at, written, written_in};
 
+use crate::patched::{DESK, write_piece};
 use crate::stretch::{Content, Stretch};
 use elfobj::Meter;
 use emit_fields::canvas::Canvas;
-use emit_fields::patch::{Patch, write_patched};
+use emit_fields::patch::Patch;
 use emit_fields::run::write_run;
 
-/// Writes the bytes of a content from `from` up to `end`.
+/// Writes the bytes of a content from `from` up to `end`. An input section may be put together on `desk` before.
 fn write_content(
     canvas: &mut Canvas,
+    desk: &mut [u8; DESK],
     from: usize,
     end: usize,
     content: &Content<'_>,
@@ -36,12 +38,18 @@ fn write_content(
             let bytes = value.to_le_bytes();
             canvas.write(from, &bytes[..end - from], meter);
         }
-        Content::Bytes(bytes, fields) => write_patched(canvas, from, bytes, fields, meter),
+        Content::Bytes(bytes, fields) => write_piece(canvas, desk, from, bytes, fields, meter),
     }
 }
 
-/// Writes a stretch that begins at `from`, unless it stays.
-fn write_stretch(canvas: &mut Canvas, from: usize, x: &Stretch<'_>, meter: &mut Meter)
+/// Writes a stretch that begins at `from`, unless it stays. `desk` is as for `write_content`.
+fn write_stretch(
+    canvas: &mut Canvas,
+    desk: &mut [u8; DESK],
+    from: usize,
+    x: &Stretch<'_>,
+    meter: &mut Meter,
+)
     requires order { from ≤ x.now.end }
     requires within { x.now.end ≤ length canvas.old.bytes }
     requires fills { Fills (x.now.end - from) x.now.content }
@@ -58,7 +66,7 @@ fn write_stretch(canvas: &mut Canvas, from: usize, x: &Stretch<'_>, meter: &mut 
     if x.stays {
         return;
     }
-    write_content(canvas, from, x.end, &x.content, meter);
+    write_content(canvas, desk, from, x.end, &x.content, meter);
 }
 
 /// How far the canvas grows at a time. Its new bytes are zeros at first; a block of them is still in the processor's
@@ -95,10 +103,11 @@ fn write_stretches(canvas: &mut Canvas, stretches: &[Stretch<'_>], end: usize, m
     ensures counted { (n : ℕ) → raised meter.new Bytes n
         ≡ raised meter.old Bytes (written 0 stretches.now + n) }
 {
+    let mut desk = [0; DESK];
     let mut done = 0;
     for x in stretches {
         grow_to(canvas, x.end, end);
-        write_stretch(canvas, done, x, meter);
+        write_stretch(canvas, &mut desk, done, x, meter);
         done = x.end;
     }
 }

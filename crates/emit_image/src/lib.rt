@@ -4,8 +4,8 @@
 //! - `headers`: ELF header and program headers; `tail` over `symbols`, `strings`, `sections`, `number`: the tail;
 //! - `section`: what is drawn; `row`: sections that stayed side by side as one; `stretch`, `add`, `add_section`: a
 //!   drawing as stretches, gaps and their fill among them;
-//! - `plan`, `commit`, `redraw`, `draw`: over the image of an earlier link, of which what stayed is kept, or anew;
-//!   `law`.
+//! - `plan`, `commit` over `patched`, `redraw`, `draw`: over the image of an earlier link, of which what stayed is kept,
+//!   or anew; `law`.
 #![tactic(auto)]
 
 mod add;
@@ -15,6 +15,7 @@ pub mod draw;
 pub mod headers;
 pub mod law;
 mod number;
+mod patched;
 pub mod plan;
 pub mod redraw;
 pub mod row;

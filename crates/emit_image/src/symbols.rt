@@ -4,7 +4,6 @@ ghost use Rattle.std.specs.Prelude.{◌≡◌, ◌+◌, ◌*◌, ◌++◌, ◌�
 ghost use Rattle.ldmodel.specs.Tail.{SymbolEntry, kind_number, string_table, symbol_bytes};
 ghost use Rattle.emit_image.specs.Tables.{binding_number, names_of, symbol_table_of};
 
-use crate::number::{put_u16, put_u32, put_u64};
 use crate::strings::{add_name, no_names};
 use elfobj::file::constants::{
     STB_GLOBAL, STB_WEAK, STT_FILE, STT_FUNC, STT_NOTYPE, STT_OBJECT, STT_SECTION,
@@ -71,12 +70,17 @@ fn put_symbol(out: &mut Vec<u8>, name: u64, x: &TableSymbol<'_>) -> Result<(), N
           size = x.now.size;
         })) }
 {
-    put_u32(out, name)?;
-    out.extend_from_slice(&[info_of(x), 0])?;
-    put_u16(out, u64::from(x.section))?;
-    put_u64(out, x.value)?;
-    put_u64(out, x.size)?;
-    Ok(())
+    let name = name.to_le_bytes();
+    let info = info_of(x);
+    let section = u64::from(x.section).to_le_bytes();
+    let value = x.value.to_le_bytes();
+    let size = x.size.to_le_bytes();
+    let entry = [
+        name[0], name[1], name[2], name[3], info, 0, section[0], section[1], value[0], value[1],
+        value[2], value[3], value[4], value[5], value[6], value[7], size[0], size[1], size[2],
+        size[3], size[4], size[5], size[6], size[7],
+    ];
+    out.extend_from_slice(&entry)
 }
 
 /// How many bytes the names of symbols have in their table.

@@ -1,16 +1,20 @@
 -- Sites that were evaluated one after another.
 use Rattle.std.proofs.Common.{◌≡◌, ◌<◌, ◌≤◌, ◌^◌, ℕ, ◌+◌, List, [], ◌∷◌, ◌++◌, length, map, filter, take, get_or, false}
-use Rattle.std.proofs.Common.{ap, sym, ◌∙◌, arith, add-one, append_assoc, append-nil, subst, take-suc}
+use Rattle.std.proofs.Common.{ap, refl, sym, ◌∙◌, arith, add-one, append_assoc, append-nil, subst, take-suc}
 use Rattle.std.proofs.Math.Seq.{take-length}
 use Rattle.std.specs.List.{All, cons_option, filter_map}
+use Rattle.std.specs.List.Sorted.{IsNonDecreasingBy}
 use Rattle.std.specs.Prelude.{Err, Ok, Some, true}
-use Rattle.std.proofs.lemmas.List.{map-append}
+use Rattle.std.proofs.lemmas.List.{append_cancel_left, map-append}
 use Rattle.std.proofs.lemmas.List.Elements.{filter-append, filter_map-append}
+use Rattle.std.proofs.lemmas.List.Sorted.{IsPermutation-refl}
 use Rattle.std.proofs.lemmas.List.Sums.{sum_by-append}
+use Rattle.elfobj.specs.Profile as elf
 use Rattle.elfobj.specs.Sections.{LinkedSection}
 use Rattle.elfobj.specs.declared.relocation.Relocation.{Relocation}
 use Rattle.emit_fields.specs.Patches.{AreInOrder, IsWithin, patched_byte}
 use Rattle.emit_fields.specs.declared.patch.Patch.{Patch}
+use Rattle.emit_fields.proofs.Order.{in_order_sorted}
 use Rattle.ldmodel.specs.Counts.{Counts, capped}
 use Rattle.ldmodel.specs.Project.{NamedObject}
 use Rattle.ldmodel.specs.Raised.{raised}
@@ -18,7 +22,8 @@ use Rattle.ldmodel.specs.FaultCode.{fault_of}
 use Rattle.ldmodel.specs.Relocations.{Site, is_evaluated, site_field, site_value}
 use Rattle.ldmodel.specs.declared.fault.Fault as code
 use Rattle.elfobj.specs.declared.meter.Count.TheVariants as count
-use Rattle.emit_relocate.specs.Fields.{AreFieldsOf, IsAdded, IsCounted, IsTried, evaluations, fault_at, faults_of}
+use Rattle.emit_relocate.specs.Fields.{AreAdded, AreFieldsOf, IsAdded, IsCounted, IsTried, evaluations, fault_at}
+use Rattle.emit_relocate.specs.Fields.{faults_of}
 use Rattle.emit_relocate.specs.Fields.{field_at, sites_among, work_of}
 use Rattle.emit_relocate.specs.KnownLink.{KnownLink}
 use Rattle.emit_relocate.specs.Sites.{IsPlaced}
@@ -138,16 +143,17 @@ module _ (l : KnownLink) (o : NamedObject) (x : LinkedSection) (start : ℕ) (rs
 
 -- the fields of a section are put in order and added
 pub added : (l : KnownLink) (m : PlacedSection) (o : NamedObject) (x : LinkedSection) → IsPlaced l m o x
-    → (f0 f1 old own run : List Patch) (g0 g1 : List code.Fault) (m0 m1 : Counts)
-    → IsTried l (sites_among o x m.start m.relocations.now) old own g0 g1 m0 m1 → old ≡ []
+    → (f0 f1 old new own run : List Patch) (g0 g1 : List code.Fault) (m0 m1 : Counts)
+    → IsTried l (sites_among o x m.start m.relocations.now) old new g0 g1 m0 m1 → new ≡ old ++ own
     → AreFieldsOf m.relocations.now (length m.relocations.now) own
     → ((bytes : List ℕ) (i : ℕ) → patched_byte bytes run i ≡ patched_byte bytes own i)
     → ((n : ℕ) → All (IsWithin n) own → AreInOrder 0 n run)
     → f1 ≡ f0 ++ run
     → IsAdded l o x m.start f0 f1 g0 g1 m0 m1
-added l m o x h f0 f1 old own run g0 g1 m0 m1 tried none of same order e =
+added l m o x h f0 f1 old new own run g0 g1 m0 m1 tried part of same order e =
     let own_is : own ≡ filter_map (field_at l) (sites_among o x m.start x.relocations) =
-    tried.fields ∙ ap (λ fs. fs ++ filter_map (field_at l) (sites_among o x m.start m.relocations.now)) none
+    append_cancel_left old own (filter_map (field_at l) (sites_among o x m.start m.relocations.now))
+    (sym part ∙ tried.fields)
     ∙ ap (λ rs. filter_map (field_at l) (sites_among o x m.start rs)) h.relocations_are in
     record {
       run = run;
@@ -159,3 +165,14 @@ added l m o x h f0 f1 old own run g0 g1 m0 m1 tried none of same order e =
       };
       counts = subst (λ rs. IsCounted l (sites_among o x m.start rs) g0 g1 m0 m1) h.relocations_are tried.counts;
     }
+
+-- those of relocations in the order of their offsets are in order as they come
+pub added_as_they_are : (l : KnownLink) (m : PlacedSection) (o : NamedObject) (x : LinkedSection) → IsPlaced l m o x
+    → (f0 f1 : List Patch) (g0 g1 : List code.Fault) (m0 m1 : Counts)
+    → IsTried l (sites_among o x m.start m.relocations.now) f0 f1 g0 g1 m0 m1
+    → AreAdded m.relocations.now (length m.relocations.now) f0 f1 → elf.AreApart m.relocations.now
+    → IsNonDecreasingBy (λ (r : Relocation). r.offset) m.relocations.now
+    → IsAdded l o x m.start f0 f1 g0 g1 m0 m1
+added_as_they_are l m o x h f0 f1 g0 g1 m0 m1 tried a apart up =
+    added l m o x h f0 f1 f0 f1 a.own a.own g0 g1 m0 m1 tried a.fields a.of (λ bytes i. refl)
+    (in_order_sorted a.own a.own (IsPermutation-refl a.own) (a.of.order up) (a.of.apart apart)) a.fields

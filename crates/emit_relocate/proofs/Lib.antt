@@ -9,6 +9,7 @@ mod Found
 mod Rowed
 mod Filling
 mod Lists
+mod Filed
 mod Moving
 mod Changing
 mod Settling

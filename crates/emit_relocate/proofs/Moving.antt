@@ -1,33 +1,28 @@
 -- Sites of sections that stayed, of which those are evaluated whose symbol has another value.
 use Rattle.std.proofs.Common.{◌≡◌, ◌<◌, ◌≤◌, ◌^◌, ℕ, ◌+◌, List, [], ◌∷◌, ◌++◌, length, map, filter, take, get_or, false}
-use Rattle.std.proofs.Common.{true, Option, Some, None, Ok, Err, not, refl, ap, sym, ◌∙◌, arith, append_assoc}
+use Rattle.std.proofs.Common.{true, Option, Some, None, not, refl, ap, sym, ◌∙◌, arith, append_assoc}
 use Rattle.std.proofs.Common.{append-nil, subst}
 use Rattle.std.proofs.Math.Seq.{take-length}
-use Rattle.std.specs.Prelude.{option_to_list}
-use Rattle.std.specs.List.{cons_option, filter_map}
-use Rattle.std.specs.Option.{option_and_then, option_map_or}
+use Rattle.std.specs.List.{filter_map}
+use Rattle.std.specs.Option.{option_map_or}
 use Rattle.std.proofs.lemmas.Bool.{eq-eqb}
-use Rattle.std.proofs.lemmas.List.{map-append}
 use Rattle.std.proofs.lemmas.List.Elements.{filter-append, filter_map-append}
 use Rattle.elfobj.specs.Sections.{LinkedSection}
 use Rattle.elfobj.specs.declared.relocation.Relocation.{Relocation}
 use Rattle.elfobj.specs.declared.section.SectionIndex.{SectionIndex}
 use Rattle.emit_fields.specs.declared.patch.Patch.{Patch}
 use Rattle.ldmodel.specs.Counts.{Counts}
-use Rattle.ldmodel.specs.FaultCode.{fault_of}
 use Rattle.ldmodel.specs.Layout.{PlacedPiece}
 use Rattle.ldmodel.specs.Project.{NamedObject}
-use Rattle.ldmodel.specs.Raised.{raised}
-use Rattle.ldmodel.specs.Relocations.{Site, is_evaluated, site_field, site_value, sites_at}
+use Rattle.ldmodel.specs.Relocations.{Site, is_evaluated, site_value, sites_at}
 use Rattle.ldmodel.specs.Stayed.{GoodLink}
 use Rattle.ldmodel.specs.SymbolValues.{SymbolValue, Number, NotDefined, NotInOutput, placed_part}
 use Rattle.ldmodel.specs.declared.fault.Fault as code
 use Rattle.ldmodel.specs.declared.names.ObjectPlace.{ObjectPlace}
 use Rattle.ldmodel.specs.declared.sections.Part.TheVariants.{InTable}
-use Rattle.elfobj.specs.declared.meter.Count.TheVariants as count
-use Rattle.emit_relocate.specs.Changes.{IsMoved, file_patch_at, in_file, own_sites}
+use Rattle.emit_relocate.specs.Changes.{IsFiled, IsMoved, file_patch_at, own_sites}
 use Rattle.emit_relocate.specs.Earlier.{HasSameValues, has_moved, is_same_value}
-use Rattle.emit_relocate.specs.Fields.{IsCounted, evaluations, faults_of, field_at, sites_among}
+use Rattle.emit_relocate.specs.Fields.{IsCounted, sites_among}
 use Rattle.emit_relocate.specs.KnownLink.{KnownLink, named_object, start_of}
 use Rattle.emit_relocate.specs.declared.earlier.FileRange.{FileRange}
 use Rattle.emit_relocate.proofs.Added.{among_more, counted_more, tried_nothing}
@@ -38,10 +33,6 @@ same_self : (v : SymbolValue) → is_same_value v v ≡ true
 same_self (Number a) = eq-eqb a a refl
 same_self NotDefined = refl
 same_self NotInOutput = refl
-
-as_list : (m : Option Patch) → cons_option m [] ≡ option_to_list m
-as_list None = refl
-as_list (Some q) = refl
 
 module _ (old : GoodLink) (l : KnownLink) where
   pub unmoved : (t : Site) → site_value old.project old.layout t ≡ site_value l.project l.layout t
@@ -83,34 +74,15 @@ module _ (old : GoodLink) (l : KnownLink) where
           let none = moved_nothing ps gs m h in
           rw own (moved_by (site ∷ []) [] ps ps gs gs m m (rw e refl) none.patches none.counts)
 
-      module _ (differs : has_moved old l site ≡ true) where
-        pub moved_field : (ps qs : List Patch) (q : Patch) (gs : List code.Fault) (m0 m1 : Counts)
-            → site_field l.project l.layout site ≡ Ok q.field → q.offset ≡ a.offset
-            → qs ≡ ps ++ option_to_list (in_file r q) → m1 ≡ raised m0 count.Fields (evaluations l (site ∷ []))
-            → IsMoved old l r (sites_among o x start (a ∷ [])) ps qs gs gs m0 m1
-        moved_field ps qs q gs m0 m1 is at e n = rw own
-            (moved_by (site ∷ []) (site ∷ []) ps qs gs gs m0 m1 (rw differs refl) patches
-            (record { faults = rw is (sym (append-nil (faults_of l gs))); counted = n }))
-          where
-            placed : field_at l site ≡ Some q
-            placed = rw is (ap (λ k. Some (record { offset = k; field = q.field })) (sym at))
-
-            patches : qs ≡ ps ++ filter_map (file_patch_at l r) (site ∷ [])
-            patches =
-                e
-                ∙ ap (λ ms. ps ++ ms)
-                (sym (as_list (in_file r q)) ∙ sym (ap (λ b. cons_option (option_and_then (in_file r) b) []) placed))
-
-        pub moved_fault : (ps : List Patch) (f : code.Fault) (gs hs : List code.Fault) (m0 m1 : Counts)
-            → site_field l.project l.layout site ≡ Err (fault_of l.project l.number f) → hs ≡ gs ++ f ∷ []
-            → m1 ≡ raised m0 count.Fields (evaluations l (site ∷ []))
-            → IsMoved old l r (sites_among o x start (a ∷ [])) ps ps gs hs m0 m1
-        moved_fault ps f gs hs m0 m1 is e n = rw own
-            (moved_by (site ∷ []) (site ∷ []) ps ps gs hs m0 m1 (rw differs refl) (rw is (sym (append-nil ps)))
-            (record {
-              faults = rw is (ap (faults_of l) e ∙ map-append (fault_of l.project l.number) gs (f ∷ []));
-              counted = n;
-            }))
+      -- it was evaluated, since its symbol has another value
+      pub moved_filed : has_moved old l site ≡ true → (p0 p1 : List Patch) (g0 g1 : List code.Fault) (m0 m1 : Counts)
+          → IsFiled l r (sites_among o x start (a ∷ [])) p0 p1 g0 g1 m0 m1
+          → IsMoved old l r (sites_among o x start (a ∷ [])) p0 p1 g0 g1 m0 m1
+      moved_filed differs p0 p1 g0 g1 m0 m1 h =
+          let one : sites_among o x start (a ∷ []) ≡ site ∷ [] = rw own refl in
+          let filed : IsFiled l r (site ∷ []) p0 p1 g0 g1 m0 m1 =
+          subst (λ ts. IsFiled l r ts p0 p1 g0 g1 m0 m1) one h in
+          rw own (moved_by (site ∷ []) (site ∷ []) p0 p1 g0 g1 m0 m1 (rw differs refl) filed.patches filed.counts)
 
     -- first some sites, then others
     pub moved_more : (a b : List Site) (p0 p1 p2 : List Patch) (g0 g1 g2 : List code.Fault) (m0 m1 m2 : Counts)

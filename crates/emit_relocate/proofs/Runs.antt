@@ -1,8 +1,9 @@
 -- Fields of relocations that share no byte share none.
 use Rattle.std.proofs.Common.{◌≡◌, inl, inr, ◌<◌, ◌≤◌, ℕ, ◌+◌, List, [], ◌∷◌, ◌++◌, length, Some, true, false, ap, ◌∙◌}
-use Rattle.std.proofs.Common.{arith, get_or, subst}
+use Rattle.std.proofs.Common.{append_assoc, append-nil, arith, get_or, refl, subst, sym}
 use Rattle.std.specs.Prelude.{slice_get}
 use Rattle.std.specs.List.{All, AllPairs}
+use Rattle.std.specs.List.Sorted.{IsNonDecreasingBy}
 use Rattle.std.proofs.lemmas.Bool.{cases_eq}
 use Rattle.std.proofs.lemmas.List.{get_or_append_left, length-append}
 use Rattle.std.proofs.lemmas.Option.{get_or_from_slice_get, slice_get_within}
@@ -17,7 +18,7 @@ use Rattle.elfobj.specs.declared.relocation.RelocationKind.TheVariants as kind
 use Rattle.emit_fields.specs.Patches.{IsWithin, patches_meet}
 use Rattle.emit_fields.specs.declared.patch.Patch.{Patch}
 use Rattle.ldmodel.specs.Relocations.{is_evaluated}
-use Rattle.emit_relocate.specs.Fields.{AreFieldsOf, IsAmong, IsNext}
+use Rattle.emit_relocate.specs.Fields.{AreAdded, AreFieldsOf, IsAmong, IsNext}
 use Rattle.emit_relocate.specs.Sites.{IsFieldOf}
 
 some_width : (k : RelocationKind) → is_evaluated k ≡ true → 0 < width k
@@ -61,6 +62,15 @@ module _ {X : Type 0} (xs : List X) (x : X) where
         rw (get_or_append_left xs (x ∷ []) d i early, get_or_append_left xs (x ∷ []) d j late) (pairs i j d before late)
   ]
 
+-- numbers that do not fall, and one more that is no smaller
+up_longer : (ps : List Patch) (y : Patch) → IsNonDecreasingBy (λ (p : Patch). p.offset) ps
+    → All (λ (p : Patch). p.offset ≤ y.offset) ps → IsNonDecreasingBy (λ (p : Patch). p.offset) (ps ++ y ∷ [])
+up_longer ps y up last = λ i j d before low. elim (cases_eq i j) [
+  | inl e ↦ rw e (omega arith)
+  | inr differs ↦ pairs_longer ps y (λ p q. p.offset ≤ q.offset)
+      (λ a b x l m. up a b x (omega (arith, l)) m) last i j d (omega (arith, before, differs)) low
+]
+
 -- fields of two relocations that are apart are apart
 apart_fields : (r q : Relocation) (x y : Patch) → IsFieldOf r x → IsFieldOf q y → of.meets r q ≡ false
     → patches_meet x y
@@ -77,6 +87,16 @@ module _ (rs : List Relocation) (i : ℕ) (r : Relocation) (is : slice_get rs i 
       let second : get_or rs i r ≡ r = get_or_from_slice_get rs i r r is in
       apart_fields h.1 r x y h.4 k (rw (first, second) at (all h.0 i r h.2 (slice_get_within rs i r is)))
 
+  -- the field of a relocation lies no earlier than those of relocations before it
+  no_earlier : IsNonDecreasingBy (λ (q : Relocation). q.offset) rs → (y : Patch) → IsFieldOf r y → (x : Patch)
+      → IsAmong rs i x → x.offset ≤ y.offset
+  no_earlier up y k x h =
+      let first : get_or rs h.0 r ≡ h.1 = get_or_from_slice_get rs h.0 h.1 r h.3 in
+      let second : get_or rs i r ≡ r = get_or_from_slice_get rs i r r is in
+      let low : h.0 ≤ i = omega (arith, h.2) in
+      let rise : h.1.offset ≤ r.offset = rw (first, second) at (up h.0 i r low (slice_get_within rs i r is)) in
+      omega (arith, rise, h.4.offset_is, k.offset_is)
+
   added_one : (ps : List Patch) (y : Patch) → AreFieldsOf rs i ps → IsFieldOf r y
       → AreFieldsOf rs (i + 1) (ps ++ y ∷ [])
   added_one ps y h k = record {
@@ -84,26 +104,51 @@ module _ (rs : List Relocation) (i : ℕ) (r : Relocation) (is : slice_get rs i 
         (i, r, omega arith, is, k);
     apart = λ all. pairs_longer ps y (λ p q. patches_meet p q ≡ false) (h.apart all) (λ j d low.
         apart_from all y k (get_or ps j d) (h.each j d low));
+    order = λ up. up_longer ps y (h.order up) (λ j d low. no_earlier up y k (get_or ps j d) (h.each j d low));
   }
 
-  pub next_fields : (ps qs : List Patch) → AreFieldsOf rs i ps → IsNext r ps qs → AreFieldsOf rs (i + 1) qs
-  next_fields ps qs h (inl e) =
-      rw e (record { each = λ j d low. further (get_or ps j d) (h.each j d low); apart = h.apart })
+  next_fields : (ps qs : List Patch) → AreFieldsOf rs i ps → IsNext r ps qs → AreFieldsOf rs (i + 1) qs
+  next_fields ps qs h (inl e) = rw e
+      (record {
+        each = λ j d low. further (get_or ps j d) (h.each j d low);
+        apart = h.apart;
+        order = h.order;
+      })
   next_fields ps qs h (inr n) = rw (n.1) (added_one ps n.0 h n.2)
 
-pub no_fields : (rs : List Relocation) (ps : List Patch) → ps ≡ [] → AreFieldsOf rs 0 ps
-no_fields rs ps e = rw e
-    (record {
-      each = λ j d low. absurd (omega (arith, low));
-      apart = λ all i j d before low.
-          absurd (omega (arith, low));
-    })
+  -- one relocation more was looked at
+  pub next_added : (old ps qs : List Patch) → AreAdded rs i old ps → IsNext r ps qs → AreAdded rs (i + 1) old qs
+  next_added old ps qs h (inl e) = record {
+    own = h.own;
+    fields = e ∙ h.fields;
+    of = next_fields h.own h.own h.of (inl refl);
+  }
+  next_added old ps qs h (inr n) = record {
+    own = h.own ++ n.0 ∷ [];
+    fields = n.1 ∙ ap (λ xs. xs ++ n.0 ∷ []) h.fields ∙ append_assoc old h.own (n.0 ∷ []);
+    of = added_one h.own n.0 h.of n.2;
+  }
 
-pub all_fields : (rs : List Relocation) (ps : List Patch) (i : ℕ) → length rs ≤ i → i ≤ length rs → AreFieldsOf rs i ps
-    → AreFieldsOf rs (length rs) ps
-all_fields rs ps i low high h =
+no_fields : (rs : List Relocation) → AreFieldsOf rs 0 []
+no_fields rs = record {
+  each = λ j d low. absurd (omega (arith, low));
+  apart = λ all i j d before low. absurd (omega (arith, low));
+  order = λ up i j d before low. absurd (omega (arith, low));
+}
+
+pub none_added : (rs : List Relocation) (ps : List Patch) → AreAdded rs 0 ps ps
+none_added rs ps = record { own = []; fields = sym (append-nil ps); of = no_fields rs }
+
+pub all_added : (rs : List Relocation) (old ps : List Patch) (i : ℕ) → length rs ≤ i → i ≤ length rs
+    → AreAdded rs i old ps → AreAdded rs (length rs) old ps
+all_added rs old ps i low high h =
     let e : i ≡ length rs = omega arith in
-    subst (λ n. AreFieldsOf rs n ps) e h
+    subst (λ n. AreAdded rs n old ps) e h
+
+-- where there were no others, they are all
+pub whole_own : (rs : List Relocation) (n : ℕ) (old new : List Patch) → old ≡ [] → AreAdded rs n old new
+    → AreFieldsOf rs n new
+whole_own rs n old new none h = subst (AreFieldsOf rs n) (sym (h.fields ∙ ap (λ xs. xs ++ h.own) none)) h.of
 
 -- fields of relocations that end by a limit end there
 within_one : (n : ℕ) (r : Relocation) (x : Patch) → IsFieldOf r x → field_end r ≤ n → IsWithin n x

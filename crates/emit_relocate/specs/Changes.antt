@@ -28,6 +28,12 @@ in_file r q = if nat_le (patch_end q) r.length then Some (record q { offset = r.
 abbrev pub file_patch_at : KnownLink → FileRange → Site → Option Patch
 file_patch_at l r t = option_and_then (in_file r) (field_at l t)
 
+-- these sites were evaluated: their fields were added, in their places in the file, and their faults, and each counted
+pub record IsFiled (l : KnownLink) (r : FileRange) (ts : List Site) (old_patches new_patches : List Patch)
+    (old_faults new_faults : List code.Fault) (before after : Counts) : Type 0 where
+  pub patches : new_patches ≡ old_patches ++ filter_map (file_patch_at l r) ts
+  pub counts : IsCounted l ts old_faults new_faults before after
+
 -- those of these sites whose symbol has another value were evaluated: their fields were added, in their places in the
 -- file, and their faults, and each counted
 pub record IsMoved (old : GoodLink) (l : KnownLink) (r : FileRange) (ts : List Site)

@@ -2,6 +2,7 @@
 use Rattle.std.specs.Prelude.{◌≡◌, ◌≤◌, ℕ, List, ◌++◌, map, filter, Option, Some, [], ◌∷◌, ◌⊎◌, ◌<◌, slice_get}
 use Rattle.std.specs.Prelude.{sum_by}
 use Rattle.std.specs.List.{All, filter_map}
+use Rattle.std.specs.List.Sorted.{IsNonDecreasingBy}
 use Rattle.std.specs.Result.{result_err}
 use Rattle.elfobj.specs.Profile as elf
 use Rattle.elfobj.specs.Relocations.{field_end}
@@ -67,10 +68,18 @@ IsNext r old new = (new ≡ old) ⊎ ((x : Patch) × (new ≡ old ++ x ∷ []) �
 abbrev pub IsAmong : List Relocation → ℕ → Patch → Type 0
 IsAmong rs n x = (j : ℕ) × (r : Relocation) × (j < n) × (slice_get rs j ≡ Some r) × IsFieldOf r x
 
--- fields of the first n relocations, each of which has one at most
+-- fields of the first n relocations, each of which has one at most, in the order of the relocations
 pub record AreFieldsOf (rs : List Relocation) (n : ℕ) (fields : List Patch) : Type 0 where
   pub each : All (IsAmong rs n) fields
   pub apart : elf.AreApart rs → AreApart fields
+  pub order :
+      IsNonDecreasingBy (λ (r : Relocation). r.offset) rs → IsNonDecreasingBy (λ (p : Patch). p.offset) fields
+
+-- they were added
+pub record AreAdded (rs : List Relocation) (n : ℕ) (old new : List Patch) : Type 0 where
+  pub own : List Patch
+  pub fields : new ≡ old ++ own
+  pub of : AreFieldsOf rs n own
 
 -- the fields of a section that starts at an address, in the order of their offsets: they give its bytes
 pub record IsRun (l : KnownLink) (o : NamedObject) (x : LinkedSection) (start : ℕ) (run : List Patch) : Type 0 where

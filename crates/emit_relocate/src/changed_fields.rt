@@ -20,11 +20,11 @@ use crate::earlier::{Earlier, FileRange};
 use crate::fields::add_fields;
 use crate::known::Known;
 use crate::moved::add_moved;
-use crate::site::{PlacedSection, is_evaluated};
+use crate::site::PlacedSection;
 use crate::symbol_table::SymbolTable;
 use crate::value::SymbolValue;
+use elfobj::Object;
 use elfobj::section::LinkedIndex;
-use elfobj::{Object, Relocation};
 use emit_fields::patch::Patch;
 use ldmodel::fault::Fault;
 use ldmodel::memory::NoMemory;
@@ -308,12 +308,7 @@ fn add_of_key<L: Known, E: Earlier>(
     }
 }
 
-/// How many of these relocations have a field: all but `R_X86_64_NONE`.
-fn count_of_table(relocations: &[Relocation]) -> usize {
-    relocations.iter().filter(|r| is_evaluated(r.kind)).count()
-}
-
-/// How many relocations with a field there are in those sections of an object that are in the output.
+/// How many relocations there are in those sections of an object that are in the output. Nearly all have a field.
 fn count_of_object<L: Known>(link: &L, key: ObjectPlace, object: &Object) -> usize {
     let mut count: usize = 0;
     for index in 0..object.sections().len() {
@@ -321,14 +316,14 @@ fn count_of_object<L: Known>(link: &L, key: ObjectPlace, object: &Object) -> usi
         let part = Part::InTable(object.sections()[index].number);
         let section = SectionKey { object: key, part };
         if !relocations.is_empty() && link.start(section).is_some() {
-            count = count.saturating_add(count_of_table(relocations));
+            count = count.saturating_add(relocations.len());
         }
     }
     count
 }
 
-/// How many fields there will be, where there is no earlier link. Beside one it is 0: to know the number, each section
-/// would have to be asked once more whether it stayed, and the list may grow as well.
+/// How many fields there will be at most, where there is no earlier link. Beside one it is 0: to know the number, each
+/// section would have to be asked once more whether it stayed, and the list may grow as well.
 fn count_fields<L: Known, E: Earlier>(link: &L, earlier: &E, objects: &[ObjectPlace]) -> usize {
     if !earlier.is_none() {
         return 0;

@@ -1,11 +1,14 @@
 //! The fields of whole input sections, in one flat list, and the faults of their relocations.
 
-ghost use Rattle.std.specs.Prelude.{◌≡◌, ◌+◌, ◌<◌, ◌^◌, All, OnOk, Some, [], ◌∷◌, length, slice_get};
+ghost use Rattle.std.specs.Prelude.{◌≡◌, ◌+◌, ◌<◌, ◌^◌, ℕ, All, OnOk, Some, [], ◌∷◌, length, slice_get, true};
+ghost use Rattle.std.specs.Prelude.{vec_capacity, vec_len};
+ghost use Rattle.std.specs.List.Sorted.{IsNonDecreasingBy};
 ghost use Rattle.elfobj.specs.Profile.{AreApart};
 ghost use Rattle.elfobj.specs.Relocations.{field_end};
 ghost use Rattle.elfobj.specs.Sections.{LinkedSection};
+ghost use Rattle.elfobj.specs.declared.relocation.Relocation.{Relocation as RelocationOf};
 ghost use Rattle.ldmodel.specs.Project.{NamedObject};
-ghost use Rattle.emit_relocate.specs.Fields.{AreFieldsOf, IsAdded, IsNext, IsTried, sites_among};
+ghost use Rattle.emit_relocate.specs.Fields.{AreAdded, IsAdded, IsNext, IsTried, sites_among};
 ghost use Rattle.emit_relocate.specs.KnownLink.{KnownLink};
 ghost use Rattle.emit_relocate.specs.Sites.{IsPlaced};
 
@@ -18,10 +21,11 @@ use ldmodel::memory::NoMemory;
 use ldmodel::meter::Meter;
 use std::alloc::Global;
 
-/// Evaluates the relocation of number `entry`: adds its field, or its fault.
+/// Evaluates the relocation of number `entry`: adds its field, for which there is room, or its fault.
+#[inline(always)]
 fn add_site(
     section: &PlacedSection<'_>,
-    entry: usize,
+    entry: u32,
     relocation: &Relocation,
     fields: &mut Vec<Patch>,
     faults: &mut Vec<Fault>,
@@ -29,6 +33,9 @@ fn add_site(
 ) -> Result<(), NoMemory>
     requires entry_is { slice_get section.now.relocations.now entry ≡ Some relocation.now }
     requires below { section.now.start + relocation.now.offset < 2 ^ 64 }
+    requires room { vec_len fields.old < vec_capacity fields.old }
+    ensures capacity { vec_capacity fields.new ≡ vec_capacity fields.old }
+    ensures len { vec_len fields.new < vec_len fields.old + 2 }
     ensures next { OnOk result (IsNext relocation.now fields.old.items fields.new.items) }
     ensures tried { OnOk result ((l : KnownLink) (o : NamedObject) (x : LinkedSection) → IsPlaced l section.now o x
         → IsTried l (sites_among o x section.now.start (relocation.now ∷ [])) fields.old.items fields.new.items
@@ -39,13 +46,9 @@ fn add_site(
     if !is_evaluated(relocation.kind) {
         return Ok(());
     }
-    let Ok(entry) = u32::try_from(entry) else {
-        // No section has 2^32 relocations
-        return Err(impossible());
-    };
     match evaluate(section, entry, relocation, meter) {
         Ok(field) => {
-            fields.push(field)?;
+            fields.push_reserved(field);
             Ok(())
         }
         Err(fault) => {
@@ -55,27 +58,81 @@ fn add_site(
     }
 }
 
-/// Evaluates all relocations of a section, in the order of their table.
-fn add_sites(
+/// Whether the number of each relocation of a section fits 32 bits.
+fn is_numbered(relocations: &[Relocation]) -> bool
+    ensures { result ≡ true → length relocations.now < 2 ^ 32 }
+{
+    relocations.len() <= u32::MAX as usize
+}
+
+/// Evaluates relocations of a section, of which the first has the number `first`, in the order of their table. It is
+/// the only caller of `evaluate`, which is so compiled into its loop.
+#[inline(never)]
+pub(crate) fn add_sites(
+    section: &PlacedSection<'_>,
+    first: usize,
+    relocations: &[Relocation],
+    fields: &mut Vec<Patch>,
+    faults: &mut Vec<Fault>,
+    meter: &mut Meter,
+) -> Result<(), NoMemory>
+    requires entries { (k : ℕ) (r : RelocationOf) → slice_get relocations.now k ≡ Some r
+        → slice_get section.now.relocations.now (first + k) ≡ Some r }
+    requires below { All (λ r. section.now.start + r.offset < 2 ^ 64) relocations.now }
+    ensures fields { OnOk result
+        (AreAdded relocations.now (length relocations.now) fields.old.items fields.new.items) }
+    ensures tried { OnOk result ((l : KnownLink) (o : NamedObject) (x : LinkedSection) → IsPlaced l section.now o x
+        → IsTried l (sites_among o x section.now.start relocations.now) fields.old.items fields.new.items
+        faults.old.items faults.new.items meter.old meter.new) }
+{
+    // so that the range of the count is known
+    let _fields = meter.fields();
+    if !is_numbered(section.relocations) {
+        // No section has 2^32 relocations
+        return Err(impossible());
+    }
+    fields.reserve(relocations.len())?;
+    for entry in 0..relocations.len() {
+        let number = (first + entry) as u32;
+        add_site(section, number, &relocations[entry], fields, faults, meter)?;
+    }
+    Ok(())
+}
+
+/// Whether relocations are in the order of their offsets, as assemblers write them.
+fn is_ascending(relocations: &[Relocation]) -> bool
+    ensures { result ≡ true → IsNonDecreasingBy (λ r. r.offset) relocations.now }
+{
+    let mut last = 0;
+    for relocation in relocations {
+        if relocation.offset < last {
+            return false;
+        }
+        last = relocation.offset;
+    }
+    true
+}
+
+/// Adds the fields of a section whose relocations may be in any order, in the order of their offsets.
+#[cold]
+#[inline(never)]
+fn add_unordered(
+    alloc: Global,
     section: &PlacedSection<'_>,
     fields: &mut Vec<Patch>,
     faults: &mut Vec<Fault>,
     meter: &mut Meter,
 ) -> Result<(), NoMemory>
-    requires none { fields.old.items ≡ [] }
+    requires apart { AreApart section.now.relocations.now }
     requires below { All (λ r. section.now.start + r.offset < 2 ^ 64) section.now.relocations.now }
-    ensures fields { OnOk result
-        (AreFieldsOf section.now.relocations.now (length section.now.relocations.now) fields.new.items) }
-    ensures tried { OnOk result ((l : KnownLink) (o : NamedObject) (x : LinkedSection) → IsPlaced l section.now o x
-        → IsTried l (sites_among o x section.now.start section.now.relocations.now) fields.old.items fields.new.items
-        faults.old.items faults.new.items meter.old meter.new) }
+    ensures { OnOk result ((l : KnownLink) (o : NamedObject) (x : LinkedSection) → IsPlaced l section.now o x
+        → IsAdded l o x section.now.start fields.old.items fields.new.items faults.old.items faults.new.items meter.old
+        meter.new) }
 {
-    // so that the range of the count is known
-    let _fields = meter.fields();
-    for entry in 0..section.relocations.len() {
-        let relocation = &section.relocations[entry];
-        add_site(section, entry, relocation, fields, faults, meter)?;
-    }
+    let mut own = Vec::new(alloc);
+    add_sites(section, 0, section.relocations, &mut own, faults, meter)?;
+    let mut own = in_order(own)?;
+    fields.append(&mut own)?;
     Ok(())
 }
 
@@ -99,9 +156,9 @@ pub fn add_fields(
         → IsAdded l o x section.now.start fields.old.items fields.new.items faults.old.items faults.new.items meter.old
         meter.new) }
 {
-    let mut own = Vec::with_capacity(alloc, section.relocations.len())?;
-    add_sites(section, &mut own, faults, meter)?;
-    let mut own = in_order(own)?;
-    fields.append(&mut own)?;
+    if !is_ascending(section.relocations) {
+        return add_unordered(alloc, section, fields, faults, meter);
+    }
+    add_sites(section, 0, section.relocations, fields, faults, meter)?;
     Ok(())
 }

@@ -8,7 +8,7 @@ ghost use Rattle.emit_fields.specs.Patches.{patch_end};
 ghost use Rattle.ldmodel.specs.Project.{NamedObject};
 ghost use Rattle.ldmodel.specs.Relocations.{Site};
 ghost use Rattle.ldmodel.specs.Stayed.{GoodLink};
-ghost use Rattle.emit_relocate.specs.Changes.{IsMoved, in_file};
+ghost use Rattle.emit_relocate.specs.Changes.{IsFiled, IsMoved, in_file};
 ghost use Rattle.emit_relocate.specs.Earlier.{IsKept, has_moved, is_same_value};
 ghost use Rattle.emit_relocate.specs.Fields.{sites_among};
 ghost use Rattle.emit_relocate.specs.KnownLink.{KnownLink};
@@ -16,7 +16,8 @@ ghost use Rattle.emit_relocate.specs.Sites.{IsPlaced, IsSite};
 ghost use Rattle.emit_relocate.specs.Values.{value_of};
 
 use crate::earlier::{Earlier, FileRange};
-use crate::site::{PlacedSection, evaluate, is_evaluated, site_value};
+use crate::fields::add_sites;
+use crate::site::{PlacedSection, is_evaluated, site_value};
 use crate::value::SymbolValue;
 use elfobj::relocation::{Relocation, SymbolIndex};
 use emit_fields::patch::Patch;
@@ -24,6 +25,7 @@ use ldmodel::fault::Fault;
 use ldmodel::impossible::impossible;
 use ldmodel::memory::NoMemory;
 use ldmodel::meter::Meter;
+use std::slice::from_ref;
 
 /// Whether two symbols have the same value. A number is the same as no missing value.
 fn is_same_value(one: SymbolValue, other: SymbolValue) -> bool
@@ -80,8 +82,42 @@ fn add_in_file(range: FileRange, field: Patch, patches: &mut Vec<Patch>) -> Resu
     Ok(())
 }
 
+/// Evaluates the relocation of number `entry` of a section that stayed: adds its field in its place in the file, or its
+/// fault.
+#[inline(never)]
+fn add_site_in_file(
+    section: &PlacedSection<'_>,
+    range: FileRange,
+    entry: usize,
+    relocation: &Relocation,
+    patches: &mut Vec<Patch>,
+    faults: &mut Vec<Fault>,
+    meter: &mut Meter,
+) -> Result<(), NoMemory>
+    requires entry_is { slice_get section.now.relocations.now entry ≡ Some relocation.now }
+    requires below { section.now.start + relocation.now.offset < 2 ^ 64 }
+    ensures { OnOk result ((l : KnownLink) (o : NamedObject) (x : LinkedSection) → IsPlaced l section.now o x
+        → IsFiled l range (sites_among o x section.now.start (relocation.now ∷ [])) patches.old.items patches.new.items
+        faults.old.items faults.new.items meter.old meter.new) }
+{
+    let before = patches.len();
+    add_sites(section, entry, from_ref(relocation), patches, faults, meter)?;
+    if patches.len() == before {
+        return Ok(());
+    }
+    match patches.pop() {
+        // A field was added
+        None => Err(impossible()),
+        Some(field) => {
+            add_in_file(range, field, patches)?;
+            Ok(())
+        }
+    }
+}
+
 /// Evaluates the relocation of number `entry` of a section that stayed, if its symbol has another value: adds its field
 /// in its place in the file, or its fault.
+#[inline(always)]
 fn add_moved_site<E: Earlier>(
     earlier: &E,
     section: &PlacedSection<'_>,
@@ -108,20 +144,8 @@ fn add_moved_site<E: Earlier>(
     if !has_moved(earlier, section, relocation.symbol) {
         return Ok(());
     }
-    let Ok(entry) = u32::try_from(entry) else {
-        // No section has 2^32 relocations
-        return Err(impossible());
-    };
-    match evaluate(section, entry, relocation, meter) {
-        Ok(field) => {
-            add_in_file(range, field, patches)?;
-            Ok(())
-        }
-        Err(fault) => {
-            faults.push(fault)?;
-            Ok(())
-        }
-    }
+    add_site_in_file(section, range, entry, relocation, patches, faults, meter)?;
+    Ok(())
 }
 
 /// Evaluates the relocations of a section that stayed whose symbol has another value, each of which counts as one, in

@@ -90,6 +90,17 @@ pub fn site_value(section: &PlacedSection<'_>, symbol: SymbolIndex) -> SymbolVal
         .unwrap_or(SymbolValue::NotDefined)
 }
 
+/// The key of the relocation of number `entry` of a section.
+fn site_key(section: &PlacedSection<'_>, entry: u32) -> SiteKey
+    ensures { result ≡ record { object = section.now.object; section = section.now.section; entry = entry } }
+{
+    SiteKey {
+        object: section.object,
+        section: section.section,
+        entry,
+    }
+}
+
 /// The field of a relocation of number `entry` against a symbol of a value; or its fault.
 fn field_with(
     section: &PlacedSection<'_>,
@@ -107,14 +118,9 @@ fn field_with(
 {
     // so that the range of the count is known
     let _fields = meter.fields();
-    let site = SiteKey {
-        object: section.object,
-        section: section.section,
-        entry,
-    };
     match value {
-        SymbolValue::NotDefined => Err(Fault::UndefinedSymbol(site)),
-        SymbolValue::NotInOutput => Err(Fault::TargetNotInOutput(site)),
+        SymbolValue::NotDefined => Err(Fault::UndefinedSymbol(site_key(section, entry))),
+        SymbolValue::NotInOutput => Err(Fault::TargetNotInOutput(site_key(section, entry))),
         SymbolValue::Number(value) => {
             let place = section.start + relocation.offset;
             match field(relocation, value, place, meter) {
@@ -123,7 +129,7 @@ fn field_with(
                     field,
                 }),
                 Err(overflow) => Err(Fault::FieldOverflow {
-                    site,
+                    site: site_key(section, entry),
                     value: overflow.value,
                 }),
             }

@@ -11,7 +11,8 @@ use Rattle.elfobj.specs.Sections.{LinkedSection}
 use Rattle.ldmodel.specs.Fault.{Fault}
 use Rattle.ldmodel.specs.Layout.{Layout, PlacedPiece}
 use Rattle.ldmodel.specs.Project.{NamedObject, Project}
-use Rattle.ldmodel.specs.Relocations.{Site, entry_fault, relocation_faults, site_field, sites, sites_at, sites_of_section}
+use Rattle.ldmodel.specs.Relocations.{Site, entry_fault, relocation_faults, site_field, sites, sites_at}
+use Rattle.ldmodel.specs.Relocations.{sites_of_section}
 use Rattle.ldmodel.specs.SymbolValues.{entry_point, placed_part}
 use Rattle.ldmodel.specs.declared.sections.Part.TheVariants.{InTable}
 use Rattle.ldmodel_laws.specs.Outline.{HasSameFrame, IsRetouched}
@@ -34,6 +35,14 @@ own_object s o t c =
         → Contains (option_map_or (λ (y : PlacedPiece). sites_at o x y.start) m []) t → t.object ≡ o
     go x None d = absurd (none_in_nil t d)
     go x (Some y) d = object_of_site o x y.start t d
+
+-- where a link has no faults of relocation, no object of it has one
+pub none_of_object : (p : Project) (s : Layout) (i : ℕ) (o : NamedObject) → slice_get p.objects i ≡ Some o
+    → relocation_faults p s ≡ [] → filter_map (fault_in p s) (sites_of s o) ≡ []
+unfolding relocation_faults sites
+none_of_object p s i o is none =
+    none_at (fault_in p s) (sites_of s) p.objects i o
+    (both_nil (entry_fault (entry_point p s)) (filter_map (fault_in p s) (flat_map (sites_of s) p.objects)) none).1 is
 
 module _ (p q : Project) (s : Layout) (i : ℕ) (b : NamedObject) (h : IsRetouched p q i) (frame : HasSameFrame p q s)
     (at_i : slice_get q.objects i ≡ Some b) (none : relocation_faults p s ≡ [])

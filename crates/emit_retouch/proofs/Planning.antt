@@ -1,7 +1,9 @@
 -- What is planned for each section of an object.
-use Rattle.std.proofs.Common.{◌≡◌, ◌≢◌, ◌+◌, ◌<◌, ◌≤◌, ◌^◌, ◌==◌, ⊎_elim, cond, ℕ, zero, suc, List, [], ◌∷◌, ◌++◌, length, map, find, take, drop}
-use Rattle.std.proofs.Common.{get_or, Option, Some, None, refl, sym, ap, ◌∙◌, subst, arith, add-one, append-nil, take-suc, drop-cons}
-use Rattle.std.specs.Prelude.{IfNone, IfSome, slice_get, sum_by}
+use Rattle.std.proofs.Common.{◌≡◌, ◌≢◌, ◌+◌, ◌<◌, ◌≤◌, ◌^◌, ◌==◌, ⊎_elim, cond, ℕ, zero, suc, List, [], ◌∷◌, ◌++◌}
+use Rattle.std.proofs.Common.{length, map, find, take, drop}
+use Rattle.std.proofs.Common.{get_or, Option, Some, None, refl, sym, ap, ◌∙◌, subst, arith, add-one, append-nil}
+use Rattle.std.proofs.Common.{take-suc, drop-cons}
+use Rattle.std.specs.Prelude.{slice_get, sum_by}
 use Rattle.std.specs.List.{All, AllPairs, AllZip, filter_map}
 use Rattle.std.specs.Option.{option_map, option_map_or}
 use Rattle.std.proofs.lemmas.Bool.{eq-eqb, ne_eqb}
@@ -26,6 +28,7 @@ use Rattle.ldmodel.specs.Project.{NamedObject}
 use Rattle.ldmodel.specs.Raised.{raised}
 use Rattle.ldmodel.specs.Relocations.{Site, site_value, sites_at}
 use Rattle.ldmodel.specs.Fault.{Fault}
+use Rattle.ldmodel.specs.FaultCode.{fault_of}
 use Rattle.ldmodel.specs.declared.fault.Fault as code
 use Rattle.ldmodel.specs.declared.names.ObjectPlace.{ObjectPlace}
 use Rattle.emit_relocate.specs.Fields.{IsAdded, IsRun, evaluations, fault_at, faults_of, work_of}
@@ -34,8 +37,9 @@ use Rattle.emit_relocate.specs.Sites.{IsPlaced, IsSectionOf}
 use Rattle.emit_relocate.specs.SymbolTable.{IsRow}
 use Rattle.emit_relocate.specs.declared.site.PlacedSection.{PlacedSection}
 use Rattle.emit_relocate.specs.declared.value.SymbolValue.{SymbolValue}
-use Rattle.emit_retouch.specs.Plan.{IsAtHand, IsFaultlessRun, IsNothing, IsPlanned, IsPlannedAt, IsWhole, IsWithin}
-use Rattle.emit_retouch.specs.Plan.{Written, count_of, sites_in_all, sites_there, written, written_all}
+use Rattle.emit_retouch.specs.Plan.{IsAtHand, IsFaultlessRun, IsNothing, IsPlanned, IsPlannedAt, IsRefused}
+use Rattle.emit_retouch.specs.Plan.{IsWhole, IsWithin, Written, count_of, sites_in_all, sites_there, written}
+use Rattle.emit_retouch.specs.Plan.{written_all}
 use Rattle.emit_retouch.specs.declared.plan.Rewrite.{Rewrite}
 use Rattle.emit_retouch.specs.Spots.{bytes_of}
 use Rattle.emit_retouch.specs.declared.spot.SectionSpot.{SectionSpot}
@@ -157,6 +161,17 @@ module _ (l : KnownLink) (o : NamedObject) (x : LinkedSection) (start : ℕ) (ol
     faultless = sym (ap (λ fs. faults_of l fs ++ faults) nogs) ∙ sym h.counts.faults ∙ ap (faults_of l) nohs;
   }
 
+  -- some fault was added
+  pub refused : gs ≡ [] → length hs ≢ 0 → IsRefused l (sites_at o x start) m0 m1
+  refused nogs some = record {
+    evaluated = evaluations l (sites_at o x start);
+    counted = h.counts.counted;
+    faulty = λ none.
+        some
+        (sym (length-map hs (fault_of l.project l.number))
+        ∙ ap length (h.counts.faults ∙ ap (λ fs. faults_of l fs ++ faults) nogs ∙ none));
+  }
+
 -- ---- a number stands for one section
 
 found : (xs : List LinkedSection) (i : ℕ) (x : LinkedSection)
@@ -219,15 +234,7 @@ all_count l o (t ∷ ts) (w ∷ ws) h =
     sum_by-cons count_of w ws ∙ ap (λ n. n + sum_by count_of ws) (one_count l o t w h.0)
     ∙ ap (λ n. bytes_of o.object t + n) (all_count l o ts ws h.1) ∙ sym (sum_by-cons (bytes_of o.object) t ts)
 
--- ---- from one outcome to another
-
-pub imply_some : {X : Type 0} (P Q : X → Type 0) (m : Option X) → ((x : X) → P x → Q x) → IfSome m P → IfSome m Q
-imply_some P Q None f h = tt
-imply_some P Q (Some x) f h = f x h
-
-pub imply_none : {X : Type 0} (P : Type 0) (m : Option X) → P → IfNone m P
-imply_none P None h = h
-imply_none P (Some x) h = tt
+-- ---- what was planned
 
 -- the bytes of a section
 pub bytes_at : (xs : List LinkedSection) (i : ℕ) (bytes : List ℕ)

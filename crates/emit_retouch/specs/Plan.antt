@@ -5,11 +5,14 @@ use Rattle.std.specs.List.{filter_map}
 use Rattle.std.specs.Option.{option_map_or}
 use Rattle.elfobj.specs.Object.{ObjectData}
 use Rattle.elfobj.specs.Sections.{LinkedSection}
+use Rattle.elfobj.specs.declared.meter.Count.TheVariants.{Fields}
 use Rattle.elfobj.specs.declared.section.SectionKind.{SectionKind}
 use Rattle.elfobj.specs.declared.section.SectionKind.TheVariants.{Nobits}
 use Rattle.emit_fields.specs.Patches.{AreInOrder, patched_byte}
 use Rattle.emit_fields.specs.declared.patch.Patch.{Patch}
+use Rattle.ldmodel.specs.Counts.{Counts}
 use Rattle.ldmodel.specs.Project.{NamedObject}
+use Rattle.ldmodel.specs.Raised.{raised}
 use Rattle.ldmodel.specs.Relocations.{Site, sites_at}
 use Rattle.ldmodel.specs.declared.names.ObjectPlace.{ObjectPlace}
 use Rattle.emit_relocate.specs.Fields.{IsRun, fault_at}
@@ -75,6 +78,12 @@ pub record IsPlannedAt (l : KnownLink) (o : NamedObject) (t : SectionSpot) (w : 
   pub run : List Patch
   pub faultless : IsFaultlessRun l o section t.start run
   pub planned : IsPlanned section.kind section.bytes t.range run w
+
+-- a relocation of these sites has a fault; only fields were counted
+pub record IsRefused (l : KnownLink) (ts : List Site) (before after : Counts) : Type 0 where
+  pub evaluated : ℕ
+  pub counted : after ≡ raised before Fields evaluated
+  pub faulty : filter_map (fault_at l) ts ≢ []
 
 -- the sites of a section where it stands
 abbrev pub sites_there : NamedObject → SectionSpot → List Site

@@ -37,4 +37,5 @@ sites_of s o = flat_map (sites_of_section s o) o.object.sections
 
 -- how many bytes of a section stand in the file as the object has them: none of a NOBITS section, which is 0 there
 abbrev pub bytes_of : ObjectData → SectionSpot → ℕ
-bytes_of o t = option_map_or (λ (x : LinkedSection). size_in_file x.kind t.range.length) (slice_get o.sections t.index.0) 0
+bytes_of o t =
+    option_map_or (λ (x : LinkedSection). size_in_file x.kind t.range.length) (slice_get o.sections t.index.0) 0

@@ -15,8 +15,6 @@ ghost use Rattle.ldmodel_laws.specs.Spread.{IsSpread};
 ghost use Rattle.emit_retouch.specs.Retouches.{IsOutside};
 ghost use Rattle.emit_retouch.specs.Spots.{sites_of};
 
-use ldmodel_laws::stayed::unmoved_sites;
-
 /// The images have the same length, and the same byte at each offset that no input section of the object covers.
 /// Nothing meets in output sections, and these have different names.
 pub fn retouched_image()
@@ -25,9 +23,7 @@ pub fn retouched_image()
         → ((x : LinkedPiece) → Contains (linked_pieces q s) x → x.object ≡ b.name → IsOutside at x.range)
         → byte_at p s at ≡ byte_at q s at }
     ensures length { (p q : Project) (s : Layout) → HasSameFrame p q s → image_length p s ≡ image_length q s }
-{
-    unmoved_sites();
-}
+{}
 
 /// Where the first link has no faults of relocation, and each site of the object in the second has a field, neither has
 /// the second.
@@ -36,6 +32,4 @@ pub fn retouched_faults()
         → slice_get q.objects i ≡ Some b → relocation_faults p s ≡ []
         → ((t : Site) → Contains (sites_of s b) t → result_err (site_field q s t) ≡ None)
         → relocation_faults q s ≡ [] }
-{
-    unmoved_sites();
-}
+{}

@@ -10,8 +10,8 @@ ghost use Rattle.ldmodel.specs.Project.{NamedObject};
 ghost use Rattle.ldmodel.specs.Relocations.{sites_at};
 ghost use Rattle.emit_relocate.specs.Fields.{evaluations};
 ghost use Rattle.emit_relocate.specs.KnownLink.{KnownLink};
-ghost use Rattle.emit_retouch.specs.Plan.{AreWritten, IsAtHand, IsFaultlessRun, IsPlanned, IsPlannedAt, IsWithin};
-ghost use Rattle.emit_retouch.specs.Plan.{count_of, sites_in_all, sites_there, written, written_all};
+ghost use Rattle.emit_retouch.specs.Plan.{AreWritten, IsAtHand, IsFaultlessRun, IsPlanned, IsPlannedAt, IsRefused};
+ghost use Rattle.emit_retouch.specs.Plan.{IsWithin, count_of, sites_in_all, sites_there, written, written_all};
 
 use crate::spot::SectionSpot;
 use elfobj::Object;
@@ -22,6 +22,7 @@ use emit_relocate::earlier::FileRange;
 use emit_relocate::fields::add_fields;
 use emit_relocate::site::PlacedSection;
 use emit_relocate::value::SymbolValue;
+use ldmodel::impossible::impossible;
 use ldmodel::memory::NoMemory;
 use ldmodel::meter::Meter;
 use ldmodel::names::ObjectPlace;
@@ -55,7 +56,8 @@ fn are_in_order(fields: &[Patch], limit: usize) -> bool
     end <= limit
 }
 
-/// The fields of a section of an object that starts at an address; none where a relocation has a fault.
+/// The fields of a section of an object that starts at an address; none where, and only where, a relocation has a
+/// fault.
 fn fields_of(
     alloc: Global,
     key: ObjectPlace,
@@ -72,14 +74,14 @@ fn fields_of(
         × (meter.new ≡ raised meter.old Fields (evaluations l (sites_at o x start))))) }
     ensures none { IfOk result (λ r. IfNone r ((l : KnownLink) (o : NamedObject) (x : LinkedSection)
         → IsAtHand l key object.now values.now o → slice_get o.object.sections index.0 ≡ Some x
-        → (n : ℕ) × (meter.new ≡ raised meter.old Fields n))) }
+        → IsRefused l (sites_at o x start) meter.old meter.new)) }
 {
     // so that the range of the count is known
     let _fields = meter.fields();
     let section = object.sections()[index.0];
     if u64::MAX - start < section.size {
-        // no layout has a section past the end of the address space
-        return Ok(None);
+        // No layout has a section that ends past the address space
+        return Err(impossible());
     }
     let section = PlacedSection::new(key, object, index, start, values);
     let mut fields = Vec::new(alloc);
@@ -92,8 +94,7 @@ fn fields_of(
     }
 }
 
-/// What is written of a section of this kind with these bytes and fields; none where its bytes do not fit its range or
-/// the file, as those of a layout do.
+/// What is written of a section of this kind with these bytes and fields.
 fn rewrite_of<'a>(
     alloc: Global,
     kind: SectionKind,
@@ -101,12 +102,12 @@ fn rewrite_of<'a>(
     fields: Vec<Patch>,
     range: FileRange,
     limit: usize,
-) -> Option<Rewrite<'a>>
-    ensures within { IfSome result (λ w. IsWithin limit (written w)) }
-    ensures planned { IfSome result (λ w. IsPlanned kind bytes.now range fields.items (written w)) }
+) -> Result<Rewrite<'a>, NoMemory>
+    ensures within { IfOk result (λ w. IsWithin limit (written w)) }
+    ensures planned { IfOk result (λ w. IsPlanned kind bytes.now range fields.items (written w)) }
 {
     if range.length == 0 || matches!(kind, SectionKind::Nobits) {
-        return Some(Rewrite {
+        return Ok(Rewrite {
             at: 0,
             bytes: &[],
             fields: Vec::new(alloc),
@@ -114,16 +115,22 @@ fn rewrite_of<'a>(
     }
     let at = range.offset as usize;
     let length = bytes.len();
-    if range.length != length as u64 || length > limit || at > limit - length {
-        return None;
+    if range.length != length as u64 {
+        // A section that has bytes in the file has all of its own there
+        return Err(impossible());
+    }
+    if length > limit || at > limit - length {
+        // The file has the bytes of all sections
+        return Err(impossible());
     }
     if !are_in_order(&fields, length) {
-        return None;
+        // No fields of a section meet, and each ends within the section's bytes
+        return Err(impossible());
     }
-    Some(Rewrite { at, bytes, fields })
+    Ok(Rewrite { at, bytes, fields })
 }
 
-/// What is written of a section of an object; none where a relocation has a fault.
+/// What is written of a section of an object; none where, and only where, a relocation has a fault.
 fn plan_section<'a>(
     alloc: Global,
     limit: usize,
@@ -138,23 +145,27 @@ fn plan_section<'a>(
         → IsAtHand l key object.now values.now o → IsPlannedAt l o spot (written w)
         × (meter.new ≡ raised meter.old Fields (evaluations l (sites_there o spot))))) }
     ensures none { IfOk result (λ r. IfNone r ((l : KnownLink) (o : NamedObject)
-        → IsAtHand l key object.now values.now o → (n : ℕ) × (meter.new ≡ raised meter.old Fields n))) }
+        → IsAtHand l key object.now values.now o → IsRefused l (sites_there o spot) meter.old meter.new)) }
 {
     // so that the range of the count is known
     let _fields = meter.fields();
     if spot.index.0 >= object.sections().len() {
-        return Ok(None);
+        // Each spot is that of a section of the object
+        return Err(impossible());
     }
     let kind = object.sections()[spot.index.0].kind;
     let bytes = object.section_bytes(spot.index);
     match fields_of(alloc, key, object, values, spot.index, spot.start, meter)? {
         None => Ok(None),
-        Some(fields) => Ok(rewrite_of(alloc, kind, bytes, fields, spot.range, limit)),
+        Some(fields) => {
+            let rewrite = rewrite_of(alloc, kind, bytes, fields, spot.range, limit)?;
+            Ok(Some(rewrite))
+        }
     }
 }
 
-/// What is written of the sections of an object, onto a canvas of this length; none where a relocation has a fault.
-/// Each relocation whose symbol has a value counts as one.
+/// What is written of the sections of an object, onto a canvas of this length; none where, and only where, a relocation
+/// has a fault. Each relocation whose symbol has a value counts as one.
 ///
 /// # Errors
 ///
@@ -173,7 +184,7 @@ pub(crate) fn plan<'a>(
         → IsAtHand l key object.now values.now o → AllZip (IsPlannedAt l o) spots.now (written_all ws.items)
         × (meter.new ≡ raised meter.old Fields (evaluations l (sites_in_all o spots.now))))) }
     ensures none { IfOk result (λ r. IfNone r ((l : KnownLink) (o : NamedObject)
-        → IsAtHand l key object.now values.now o → (n : ℕ) × (meter.new ≡ raised meter.old Fields n))) }
+        → IsAtHand l key object.now values.now o → IsRefused l (sites_in_all o spots.now) meter.old meter.new)) }
 {
     // so that the range of the count is known
     let _fields = meter.fields();

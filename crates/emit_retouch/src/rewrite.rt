@@ -24,13 +24,14 @@ use std::alloc::Global;
 
 /// Writes the input sections of an object anew, onto a canvas that holds the image of a link in which they held
 /// something else. `values` are the values of the object's symbols, and `spots` has each section that is in the output.
-/// Answers whether it did: not where a relocation has a fault. Then the canvas is as it was.
+/// Answers whether it did: not where, and only where, a relocation has a fault. Then the canvas is as it was.
 ///
 /// Each relocation whose symbol has a value counts as one, and each byte of a section that has bytes in the file.
 ///
 /// # Errors
 ///
-/// Where memory runs out. Then the canvas is as it was.
+/// Where memory runs out; spots that no link has, as one past the end of the image, count as that. Then the canvas is
+/// as it was.
 pub fn retouch(
     alloc: Global,
     canvas: &mut Canvas,
@@ -56,6 +57,9 @@ pub fn retouch(
     ensures counted_refused { IfOk result (λ done. done ≡ false → (l : KnownLink) (o : NamedObject)
         → named_object l key ≡ Some o → o.object ≡ object.now → IsRow l o values.now
         → HasSpots l.project l.layout o spots.now → (n : ℕ) × (meter.new ≡ raised meter.old Fields n)) }
+    ensures refused_faulty { IfOk result (λ done. done ≡ false → (l : KnownLink) (o : NamedObject)
+        → named_object l key ≡ Some o → o.object ≡ object.now → IsRow l o values.now
+        → HasSpots l.project l.layout o spots.now → relocation_faults l.project l.layout ≡ [] → ⊥) }
     ensures refused { IfOk result (λ done. done ≡ false → canvas.new.bytes ≡ canvas.old.bytes) }
     ensures unchanged { OnErr result (canvas.new.bytes ≡ canvas.old.bytes) }
     ensures room { canvas.new.room ≡ canvas.old.room }

@@ -1,11 +1,10 @@
 -- Lemmas of the crate.
-pub mod Draftings
+pub mod Appending
 pub mod HexDigits
 pub mod MapLines
 pub mod Spelling
 pub mod FoundSections
-pub mod Merging
 pub mod SideBySide
 pub mod Mapped
 pub mod ByteOrder
-pub mod MergedNames
+pub mod MapNames

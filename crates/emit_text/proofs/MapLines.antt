@@ -1,13 +1,9 @@
 -- How the map's lines of two names are spelled.
-use Rattle.std.proofs.Common.{◌≡◌, ◌∙◌, ◌∷◌, [], ◌++◌, ap, ℕ, List, length}
-use Rattle.std.proofs.Common.{append_assoc, append-nil, codes, refl, sym}
+use Rattle.std.proofs.Common.{◌≡◌, ◌∙◌, ◌∷◌, [], ◌++◌, ap, ℕ, List}
+use Rattle.std.proofs.Common.{append_assoc, append-nil, codes, sym}
 use Rattle.std.specs.Prelude.{Option, Some, None}
 use Rattle.ldmodel.specs.Lines.{hex, line_of}
 use Rattle.emit_text.specs.ShownMap.{value_text}
-
-pub digits_long : (n : ℕ) → length (hex n) ≡ 16
-unfolding hex
-digits_long n = refl
 
 abbrev names : (xs ys : List ℕ) → List ℕ
 names xs ys = xs ++ 32 ∷ [] ++ ys ++ 10 ∷ []
@@ -16,12 +12,13 @@ names_last : (xs ys : List ℕ) → names xs ys ≡ (xs ++ (32 ∷ (ys ++ []))) 
 names_last xs ys =
     ap (λ t. t ++ 10 ∷ []) (append_assoc xs (32 ∷ []) ys ∙ ap (λ zs. xs ++ 32 ∷ zs) (sym (append-nil ys)))
 
-pub piece_spelled : (start size : ℕ) (object section : List ℕ)
-    → codes "piece " ++ (hex start ++ 32 ∷ []) ++ (hex size ++ 32 ∷ []) ++ names object section
-    ≡ line_of (codes "piece" ∷ hex start ∷ hex size ∷ object ∷ section ∷ [])
+pub piece_spelled : (front : List ℕ) (start size : ℕ) (object section : List ℕ)
+    → front ≡ codes "piece " ++ (hex start ++ 32 ∷ []) ++ (hex size ++ 32 ∷ [])
+    → front ++ names object section ≡ line_of (codes "piece" ∷ hex start ∷ hex size ∷ object ∷ section ∷ [])
 unfolding line_of hex
-piece_spelled start size object section =
-    ap (λ t. codes "piece " ++ (hex start ++ 32 ∷ []) ++ (hex size ++ 32 ∷ []) ++ t) (names_last object section)
+piece_spelled front start size object section e =
+    ap (λ t. t ++ names object section) e
+    ∙ ap (λ t. codes "piece " ++ (hex start ++ 32 ∷ []) ++ (hex size ++ 32 ∷ []) ++ t) (names_last object section)
 
 pub symbol_spelled : (value : Option ℕ) (name owner : List ℕ)
     → codes "symbol " ++ (value_text value ++ 32 ∷ []) ++ names name owner
@@ -30,9 +27,10 @@ unfolding line_of hex
 symbol_spelled (Some x) name owner = ap (λ t. codes "symbol " ++ (hex x ++ 32 ∷ []) ++ t) (names_last name owner)
 symbol_spelled None name owner = ap (λ t. codes "symbol " ++ (value_text None ++ 32 ∷ []) ++ t) (names_last name owner)
 
-pub entry_spelled : (entry : ℕ) → codes "entry " ++ hex entry ++ 10 ∷ [] ≡ line_of (codes "entry" ∷ hex entry ∷ [])
+pub entry_spelled : (digits : List ℕ) (entry : ℕ) → digits ≡ hex entry
+    → codes "entry " ++ digits ++ 10 ∷ [] ≡ line_of (codes "entry" ∷ hex entry ∷ [])
 unfolding line_of hex
-entry_spelled entry = refl
+entry_spelled digits entry e = ap (λ t. codes "entry " ++ t ++ 10 ∷ []) e
 
 abbrev numbers : (start load size : ℕ) → List ℕ
 numbers start load size = 32 ∷ (hex start ++ 32 ∷ []) ++ (hex load ++ 32 ∷ []) ++ (hex size ++ 32 ∷ [])
@@ -43,9 +41,11 @@ section_last : (name flags middle : List ℕ)
 section_last name flags middle =
     ap (λ t. t ++ 10 ∷ []) (append_assoc name middle flags ∙ ap (λ t. name ++ (middle ++ t)) (sym (append-nil flags)))
 
-pub section_spelled : (name : List ℕ) (start load size : ℕ) (flags : List ℕ)
-    → codes "section " ++ name ++ numbers start load size ++ flags ++ 10 ∷ []
+pub section_spelled : (name middle : List ℕ) (start load size : ℕ) (flags : List ℕ)
+    → middle ≡ numbers start load size
+    → codes "section " ++ name ++ middle ++ flags ++ 10 ∷ []
     ≡ line_of (codes "section" ∷ name ∷ hex start ∷ hex load ∷ hex size ∷ flags ∷ [])
 unfolding line_of hex
-section_spelled name start load size flags =
-    ap (λ t. codes "section " ++ t) (section_last name flags (numbers start load size))
+section_spelled name middle start load size flags e =
+    ap (λ t. codes "section " ++ name ++ t ++ flags ++ 10 ∷ []) e
+    ∙ ap (λ t. codes "section " ++ t) (section_last name flags (numbers start load size))

@@ -1,6 +1,6 @@
 -- The map by the code's values is the map of the link.
 use Rattle.std.proofs.Common.{◌≡◌, ℕ, List, [], ◌∷◌, ◌++◌, drop, filter, flat_map, length, map, refl, ap, sym}
-use Rattle.std.proofs.Common.{◌∙◌, subst, Bool, true, false, cond, Option, codes}
+use Rattle.std.proofs.Common.{◌∙◌, Bool, true, false, cond, Option, codes}
 use Rattle.std.proofs.Common.{append_assoc}
 use Rattle.std.specs.Prelude.{Contains}
 use Rattle.std.specs.Vec.{vec_items}
@@ -19,15 +19,14 @@ use Rattle.ldmodel.specs.SymbolValues.{SymbolValue, Number, NotDefined, NotInOut
 use Rattle.ldmodel.specs.declared.rows.Piece.{Piece}
 use Rattle.emit_text.specs.MapOf.{IsMapOf, IsSymbolOf, AreSymbolsOf, IsValue, name_of, name_in, row_of, shown_piece}
 use Rattle.emit_text.specs.MapOf.{shown_row, symbol_names}
-use Rattle.emit_text.specs.ShownMap.{merged, piece_text, pieces_text, section_text, sections_text, shown_map}
+use Rattle.emit_text.specs.ShownMap.{piece_text, pieces_text, section_text, sections_text, shown_map}
 use Rattle.emit_text.specs.ShownMap.{symbol_text, symbols_text, value_text}
 use Rattle.emit_text.specs.declared.maps.MapParts.{MapParts}
 use Rattle.emit_text.specs.declared.symbols.MapSymbol.{MapSymbol}
 use Rattle.emit_text.proofs.ByteOrder.{Name, In, Once, contained_in, distinct_once, filtered_asc}
-use Rattle.emit_text.proofs.ByteOrder.{filtered_in, in_append, in_contained, in_filtered, in_sorted}
+use Rattle.emit_text.proofs.ByteOrder.{filtered_in, in_contained, in_filtered, in_sorted}
 use Rattle.emit_text.proofs.ByteOrder.{same_list, sorted_asc, sorted_in}
-use Rattle.emit_text.proofs.MergedNames.{Each, asc_from, each_merged, each_name, each_of, merged_asc, merged_in}
-use Rattle.emit_text.proofs.MergedNames.{names_append}
+use Rattle.emit_text.proofs.MapNames.{Each, asc_from, each_name, each_of}
 
 -- ---- sections and rows
 
@@ -149,46 +148,39 @@ unfolding declared_names
 names_once p = distinct_once _
 
 -- the names that stand for something are the same ones
-module _ (p : Project) (number : ℕ → ℕ) (s : Layout) (xs ys : List MapSymbol) (h : AreSymbolsOf p number s xs)
-    (k : AreSymbolsOf p number s ys)
+module _ (p : Project) (number : ℕ → ℕ) (s : Layout) (xs : List MapSymbol) (h : AreSymbolsOf p number s xs)
     (all : (name : List ℕ) → Contains (declared_names p) name → is_defined (decision p name) ≡ true
-    → Contains (symbol_names (xs ++ ys)) name) where
-  abbrev both : List Name
-  both = symbol_names (merged xs ys)
-
+    → Contains (symbol_names xs) name) where
   abbrev every : List Name
   every = in_byte_order (declared_names p)
 
-  each : Each (IsSymbolOf p number s) (merged xs ys)
-  each = each_merged (IsSymbolOf p number s) xs ys (each_of (IsSymbolOf p number s) xs h.each)
-      (each_of (IsSymbolOf p number s) ys k.each)
+  each : Each (IsSymbolOf p number s) xs
+  each = each_of (IsSymbolOf p number s) xs h.each
 
-  to_every : (z : Name) → In z (filter (stands p) both) → In z (filter (stands p) every)
+  to_every : (z : Name) → In z (filter (stands p) (symbol_names xs)) → In z (filter (stands p) every)
   to_every z i =
-      let parts = in_filtered (stands p) z both i in
+      let parts = in_filtered (stands p) z (symbol_names xs) i in
       let declared : Contains (declared_names p) z =
       each_name (IsSymbolOf p number s) (λ w. is_defined (decision p w) ≡ true → Contains (declared_names p) w) (λ x q.
-      q.declared) (merged xs ys) z each parts.0 parts.1 in
+      q.declared) xs z each parts.0 parts.1 in
       filtered_in (stands p) z every (sorted_in z (declared_names p) (in_contained z (declared_names p) declared))
       parts.1
 
-  to_both : (z : Name) → In z (filter (stands p) every) → In z (filter (stands p) both)
-  to_both z i =
+  to_listed : (z : Name) → In z (filter (stands p) every) → In z (filter (stands p) (symbol_names xs))
+  to_listed z i =
       let parts = in_filtered (stands p) z every i in
       let among = all z (contained_in z (declared_names p) (in_sorted z (declared_names p) parts.0)) parts.1 in
-      let either = in_append z (symbol_names xs) (symbol_names ys)
-      (subst (λ l. In z l) (names_append xs ys) (in_contained z (symbol_names (xs ++ ys)) among)) in
-      filtered_in (stands p) z both (merged_in xs ys z either) parts.1
+      filtered_in (stands p) z (symbol_names xs) (in_contained z (symbol_names xs) among) parts.1
 
-  same_names : filter (stands p) both ≡ filter (stands p) every
-  same_names = same_list (filter (stands p) both) (filter (stands p) every)
-      (filtered_asc (stands p) both (merged_asc xs ys (asc_from xs h.order) (asc_from ys k.order)))
-      (filtered_asc (stands p) every (sorted_asc (declared_names p) (names_once p))) to_every to_both
+  same_names : filter (stands p) (symbol_names xs) ≡ filter (stands p) every
+  same_names = same_list (filter (stands p) (symbol_names xs)) (filter (stands p) every)
+      (filtered_asc (stands p) (symbol_names xs) (asc_from xs h.order))
+      (filtered_asc (stands p) every (sorted_asc (declared_names p) (names_once p))) to_every to_listed
 
-  pub all_symbols : symbols_text p number (merged xs ys) ≡ flat_map (symbol_line p) (output_symbols p s)
+  pub all_symbols : symbols_text p number xs ≡ flat_map (symbol_line p) (output_symbols p s)
   unfolding output_symbols
   all_symbols =
-      symbols_same p number s (merged xs ys) each ∙ sym (filtered_lines p s both)
+      symbols_same p number s xs each ∙ sym (filtered_lines p s (symbol_names xs))
       ∙ ap (flat_map (named_line p s)) same_names
       ∙ filtered_lines p s every ∙ sym (listed p s every)
 
@@ -205,11 +197,11 @@ map_is_shown p number s m h =
     ∙ ap (λ os. sections_text p number (map placed_of s.sections) os (map vec_items m.rows.now)
     (flat_map starts_of s.sections)) h.sections
     ∙ sections_same p number s.sections (output_sections p.script) (map vec_items m.rows.now) h.names h.rows in
-    let symbols = all_symbols p number s m.named.now m.given.now h.named h.given h.complete in
+    let symbols = all_symbols p number s m.symbols.now h.symbols h.complete in
     ap (λ e. line_of (codes "entry" ∷ hex e ∷ [])
     ++ (sections_text p number m.laid.sections.now (shown_sections m.sections.now) (map vec_items m.rows.now)
-    m.laid.starts.now ++ symbols_text p number (merged m.named.now m.given.now))) h.entry
-    ∙ ap (λ t. entry_line p s ++ (t ++ symbols_text p number (merged m.named.now m.given.now))) sections
+    m.laid.starts.now ++ symbols_text p number m.symbols.now)) h.entry
+    ∙ ap (λ t. entry_line p s ++ (t ++ symbols_text p number m.symbols.now)) sections
     ∙ ap (λ t. entry_line p s ++ (flat_map section_lines s.sections ++ t)) symbols
     ∙ sym (append_assoc (entry_line p s) (flat_map section_lines s.sections)
     (flat_map (symbol_line p) (output_symbols p s)))

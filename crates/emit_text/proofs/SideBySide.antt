@@ -15,11 +15,3 @@ none_left f [] zero h = refl
 none_left f [] (suc k) h = refl
 none_left f (x ∷ xs) zero h = absurd (omega (arith, h))
 none_left f (x ∷ xs) (suc k) h = none_left f xs k (omega (arith, h))
-
-pub next_left : {X : Type 0} (xs : List X) (i : ℕ) (y : X) (ys : List X) → drop i xs ≡ y ∷ ys → drop (i + 1) xs ≡ ys
-next_left [] zero y ys e = cc
-next_left [] (suc i) y ys e = cc
-next_left (x ∷ xs) zero y ys e = cc
-next_left (x ∷ xs) (suc i) y ys e =
-    let n : suc i + 1 ≡ suc (i + 1) = omega arith in
-    ap (λ m. drop m (x ∷ xs)) n ∙ next_left xs i y ys e

@@ -1,5 +1,5 @@
 -- How a line is spelled, word by word.
-use Rattle.std.proofs.Common.{◌≡◌, List, [], ◌∷◌, ◌++◌, map, flat_map, refl, ap, sym, ◌∙◌, append_assoc}
+use Rattle.std.proofs.Common.{◌≡◌, List, [], ◌∷◌, ◌++◌, map, flat_map, refl, ap}
 use Rattle.ldmodel.specs.Lines.{line_of}
 use Rattle.emit_text.specs.LineWords.{shown, spaced_words}
 use Rattle.emit_text.specs.declared.line.Word.{Word}
@@ -8,11 +8,6 @@ after_spaces : (ws : List Word) → spaced_words ws ≡ flat_map (λ v. 32 ∷ v
 after_spaces [] = refl
 after_spaces (w ∷ ws) = ap (λ t. (32 ∷ shown w) ++ t) (after_spaces ws)
 
-pub spelled : (w : Word) (ws : List Word) → shown w ++ (spaced_words ws ++ 10 ∷ []) ≡ line_of (map shown (w ∷ ws))
+pub spelled : (w : Word) (ws : List Word) → (shown w ++ spaced_words ws) ++ 10 ∷ [] ≡ line_of (map shown (w ∷ ws))
 unfolding line_of
-spelled w ws =
-    sym (append_assoc (shown w) (spaced_words ws) (10 ∷ [])) ∙ ap (λ t. (shown w ++ t) ++ 10 ∷ []) (after_spaces ws)
-
-pub spelled_none : 10 ∷ [] ≡ line_of (map shown [])
-unfolding line_of
-spelled_none = refl
+spelled w ws = ap (λ t. (shown w ++ t) ++ 10 ∷ []) (after_spaces ws)

@@ -1,5 +1,4 @@
 -- What the texts of a link need besides the definitions of ldmodel.
-pub mod Drafts
 pub mod LineWords
 pub mod Naming
 pub mod ShownMap

@@ -1,5 +1,5 @@
 -- Which values the map of a link is made of. `number` says which place in the project the object of a key has.
-use Rattle.std.specs.Prelude.{◌≡◌, ℕ, List, ◌++◌, map, Option, Some, None, true, All, AllPairs, Contains}
+use Rattle.std.specs.Prelude.{◌≡◌, ℕ, List, map, Option, Some, None, true, All, AllPairs, Contains}
 use Rattle.std.specs.Vec.{vec_items}
 use Rattle.ldscript.specs.Numbered.{shown_sections}
 use Rattle.ldscript.specs.Numbering.{OutputSectionAt, output_sections}
@@ -64,8 +64,7 @@ pub record IsMapOf (p : Project) (number : ℕ → ℕ) (s : Layout) (m : MapPar
   pub names : map name_of s.sections ≡ map name_in (output_sections p.script)
   pub laid : IsLaid p.script s m.laid
   pub rows : map (shown_row p number) (map vec_items m.rows.now) ≡ map row_of s.sections
-  pub named : AreSymbolsOf p number s m.named.now
-  pub given : AreSymbolsOf p number s m.given.now
-  -- each name that stands for something is in one of the two lists
+  pub symbols : AreSymbolsOf p number s m.symbols.now
+  -- each name that stands for something is one of theirs
   pub complete : (name : List ℕ) → Contains (declared_names p) name → is_defined (decision p name) ≡ true
-      → Contains (symbol_names (m.named.now ++ m.given.now)) name
+      → Contains (symbol_names m.symbols.now) name

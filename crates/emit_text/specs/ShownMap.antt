@@ -2,11 +2,7 @@
 use Rattle.std.specs.Prelude.{ℕ, List, [], ◌∷◌, ◌++◌, drop, flat_map, length, map, replicate, codes, Bool}
 use Rattle.std.specs.Prelude.{if◌then◌else◌}
 use Rattle.std.specs.Prelude.{Option, Some, None}
-use Rattle.std.specs.Cmp.Lexicographic.{slice_cmp}
-use Rattle.std.specs.Ordering.{nat_cmp}
 use Rattle.std.specs.Vec.{vec_items}
-use Rattle.std.specs.declared.cmp.Ordering.{Ordering}
-use Rattle.std.specs.declared.cmp.Ordering.TheVariants.{Less, Equal, Greater}
 use Rattle.ldscript.specs.Numbered.{shown_sections}
 use Rattle.ldscript.specs.Numbering.{OutputSectionAt}
 use Rattle.ldmodel.specs.FaultCode.{name_of_part}
@@ -63,33 +59,9 @@ symbol_text p number x =
 abbrev pub symbols_text : Project → (number : ℕ → ℕ) → List MapSymbol → List ℕ
 symbols_text p number xs = flat_map (symbol_text p number) xs
 
--- how the name of y stands to that of x in byte order
-abbrev pub compared : MapSymbol → MapSymbol → Ordering
-compared y x = slice_cmp nat_cmp y.name.now x.name.now
-
-abbrev pub by_order : {X : Type 0} → Ordering → (less equal greater : X) → X
-by_order Less less equal greater = less
-by_order Equal less equal greater = equal
-by_order Greater less equal greater = greater
-
--- those at the front whose names stand before that of x
-abbrev pub before : MapSymbol → List MapSymbol → List MapSymbol
-before x [] = []
-before x (y ∷ ys) = by_order (compared y x) (y ∷ before x ys) [] []
-
--- those that follow them, without one of the name of x
-abbrev pub after : MapSymbol → List MapSymbol → List MapSymbol
-after x [] = []
-after x (y ∷ ys) = by_order (compared y x) (after x ys) ys (y ∷ ys)
-
--- two lists in byte order as one; of a name that both have, the entry of the first
-abbrev pub merged : List MapSymbol → List MapSymbol → List MapSymbol
-merged [] ys = ys
-merged (x ∷ xs) ys = before x ys ++ x ∷ merged xs (after x ys)
-
 unfoldable pub shown_map : Project → (number : ℕ → ℕ) → MapParts → List ℕ
 shown_map p number m =
     line_of (codes "entry" ∷ hex m.entry ∷ [])
     ++ (sections_text p number m.laid.sections.now (shown_sections m.sections.now) (map vec_items m.rows.now)
     m.laid.starts.now
-    ++ symbols_text p number (merged m.named.now m.given.now))
+    ++ symbols_text p number m.symbols.now)

@@ -1,42 +1,40 @@
 //! The line of a fault.
 
-ghost use Rattle.std.specs.Prelude.{◌≡◌, OnOk, [], ◌∷◌, codes, decimal};
+ghost use Rattle.std.specs.Prelude.{◌≡◌, ◌++◌, OnOk, [], ◌∷◌, codes, decimal};
 ghost use Rattle.ldmodel.specs.FaultCode.{definer_of, kind_of, missing_at, name_of_symbol, offset_of, overflow_at};
 ghost use Rattle.ldmodel.specs.FaultCode.{place_of, symbol_of, undefined_at};
 ghost use Rattle.ldmodel.specs.FaultText.{definer_word, fault_words, relocation_number};
 ghost use Rattle.ldmodel.specs.Lines.{line_of};
 ghost use Rattle.ldmodel.specs.NameFaults.{object_name};
-ghost use Rattle.emit_text.specs.Drafts.{added};
 ghost use Rattle.emit_text.specs.Naming.{AreNamesOf, line_of_fault};
 
-use crate::draft::Draft;
 use crate::line::{Word, put_line};
 use crate::members::Members;
 use crate::named::{part_name, relocation, section_name, symbol_name};
 use crate::script_names::ScriptNames;
 use elfobj::relocation::{Relocation, RelocationKind, SymbolIndex};
 use ldmodel::fault::{Definer, Fault, SiteKey};
-use ldmodel::memory::NoMemory;
 use ldmodel::names::{Entry, ObjectPlace};
+use std::alloc::AllocError;
 
 /// A line of a code and a line of the script.
-fn put_numbered(draft: &mut Draft, code: &[u8], line: u32) -> Result<(), NoMemory>
-    ensures { OnOk result (draft.new ≡ added draft.old (line_of (code.now ∷ decimal line ∷ []))) }
+fn put_numbered(text: &mut Vec<u8>, code: &[u8], line: u32) -> Result<(), AllocError>
+    ensures { OnOk result (text.new.items ≡ text.old.items ++ line_of (code.now ∷ decimal line ∷ [])) }
 {
-    put_line(draft, &[Word::Bytes(code), Word::Decimal(u128::from(line))])
+    put_line(text, &[Word::Bytes(code), Word::Decimal(u128::from(line))])
 }
 
 /// A line of a code, a line of the script, and what is said of it.
 fn put_message<'a>(
-    draft: &mut Draft,
+    text: &mut Vec<u8>,
     code: &'a [u8],
     line: u32,
     message: &'a [u8],
-) -> Result<(), NoMemory>
-    ensures { OnOk result (draft.new ≡ added draft.old (line_of (code.now ∷ decimal line ∷ message.now ∷ []))) }
+) -> Result<(), AllocError>
+    ensures { OnOk result (text.new.items ≡ text.old.items ++ line_of (code.now ∷ decimal line ∷ message.now ∷ [])) }
 {
     put_line(
-        draft,
+        text,
         &[
             Word::Bytes(code),
             Word::Decimal(u128::from(line)),
@@ -46,11 +44,11 @@ fn put_message<'a>(
 }
 
 /// A line of a code and two names.
-fn put_names(draft: &mut Draft, code: &[u8], first: &[u8], second: &[u8]) -> Result<(), NoMemory>
-    ensures { OnOk result (draft.new ≡ added draft.old (line_of (code.now ∷ first.now ∷ second.now ∷ []))) }
+fn put_names(text: &mut Vec<u8>, code: &[u8], first: &[u8], second: &[u8]) -> Result<(), AllocError>
+    ensures { OnOk result (text.new.items ≡ text.old.items ++ line_of (code.now ∷ first.now ∷ second.now ∷ [])) }
 {
     put_line(
-        draft,
+        text,
         &[Word::Bytes(code), Word::Bytes(first), Word::Bytes(second)],
     )
 }
@@ -91,21 +89,20 @@ fn relocation_or_none<M: Members>(members: &M, site: SiteKey) -> Relocation
 
 /// `F1 NAME OBJECT FIRST`
 fn put_duplicate<M: Members>(
-    draft: &mut Draft,
+    text: &mut Vec<u8>,
     members: &M,
     entry: Entry,
     first: Definer,
-) -> Result<(), NoMemory>
-    ensures { OnOk result (draft.new
-        ≡ added draft.old (line_of
+) -> Result<(), AllocError>
+    ensures { OnOk result (text.new.items ≡ text.old.items ++ line_of
         (codes "F1" ∷ name_of_symbol (M.project members.now) (M.number members.now entry.key) entry.symbol ∷
         object_name (M.project members.now) (M.number members.now entry.key) ∷ definer_word
-        (definer_of (M.project members.now) (M.number members.now) first) ∷ []))) }
+        (definer_of (M.project members.now) (M.number members.now) first) ∷ [])) }
 {
     let object = ObjectPlace(entry.key);
     let name = symbol_name(members, object, SymbolIndex(entry.symbol));
     put_line(
-        draft,
+        text,
         &[
             Word::Bytes(b"F1"),
             Word::Bytes(name),
@@ -116,15 +113,18 @@ fn put_duplicate<M: Members>(
 }
 
 /// `F12 OBJECT SECTION OFFSET NAME`
-fn put_undefined<M: Members>(draft: &mut Draft, members: &M, site: SiteKey) -> Result<(), NoMemory>
-    ensures { OnOk result (draft.new
-        ≡ added draft.old (line_of
-        (fault_words (undefined_at (M.project members.now) (place_of (M.number members.now) site))))) }
+fn put_undefined<M: Members>(
+    text: &mut Vec<u8>,
+    members: &M,
+    site: SiteKey,
+) -> Result<(), AllocError>
+    ensures { OnOk result (text.new.items ≡ text.old.items ++ line_of
+        (fault_words (undefined_at (M.project members.now) (place_of (M.number members.now) site)))) }
 {
     let relocation = relocation_or_none(members, site);
     let name = symbol_name(members, site.object, relocation.symbol);
     put_line(
-        draft,
+        text,
         &[
             Word::Bytes(b"F12"),
             Word::Bytes(members.name(site.object)),
@@ -136,14 +136,13 @@ fn put_undefined<M: Members>(draft: &mut Draft, members: &M, site: SiteKey) -> R
 }
 
 /// `F13 OBJECT SECTION OFFSET INDEX`
-fn put_missing<M: Members>(draft: &mut Draft, members: &M, site: SiteKey) -> Result<(), NoMemory>
-    ensures { OnOk result (draft.new
-        ≡ added draft.old (line_of
-        (fault_words (missing_at (M.project members.now) (place_of (M.number members.now) site))))) }
+fn put_missing<M: Members>(text: &mut Vec<u8>, members: &M, site: SiteKey) -> Result<(), AllocError>
+    ensures { OnOk result (text.new.items ≡ text.old.items ++ line_of
+        (fault_words (missing_at (M.project members.now) (place_of (M.number members.now) site)))) }
 {
     let relocation = relocation_or_none(members, site);
     put_line(
-        draft,
+        text,
         &[
             Word::Bytes(b"F13"),
             Word::Bytes(members.name(site.object)),
@@ -156,18 +155,17 @@ fn put_missing<M: Members>(draft: &mut Draft, members: &M, site: SiteKey) -> Res
 
 /// `F14 OBJECT SECTION OFFSET TYPE VALUE`
 fn put_overflow<M: Members>(
-    draft: &mut Draft,
+    text: &mut Vec<u8>,
     members: &M,
     site: SiteKey,
     value: u64,
-) -> Result<(), NoMemory>
-    ensures { OnOk result (draft.new
-        ≡ added draft.old (line_of
-        (fault_words (overflow_at (M.project members.now) (place_of (M.number members.now) site) value)))) }
+) -> Result<(), AllocError>
+    ensures { OnOk result (text.new.items ≡ text.old.items ++ line_of
+        (fault_words (overflow_at (M.project members.now) (place_of (M.number members.now) site) value))) }
 {
     let relocation = relocation_or_none(members, site);
     put_line(
-        draft,
+        text,
         &[
             Word::Bytes(b"F14"),
             Word::Bytes(members.name(site.object)),
@@ -182,51 +180,46 @@ fn put_overflow<M: Members>(
 /// The line of a fault.
 #[tactic(auto, unfolding(ldmodel::specs::FaultCode::fault_of))]
 pub fn put_fault<M: Members>(
-    draft: &mut Draft,
+    text: &mut Vec<u8>,
     names: &ScriptNames<'_>,
     members: &M,
     fault: Fault,
-) -> Result<(), NoMemory>
+) -> Result<(), AllocError>
     requires { AreNamesOf (M.project members.now) names.now }
-    ensures { OnOk result (draft.new
-        ≡ added draft.old (line_of_fault (M.project members.now) (M.number members.now) fault)) }
+    ensures { OnOk result (text.new.items
+        ≡ text.old.items ++ line_of_fault (M.project members.now) (M.number members.now) fault) }
 {
     match fault {
-        Fault::DuplicateDefinition { entry, first } => put_duplicate(draft, members, entry, first),
-        Fault::UndefinedEntry => put_line(draft, &[Word::Bytes(b"F2"), Word::Bytes(names.entry())]),
+        Fault::DuplicateDefinition { entry, first } => put_duplicate(text, members, entry, first),
+        Fault::UndefinedEntry => put_line(text, &[Word::Bytes(b"F2"), Word::Bytes(names.entry())]),
         Fault::Orphan(section) => {
             let name = part_name(members, section);
-            put_names(draft, b"F3", members.name(section.object), name)
+            put_names(text, b"F3", members.name(section.object), name)
         }
-        Fault::NotReady { line, name } => put_message(draft, b"F4", line, names.mentioned(name)),
-        Fault::NoValue { line } => put_numbered(draft, b"F5", line),
-        Fault::MovedBack { line } => put_numbered(draft, b"F6", line),
+        Fault::NotReady { line, name } => put_message(text, b"F4", line, names.mentioned(name)),
+        Fault::NoValue { line } => put_numbered(text, b"F5", line),
+        Fault::MovedBack { line } => put_numbered(text, b"F6", line),
         Fault::RegionFull { section, region } => {
-            put_names(draft, b"F7", names.section(section), names.region(region))
+            put_names(text, b"F7", names.section(section), names.region(region))
         }
-        Fault::PastAddressSpace { line } => put_numbered(draft, b"F8", line),
+        Fault::PastAddressSpace { line } => put_numbered(text, b"F8", line),
         Fault::AddressesMeet { section, earlier } => {
-            put_names(draft, b"F9", names.section(section), names.section(earlier))
+            put_names(text, b"F9", names.section(section), names.section(earlier))
         }
         Fault::LoadAddressesMeet { section, earlier } => {
-            put_names(
-                draft,
-                b"F10",
-                names.section(section),
-                names.section(earlier),
-            )
+            put_names(text, b"F10", names.section(section), names.section(earlier))
         }
         Fault::ImageTooLong { length } => put_line(
-            draft,
+            text,
             &[Word::Bytes(b"F11"), Word::Decimal(length)],
         ),
-        Fault::UndefinedSymbol(site) => put_undefined(draft, members, site),
-        Fault::TargetNotInOutput(site) => put_missing(draft, members, site),
-        Fault::EntryNotInOutput => put_line(draft, &[Word::Bytes(b"F13"), Word::Bytes(b"entry")]),
-        Fault::FieldOverflow { site, value } => put_overflow(draft, members, site, value),
+        Fault::UndefinedSymbol(site) => put_undefined(text, members, site),
+        Fault::TargetNotInOutput(site) => put_missing(text, members, site),
+        Fault::EntryNotInOutput => put_line(text, &[Word::Bytes(b"F13"), Word::Bytes(b"entry")]),
+        Fault::FieldOverflow { site, value } => put_overflow(text, members, site, value),
         Fault::AssertionFailed(number) => {
             let (line, message) = names.assertion(number);
-            put_message(draft, b"F15", line, message)
+            put_message(text, b"F15", line, message)
         }
     }
 }

@@ -1,35 +1,36 @@
 //! The lines of faults.
 
-ghost use Rattle.std.specs.Prelude.{◌≡◌, IfOk, OnOk, map};
+ghost use Rattle.std.specs.Prelude.{◌≡◌, ◌++◌, IfOk, OnOk, map};
 ghost use Rattle.ldmodel.specs.FaultCode.{fault_of};
 ghost use Rattle.ldmodel.specs.FaultText.{fault_text};
-ghost use Rattle.emit_text.specs.Drafts.{added};
 ghost use Rattle.emit_text.specs.Naming.{AreNamesOf};
 
-use crate::draft::Draft;
 use crate::fault_line::put_fault;
 use crate::members::Members;
 use crate::script_names::ScriptNames;
 use ldmodel::fault::Fault;
 use ldmodel::memory::NoMemory;
-use std::alloc::Global;
+use std::alloc::{AllocError, Global};
 
 /// The lines of these faults.
 fn put_faults<M: Members>(
-    draft: &mut Draft,
+    text: &mut Vec<u8>,
     names: &ScriptNames<'_>,
     members: &M,
     faults: &[Fault],
-) -> Result<(), NoMemory>
+) -> Result<(), AllocError>
     requires { AreNamesOf (M.project members.now) names.now }
-    ensures { OnOk result (draft.new
-        ≡ added draft.old (fault_text (map (fault_of (M.project members.now) (M.number members.now)) faults.now))) }
+    ensures { OnOk result (text.new.items
+        ≡ text.old.items ++ fault_text (map (fault_of (M.project members.now) (M.number members.now)) faults.now)) }
 {
     for fault in faults {
-        put_fault(draft, names, members, *fault)?;
+        put_fault(text, names, members, *fault)?;
     }
     Ok(())
 }
+
+/// Room for the line of a fault, if names are of common length. What is not written of it is not touched.
+const FAULT_ROOM: usize = 64;
 
 /// The text of these faults: a line for each, in this order. `names` are those of the project's script.
 ///
@@ -46,9 +47,7 @@ pub fn fault_text<M: Members>(
     ensures { IfOk result (λ text. text.items
         ≡ fault_text (map (fault_of (M.project members.now) (M.number members.now)) faults.now)) }
 {
-    let mut measured = Draft::to_measure(alloc);
-    put_faults(&mut measured, names, members, faults)?;
-    let mut written = Draft::to_write(alloc, measured.size())?;
-    put_faults(&mut written, names, members, faults)?;
-    Ok(written.into_bytes())
+    let mut text = Vec::with_capacity(alloc, faults.len().saturating_mul(FAULT_ROOM))?;
+    put_faults(&mut text, names, members, faults)?;
+    Ok(text)
 }

@@ -1,12 +1,11 @@
-//! The texts of a link: the map (`map_text`), which is written once, and the lines of faults (`fault_text`), which are
-//! measured first and then made in one allocation of that size.
+//! The texts of a link: the map (`map_text`) and the lines of faults (`fault_text`). Each is written once, into room for
+//! names of common length, which grows where names are longer.
 //!
-//! - `faults`, `fault_line`: fault lines; `maps`, `map_line`: the map; `line`, `draft`, `hex`: how lines are written;
+//! - `faults`, `fault_line`: fault lines; `maps`, `map_line`: the map; `line`, `hex`: how lines are written;
 //! - `members`, `script_names`, `named`, `symbols`, `assertion`: where names come from.
 #![tactic(auto)]
 
 pub mod assertion;
-mod draft;
 mod fault_line;
 pub mod faults;
 mod hex;

@@ -1,13 +1,12 @@
 //! Lines of words: one space between each two, and a line feed at the end.
 
-ghost use Rattle.std.specs.Prelude.{◌≡◌, OnOk, map};
+ghost use Rattle.std.specs.Prelude.{◌≡◌, ◌++◌, OnOk, map};
 ghost use Rattle.ldmodel.specs.Lines.{line_of};
-ghost use Rattle.emit_text.specs.Drafts.{added};
 ghost use Rattle.emit_text.specs.LineWords.{shown, spaced_words};
 
-use crate::draft::Draft;
+use crate::hex::hex_digits;
 use itoa::Buffer;
-use ldmodel::memory::NoMemory;
+use std::alloc::AllocError;
 
 /// A word of a line.
 #[derive(Clone, Copy, Debug)]
@@ -20,40 +19,41 @@ pub enum Word<'a> {
     Hex(u64),
 }
 
-fn put_word(draft: &mut Draft, word: Word<'_>) -> Result<(), NoMemory>
-    ensures { OnOk result (draft.new ≡ added draft.old (shown word.entry)) }
+fn put_word(text: &mut Vec<u8>, word: Word<'_>) -> Result<(), AllocError>
+    ensures { OnOk result (text.new.items ≡ text.old.items ++ shown word.entry) }
 {
     match word {
-        Word::Bytes(bytes) => draft.put(bytes),
+        Word::Bytes(bytes) => text.extend_from_slice(bytes),
         Word::Decimal(number) => {
             let mut buffer = Buffer::new();
-            draft.put(buffer.format(number).as_bytes())
+            text.extend_from_slice(buffer.format(number).as_bytes())
         }
-        Word::Hex(number) => draft.put_hex(number),
+        Word::Hex(number) => text.extend_from_slice(&hex_digits(number)),
     }
 }
 
 /// Each word after a space.
-#[tactic(auto, using(crate::proofs::Draftings::added_twice, crate::proofs::Draftings::added_none))]
-fn put_others(draft: &mut Draft, words: &[Word<'_>]) -> Result<(), NoMemory>
-    ensures { OnOk result (draft.new ≡ added draft.old (spaced_words words.now)) }
+fn put_others(text: &mut Vec<u8>, words: &[Word<'_>]) -> Result<(), AllocError>
+    ensures { OnOk result (text.new.items ≡ text.old.items ++ spaced_words words.now) }
 {
     for word in words {
-        draft.put_byte(b' ')?;
-        put_word(draft, *word)?;
+        text.push(b' ')?;
+        put_word(text, *word)?;
     }
     Ok(())
 }
 
 /// A line of these words.
-#[tactic(auto, using(crate::proofs::Draftings::added_twice, crate::proofs::Draftings::added_none), unfolding(ldmodel::specs::Lines::line_of))]
-pub fn put_line(draft: &mut Draft, words: &[Word<'_>]) -> Result<(), NoMemory>
-    ensures { OnOk result (draft.new ≡ added draft.old (line_of (map shown words.now))) }
+#[tactic(auto, unfolding(ldmodel::specs::Lines::line_of))]
+pub fn put_line(text: &mut Vec<u8>, words: &[Word<'_>]) -> Result<(), AllocError>
+    ensures { OnOk result (text.new.items ≡ text.old.items ++ line_of (map shown words.now)) }
 {
     let Some((first, others)) = words.split_first() else {
-        return draft.put_byte(b'\n');
+        text.push(b'\n')?;
+        return Ok(());
     };
-    put_word(draft, *first)?;
-    put_others(draft, others)?;
-    draft.put_byte(b'\n')
+    put_word(text, *first)?;
+    put_others(text, others)?;
+    text.push(b'\n')?;
+    Ok(())
 }

@@ -2,20 +2,19 @@
 
 ghost use Rattle.std.specs.Prelude.{◌≡◌, ◌∷◌, ◌++◌, [], OnOk, codes};
 ghost use Rattle.ldmodel.specs.Lines.{hex, line_of};
-ghost use Rattle.emit_text.specs.Drafts.{added};
 ghost use Rattle.emit_text.specs.ShownMap.{value_text};
 
-use crate::draft::Draft;
 use crate::hex::hex_digits;
-use ldmodel::memory::NoMemory;
+use std::alloc::AllocError;
 
 /// `entry ADDRESS`
-pub fn put_entry_line(draft: &mut Draft, entry: u64) -> Result<(), NoMemory>
-    ensures { OnOk result (draft.new ≡ added draft.old (line_of (codes "entry" ∷ hex entry ∷ []))) }
+pub fn put_entry_line(text: &mut Vec<u8>, entry: u64) -> Result<(), AllocError>
+    ensures { OnOk result (text.new.items ≡ text.old.items ++ line_of (codes "entry" ∷ hex entry ∷ [])) }
 {
-    draft.put(b"entry ")?;
-    draft.put_hex(entry)?;
-    draft.put_byte(b'\n')
+    text.extend_from_slice(b"entry ")?;
+    text.extend_from_slice(&hex_digits(entry))?;
+    text.push(b'\n')?;
+    Ok(())
 }
 
 /// ` START LOAD SIZE ` of a line.
@@ -37,31 +36,32 @@ fn section_numbers(start: u64, load: u64, size: u64) -> [u8; 52]
 
 /// `section NAME START LOAD SIZE FLAGS`
 pub fn put_section_line(
-    draft: &mut Draft,
+    text: &mut Vec<u8>,
     name: &[u8],
     numbers: (u64, u64, u64),
     flags: &[u8],
-) -> Result<(), NoMemory>
-    ensures { OnOk result (draft.new
-        ≡ added draft.old (line_of
-        (codes "section" ∷ name.now ∷ hex numbers.0 ∷ hex numbers.1 ∷ hex numbers.2 ∷ flags.now ∷ []))) }
+) -> Result<(), AllocError>
+    ensures { OnOk result (text.new.items ≡ text.old.items ++ line_of
+        (codes "section" ∷ name.now ∷ hex numbers.0 ∷ hex numbers.1 ∷ hex numbers.2 ∷ flags.now ∷ [])) }
 {
-    draft.put(b"section ")?;
-    draft.put(name)?;
-    draft.put(&section_numbers(numbers.0, numbers.1, numbers.2))?;
-    draft.put(flags)?;
-    draft.put_byte(b'\n')
+    text.extend_from_slice(b"section ")?;
+    text.extend_from_slice(name)?;
+    text.extend_from_slice(&section_numbers(numbers.0, numbers.1, numbers.2))?;
+    text.extend_from_slice(flags)?;
+    text.push(b'\n')?;
+    Ok(())
 }
 
 /// The two names at the end of a line.
 #[inline(always)]
-fn put_names(draft: &mut Draft, first: &[u8], second: &[u8]) -> Result<(), NoMemory>
-    ensures { OnOk result (draft.new ≡ added draft.old (first.now ++ 32 ∷ [] ++ second.now ++ 10 ∷ [])) }
+fn put_names(text: &mut Vec<u8>, first: &[u8], second: &[u8]) -> Result<(), AllocError>
+    ensures { OnOk result (text.new.items ≡ text.old.items ++ (first.now ++ 32 ∷ [] ++ second.now ++ 10 ∷ [])) }
 {
-    draft.put(first)?;
-    draft.put_byte(b' ')?;
-    draft.put(second)?;
-    draft.put_byte(b'\n')
+    text.extend_from_slice(first)?;
+    text.push(b' ')?;
+    text.extend_from_slice(second)?;
+    text.push(b'\n')?;
+    Ok(())
 }
 
 /// `piece ADDRESS SIZE ` of a line.
@@ -82,17 +82,17 @@ fn piece_front(start: u64, size: u64) -> [u8; 40]
 
 /// `piece ADDRESS SIZE OBJECT SECTION`
 pub fn put_piece_line(
-    draft: &mut Draft,
+    text: &mut Vec<u8>,
     start: u64,
     size: u64,
     object: &[u8],
     section: &[u8],
-) -> Result<(), NoMemory>
-    ensures { OnOk result (draft.new
-        ≡ added draft.old (line_of (codes "piece" ∷ hex start ∷ hex size ∷ object.now ∷ section.now ∷ []))) }
+) -> Result<(), AllocError>
+    ensures { OnOk result (text.new.items
+        ≡ text.old.items ++ line_of (codes "piece" ∷ hex start ∷ hex size ∷ object.now ∷ section.now ∷ [])) }
 {
-    draft.put(&piece_front(start, size))?;
-    put_names(draft, object, section)
+    text.extend_from_slice(&piece_front(start, size))?;
+    put_names(text, object, section)
 }
 
 /// `symbol VALUE ` of a line.
@@ -110,25 +110,25 @@ fn symbol_front(value: u64) -> [u8; 24]
 
 /// `symbol VALUE ` of a line, at the end.
 #[inline(always)]
-fn put_symbol_front(draft: &mut Draft, value: Option<u64>) -> Result<(), NoMemory>
-    ensures { OnOk result (draft.new ≡ added draft.old (codes "symbol " ++ (value_text value ++ 32 ∷ []))) }
+fn put_symbol_front(text: &mut Vec<u8>, value: Option<u64>) -> Result<(), AllocError>
+    ensures { OnOk result (text.new.items ≡ text.old.items ++ (codes "symbol " ++ (value_text value ++ 32 ∷ []))) }
 {
     match value {
-        Some(number) => draft.put(&symbol_front(number)),
-        None => draft.put(b"symbol ---------------- "),
+        Some(number) => text.extend_from_slice(&symbol_front(number)),
+        None => text.extend_from_slice(b"symbol ---------------- "),
     }
 }
 
 /// `symbol VALUE NAME OWNER`
 pub fn put_symbol_line(
-    draft: &mut Draft,
+    text: &mut Vec<u8>,
     value: Option<u64>,
     name: &[u8],
     owner: &[u8],
-) -> Result<(), NoMemory>
-    ensures { OnOk result (draft.new
-        ≡ added draft.old (line_of (codes "symbol" ∷ value_text value ∷ name.now ∷ owner.now ∷ []))) }
+) -> Result<(), AllocError>
+    ensures { OnOk result (text.new.items
+        ≡ text.old.items ++ line_of (codes "symbol" ∷ value_text value ∷ name.now ∷ owner.now ∷ [])) }
 {
-    put_symbol_front(draft, value)?;
-    put_names(draft, name, owner)
+    put_symbol_front(text, value)?;
+    put_names(text, name, owner)
 }

@@ -1,15 +1,13 @@
 //! The map.
 
-ghost use Rattle.std.specs.Prelude.{◌≡◌, OnOk, IfOk, length, drop, map};
+ghost use Rattle.std.specs.Prelude.{◌≡◌, ◌++◌, OnOk, IfOk, map};
 ghost use Rattle.std.specs.Vec.{vec_items};
 ghost use Rattle.ldscript.specs.Numbered.{shown_sections};
 ghost use Rattle.ldmodel.specs.Layout.{Layout};
 ghost use Rattle.ldmodel.specs.MapText.{map_text};
-ghost use Rattle.emit_text.specs.Drafts.{added};
 ghost use Rattle.emit_text.specs.MapOf.{IsMapOf};
 ghost use Rattle.emit_text.specs.ShownMap.{letters, piece_text, pieces_text, section_text, sections_text, shown_map};
 
-use crate::draft::Draft;
 use crate::map_line::{put_entry_line, put_piece_line, put_section_line};
 use crate::members::Members;
 use crate::named::next_part_name;
@@ -18,7 +16,7 @@ use ldmodel::laid::{Laid, Placed};
 use ldmodel::memory::NoMemory;
 use ldmodel::rows::Piece;
 use ldscript::tree::OutputSectionAt;
-use std::alloc::Global;
+use std::alloc::{AllocError, Global};
 
 /// What the map shows of a link.
 #[derive(Clone, Copy)]
@@ -31,10 +29,8 @@ pub struct MapParts<'a> {
     pub laid: Laid<'a>,
     /// The input sections in each.
     pub rows: &'a [Vec<Piece>],
-    /// Names in byte order, among them all that objects declare and that stand for something.
-    pub named: &'a [MapSymbol<'a>],
-    /// Names in byte order, among them all others that the script gives a value.
-    pub given: &'a [MapSymbol<'a>],
+    /// Names in byte order, among them all that stand for something.
+    pub symbols: &'a [MapSymbol<'a>],
 }
 
 /// What may be done with the bytes of an output section.
@@ -50,62 +46,56 @@ fn flags(placed: &Placed) -> &'static [u8]
 }
 
 /// `section NAME START LOAD SIZE FLAGS`
-fn put_section(draft: &mut Draft, name: &[u8], placed: &Placed) -> Result<(), NoMemory>
-    ensures { OnOk result (draft.new ≡ added draft.old (section_text name.now placed.now)) }
+fn put_section(text: &mut Vec<u8>, name: &[u8], placed: &Placed) -> Result<(), AllocError>
+    ensures { OnOk result (text.new.items ≡ text.old.items ++ section_text name.now placed.now) }
 {
     let numbers = (placed.start, placed.load, placed.size);
-    put_section_line(draft, name, numbers, flags(placed))
+    put_section_line(text, name, numbers, flags(placed))
 }
 
 /// `piece ADDRESS SIZE OBJECT SECTION`; and the place of its section, given that of the piece before.
 fn put_piece<M: Members>(
-    draft: &mut Draft,
+    text: &mut Vec<u8>,
     members: &M,
     piece: &Piece,
     start: u64,
     last: usize,
-) -> Result<usize, NoMemory>
-    ensures { OnOk result (draft.new
-        ≡ added draft.old (piece_text (M.project members.now) (M.number members.now) piece.now start)) }
+) -> Result<usize, AllocError>
+    ensures { OnOk result (text.new.items
+        ≡ text.old.items ++ piece_text (M.project members.now) (M.number members.now) piece.now start) }
 {
     let object = members.name(piece.section.object);
     let (name, place) = next_part_name(members, piece.section, last);
-    put_piece_line(draft, start, piece.size, object, name)?;
+    put_piece_line(text, start, piece.size, object, name)?;
     Ok(place)
 }
 
-/// The lines of a row, whose addresses are the first of `starts`, and the others of these.
-fn put_pieces<'a, M: Members>(
-    draft: &mut Draft,
+/// The lines of a row, whose addresses are the first of `starts`.
+fn put_pieces<M: Members>(
+    text: &mut Vec<u8>,
     members: &M,
     row: &[Piece],
-    starts: &'a [u64],
-) -> Result<&'a [u64], NoMemory>
-    ensures text { OnOk result (draft.new
-        ≡ added draft.old (pieces_text (M.project members.now) (M.number members.now) row.now starts.now)) }
-    ensures rest { IfOk result (λ rest. rest.now ≡ drop (length row.now) starts.now) }
+    starts: &[u64],
+) -> Result<(), AllocError>
+    ensures { OnOk result (text.new.items
+        ≡ text.old.items ++ pieces_text (M.project members.now) (M.number members.now) row.now starts.now) }
 {
-    let mut rest = starts;
     let mut place = 0;
-    for piece in row {
-        let Some((start, others)) = rest.split_first() else {
-            return Ok(rest);
-        };
-        place = put_piece(draft, members, piece, *start, place)?;
-        rest = others;
+    for i in 0..row.len().min(starts.len()) {
+        place = put_piece(text, members, &row[i], starts[i], place)?;
     }
-    Ok(rest)
+    Ok(())
 }
 
 /// The lines of all output sections, each with its row.
 fn put_sections<M: Members>(
-    draft: &mut Draft,
+    text: &mut Vec<u8>,
     members: &M,
     parts: &MapParts<'_>,
-) -> Result<(), NoMemory>
-    ensures { OnOk result (draft.new
-        ≡ added draft.old (sections_text (M.project members.now) (M.number members.now) parts.now.laid.sections.now
-        (shown_sections parts.now.sections.now) (map vec_items parts.now.rows.now) parts.now.laid.starts.now)) }
+) -> Result<(), AllocError>
+    ensures { OnOk result (text.new.items
+        ≡ text.old.items ++ sections_text (M.project members.now) (M.number members.now) parts.now.laid.sections.now
+        (shown_sections parts.now.sections.now) (map vec_items parts.now.rows.now) parts.now.laid.starts.now) }
 {
     let mut starts = parts.laid.starts;
     // three tables side by side
@@ -117,20 +107,25 @@ fn put_sections<M: Members>(
             return Ok(());
         };
         let placed = &parts.laid.sections[k];
-        put_section(draft, section.section.name.as_bytes(), placed)?;
-        starts = put_pieces(draft, members, row, starts)?;
+        put_section(text, section.section.name.as_bytes(), placed)?;
+        put_pieces(text, members, row, starts)?;
+        starts = &starts[row.len().min(starts.len())..];
     }
     Ok(())
 }
 
 /// The lines of the map.
-fn put_map<M: Members>(draft: &mut Draft, members: &M, parts: &MapParts<'_>) -> Result<(), NoMemory>
-    ensures { OnOk result (draft.new
-        ≡ added draft.old (shown_map (M.project members.now) (M.number members.now) parts.now)) }
+fn put_map<M: Members>(
+    text: &mut Vec<u8>,
+    members: &M,
+    parts: &MapParts<'_>,
+) -> Result<(), AllocError>
+    ensures { OnOk result (text.new.items
+        ≡ text.old.items ++ shown_map (M.project members.now) (M.number members.now) parts.now) }
 {
-    put_entry_line(draft, parts.entry)?;
-    put_sections(draft, members, parts)?;
-    put_symbols(draft, members, parts.named, parts.given)
+    put_entry_line(text, parts.entry)?;
+    put_sections(text, members, parts)?;
+    put_symbols(text, members, parts.symbols)
 }
 
 /// Room for the line of an input section: 42 bytes, and both names.
@@ -142,16 +137,11 @@ const SECTION_ROOM: usize = 96;
 
 /// Room for the lines of the map, if names are of common length. What is not written of it is not touched.
 fn likely_size(parts: &MapParts<'_>) -> usize {
-    let mut pieces = 0usize;
-    for row in parts.rows {
-        pieces = pieces.saturating_add(row.len());
-    }
-    let symbols = parts.named.len().saturating_add(parts.given.len());
-    let sections = parts.sections.len().saturating_add(1);
-    pieces
-        .saturating_mul(PIECE_ROOM)
-        .saturating_add(symbols.saturating_mul(SYMBOL_ROOM))
-        .saturating_add(sections.saturating_mul(SECTION_ROOM))
+    let pieces = parts.laid.starts.len().saturating_mul(PIECE_ROOM);
+    let symbols = parts.symbols.len().saturating_mul(SYMBOL_ROOM);
+    let lines = parts.laid.sections.len().saturating_add(1);
+    let sections = lines.saturating_mul(SECTION_ROOM);
+    pieces.saturating_add(symbols).saturating_add(sections)
 }
 
 /// The map of a link: the entry point, the output sections with their rows, and the symbols in byte order of names.
@@ -169,7 +159,7 @@ pub fn map_text<M: Members>(
     ensures { (s : Layout) → IsMapOf (M.project members.now) (M.number members.now) s parts.now
         → IfOk result (λ text. text.items ≡ map_text (M.project members.now) s) }
 {
-    let mut written = Draft::to_write(alloc, likely_size(parts))?;
-    put_map(&mut written, members, parts)?;
-    Ok(written.into_bytes())
+    let mut text = Vec::with_capacity(alloc, likely_size(parts))?;
+    put_map(&mut text, members, parts)?;
+    Ok(text)
 }

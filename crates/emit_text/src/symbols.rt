@@ -1,17 +1,14 @@
 //! The map's lines of symbols.
 
-ghost use Rattle.std.specs.Prelude.{◌≡◌, ◌≤◌, OnOk, IfOk, drop, length};
+ghost use Rattle.std.specs.Prelude.{◌≡◌, ◌++◌, OnOk};
 ghost use Rattle.ldmodel.specs.HandedOver.{decision_of};
 ghost use Rattle.ldmodel.specs.OutputSymbols.{owner};
-ghost use Rattle.emit_text.specs.Drafts.{added};
-ghost use Rattle.emit_text.specs.ShownMap.{after, before, merged, symbol_text, symbols_text};
+ghost use Rattle.emit_text.specs.ShownMap.{symbol_text, symbols_text};
 
-use crate::draft::Draft;
 use crate::map_line::put_symbol_line;
 use crate::members::Members;
-use ldmodel::memory::NoMemory;
 use ldmodel::names::{Case, Entry, ObjectPlace};
-use std::cmp::Ordering;
+use std::alloc::AllocError;
 
 /// A name, what it stands for, and its value.
 #[derive(Clone, Copy, Debug)]
@@ -38,21 +35,20 @@ fn owner_name<M: Members>(members: &M, case: Case) -> &[u8]
 }
 
 /// The line of a name that stands for something, and none of another.
-#[tactic(auto, using(crate::proofs::Draftings::added_none))]
 fn put_symbol<M: Members>(
-    draft: &mut Draft,
+    text: &mut Vec<u8>,
     members: &M,
     symbol: &MapSymbol<'_>,
-) -> Result<(), NoMemory>
-    ensures { OnOk result (draft.new
-        ≡ added draft.old (symbol_text (M.project members.now) (M.number members.now) symbol.now)) }
+) -> Result<(), AllocError>
+    ensures { OnOk result (text.new.items
+        ≡ text.old.items ++ symbol_text (M.project members.now) (M.number members.now) symbol.now) }
 {
     match symbol.case {
         Case::Undefined => Ok(()),
         Case::Duplicate => Ok(()),
         Case::Strong(_) | Case::Weak(_) | Case::Common { .. } | Case::Script | Case::Provided => {
             put_symbol_line(
-                draft,
+                text,
                 symbol.value,
                 symbol.name,
                 owner_name(members, symbol.case),
@@ -61,63 +57,17 @@ fn put_symbol<M: Members>(
     }
 }
 
-/// The lines of these symbols.
-fn put_all<M: Members>(
-    draft: &mut Draft,
+/// The lines of these symbols, in this order.
+pub(crate) fn put_symbols<M: Members>(
+    text: &mut Vec<u8>,
     members: &M,
     symbols: &[MapSymbol<'_>],
-) -> Result<(), NoMemory>
-    ensures { OnOk result (draft.new
-        ≡ added draft.old (symbols_text (M.project members.now) (M.number members.now) symbols.now)) }
+) -> Result<(), AllocError>
+    ensures { OnOk result (text.new.items
+        ≡ text.old.items ++ symbols_text (M.project members.now) (M.number members.now) symbols.now) }
 {
     for symbol in symbols {
-        put_symbol(draft, members, symbol)?;
+        put_symbol(text, members, symbol)?;
     }
     Ok(())
-}
-
-/// The lines of those of `given` from a place on that stand before a symbol, and the place after them and after one of
-/// the same name.
-fn put_before<M: Members>(
-    draft: &mut Draft,
-    members: &M,
-    given: &[MapSymbol<'_>],
-    from: usize,
-    symbol: &MapSymbol<'_>,
-) -> Result<usize, NoMemory>
-    requires { from ≤ length given.now }
-    ensures text { OnOk result (draft.new
-        ≡ added draft.old (symbols_text (M.project members.now) (M.number members.now)
-        (before symbol.now (drop from given.now)))) }
-    ensures rest { IfOk result (λ next. drop next given.now ≡ after symbol.now (drop from given.now)) }
-    ensures within { IfOk result (λ next. next ≤ length given.now) }
-{
-    for i in from..given.len() {
-        let first = &given[i];
-        match first.name.cmp(symbol.name) {
-            Ordering::Less => put_symbol(draft, members, first)?,
-            Ordering::Equal => return Ok(i + 1),
-            Ordering::Greater => return Ok(i),
-        }
-    }
-    Ok(given.len())
-}
-
-/// The lines of two lists of symbols, each in byte order of names, as one in that order. Of a name that both have, the
-/// line is that of `named`.
-pub(crate) fn put_symbols<M: Members>(
-    draft: &mut Draft,
-    members: &M,
-    named: &[MapSymbol<'_>],
-    given: &[MapSymbol<'_>],
-) -> Result<(), NoMemory>
-    ensures { OnOk result (draft.new
-        ≡ added draft.old (symbols_text (M.project members.now) (M.number members.now) (merged named.now given.now))) }
-{
-    let mut next = 0;
-    for symbol in named {
-        next = put_before(draft, members, given, next, symbol)?;
-        put_symbol(draft, members, symbol)?;
-    }
-    put_all(draft, members, &given[next..])
 }

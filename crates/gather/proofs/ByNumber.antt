@@ -1,19 +1,24 @@
--- A section of an object by its header number.
-use Rattle.std.proofs.Common.{◌≡◌, ◌∙◌, ◌<◌, ℕ, zero, suc, List, [], ◌∷◌, length, map, find, get_or, ap, subst, arith}
-use Rattle.std.proofs.Common.{Some, nat_eq}
+-- A section of an object by its header number, and what is asked of it.
+use Rattle.std.proofs.Common.{◌≡◌, ◌∙◌, ◌<◌, ℕ, zero, suc, List, [], ◌∷◌, length, map, find, get_or, ap, sym, subst}
+use Rattle.std.proofs.Common.{arith, refl, Option, Some, None, nat_eq}
 use Rattle.std.specs.Prelude.{slice_get, option_and_then}
-use Rattle.std.specs.List.{AllPairs}
-use Rattle.std.specs.Option.{option_map}
+use Rattle.std.specs.List.{All, AllPairs}
+use Rattle.std.specs.Option.{option_map, option_map_or}
 use Rattle.std.proofs.lemmas.Bool.{eq-eqb, ne_eqb}
 use Rattle.std.proofs.lemmas.List.{length-map}
+use Rattle.std.proofs.lemmas.List.Elements.{All-head, All-tail}
 use Rattle.std.proofs.lemmas.Option.{get_or_from_slice_get, same_Some, slice_get-map, slice_get_within}
+use Rattle.elfobj.specs.Numbering.{IsNumberedAt}
+use Rattle.elfobj.specs.Object.{ObjectData}
 use Rattle.elfobj.specs.Sections.{LinkedSection, section_of}
 use Rattle.elfobj.specs.declared.section.Section.{Section}
-use Rattle.gather.specs.Apart.{AscendingSections}
+use Rattle.elfobj.specs.declared.section.SectionIndex.{SectionIndex}
+use Rattle.gather.specs.Apart.{AscendingSections, IsAscending}
+use Rattle.gather.specs.Symbols.{IsObjectAt}
 use Rattle.ldmodel.specs.FaultCode.{section_at}
 use Rattle.ldmodel.specs.Image.{section_numbered}
 use Rattle.ldmodel.specs.Project.{NamedObject, Project}
-use Rattle.gather.specs.ProjectMembers.{IsAscending}
+use Rattle.gather.proofs.InLists.{there}
 
 abbrev Ascend : List LinkedSection → Type 0
 Ascend xs = AllPairs (λ (s t : Section). s.number.0 < t.number.0) (map section_of xs)
@@ -48,3 +53,60 @@ section_found p i n o x up at is =
     subst IsAscending (get_or_from_slice_get p.objects i o o at) (up i o within) in
     ap (λ m. option_and_then (λ (o : NamedObject). section_numbered o x.number) m) at
     ∙ found o.object.sections n x here is
+
+-- what is asked of the section of a header number
+pub asked_there : {A : Type 0} (f : LinkedSection → A) (d : A) (xs : List LinkedSection) (i : ℕ)
+    (number : SectionIndex) (y : A) → IsNumberedAt (map section_of xs) number i
+    → AllPairs (λ (s t : Section). s.number.0 < t.number.0) (map section_of xs)
+    → slice_get (map f xs) i ≡ Some y
+    → y ≡ option_map_or f (find (λ (x : LinkedSection). nat_eq x.number.0 number.0) xs) d
+asked_there f d xs i number y at up is =
+    let long : length (map section_of xs) ≡ length xs = length-map xs section_of in
+    let low : i < length (map section_of xs) = at.within in
+    let x = there xs i (omega (arith, low, long)) in
+    let same : x.0.number.0 ≡ number.0 =
+    ap (λ (s : Section). s.number.0) (sym (at_place xs i x.0 (section_of x.0) x.1)) ∙ at.number_is (section_of x.0) in
+    let one : find (λ (y : LinkedSection). nat_eq y.number.0 number.0) xs ≡ Some x.0 =
+    ap (λ (n : ℕ). find (λ (y : LinkedSection). nat_eq y.number.0 n) xs) (sym same) ∙ found xs i x.0 up x.1 in
+    let own : f x.0 ≡ y = same_Some _ _ (ap (λ o. option_map f o) (sym x.1) ∙ (sym (slice_get-map f xs i) ∙ is)) in
+    sym own ∙ ap (λ o. option_map_or f o d) (sym one)
+
+none_numbered : (xs : List LinkedSection) (number : SectionIndex)
+    → All (λ (s : Section). s.number.0 ≡ number.0 → ⊥) (map section_of xs)
+    → find (λ (x : LinkedSection). nat_eq x.number.0 number.0) xs ≡ None
+none_numbered [] number h = refl
+none_numbered (x ∷ xs) number h =
+    rw (ne_eqb x.number.0 number.0
+    (All-head (λ (s : Section). s.number.0 ≡ number.0 → ⊥) (section_of x) (map section_of xs) h))
+    (none_numbered xs number
+    (All-tail (λ (s : Section). s.number.0 ≡ number.0 → ⊥) (section_of x) (map section_of xs) h))
+
+pub asked_nowhere : {A : Type 0} (f : LinkedSection → A) (d : A) (xs : List LinkedSection) (number : SectionIndex)
+    → All (λ (s : Section). s.number.0 ≡ number.0 → ⊥) (map section_of xs)
+    → d ≡ option_map_or f (find (λ (x : LinkedSection). nat_eq x.number.0 number.0) xs) d
+asked_nowhere f d xs number h = ap (λ o. option_map_or f o d) (sym (none_numbered xs number h))
+
+-- the same of an object of the project
+pub asked_at : {A : Type 0} (f : LinkedSection → A) (d : A) (p : Project) (i : ℕ) (object : ObjectData)
+    (number : SectionIndex) (y : A) → IsObjectAt p i object
+    → y ≡ option_map_or f (section_numbered (record { name = []; object = object }) number) d
+    → y ≡ option_map_or f (section_at p i number) d
+asked_at f d p i object number y at are = go (slice_get p.objects i) at
+  where
+    go : (m : Option NamedObject) → option_map (λ (o : NamedObject). o.object) m ≡ Some object
+        → y ≡ option_map_or f (option_and_then (λ (o : NamedObject). section_numbered o number) m) d
+    go None e = absurd (cc)
+    go (Some o) e =
+        are ∙ ap (λ (x : ObjectData). option_map_or f (section_numbered (record { name = []; object = x }) number) d)
+        (sym (same_Some o.object object e))
+
+-- where there is no object
+pub asked_of_none : {A : Type 0} (f : LinkedSection → A) (d : A) (p : Project) (i : ℕ) (number : SectionIndex)
+    → option_map (λ (o : NamedObject). o.object) (slice_get p.objects i) ≡ None
+    → d ≡ option_map_or f (section_at p i number) d
+asked_of_none f d p i number e = go (slice_get p.objects i) e
+  where
+    go : (m : Option NamedObject) → option_map (λ (o : NamedObject). o.object) m ≡ None
+        → d ≡ option_map_or f (option_and_then (λ (o : NamedObject). section_numbered o number) m) d
+    go None e = refl
+    go (Some o) e = absurd (cc)

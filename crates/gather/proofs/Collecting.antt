@@ -8,12 +8,12 @@ use Rattle.std.proofs.Math.Seq.{take-suc}
 use Rattle.std.proofs.lemmas.Bool.{cases_eq, eq-eqb, ne_eqb}
 use Rattle.std.proofs.lemmas.List.{get_or-map, get_or-set_other, get_or-set_same, length-map}
 use Rattle.std.proofs.lemmas.List.Elements.{filter_map-append}
-use Rattle.gather.specs.declared.member.CommonBlock.{CommonBlock}
+use Rattle.gather.specs.declared.blocks.CommonBlock.{CommonBlock}
 use Rattle.ldmodel.specs.declared.names.Case.{Case}
 use Rattle.ldmodel.specs.declared.names.Case.TheVariants as case
 use Rattle.ldmodel.specs.declared.names.Entry.{Entry}
 use Rattle.symres.specs.Decided.{case_at}
-use Rattle.gather.specs.ProjectMembers.{block_here, blocks_at}
+use Rattle.gather.specs.Blocks.{block_here, blocks_at}
 use Rattle.gather.proofs.Lists.{filter_map_one}
 
 abbrev Blocks : Type 0

@@ -7,27 +7,32 @@ use Rattle.std.specs.List.{All, filter_map, cons_option, position, position_or_l
 use Rattle.std.specs.Option.{option_map, is_none}
 use Rattle.std.proofs.lemmas.Bool.{cases_lt, ltb-true}
 use Rattle.std.proofs.lemmas.List.{drop_more, drop_all, get_or_default, get_or_past}
-use Rattle.std.proofs.lemmas.List.Elements.{All-head, All-tail, All-cons, All-nil, filter_map-append}
+use Rattle.std.proofs.lemmas.List.Elements.{All-head, All-tail, filter_map-append}
 use Rattle.ldscript.specs.statements.Numbering.{InputStatementAt, input_statements}
 use Rattle.ldscript.specs.statements.declared.statement.Statement.{Statement}
+use Rattle.ldmodel.specs.FaultCode.{name_of_part}
 use Rattle.ldmodel.specs.FirstMatch.{first_match, takes}
 use Rattle.ldmodel.specs.Gathering.{is_out, is_out_under, taken_by}
 use Rattle.ldmodel.specs.HandedOver.{section_id}
 use Rattle.ldmodel.specs.InputSections.{input_sections}
 use Rattle.ldmodel.specs.Live.{live, orphans}
+use Rattle.ldmodel.specs.NameFaults.{object_name}
 use Rattle.ldmodel.specs.Project.{Project}
 use Rattle.ldmodel.specs.Rows.{Piece, piece_of}
 use Rattle.ldmodel.specs.Sections.{InputSection}
 use Rattle.ldmodel.specs.declared.rows.InputIndex.{InputIndex}
+use Rattle.ldmodel.specs.declared.rows.Piece as code
 use Rattle.ldmodel.specs.declared.sections.SectionKey.{SectionKey}
-use Rattle.gather.specs.Gathered.{AreGathered, Facts, IsNamedSection, Keys, facts, named_piece, shown_facts}
-use Rattle.gather.specs.Gathered.{taken_in, taken_named, untaken, untaken_by_none}
+use Rattle.ldmodel_project.specs.ByPlace.{piece_in}
+use Rattle.gather.specs.Found.{IsFound}
+use Rattle.gather.specs.Gathered.{AreGathered, Facts, as_piece, facts, own_piece, shown_facts, taken_in, untaken}
+use Rattle.gather.specs.Gathered.{untaken_by_none}
 use Rattle.gather.specs.LeftOut.{is_out_by, is_out_of}
 use Rattle.gather.specs.LiveMarks.{marked}
 use Rattle.gather.specs.Matches.{number_of}
-use Rattle.gather.specs.RowPieces.{AreBuckets, AreTaken, IsNamed, shown_named, taken_piece}
+use Rattle.gather.specs.RowPieces.{AreBuckets, taken_piece}
 use Rattle.gather.specs.declared.gathered.Gathered.{Gathered}
-use Rattle.gather.specs.declared.sorting.NamedPiece.{NamedPiece}
+use Rattle.gather.proofs.Named.{all_found}
 
 map_again : {X Y Z : Type 0} (g : Y → Z) (f : X → Y) (xs : List X) → map (λ x. g (f x)) xs ≡ map g (map f xs)
 map_again g f [] = refl
@@ -53,12 +58,12 @@ out_is p (s ∷ ss) =
     (out_under p s (taken_by p s))
     ∙ ap (λ l. is_out p s ∷ l) (out_is p ss)
 
-pub out_are : (p : Project) (keys : Keys) (xs : List Gathered) → AreGathered p keys xs
+pub out_are : (p : Project) (xs : List Gathered) → AreGathered p xs
     → map (λ (x : Gathered). is_out_of (input_statements p.script) p.options.orphans x.size (number_of x.statement)) xs
     ≡ map (is_out p) (input_sections p)
-out_are p keys xs a =
+out_are p xs a =
     map_again (λ (f : Facts). is_out_of (input_statements p.script) p.options.orphans f.size f.statement)
-    (shown_facts keys) xs
+    shown_facts xs
     ∙ ap (map (λ (f : Facts). is_out_of (input_statements p.script) p.options.orphans f.size f.statement)) a.facts
     ∙ sym (map_again (λ (f : Facts). is_out_of (input_statements p.script) p.options.orphans f.size f.statement)
     (facts p) (input_sections p))
@@ -93,101 +98,80 @@ marked_more marks xs i x h is = ⊎_elim inside past (cases_lt i (length marks))
         (marked (drop (i + 1) marks) (drop (i + 1) xs))) (sym (get_or_past marks i false l))
 
 -- a piece, by the facts
-piece_by : ℕ → Facts → Piece
-piece_by n f = record {
+piece_by : Project → ℕ → Facts → Piece
+piece_by p n f = record {
   statement = n;
-  object = f.object;
+  object = object_name p f.id.object;
   part = f.id.part;
-  name = f.name;
+  name = name_of_part p f.id.object f.id.part;
   kind = f.kind;
-  flags =
-      f.flags;
+  flags = f.flags;
   size = f.size;
   alignment = f.alignment;
 }
 
-same_piece : (keys : Keys) (x : Gathered) (n : InputIndex) → IsNamedSection keys x
-    → shown_named keys.naming (named_piece x n) ≡ piece_by n.0 (shown_facts keys x)
+same_piece : (p : Project) (x : Gathered) (n : InputIndex) → piece_in p (as_piece x n) ≡ piece_by p n.0 (shown_facts x)
 unfolding piece_by
-same_piece keys x n e = ap (λ name. record {
-  statement = n.0;
-  object = keys.naming.object x.section.object.0;
-  part = x.section.part;
-  name = name;
-  kind = x.kind;
-  flags = x.flags;
-  size = x.size;
-  alignment = x.alignment;
-}) e
+same_piece p x n = refl
 
-of_section : (p : Project) (s : InputSection) (n : ℕ) → piece_by n (facts p s) ≡ piece_of n s
+of_section : (p : Project) (s : InputSection) (n : ℕ) → IsFound p s → piece_by p n (facts p s) ≡ piece_of n s
 unfolding piece_by
-of_section p s n = refl
+of_section p s n found =
+    let with_names : List ℕ → List ℕ → Piece = λ object name. record {
+      statement = n;
+      object = object;
+      part = s.id.part;
+      name = name;
+      kind = s.kind;
+      flags = s.flags;
+      size = s.size;
+      alignment = s.alignment;
+    } in
+    ap (λ object. with_names object (name_of_part p s.id.object s.id.part)) found.object
+    ∙ ap (with_names s.object) found.name
 
 -- the pieces of the marked sections
-pieces_are : (p : Project) (keys : Keys) (marks : List Bool) (xs : List Gathered) (ss : List InputSection)
-    → map (shown_facts keys) xs ≡ map (facts p) ss → All (IsNamedSection keys) xs
-    → map (shown_named keys.naming) (filter_map taken_named (marked marks xs))
+pieces_are : (p : Project) (marks : List Bool) (xs : List Gathered) (ss : List InputSection) → map shown_facts xs
+    ≡ map (facts p) ss → All (IsFound p) ss → map (piece_in p) (taken_in marks xs)
     ≡ filter_map (taken_piece p) (marked marks ss)
-pieces_are p keys [] xs ss e a = refl
-pieces_are p keys (b ∷ bs) [] [] e a = refl
-pieces_are p keys (b ∷ bs) [] (s ∷ ss) e a = absurd (cc)
-pieces_are p keys (b ∷ bs) (x ∷ xs) [] e a = absurd (cc)
-pieces_are p keys (b ∷ bs) (x ∷ xs) (s ∷ ss) e a =
-    let head : shown_facts keys x ≡ facts p s = cc in
-    let tail : map (shown_facts keys) xs ≡ map (facts p) ss = cc in
-    go b (marked bs xs) (marked bs ss) head (All-head (IsNamedSection keys) x xs a)
-    (pieces_are p keys bs xs ss tail (All-tail (IsNamedSection keys) x xs a))
+pieces_are p [] xs ss e a = refl
+pieces_are p (b ∷ bs) [] [] e a = refl
+pieces_are p (b ∷ bs) [] (s ∷ ss) e a = absurd (cc)
+pieces_are p (b ∷ bs) (x ∷ xs) [] e a = absurd (cc)
+pieces_are p (b ∷ bs) (x ∷ xs) (s ∷ ss) e a =
+    let head : shown_facts x ≡ facts p s = cc in
+    let tail : map shown_facts xs ≡ map (facts p) ss = cc in
+    go b (marked bs xs) (marked bs ss) head (All-head (IsFound p) s ss a)
+    (pieces_are p bs xs ss tail (All-tail (IsFound p) s ss a))
   where
     one : (o : Option InputIndex) (m : Option ℕ) (l : List Gathered) (r : List InputSection) → number_of o ≡ m
-        → shown_facts keys x ≡ facts p s → IsNamedSection keys x
-        → map (shown_named keys.naming) (filter_map taken_named l) ≡ filter_map (taken_piece p) r
-        → map (shown_named keys.naming) (cons_option (option_map (named_piece x) o) (filter_map taken_named l))
+        → shown_facts x ≡ facts p s → IsFound p s
+        → map (piece_in p) (filter_map own_piece l) ≡ filter_map (taken_piece p) r
+        → map (piece_in p) (cons_option (option_map (as_piece x) o) (filter_map own_piece l))
         ≡ cons_option (option_map (λ n. piece_of n s) m) (filter_map (taken_piece p) r)
-    one None None l r e h n rest = rest
-    one None (Some m) l r e h n rest = absurd (cc)
-    one (Some k) None l r e h n rest = absurd (cc)
-    one (Some k) (Some m) l r e h n rest =
+    one None None l r e h f rest = rest
+    one None (Some m) l r e h f rest = absurd (cc)
+    one (Some k) None l r e h f rest = absurd (cc)
+    one (Some k) (Some m) l r e h f rest =
         let same : k.0 ≡ m = cc in
-        ap (λ y. y ∷ map (shown_named keys.naming) (filter_map taken_named l)) (same_piece keys x k n
-        ∙ ap (piece_by k.0) h ∙ of_section p s k.0 ∙ ap (λ j. piece_of j s) same)
+        ap (λ y. y ∷ map (piece_in p) (filter_map own_piece l)) (same_piece p x k
+        ∙ ap (piece_by p k.0) h ∙ of_section p s k.0 f ∙ ap (λ j. piece_of j s) same)
         ∙ ap (λ t. piece_of m s ∷ t) rest
 
-    go : (b : Bool) (l : List Gathered) (r : List InputSection) → shown_facts keys x ≡ facts p s → IsNamedSection keys x
-        → map (shown_named keys.naming) (filter_map taken_named l) ≡ filter_map (taken_piece p) r
-        → map (shown_named keys.naming) (filter_map taken_named (cond b (x ∷ l) l))
+    go : (b : Bool) (l : List Gathered) (r : List InputSection) → shown_facts x ≡ facts p s → IsFound p s
+        → map (piece_in p) (filter_map own_piece l) ≡ filter_map (taken_piece p) r
+        → map (piece_in p) (filter_map own_piece (cond b (x ∷ l) l))
         ≡ filter_map (taken_piece p) (cond b (s ∷ r) r)
-    go false l r h n rest = rest
-    go true l r h n rest =
-        one x.statement (first_match p.script s.object s.name) l r (ap (λ (f : Facts). f.statement) h) h n rest
+    go false l r h f rest = rest
+    go true l r h f rest =
+        one x.statement (first_match p.script s.object s.name) l r (ap (λ (f : Facts). f.statement) h) h f rest
 
-names_are : (keys : Keys) (marks : List Bool) (xs : List Gathered) → All (IsNamedSection keys) xs
-    → All (IsNamed keys.naming) (filter_map taken_named (marked marks xs))
-names_are keys [] xs a = All-nil (IsNamed keys.naming)
-names_are keys (b ∷ bs) [] a = All-nil (IsNamed keys.naming)
-names_are keys (b ∷ bs) (x ∷ xs) a =
-    go b (marked bs xs) (All-head (IsNamedSection keys) x xs a)
-    (names_are keys bs xs (All-tail (IsNamedSection keys) x xs a))
-  where
-    one : (o : Option InputIndex) (l : List Gathered) → IsNamedSection keys x
-        → All (IsNamed keys.naming) (filter_map taken_named l)
-        → All (IsNamed keys.naming) (cons_option (option_map (named_piece x) o) (filter_map taken_named l))
-    one None l n rest = rest
-    one (Some k) l n rest = All-cons (IsNamed keys.naming) (named_piece x k) (filter_map taken_named l) n rest
-
-    go : (b : Bool) (l : List Gathered) → IsNamedSection keys x → All (IsNamed keys.naming) (filter_map taken_named l)
-        → All (IsNamed keys.naming) (filter_map taken_named (cond b (x ∷ l) l))
-    go false l n rest = rest
-    go true l n rest = one x.statement l n rest
-
-pub taken_are : (p : Project) (keys : Keys) (marks : List Bool) (xs : List Gathered) (pieces : List NamedPiece)
-    → pieces ≡ filter_map taken_named (marked marks xs) → AreGathered p keys xs → marked marks (input_sections p)
-    ≡ live p → AreTaken p keys.naming pieces
-taken_are p keys marks xs pieces is a l = record {
-  named = subst (All (IsNamed keys.naming)) (sym is) (names_are keys marks xs a.named);
-  pieces = ap (map (shown_named keys.naming)) is ∙ pieces_are p keys marks xs (input_sections p) a.facts a.named
-      ∙ ap (filter_map (taken_piece p)) l;
-}
+-- so those of the live sections are those that statements take
+pub taken_are : (p : Project) (marks : List Bool) (xs : List Gathered) → AreGathered p xs
+    → marked marks (input_sections p) ≡ live p
+    → map (piece_in p) (taken_in marks xs) ≡ filter_map (taken_piece p) (live p)
+taken_are p marks xs a l =
+    pieces_are p marks xs (input_sections p) a.facts (all_found p a.ascending) ∙ ap (filter_map (taken_piece p)) l
 
 -- a section that no statement takes, by the number of the statement
 is_there : {X : Type 0} (xs : List X) (i : ℕ) → i < length xs → is_none (slice_get xs i) ≡ false
@@ -213,35 +197,35 @@ within_or_none script file section =
     at_position (λ (i : InputStatementAt). takes file section i.input) (input_statements script)
 
 -- the keys of the marked sections that no statement takes
-orphans_in : (p : Project) (keys : Keys) (marks : List Bool) (xs : List Gathered) (ss : List InputSection)
-    → map (shown_facts keys) xs ≡ map (facts p) ss
-    → map (section_id keys.number) (filter_map untaken (marked marks xs))
+orphans_in : (p : Project) (marks : List Bool) (xs : List Gathered) (ss : List InputSection)
+    → map shown_facts xs ≡ map (facts p) ss
+    → map (section_id (λ key. key)) (filter_map untaken (marked marks xs))
     ≡ map (λ (s : InputSection). s.id) (filter (λ s. is_none (taken_by p s)) (marked marks ss))
-orphans_in p keys [] xs ss e = refl
-orphans_in p keys (b ∷ bs) [] [] e = refl
-orphans_in p keys (b ∷ bs) [] (s ∷ ss) e = absurd (cc)
-orphans_in p keys (b ∷ bs) (x ∷ xs) [] e = absurd (cc)
-orphans_in p keys (b ∷ bs) (x ∷ xs) (s ∷ ss) e =
-    let head : shown_facts keys x ≡ facts p s = cc in
-    let tail : map (shown_facts keys) xs ≡ map (facts p) ss = cc in
+orphans_in p [] xs ss e = refl
+orphans_in p (b ∷ bs) [] [] e = refl
+orphans_in p (b ∷ bs) [] (s ∷ ss) e = absurd (cc)
+orphans_in p (b ∷ bs) (x ∷ xs) [] e = absurd (cc)
+orphans_in p (b ∷ bs) (x ∷ xs) (s ∷ ss) e =
+    let head : shown_facts x ≡ facts p s = cc in
+    let tail : map shown_facts xs ≡ map (facts p) ss = cc in
     go b (marked bs xs) (filter (λ s. is_none (taken_by p s)) (marked bs ss)) (marked bs ss) refl head
-    (orphans_in p keys bs xs ss tail)
+    (orphans_in p bs xs ss tail)
   where
     one : (o : Option InputIndex) (none : Bool) (l : List Gathered) (r : List InputSection) → is_none (number_of o)
-        ≡ none → section_id keys.number x.section ≡ s.id
-        → map (section_id keys.number) (filter_map untaken l) ≡ map (λ (s : InputSection). s.id) r
-        → map (section_id keys.number) (cons_option (untaken_by_none x.section o) (filter_map untaken l))
+        ≡ none → section_id (λ key. key) x.section ≡ s.id
+        → map (section_id (λ key. key)) (filter_map untaken l) ≡ map (λ (s : InputSection). s.id) r
+        → map (section_id (λ key. key)) (cons_option (untaken_by_none x.section o) (filter_map untaken l))
         ≡ map (λ (s : InputSection). s.id) (cond none (s ∷ r) r)
-    one None true l r e h rest = ap (λ i. i ∷ map (section_id keys.number) (filter_map untaken l)) h
+    one None true l r e h rest = ap (λ i. i ∷ map (section_id (λ key. key)) (filter_map untaken l)) h
         ∙ ap (λ t. s.id ∷ t) rest
     one None false l r e h rest = absurd (cc)
     one (Some k) true l r e h rest = absurd (cc)
     one (Some k) false l r e h rest = rest
 
     go : (b : Bool) (l : List Gathered) (r : List InputSection) (all : List InputSection) → r
-        ≡ filter (λ s. is_none (taken_by p s)) all → shown_facts keys x ≡ facts p s
-        → map (section_id keys.number) (filter_map untaken l) ≡ map (λ (s : InputSection). s.id) r
-        → map (section_id keys.number) (filter_map untaken (cond b (x ∷ l) l))
+        ≡ filter (λ s. is_none (taken_by p s)) all → shown_facts x ≡ facts p s
+        → map (section_id (λ key. key)) (filter_map untaken l) ≡ map (λ (s : InputSection). s.id) r
+        → map (section_id (λ key. key)) (filter_map untaken (cond b (x ∷ l) l))
         ≡ map (λ (s : InputSection). s.id) (filter (λ s. is_none (taken_by p s)) (cond b (s ∷ all) all))
     go false l r all is h rest = rest ∙ ap (map (λ (s : InputSection). s.id)) is
     go true l r all is h rest =
@@ -249,12 +233,12 @@ orphans_in p keys (b ∷ bs) (x ∷ xs) (s ∷ ss) e =
         ∙ sym (within_or_none p.script s.object s.name)) (ap (λ (f : Facts). f.id) h) rest
         ∙ ap (λ q. map (λ (s : InputSection). s.id) (cond (is_none (taken_by p s)) (s ∷ q) q)) is
 
-pub orphans_are : (p : Project) (keys : Keys) (marks : List Bool) (xs : List Gathered) (found : List SectionKey)
-    → found ≡ filter_map untaken (marked marks xs) → AreGathered p keys xs → marked marks (input_sections p) ≡ live p
-    → map (section_id keys.number) found ≡ map (λ (s : InputSection). s.id) (orphans p)
+pub orphans_are : (p : Project) (marks : List Bool) (xs : List Gathered) (found : List SectionKey)
+    → found ≡ filter_map untaken (marked marks xs) → AreGathered p xs → marked marks (input_sections p) ≡ live p
+    → map (section_id (λ key. key)) found ≡ map (λ (s : InputSection). s.id) (orphans p)
 unfolding orphans
-orphans_are p keys marks xs found is a l =
-    ap (map (section_id keys.number)) is ∙ orphans_in p keys marks xs (input_sections p) a.facts
+orphans_are p marks xs found is a l =
+    ap (map (section_id (λ key. key))) is ∙ orphans_in p marks xs (input_sections p) a.facts
     ∙ ap (λ ss. map (λ (s : InputSection). s.id) (filter (λ s. is_none (taken_by p s)) ss)) l
 
 -- what is found, one section later
@@ -287,22 +271,22 @@ found_all h found all marks xs i past e =
     ∙ ap (λ l. found ++ filter_map h (marked (drop i marks) l)) (sym (drop_all i xs past)) ∙ e
 
 -- the sections before a place are in the lists of the statements that take them
-pub record Taken (xs : List Gathered) (marks : List Bool) (i count : ℕ) (buckets : List (Vec NamedPiece Global))
+pub record Taken (xs : List Gathered) (marks : List Bool) (i count : ℕ) (buckets : List (Vec code.Piece Global))
     : Type 0 where
-  pub done : List NamedPiece
+  pub done : List code.Piece
   pub are : AreBuckets done count buckets
   pub rest : done ++ taken_in (drop i marks) (drop i xs) ≡ taken_in marks xs
 
 -- a live section that a statement takes is put as its piece
-pub taken_one : {T E : Type 0} (r : Result T E) (x : Gathered) (b : Bool) (n : InputIndex) (piece : NamedPiece)
-    (old new : List (Vec NamedPiece Global)) → b ≡ true → x.statement ≡ Some n → piece ≡ named_piece x n
-    → OnOk r ((xs : List NamedPiece) (count : ℕ) → AreBuckets xs count old → AreBuckets (xs ++ piece ∷ []) count new)
-    → OnOk r ((xs : List NamedPiece) (count : ℕ) → AreBuckets xs count old
-    → AreBuckets (xs ++ filter_map taken_named (cond b (x ∷ []) [])) count new)
+pub taken_one : {T E : Type 0} (r : Result T E) (x : Gathered) (b : Bool) (n : InputIndex) (piece : code.Piece)
+    (old new : List (Vec code.Piece Global)) → b ≡ true → x.statement ≡ Some n → piece ≡ as_piece x n
+    → OnOk r ((xs : List code.Piece) (count : ℕ) → AreBuckets xs count old → AreBuckets (xs ++ piece ∷ []) count new)
+    → OnOk r ((xs : List code.Piece) (count : ℕ) → AreBuckets xs count old
+    → AreBuckets (xs ++ filter_map own_piece (cond b (x ∷ []) [])) count new)
 taken_one (Err e) x b n piece old new live at is h = tt
 taken_one (Ok u) x b n piece old new live at is h = λ xs count are.
-    let same : piece ∷ [] ≡ filter_map taken_named (cond b (x ∷ []) []) =
+    let same : piece ∷ [] ≡ filter_map own_piece (cond b (x ∷ []) []) =
     ap (λ y. y ∷ []) is
-    ∙ sym (ap (λ c. filter_map taken_named (cond c (x ∷ []) [])) live
-    ∙ ap (λ o. cons_option (option_map (named_piece x) o) []) at) in
+    ∙ sym (ap (λ c. filter_map own_piece (cond c (x ∷ []) [])) live
+    ∙ ap (λ o. cons_option (option_map (as_piece x) o) []) at) in
     subst (λ l. AreBuckets (xs ++ l) count new) same (h xs count are)

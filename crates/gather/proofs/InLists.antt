@@ -6,6 +6,12 @@ use Rattle.std.specs.List.{Contains}
 use Rattle.std.proofs.lemmas.Bool.{true≢false, false_from_ne_true}
 use Rattle.gather.specs.LiveMarks.{marked}
 
+-- what stands at a place of a list
+pub there : {X : Type 0} (xs : List X) (i : ℕ) → i < length xs → (x : X) × (slice_get xs i ≡ Some x)
+there [] i h = absurd (omega (arith, h))
+there (x ∷ xs) zero h = (x, refl)
+there (x ∷ xs) (suc i) h = there xs i (omega (arith, h))
+
 pub here : {X : Type 0} (x : X) (xs : List X) → Contains (x ∷ xs) x
 here x xs = (0, omega arith, refl)
 

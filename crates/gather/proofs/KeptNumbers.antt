@@ -1,11 +1,10 @@
 -- The numbers of the sections that are kept.
-use Rattle.std.proofs.Common.{◌≡◌, ◌<◌, ◌+◌, ◌⊎◌, ◌↔◌, ℕ, zero, suc, Bool, true, false, cond, List, [], ◌∷◌, ◌++◌}
-use Rattle.std.proofs.Common.{length, map, get_or, drop, refl, ap, sym, ◌∙◌, subst, inl, inr, ⊎_elim, arith, Option}
-use Rattle.std.proofs.Common.{Some, None, append_assoc, append-nil}
+use Rattle.std.proofs.Common.{◌≡◌, ◌+◌, ◌⊎◌, ◌↔◌, ℕ, zero, suc, Bool, true, false, cond, List, [], ◌∷◌, ◌++◌}
+use Rattle.std.proofs.Common.{map, refl, ap, sym, ◌∙◌, subst, inl, inr, ⊎_elim, arith, Option}
+use Rattle.std.proofs.Common.{Some, None, append-nil}
 use Rattle.std.specs.Prelude.{slice_get, IsTrue, option_to_list}
 use Rattle.std.specs.List.{Contains}
 use Rattle.std.proofs.lemmas.List.Elements.{Contains-push, Contains-push_cases, Contains-append_left}
-use Rattle.std.proofs.lemmas.List.{drop_more}
 use Rattle.ldscript.specs.statements.Numbering.{InputStatementAt, input_statements}
 use Rattle.ldmodel.specs.FirstMatch.{first_match}
 use Rattle.ldmodel.specs.Gathering.{taken_by}
@@ -13,31 +12,12 @@ use Rattle.ldmodel.specs.InputSections.{input_sections}
 use Rattle.ldmodel.specs.Live.{is_kept}
 use Rattle.ldmodel.specs.Project.{Project}
 use Rattle.ldmodel.specs.Sections.{InputSection}
-use Rattle.gather.specs.Gathered.{AreGathered, Facts, Keys, facts, shown_facts}
+use Rattle.gather.specs.Gathered.{AreGathered, Facts, facts, shown_facts}
 use Rattle.gather.specs.LiveMarks.{IsSectionAt}
 use Rattle.gather.specs.Matches.{number_of}
 use Rattle.gather.specs.Roots.{is_kept_by, kept_numbers}
 use Rattle.gather.specs.declared.gathered.Gathered.{Gathered}
 use Rattle.gather.proofs.InLists.{here, later, first_or_later, none_in_nil}
-
--- one section later
-pub kept_step : (statements : List InputStatementAt) (old new all : List ℕ) (xs : List Gathered) (i : ℕ) (d : Gathered)
-    (b : Bool) → i < length xs
-    → b ≡ is_kept_by statements (number_of (get_or xs i d).statement) → new ≡ old ++ cond b (i ∷ []) []
-    → old ++ kept_numbers statements i (drop i xs) ≡ all → new ++ kept_numbers statements (i + 1) (drop (i + 1) xs)
-    ≡ all
-kept_step statements old new all xs i d b h is added before =
-    ap (λ l. l ++ kept_numbers statements (i + 1) (drop (i + 1) xs)) added
-    ∙ append_assoc old (cond b (i ∷ []) []) (kept_numbers statements (i + 1) (drop (i + 1) xs))
-    ∙ ap (λ l. old ++ l) (go b (kept_numbers statements (i + 1) (drop (i + 1) xs))
-    ∙ ap (λ c. cond c (i ∷ kept_numbers statements (i + 1) (drop (i + 1) xs))
-    (kept_numbers statements (i + 1) (drop (i + 1) xs))) is
-    ∙ ap (kept_numbers statements i) (sym (drop_more xs i d h)))
-    ∙ before
-  where
-    go : (c : Bool) (rest : List ℕ) → cond c (i ∷ []) [] ++ rest ≡ cond c (i ∷ rest) rest
-    go true rest = refl
-    go false rest = refl
 
 module _ (statements : List InputStatementAt) where
   abbrev keeps : Gathered → Bool
@@ -84,42 +64,42 @@ module _ (statements : List InputStatementAt) where
       go false e d rest = abbrev_later (rest d)
 
 -- the section of a number, as the code has it and as the definition does
-statement_at : (p : Project) (keys : Keys) (xs : List Gathered) (ss : List InputSection) → map (shown_facts keys) xs
+statement_at : (p : Project) (xs : List Gathered) (ss : List InputSection) → map shown_facts xs
     ≡ map (facts p) ss → (k : ℕ) (x : Gathered) (s : InputSection)
     → slice_get xs k ≡ Some x → slice_get ss k ≡ Some s → number_of x.statement ≡ first_match p.script s.object s.name
-statement_at p keys [] ss e k x s a b = cc
-statement_at p keys (y ∷ ys) [] e k x s a b = cc
-statement_at p keys (y ∷ ys) (t ∷ ts) e zero x s a b =
-    let head : shown_facts keys y ≡ facts p t = cc in
+statement_at p [] ss e k x s a b = cc
+statement_at p (y ∷ ys) [] e k x s a b = cc
+statement_at p (y ∷ ys) (t ∷ ts) e zero x s a b =
+    let head : shown_facts y ≡ facts p t = cc in
     let same : y ≡ x = cc in
     let twin : t ≡ s = cc in
     ap (λ (z : Gathered). number_of z.statement) (sym same) ∙ ap (λ (f : Facts). f.statement) head
     ∙ ap (λ (z : InputSection). first_match p.script z.object z.name) twin
-statement_at p keys (y ∷ ys) (t ∷ ts) e (suc k) x s a b =
-    let tail : map (shown_facts keys) ys ≡ map (facts p) ts = cc in
-    statement_at p keys ys ts tail k x s a b
+statement_at p (y ∷ ys) (t ∷ ts) e (suc k) x s a b =
+    let tail : map shown_facts ys ≡ map (facts p) ts = cc in
+    statement_at p ys ts tail k x s a b
 
 -- both lists reach as far
-also_there : (p : Project) (keys : Keys) (xs : List Gathered) (ss : List InputSection) → map (shown_facts keys) xs
+also_there : (p : Project) (xs : List Gathered) (ss : List InputSection) → map shown_facts xs
     ≡ map (facts p) ss → (k : ℕ) (s : InputSection)
     → slice_get ss k ≡ Some s → (x : Gathered) × (slice_get xs k ≡ Some x)
-also_there p keys xs [] e k s b = cc
-also_there p keys [] (t ∷ ts) e k s b = cc
-also_there p keys (y ∷ ys) (t ∷ ts) e zero s b = (y, refl)
-also_there p keys (y ∷ ys) (t ∷ ts) e (suc k) s b = let tail : map (shown_facts keys) ys ≡ map (facts p) ts = cc in
-    also_there p keys ys ts tail k s b
+also_there p xs [] e k s b = cc
+also_there p [] (t ∷ ts) e k s b = cc
+also_there p (y ∷ ys) (t ∷ ts) e zero s b = (y, refl)
+also_there p (y ∷ ys) (t ∷ ts) e (suc k) s b = let tail : map shown_facts ys ≡ map (facts p) ts = cc in
+    also_there p ys ts tail k s b
 
-pub kept_are : (p : Project) (keys : Keys) (xs : List Gathered) (found : List ℕ) → found
-    ≡ kept_numbers (input_statements p.script) 0 xs → AreGathered p keys xs
+pub kept_are : (p : Project) (xs : List Gathered) (found : List ℕ) → found
+    ≡ kept_numbers (input_statements p.script) 0 xs → AreGathered p xs
     → (k : ℕ) (s : InputSection) → IsSectionAt p k s → IsTrue (is_kept (taken_by p s)) ↔ Contains found k
-kept_are p keys xs found is a k s at = (to, from)
+kept_are p xs found is a k s at = (to, from)
   where
     mine : (x : Gathered) × (slice_get xs k ≡ Some x)
-    mine = also_there p keys xs (input_sections p) a.facts k s at
+    mine = also_there p xs (input_sections p) a.facts k s at
 
     by_number : (x : Gathered) → slice_get xs k ≡ Some x → keeps (input_statements p.script) x ≡ is_kept (taken_by p s)
     by_number x e = ap (is_kept_by (input_statements p.script))
-        (statement_at p keys xs (input_sections p) a.facts k x s e at)
+        (statement_at p xs (input_sections p) a.facts k x s e at)
 
     to : IsTrue (is_kept (taken_by p s)) → Contains found k
     to h =

@@ -1,7 +1,7 @@
 -- Input sections of a project under their keys.
-use Rattle.std.proofs.Common.{◌≡◌, ◌∙◌, ◌<◌, ℕ, zero, suc, true, eqb, List, [], ◌∷◌, length, get_or, map, ap, sym}
+use Rattle.std.proofs.Common.{◌≡◌, ◌∙◌, ◌<◌, ℕ, true, eqb, List, length, get_or, map, ap, sym}
 use Rattle.std.proofs.Common.{subst, arith, refl, Option, Some, None}
-use Rattle.std.specs.Prelude.{slice_get, Contains, IsSome, option_and_then}
+use Rattle.std.specs.Prelude.{Contains, IsSome, option_and_then}
 use Rattle.std.specs.Option.{option_map}
 use Rattle.std.proofs.lemmas.Bool.{and_parts, and_from, eqb-true, eq-eqb}
 use Rattle.std.proofs.lemmas.List.{length-map, get_or-map, get_or_default}
@@ -14,19 +14,14 @@ use Rattle.ldmodel.specs.InputSections.{input_sections}
 use Rattle.ldmodel.specs.Project.{Project}
 use Rattle.ldmodel.specs.Sections.{InputSection, SectionId, is_same, is_same_part}
 use Rattle.ldmodel.specs.declared.sections.SectionKey.{SectionKey}
-use Rattle.gather.specs.ProjectMembers.{by_place}
 use Rattle.gather.specs.SectionPlaces.{ArePlaces, AreProjectPlaces, IsPlaceOf}
 use Rattle.gather_sections.specs.SectionTable.{IsTableOf, number_of}
 use Rattle.gather_sections.specs.declared.section_table.SectionTable.{SectionTable}
+use Rattle.gather.proofs.InLists.{there}
 use Rattle.gather.proofs.PlacesUnder.{part_itself, same_part}
 
 abbrev pub id_in : SectionKey → SectionId
 id_in k = section_id (λ key. key) k
-
-pub there : {X : Type 0} (xs : List X) (i : ℕ) → i < length xs → (x : X) × (slice_get xs i ≡ Some x)
-there [] i h = absurd (omega (arith, h))
-there (x ∷ xs) zero h = (x, refl)
-there (x ∷ xs) (suc i) h = there xs i (omega (arith, h))
 
 same_id : (a b : SectionId) → is_same a b ≡ true → a ≡ b
 same_id a b h =
@@ -49,10 +44,10 @@ the_some : (o : Option ℕ) → IsSome o → (m : ℕ) × (o ≡ Some m)
 the_some None h = absurd (cc)
 the_some (Some m) h = (m, refl)
 
-module _ (p : Project) (xs : List Gathered) (are : AreGathered p (by_place p) xs) where
+module _ (p : Project) (xs : List Gathered) (are : AreGathered p xs) where
   pub as_many : length xs ≡ length (input_sections p)
   as_many =
-      sym (length-map xs (shown_facts (by_place p))) ∙ (ap length are.facts
+      sym (length-map xs shown_facts) ∙ (ap length are.facts
       ∙ length-map (input_sections p) (facts p))
 
   -- the key of a section is that of its place
@@ -61,8 +56,8 @@ module _ (p : Project) (xs : List Gathered) (are : AreGathered p (by_place p) xs
   id_at b s x at is =
       let within : b < length (input_sections p) = slice_get_within (input_sections p) b s at in
       let low : b < length xs = omega (arith, within, as_many) in
-      let left : get_or (map (shown_facts (by_place p)) xs) b (facts p s) ≡ shown_facts (by_place p) x =
-      get_or-map (shown_facts (by_place p)) xs b x (facts p s) low ∙ ap (shown_facts (by_place p)) is in
+      let left : get_or (map shown_facts xs) b (facts p s) ≡ shown_facts x =
+      get_or-map shown_facts xs b x (facts p s) low ∙ ap shown_facts is in
       let right : get_or (map (facts p) (input_sections p)) b (facts p s) ≡ facts p s =
       get_or-map (facts p) (input_sections p) b s (facts p s) within
       ∙ ap (facts p) (get_or_from_slice_get (input_sections p) b s s at) in
@@ -136,7 +131,8 @@ module _ (p : Project) (xs : List Gathered) (are : AreGathered p (by_place p) xs
     )
 
 -- of a key, if there is one
-pub place_of_key : (p : Project) (place : SectionKey → Option ℕ) (key : Option SectionKey) (id : Option SectionId) (number : Option ℕ)
+pub place_of_key : (p : Project) (place : SectionKey → Option ℕ) (key : Option SectionKey) (id : Option SectionId)
+    (number : Option ℕ)
     → AreProjectPlaces p place → option_map (section_id (λ key. key)) key ≡ id
     → number ≡ option_and_then (place) key → IsPlaceOf p id number
 place_of_key p place key id number are same is =

@@ -3,11 +3,10 @@ pub mod Marks
 pub mod NamedLists
 pub mod InLists
 pub mod LivePaths
-pub mod NumberedLive
 pub mod Sorts
 pub mod RowSteps
 pub mod GatheredLists
-pub mod MemberFacts
+pub mod ObjectFacts
 pub mod KeptNumbers
 pub mod Ascending
 pub mod Seen
@@ -19,7 +18,6 @@ pub mod Collecting
 pub mod ByNumber
 pub mod Named
 pub mod Preparing
-pub mod NamedRows
 pub mod PlacesUnder
 pub mod Keyed
 pub mod Refers

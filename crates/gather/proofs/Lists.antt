@@ -1,10 +1,9 @@
 -- Lists of objects and of symbols with their numbers.
-use Rattle.std.proofs.Common.{◌≡◌, ◌∙◌, ℕ, zero, suc, ◌+◌, ◌<◌, ◌≤◌, List, [], ◌∷◌, ◌++◌, length, get_or, take, ap}
+use Rattle.std.proofs.Common.{◌≡◌, ◌∙◌, ℕ, zero, suc, ◌+◌, ◌<◌, List, [], ◌∷◌, ◌++◌, length, get_or, take, ap}
 use Rattle.std.proofs.Common.{sym, subst, arith, refl, add-zero}
 use Rattle.std.specs.Prelude.{Option, Some, None, slice_get, flat_map, option_to_list}
 use Rattle.std.specs.List.{All, AllZip, cons_option, enumerate_from, filter_map}
 use Rattle.std.proofs.Math.Seq.{take-suc}
-use Rattle.std.proofs.lemmas.List.{take_all}
 use Rattle.std.proofs.lemmas.List.Concat.{flat_map-cons}
 use Rattle.std.proofs.lemmas.List.Elements.{All-append, All-cons, All-head, All-nil, All-tail}
 use Rattle.std.proofs.lemmas.List.FromFn.{length-enumerate_from, get_or-enumerate_from}
@@ -30,26 +29,6 @@ numbered {X} xs n x d e =
     get_or-enumerate_from 0 xs n d (slice_get_within xs n x e)
     ∙ (ap (λ (k : ℕ). let y : ℕ × X = (k, get_or xs n d.1) in y) from_0
     ∙ ap (λ (v : X). let y : ℕ × X = (n, v) in y) (get_or_from_slice_get xs n x d.1 e))
-
-module _ {X Y : Type 0} (R : ℕ × X → Y → Type 0) (os : List X) where
-  pub zip_more : (xs : List Y) (n : ℕ) (o : X) (x : Y) → slice_get os n ≡ Some o → R (n, o) x
-      → AllZip R (take n (enumerate_from 0 os)) xs → AllZip R (take (n + 1) (enumerate_from 0 os)) (xs ++ x ∷ [])
-  zip_more xs n o x e r h =
-      let t : ℕ × X = (n, o) in
-      let all : List (ℕ × X) = enumerate_from 0 os in
-      let within : n < length all = omega (arith, length-enumerate_from 0 os, slice_get_within os n o e) in
-      let suc_is : suc n ≡ n + 1 = omega arith in
-      let more : take (n + 1) all ≡ take n all ++ t ∷ [] =
-      ap (λ (k : ℕ). take k all) (sym suc_is)
-      ∙ (take-suc all n t within ∙ ap (λ (y : ℕ × X). take n all ++ y ∷ []) (numbered os n o t e)) in
-      subst (λ (l : List (ℕ × X)). AllZip R l (xs ++ x ∷ [])) (sym more)
-      (all_zipped_more R (take n all) xs t x h r)
-
-  pub zip_end : (xs : List Y) (n : ℕ) → length os ≤ n → AllZip R (take n (enumerate_from 0 os)) xs
-      → AllZip R (enumerate_from 0 os) xs
-  zip_end xs n past h =
-      subst (λ (l : List (ℕ × X)). AllZip R l xs)
-      (take_all n (enumerate_from 0 os) (omega (arith, past, length-enumerate_from 0 os))) h
 
 -- of each member, what belongs to it
 pub zip_from : {X Y : Type 0} (R : ℕ × X → Y → Type 0) (a : ℕ) (os : List X) (xs : List Y) → length xs ≡ length os

@@ -2,9 +2,9 @@ use Rattle.std.proofs.Common.{◌≡◌, ℕ, ◌+◌, ◌<◌, Bool, true, fals
 use Rattle.std.proofs.Common.{set, refl, sym, ◌∙◌, ◌⊎◌, inl, inr, ⊎_elim, arith, subst, get_or-set_same}
 use Rattle.std.proofs.Common.{get_or-set_other, length-append, ◌↔◌}
 use Rattle.std.specs.List.{Contains, count_by}
-use Rattle.std.proofs.Math.ListN.{replicate, length-set}
+use Rattle.std.proofs.Math.ListN.{length-set}
 use Rattle.std.proofs.lemmas.Bool.{false≢true, cases_lt, cases_eq}
-use Rattle.std.proofs.lemmas.List.{get_or_past, get_or-replicate, length-replicate}
+use Rattle.std.proofs.lemmas.List.{get_or_past}
 use Rattle.std.proofs.lemmas.List.Elements.{Contains-push, Contains-push_cases, Contains-append_left, Contains-get_or}
 use Rattle.std.proofs.lemmas.List.Sums.{sum_by-set}
 use Rattle.std.proofs.lemmas.Grind.{get_or_default_zero}
@@ -25,22 +25,8 @@ pub marked_within : (live : List Bool) (s : ℕ) → IsMarked live s → s < len
 marked_within live s m =
     ⊎_elim (λ h. h) (λ h. absurd (false≢true (sym (get_or_past live s false h) ∙ m))) (cases_lt s (length live))
 
-none_marked : (n s : ℕ) → IsMarked (replicate n false) s → ⊥
-none_marked n s m = ⊎_elim
-    (λ h. false≢true (sym (get_or-replicate n s false false h) ∙ m))
-    (λ h. false≢true (sym (get_or_past (replicate n false) s false (omega (arith, length-replicate n false))) ∙ m))
-    (cases_lt s n)
-
 none_contained : (s : ℕ) → Contains [] s → ⊥
 none_contained s h = omega (arith, h.1)
-
-pub marks_start : (g : Graph) (n : ℕ) → n ≡ length g.out → Marks g (replicate n false) [] n
-marks_start g n e = record {
-  long = omega (arith, length-replicate n false);
-  sound = λ s m. absurd (none_marked n s m);
-  on_stack = λ s h. absurd (none_contained s h);
-  closed = λ a b m. absurd (none_marked n a m);
-}
 
 -- what a visit keeps and adds
 pub record Visited (g : Graph) (live : List Bool) (stack : List ℕ) (at next : ℕ) (live' : List Bool) (stack' : List ℕ)

@@ -10,7 +10,7 @@ use Rattle.std.proofs.lemmas.List.Elements.{All-cons, All-head, All-nil, All-tai
 use Rattle.std.proofs.lemmas.List.Sums.{sum_by-cons}
 use Rattle.std.proofs.lemmas.Option.{same_Some}
 use Rattle.elfobj.specs.Symbols.{NamedSymbol}
-use Rattle.gather.specs.declared.member.CommonBlock.{CommonBlock}
+use Rattle.gather.specs.declared.blocks.CommonBlock.{CommonBlock}
 use Rattle.ldmodel.specs.Sections.{InputSection}
 
 abbrev pub number : CommonBlock → ℕ

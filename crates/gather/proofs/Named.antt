@@ -9,7 +9,6 @@ use Rattle.std.proofs.lemmas.List.Elements.{All-append, All-filter, All-head, Al
 use Rattle.std.proofs.lemmas.Option.{slice_get-get_or}
 use Rattle.elfobj.specs.Sections.{LinkedSection}
 use Rattle.gather.specs.Apart.{AscendingSections}
-use Rattle.gather.specs.Members.{NamesSections}
 use Rattle.ldmodel.specs.Fault as fault
 use Rattle.ldmodel.specs.Fault.{Fault}
 use Rattle.ldmodel.specs.FaultCode.{fault_of, name_of_part, section_at}
@@ -26,7 +25,6 @@ use Rattle.ldmodel.specs.Sections.{InputSection, SectionId}
 use Rattle.ldmodel.specs.declared.fault.Fault.TheVariants.{Orphan}
 use Rattle.ldmodel.specs.declared.sections.SectionKey.{SectionKey}
 use Rattle.gather.specs.Found.{IsFound}
-use Rattle.gather.specs.ProjectMembers.{by_place}
 use Rattle.gather.proofs.Lists.{all_filter_map, all_flat_map, all_numbered}
 use Rattle.gather.proofs.ByNumber.{section_found}
 
@@ -95,13 +93,6 @@ module _ (p : Project) (up : AscendingSections p) where
 
   pub found_one : (s : InputSection) → Contains (input_sections p) s → IsFound p s
   found_one s c = subst (IsFound p) c.2 (all_found c.0 s c.1)
-
-  pub names_sections : NamesSections p (by_place p)
-  names_sections k s c same =
-      ap (λ (x : SectionId). name_of_part p x.object x.part) same ∙ (found_one s c).name
-
-  abbrev id_of : InputSection → SectionId
-  id_of s = s.id
 
   fault_by : SectionId → Fault
   fault_by x = fault.Orphan (object_name p x.object) (name_of_part p x.object x.part)

@@ -10,8 +10,8 @@ use Rattle.std.proofs.lemmas.List.Sorted.{All-permutation, list_any-IsPermutatio
 use Rattle.std.proofs.lemmas.List.Sums.{sum_by-cons}
 use Rattle.std.proofs.lemmas.Option.{get_or_from_slice_get, same_Some, slice_get_within}
 use Rattle.elfobj.specs.Symbols.{NamedSymbol}
-use Rattle.gather.specs.Members.{block_of}
-use Rattle.gather.specs.declared.member.CommonBlock.{CommonBlock}
+use Rattle.gather.specs.Blocks.{block_of}
+use Rattle.gather.specs.declared.blocks.CommonBlock.{CommonBlock}
 use Rattle.ldmodel.specs.HandedOver.{decision_of}
 use Rattle.ldmodel.specs.InputSections as model
 use Rattle.ldmodel.specs.Names.{Common, Decision, Duplicate, Entry, Provided, Script, Strong, Undefined, Weak}
@@ -26,7 +26,7 @@ use Rattle.symres.specs.Decided.{case_at}
 use Rattle.symres.specs.Keyed.{AreKeyed}
 use Rattle.symres.specs.Naming.{IsNaming, NamingState}
 use Rattle.symres.specs.table.State.{IsNamed}
-use Rattle.gather.specs.ProjectMembers.{AreBlocksOf, block_here}
+use Rattle.gather.specs.Blocks.{AreBlocksOf, block_here}
 use Rattle.gather.proofs.Merging.{AreOnce, Stands, at, has_number, merged, number, rise}
 use Rattle.gather.proofs.Owners.{IsDeclared, owner_is, symbol_in}
 use Rattle.gather.proofs.Seen.{is_seen, object_is, table_at}

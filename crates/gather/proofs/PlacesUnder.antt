@@ -39,14 +39,6 @@ key_itself a =
     and_from (eqb a.object.0 a.object.0) (is_same_part a.part a.part) (eq-eqb a.object.0 a.object.0 refl)
     (part_itself a.part)
 
-pub none_placed : (xs : List Gathered) (place : SectionKey → Option ℕ) → ((k : SectionKey) → place k ≡ None)
-    → ArePlaces xs 0 place
-none_placed xs place none = record {
-  below = λ k m h. let is : None ≡ Some m = sym (none k) ∙ h in absurd (cc);
-  is = λ k m x h. let is : None ≡ Some m = sym (none k) ∙ h in absurd (cc);
-  all = λ m x h. absurd (omega (arith, h));
-}
-
 -- a column of a table, with one more place
 module _ (p : Project) (t : SectionTable) (table : IsTableOf p t) (s : SectionKey) (n : ℕ) (old : List (Option ℕ))
     (long : length old ≡ len_of t) where
@@ -153,15 +145,6 @@ pub column_placed : (p : Project) (t : SectionTable) (xs : List Gathered) (n : �
 column_placed p t xs n d id old table long low is some before =
     next_placed xs n d (place_under t old) (place_under t (with_place id n old)) low
     (put_under p t table (get_or xs n d).section n old long id is some) before
-
--- a column without places
-pub none_under : (t : SectionTable) (xs : List Gathered) (old : List (Option ℕ))
-    → ((at : ℕ) → place_at old at ≡ None) → ArePlaces xs 0 (place_under t old)
-none_under t xs old none = none_placed xs (place_under t old) (λ k. go (number_of t k.object.0 k.part))
-  where
-    go : (o : Option ℕ) → option_and_then (place_at old) o ≡ None
-    go None = refl
-    go (Some at) = none at
 
 pub long_with : (id : Option SectionId) (n : ℕ) (old : List (Option ℕ)) → length (with_place id n old) ≡ length old
 long_with None n old = refl

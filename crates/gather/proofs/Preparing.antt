@@ -3,27 +3,26 @@ use Rattle.std.proofs.Common.{◌≡◌, ◌∙◌, ◌<◌, ◌≤◌, ℕ, ◌
 use Rattle.std.proofs.Common.{subst, arith, Vec, Global}
 use Rattle.std.proofs.Common.{Some}
 use Rattle.std.specs.Borrow.{Bor}
-use Rattle.std.specs.Prelude.{slice_get}
+use Rattle.std.specs.Prelude.{slice_get, flat_map}
 use Rattle.std.specs.List.{All, AllZip, enumerate_from}
-use Rattle.std.specs.Option.{option_map_or}
-use Rattle.std.proofs.lemmas.List.{get_or-map, length-map, take_all}
+use Rattle.std.proofs.lemmas.List.{flat_map_more, get_or-map, length-map, map-append, take_all, take_more}
 use Rattle.std.proofs.lemmas.List.Elements.{All-more}
 use Rattle.std.proofs.lemmas.List.FromFn.{length-enumerate_from}
 use Rattle.std.proofs.lemmas.Option.{get_or_from_slice_get, slice_get-get_or, slice_get_within}
 use Rattle.std.proofs.lemmas.Slice.Zip.{AllZip-long}
-use Rattle.gather.specs.Apart.{AscendingSections}
-use Rattle.gather.specs.Matches.{number_of}
-use Rattle.gather.specs.Members.{AreMembers, IsMember, block_of}
-use Rattle.gather.specs.declared.member.CommonBlock.{CommonBlock}
-use Rattle.gather.specs.declared.member.Member.{Member}
-use Rattle.ldmodel.specs.NameFaults.{object_name}
+use Rattle.gather.specs.Apart.{IsAscending}
+use Rattle.gather.specs.Blocks.{AreBlocks, AreBlocksOf, blocks_at}
+use Rattle.gather.specs.Gathered.{AddsFacts, AreGathered, facts, shown_facts}
+use Rattle.gather.specs.ProjectMatches.{AreMatched, IsMatched}
+use Rattle.gather.specs.declared.blocks.CommonBlock.{CommonBlock}
+use Rattle.gather.specs.declared.gathered.Gathered.{Gathered}
+use Rattle.gather.specs.declared.matches.Matches.{Matches}
+use Rattle.ldmodel.specs.InputSections.{input_sections, object_inputs}
 use Rattle.ldmodel.specs.Project.{NamedObject, Project}
+use Rattle.ldmodel.specs.Sections.{InputSection}
 use Rattle.ldmodel_project.specs.Inputs.{shown_input, shown_inputs}
 use Rattle.ldmodel_project.specs.declared.input.InputObject.{InputObject}
-use Rattle.gather.specs.ProjectMatches.{AreMatched, IsMatched}
-use Rattle.gather.specs.ProjectMembers.{AreBlocks, AreBlocksOf, IsAscending, blocks_at, by_place}
-use Rattle.gather.specs.declared.matches.Matches.{Matches}
-use Rattle.gather.proofs.Lists.{zip_at, zip_end, zip_from, zip_member, zip_more, zip_next}
+use Rattle.gather.proofs.Lists.{numbered, zip_at, zip_from, zip_member, zip_next}
 
 pub object_here : (p : Project) (inputs : List InputObject) (n : ℕ) (x : InputObject) → shown_inputs inputs ≡ p.objects
     → n < length inputs → get_or inputs n x ≡ x → slice_get p.objects n ≡ Some (shown_input x)
@@ -92,45 +91,38 @@ blocks_given p n o xs x h here at =
     subst (λ (y : Vec CommonBlock Global). AreBlocksOf p n o y.items) (sym here)
     (zip_at (AreBlocksAt p) p.objects xs n o x at h)
 
-abbrev pub IsMemberAt : Project → ℕ × NamedObject → Member → Type 0
-IsMemberAt p o m = IsMember p (by_place p) o.0 o.1 m
-
--- the members so far
-pub record MembersBefore (p : Project) (n : ℕ) (ms : List Member) : Type 0 where
-  pub members : AllZip (IsMemberAt p) (take n (enumerate_from 0 p.objects)) ms
+-- the sections of the objects so far
+pub record GatheredBefore (p : Project) (n : ℕ) (xs : List Gathered) : Type 0 where
+  pub are : map shown_facts xs ≡ map (facts p) (flat_map (λ (o : ℕ × NamedObject). object_inputs p o.0 o.1)
+      (take n (enumerate_from 0 p.objects)))
   pub ascending : All IsAscending (take n p.objects)
 
--- what a member says, as of what was found of its object
-pub record IsMade (n : ℕ) (o : NamedObject) (x : Matches) (own : List CommonBlock) (m : Member) : Type 0 where
-  pub key : m.key.0 ≡ n
-  pub object : m.object.now ≡ o.object
-  pub matches : m.matches.now ≡ x.linked.items
-  pub blocks : m.blocks.now ≡ own
-  pub common : m.common ≡ x.common
-
-pub more_members : (p : Project) (n : ℕ) (o : NamedObject) (x : Matches) (blocks : List CommonBlock)
-    (ms new : List Member) (m : Member) → slice_get p.objects n ≡ Some o → IsMatched p.script o x
-    → AreBlocksOf p n o blocks → IsMade n o x blocks m → IsAscending o → new ≡ ms ++ m ∷ [] → MembersBefore p n ms
-    → MembersBefore p (n + 1) new
-more_members p n o x blocks ms new m at matched own made up pushed h =
-    let is : IsMember p (by_place p) n o m = record {
-      number = made.key;
-      name = ap (object_name p) made.key ∙ ap (λ y. option_map_or (λ (o : NamedObject). o.name) y []) at;
-      object = made.object;
-      matches = ap (map number_of) made.matches ∙ matched.linked;
-      blocks = ap (map (block_of n o.name)) made.blocks ∙ own;
-      common = ap number_of made.common ∙ matched.common;
-    } in
-    subst (MembersBefore p (n + 1)) (sym pushed) (record {
-      members = zip_more (IsMemberAt p) p.objects ms n o m at is h.members;
-      ascending = All-more IsAscending p.objects n o (slice_get_within p.objects n o at) h.ascending
+pub more_gathered : (p : Project) (n : ℕ) (o : NamedObject) (xs new : List Gathered) → slice_get p.objects n ≡ Some o
+    → AddsFacts xs new (map (facts p) (object_inputs p n o)) → IsAscending o → GatheredBefore p n xs
+    → GatheredBefore p (n + 1) new
+more_gathered p n o xs new at added up h =
+    let f : ℕ × NamedObject → List InputSection = λ o. object_inputs p o.0 o.1 in
+    let t : ℕ × NamedObject = (n, o) in
+    let within : n < length p.objects = slice_get_within p.objects n o at in
+    let all : List (ℕ × NamedObject) = enumerate_from 0 p.objects in
+    let next : flat_map f (take (n + 1) all) ≡ flat_map f (take n all) ++ object_inputs p n o =
+    ap (flat_map f) (take_more all n t (omega (arith, within, length-enumerate_from 0 p.objects))
+    ∙ ap (λ (y : ℕ × NamedObject). take n all ++ y ∷ []) (numbered p.objects n o t at))
+    ∙ sym (flat_map_more f [] (take n all) t) in
+    record {
+      are = added ∙ ap (λ l. l ++ map (facts p) (object_inputs p n o)) h.are
+          ∙ sym (map-append (facts p) (flat_map f (take n all)) (object_inputs p n o)) ∙ ap (map (facts p)) (sym next);
+      ascending = All-more IsAscending p.objects n o within h.ascending
           (subst IsAscending (sym (get_or_from_slice_get p.objects n o o at)) up);
-    })
+    }
 
-pub all_members : (p : Project) (n : ℕ) (ms : List Member) → length p.objects ≤ n → MembersBefore p n ms
-    → AreMembers p (by_place p) ms
-all_members p n ms past h = zip_end (IsMemberAt p) p.objects ms n past h.members
-
-pub all_ascending : (p : Project) (n : ℕ) (ms : List Member) → length p.objects ≤ n → MembersBefore p n ms
-    → AscendingSections p
-all_ascending p n ms past h = subst (All IsAscending) (take_all n p.objects past) h.ascending
+pub all_gathered : (p : Project) (n : ℕ) (xs : List Gathered) → length p.objects ≤ n → GatheredBefore p n xs
+    → AreGathered p xs
+unfolding input_sections
+all_gathered p n xs past h = record {
+  facts = h.are
+      ∙ ap (λ (l : List (ℕ × NamedObject)). map (facts p) (flat_map (λ
+      (o : ℕ × NamedObject). object_inputs p o.0 o.1) l))
+      (take_all n (enumerate_from 0 p.objects) (omega (arith, past, length-enumerate_from 0 p.objects)));
+  ascending = subst (All IsAscending) (take_all n p.objects past) h.ascending;
+}

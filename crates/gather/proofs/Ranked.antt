@@ -11,9 +11,9 @@ use Rattle.std.proofs.lemmas.Option.{get_or_from_slice_get, same_Some, slice_get
 use Rattle.ldmodel.specs.Project.{NamedObject, Project}
 use Rattle.ldmodel.specs.Sections.{InputSection}
 use Rattle.gather_sections.specs.SectionTable.{AreBlockRanks, IsBlockAmong}
-use Rattle.gather.specs.Members.{block_of}
-use Rattle.gather.specs.ProjectMembers.{AreBlocks, AreBlocksOf, block_rank}
-use Rattle.gather.specs.declared.member.CommonBlock.{CommonBlock}
+use Rattle.gather.specs.Blocks.{block_of}
+use Rattle.gather.specs.Blocks.{AreBlocks, AreBlocksOf, block_rank}
+use Rattle.gather.specs.declared.blocks.CommonBlock.{CommonBlock}
 
 abbrev Blocks : Type 0
 Blocks = Vec CommonBlock Global
@@ -29,7 +29,8 @@ none_ranked all = record { ranked = λ k v l. absurd (omega (arith, l)) }
 own_ranks : (i : ℕ) (bs : List CommonBlock) (k : ℕ) (d : CommonBlock) → k < length bs
     → Contains (map (block_rank i) bs) (block_rank i (get_or bs k d))
 own_ranks i bs k d l =
-    (k, omega (arith, l, length-map bs (block_rank i)), get_or-map (block_rank i) bs k d (block_rank i (get_or bs k d)) l)
+    let is = get_or-map (block_rank i) bs k d (block_rank i (get_or bs k d)) l in
+    (k, omega (arith, l, length-map bs (block_rank i)), is)
 
 pub more_ranked : (all : List Blocks) (i : ℕ) (v : Blocks) (old new : List (ℕ × Bool × ℕ)) → v ≡ get_or all i v
     → new ≡ old ++ map (block_rank i) v.items → RankedUpTo all old i → RankedUpTo all new (i + 1)
@@ -44,8 +45,8 @@ more_ranked all i v old new here pushed before =
     go k w l at (inr past) =
         let same : k ≡ i = omega (arith, past, l) in
         let one : v ≡ w = here ∙ ap (λ n. get_or all n v) (sym same) ∙ get_or_from_slice_get all k w v at in
-        subst (λ (n : ℕ). All (λ (b : CommonBlock). Contains (old ++ map (block_rank i) v.items) (block_rank n b)) w.items)
-        (sym same)
+        subst (λ (n : ℕ). All (λ (b : CommonBlock). Contains (old ++ map (block_rank i) v.items) (block_rank n b))
+        w.items) (sym same)
         (subst (λ (x : Blocks). All (λ (b : CommonBlock). Contains (old ++ map (block_rank i) v.items) (block_rank i b))
         x.items) one
         (λ j d m. Contains-append_right old (map (block_rank i) v.items) (block_rank i (get_or v.items j d))

@@ -1,65 +1,23 @@
 -- The sections that relocations refer to, by numbers.
 use Rattle.std.proofs.Common.{◌≡◌, ◌∙◌, ◌<◌, ◌+◌, ◌⊎◌, ℕ, zero, suc, Bool, true, false, ◌||◌, List, [], ◌∷◌, ◌++◌}
-use Rattle.std.proofs.Common.{length, get_or, map, take, ap, sym, arith, refl, Option, Some, None, inl, inr, ⊎_elim}
-use Rattle.std.proofs.Common.{append_assoc, append-nil, find, nat_eq}
-use Rattle.std.specs.Prelude.{slice_get, option_to_list, option_and_then}
-use Rattle.std.specs.List.{All, AllPairs, Contains, list_any}
-use Rattle.std.specs.Option.{option_map, option_map_or}
-use Rattle.std.proofs.lemmas.Bool.{ne_eqb}
-use Rattle.std.proofs.lemmas.List.{get_or_default, length-map}
-use Rattle.std.proofs.lemmas.List.Elements.{All-head, All-tail, Contains-append_cases, Contains-append_left}
+use Rattle.std.proofs.Common.{length, get_or, take, ap, sym, arith, refl, Option, Some, None, inl, inr, ⊎_elim}
+use Rattle.std.proofs.Common.{append_assoc, append-nil}
+use Rattle.std.specs.Prelude.{option_to_list, option_and_then}
+use Rattle.std.specs.List.{Contains, list_any}
+use Rattle.std.specs.Option.{option_map}
+use Rattle.std.proofs.lemmas.List.{get_or_default}
+use Rattle.std.proofs.lemmas.List.Elements.{Contains-append_cases, Contains-append_left}
 use Rattle.std.proofs.lemmas.List.Elements.{Contains-append_right}
 use Rattle.std.proofs.lemmas.List.Folds.{list_any_more}
-use Rattle.std.proofs.lemmas.Option.{same_Some, slice_get-map}
-use Rattle.elfobj.specs.Numbering.{IsNumberedAt}
-use Rattle.elfobj.specs.Sections.{LinkedSection, section_of}
+use Rattle.std.proofs.lemmas.Option.{same_Some}
 use Rattle.elfobj.specs.declared.relocation.Relocation.{Relocation}
-use Rattle.elfobj.specs.declared.section.Section.{Section}
-use Rattle.elfobj.specs.declared.section.SectionIndex.{SectionIndex}
 use Rattle.ldmodel.specs.Live.{is_section, section_of_symbol, symbol_at, target_section}
 use Rattle.ldmodel.specs.HandedOver.{section_id}
 use Rattle.ldmodel.specs.Project.{Project}
 use Rattle.ldmodel.specs.Sections.{InputSection}
 use Rattle.ldmodel.specs.declared.sections.SectionKey.{SectionKey}
 use Rattle.gather.specs.SectionPlaces.{AddsTargets, AreProjectPlaces, IsPlaceOf}
-use Rattle.gather.proofs.ByNumber.{found, at_place}
-use Rattle.gather.proofs.Keyed.{place_of_key, there}
-
--- the relocations of the section of a header number
-pub relocations_there : (xs : List LinkedSection) (i : ℕ) (number : SectionIndex) (rs : List Relocation)
-    → IsNumberedAt (map section_of xs) number i
-    → AllPairs (λ (s t : Section). s.number.0 < t.number.0) (map section_of xs)
-    → slice_get (map (λ (s : LinkedSection). s.relocations) xs) i ≡ Some rs
-    → rs ≡ option_map_or (λ (x : LinkedSection). x.relocations)
-    (find (λ (x : LinkedSection). nat_eq x.number.0 number.0) xs) []
-relocations_there xs i number rs at up is =
-    let long : length (map section_of xs) ≡ length xs = length-map xs section_of in
-    let low : i < length (map section_of xs) = at.within in
-    let x = there xs i (omega (arith, low, long)) in
-    let same : x.0.number.0 ≡ number.0 =
-    ap (λ (s : Section). s.number.0) (sym (at_place xs i x.0 (section_of x.0) x.1)) ∙ at.number_is (section_of x.0) in
-    let one : find (λ (y : LinkedSection). nat_eq y.number.0 number.0) xs ≡ Some x.0 =
-    ap (λ (n : ℕ). find (λ (y : LinkedSection). nat_eq y.number.0 n) xs) (sym same) ∙ found xs i x.0 up x.1 in
-    let own : x.0.relocations ≡ rs = same_Some _ _ (ap (λ o. option_map (λ (s : LinkedSection). s.relocations) o)
-    (sym x.1) ∙ (sym (slice_get-map (λ (s : LinkedSection). s.relocations) xs i) ∙ is)) in
-    sym own ∙ ap (λ o. option_map_or (λ (x : LinkedSection). x.relocations) o []) (sym one)
-
-none_numbered : (xs : List LinkedSection) (number : SectionIndex)
-    → All (λ (s : Section). s.number.0 ≡ number.0 → ⊥) (map section_of xs)
-    → find (λ (x : LinkedSection). nat_eq x.number.0 number.0) xs ≡ None
-none_numbered [] number h = refl
-none_numbered (x ∷ xs) number h =
-    rw (ne_eqb x.number.0 number.0
-    (All-head (λ (s : Section). s.number.0 ≡ number.0 → ⊥) (section_of x) (map section_of xs) h))
-    (none_numbered xs number
-    (All-tail (λ (s : Section). s.number.0 ≡ number.0 → ⊥) (section_of x) (map section_of xs) h))
-
-pub relocations_nowhere : (xs : List LinkedSection) (number : SectionIndex)
-    → All (λ (s : Section). s.number.0 ≡ number.0 → ⊥) (map section_of xs)
-    → [] ≡ option_map_or (λ (x : LinkedSection). x.relocations)
-    (find (λ (x : LinkedSection). nat_eq x.number.0 number.0) xs) []
-relocations_nowhere xs number h =
-    ap (λ o. option_map_or (λ (x : LinkedSection). x.relocations) o []) (sym (none_numbered xs number h))
+use Rattle.gather.proofs.Keyed.{place_of_key}
 
 -- nothing refers to nothing
 pub no_targets : (p : Project) (i : ℕ) (old : List ℕ) → AddsTargets p i [] old old
@@ -122,7 +80,8 @@ module _ (p : Project) (i : ℕ) (rs : List Relocation) (n : ℕ) (r : Relocatio
   }
 
 -- the number of the target of a relocation
-pub target_place : (p : Project) (place : SectionKey → Option ℕ) (i : ℕ) (r : Relocation) (key : Option SectionKey) (number : Option ℕ)
+pub target_place : (p : Project) (place : SectionKey → Option ℕ) (i : ℕ) (r : Relocation) (key : Option SectionKey)
+    (number : Option ℕ)
     → AreProjectPlaces p place
     → option_map (section_id (λ key. key)) key ≡ option_and_then (section_of_symbol p i) (symbol_at p i r.symbol.0)
     → number ≡ option_and_then (place) key → IsPlaceOf p (target_section p i r) number

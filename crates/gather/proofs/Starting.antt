@@ -4,74 +4,48 @@ use Rattle.std.proofs.Common.{length, get_or, map, ap, sym, subst, arith, Option
 use Rattle.std.proofs.Common.{⊎_elim}
 use Rattle.std.specs.Prelude.{IsTrue}
 use Rattle.std.specs.List.{Contains, list_any}
-use Rattle.std.specs.Option.{option_map_or, option_and_then}
 use Rattle.std.proofs.lemmas.List.{get_or_default, length-map}
 use Rattle.std.proofs.lemmas.Option.{get_or_from_slice_get, same_Some, slice_get_within}
-use Rattle.elfobj.specs.Object.{ObjectData}
-use Rattle.elfobj.specs.Sections.{LinkedSection}
-use Rattle.elfobj.specs.declared.relocation.Relocation.{Relocation}
-use Rattle.elfobj.specs.declared.section.SectionIndex.{SectionIndex}
-use Rattle.gather.specs.Apart.{AscendingSections}
 use Rattle.gather.specs.Gathered.{AreGathered}
 use Rattle.gather.specs.Graphs.{graph_of}
 use Rattle.gather.specs.LiveMarks.{IsGraphOf, IsSectionAt}
 use Rattle.gather.specs.declared.gathered.Gathered.{Gathered}
 use Rattle.ldmodel.specs.Gathering.{is_out, taken_by}
-use Rattle.ldmodel.specs.Image.{section_numbered}
 use Rattle.ldmodel.specs.InputSections.{input_sections}
 use Rattle.ldmodel.specs.Live.{entry_section, is_kept, is_section, refers_to, target_section}
-use Rattle.ldmodel.specs.Project.{NamedObject, Project}
+use Rattle.ldmodel.specs.Project.{Project}
 use Rattle.ldmodel.specs.Sections.{InputSection, SectionId}
-use Rattle.ldmodel.specs.declared.sections.Part.{Part}
-use Rattle.ldmodel.specs.declared.sections.Part.TheVariants.{InTable}
 use Rattle.gather.specs.Found.{relocations_of}
-use Rattle.gather.specs.ProjectMembers.{by_place}
 use Rattle.gather.specs.SectionPlaces.{AddsTargets, IsPlaceOf, Refers}
-use Rattle.gather.specs.Symbols.{IsObjectAt}
-use Rattle.gather.proofs.Keyed.{as_many, id_at, id_in, there}
+use Rattle.gather.proofs.InLists.{there}
+use Rattle.gather.proofs.Keyed.{as_many, id_at, id_in}
 use Rattle.gather.proofs.Named.{found_one}
 use Rattle.gather.proofs.Refers.{or_cases, or_left, or_right}
-use Rattle.gather.proofs.Seen.{object_at}
-
--- the relocations of a section of an object of the project
-pub row_of : (p : Project) (i : ℕ) (part : Part) (object : ObjectData) (number : SectionIndex) (rs : List Relocation)
-    → IsObjectAt p i object → part ≡ InTable number
-    → rs ≡ option_map_or (λ (x : LinkedSection). x.relocations)
-    (section_numbered (record { name = []; object = object }) number) []
-    → rs ≡ relocations_of p i part
-row_of p i part object number rs at is are =
-    let o = object_at p i object at in
-    let with_object : ObjectData → List Relocation =
-    λ (d : ObjectData). option_map_or (λ (x : LinkedSection). x.relocations)
-    (section_numbered (record { name = []; object = d }) number) [] in
-    are ∙ (ap with_object (sym o.2)
-    ∙ (ap (λ m. option_map_or (λ (x : LinkedSection). x.relocations)
-    (option_and_then (λ (o : NamedObject). section_numbered o number) m) []) (sym o.1)
-    ∙ ap (relocations_of p i) (sym is)))
 
 -- of the section of a key
-pub own_row : (p : Project) (xs : List Gathered) (n : ℕ) (x : Gathered) → AscendingSections p
-    → AreGathered p (by_place p) xs → get_or xs n x ≡ x → (s : InputSection) → IsSectionAt p n s
+pub own_row : (p : Project) (xs : List Gathered) (n : ℕ) (x : Gathered)
+    → AreGathered p xs → get_or xs n x ≡ x → (s : InputSection) → IsSectionAt p n s
     → (s.id.object ≡ x.section.object.0)
     × (s.relocations ≡ relocations_of p x.section.object.0 x.section.part)
-own_row p xs n x up are here s at =
+own_row p xs n x are here s at =
     let same : id_in x.section ≡ s.id = id_at p xs are n s x at here in
     let inside : Contains (input_sections p) s =
     (n, slice_get_within (input_sections p) n s at, get_or_from_slice_get (input_sections p) n s s at) in (
       ap (λ (i : SectionId). i.object) (sym same),
-      sym (found_one p up s inside).relocations ∙ ap (λ (i : SectionId). relocations_of p i.object i.part) (sym same),
+      sym (found_one p are.ascending s inside).relocations
+          ∙ ap (λ (i : SectionId). relocations_of p i.object i.part) (sym same),
     )
 
 -- what was added for a section, which is x, are the numbers of those that it refers to
-module _ (p : Project) (xs : List Gathered) (n b : ℕ) (x : Gathered) (new : List ℕ) (up : AscendingSections p)
-    (are : AreGathered p (by_place p) xs) (here : get_or xs n x ≡ x) (low : n < length (input_sections p))
+module _ (p : Project) (xs : List Gathered) (n b : ℕ) (x : Gathered) (new : List ℕ)
+    (are : AreGathered p xs) (here : get_or xs n x ≡ x) (low : n < length (input_sections p))
     (below : b < length (input_sections p))
     (adds : AddsTargets p x.section.object.0 (relocations_of p x.section.object.0 x.section.part) [] new) where
   as_added : (s t : InputSection) → IsSectionAt p n s → refers_to p s t
       ≡ list_any (λ r. is_section (target_section p x.section.object.0 r) t)
       (relocations_of p x.section.object.0 x.section.part)
   as_added s t at =
-      let own = own_row p xs n x up are here s at in
+      let own = own_row p xs n x are here s at in
       ap (λ (i : ℕ). list_any (λ r. is_section (target_section p i r) t) s.relocations) own.0
       ∙ ap (list_any (λ r. is_section (target_section p x.section.object.0 r) t)) own.1
 
@@ -90,15 +64,15 @@ module _ (p : Project) (xs : List Gathered) (n b : ℕ) (x : Gathered) (new : Li
   refers_as = (refers_in, in_refers)
 
 -- the same of the section at a place
-pub refers_at : (p : Project) (xs : List Gathered) (n : ℕ) (d : Gathered) (old new : List ℕ) → AscendingSections p
-    → AreGathered p (by_place p) xs → n < length (input_sections p) → old ≡ []
+pub refers_at : (p : Project) (xs : List Gathered) (n : ℕ) (d : Gathered) (old new : List ℕ)
+    → AreGathered p xs → n < length (input_sections p) → old ≡ []
     → AddsTargets p (get_or xs n d).section.object.0
     (relocations_of p (get_or xs n d).section.object.0 (get_or xs n d).section.part) old new
     → (b : ℕ) → b < length (input_sections p) → Refers p n b ↔ Contains new b
-refers_at p xs n d old new up are low none adds b below =
+refers_at p xs n d old new are low none adds b below =
     let x = get_or xs n d in
     let many : length xs ≡ length (input_sections p) = as_many p xs are in
-    refers_as p xs n b x new up are (get_or_default xs n x d (omega (arith, low, many))) low below
+    refers_as p xs n b x new are (get_or_default xs n x d (omega (arith, low, many))) low below
     (subst (λ (l : List ℕ). AddsTargets p x.section.object.0
     (relocations_of p x.section.object.0 x.section.part) l new) none adds)
 

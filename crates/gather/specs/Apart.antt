@@ -5,8 +5,10 @@ use Rattle.elfobj.specs.Sections.{section_of}
 use Rattle.elfobj.specs.file.declared.section.Section.{Section}
 use Rattle.ldmodel.specs.Project.{NamedObject, Project}
 
--- the header numbers of the linked sections of each object ascend, as `Object::sections` says of an object
+-- the header numbers of its linked sections ascend
+abbrev pub IsAscending : NamedObject → Type 0
+IsAscending o = AllPairs (λ (s t : Section). s.number.0 < t.number.0) (map section_of o.object.sections)
+
+-- those of each object do, as `Object::sections` says of an object
 abbrev pub AscendingSections : Project → Type 0
-AscendingSections p =
-    All (λ (o : NamedObject). AllPairs (λ (s t : Section). s.number.0 < t.number.0) (map section_of o.object.sections))
-    p.objects
+AscendingSections p = All IsAscending p.objects

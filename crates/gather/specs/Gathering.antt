@@ -9,7 +9,7 @@ use Rattle.ldmodel_project.specs.ByPlace.{rows_in}
 use Rattle.gather_sections.specs.SectionTable.{IsTableOf}
 use Rattle.gather.specs.declared.gathering.Gathering.{Gathering}
 
--- its table numbers the input sections of the project, its rows are those of the project, and its orphans are the faults
+-- its table numbers the input sections of the project, its rows are those of the project, its orphans are the faults
 pub record IsGathering (p : Project) (g : Gathering) : Type 0 where
   pub table : IsTableOf p g.table
   pub rows : rows_in p g.rows.items ≡ rows p

@@ -4,7 +4,6 @@ use Rattle.std.specs.Prelude.{IsSome, option_and_then, slice_set}
 use Rattle.std.specs.Prelude.{IsTrue, slice_index_or}
 use Rattle.std.specs.List.{list_any}
 use Rattle.elfobj.specs.declared.relocation.Relocation.{Relocation}
-use Rattle.gather.specs.Apart.{AscendingSections}
 use Rattle.gather.specs.Gathered.{AreGathered}
 use Rattle.gather.specs.LiveMarks.{IsSectionAt}
 use Rattle.gather.specs.declared.gathered.Gathered.{Gathered}
@@ -14,7 +13,6 @@ use Rattle.ldmodel.specs.Project.{Project}
 use Rattle.ldmodel.specs.Sections.{InputSection, SectionId, is_same_part}
 use Rattle.ldmodel.specs.declared.sections.SectionKey.{SectionKey}
 use Rattle.symres.specs.Naming.{IsNaming, NamingState}
-use Rattle.gather.specs.ProjectMembers.{by_place}
 use Rattle.gather.specs.declared.places.Places.{Places}
 use Rattle.gather_sections.specs.SectionTable.{number_of}
 use Rattle.gather_sections.specs.declared.section_table.SectionId as code
@@ -73,6 +71,5 @@ Refers p a b = (s t : InputSection) → IsSectionAt p a s → IsSectionAt p b t 
 pub record AreProjectReferences (p : Project) (naming : NamingState) (places : Places) (xs : List Gathered)
     : Type 0 where
   pub named : IsNaming p naming
-  pub ascending : AscendingSections p
-  pub sections : AreGathered p (by_place p) xs
+  pub sections : AreGathered p xs
   pub placed : AreProjectPlaces p (place_in places)

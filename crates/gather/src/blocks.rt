@@ -2,12 +2,11 @@
 
 ghost use Rattle.std.specs.Prelude.{◌≡◌, ◌<◌, ◌++◌, ℕ, [], IfOk, OnOk, length, map, option_to_list};
 ghost use Rattle.std.specs.List.{filter_map};
-ghost use Rattle.gather.specs.ProjectMembers.{AreBlocks, IsInOrder, block_here, block_rank, blocks_at};
+ghost use Rattle.gather.specs.Blocks.{AreBlocks, IsInOrder, block_here, block_rank, blocks_at};
 ghost use Rattle.ldmodel.specs.Project.{Project};
 ghost use Rattle.symres.specs.Naming.{IsNaming};
 ghost use Rattle.gather_sections.specs.SectionTable.{AreBlockRanks};
 
-use crate::member::CommonBlock;
 use elfobj::relocation::SymbolIndex;
 use gather_sections::rank::Rank;
 use ldmodel::memory::NoMemory;
@@ -15,6 +14,17 @@ use ldmodel::names::{Case, NameKey};
 use ldmodel_project::view::ProjectView;
 use std::alloc::Global;
 use symres::Naming;
+
+/// A common block.
+#[derive(Clone, Copy, Debug, PartialEq, Eq)]
+pub(crate) struct CommonBlock {
+    /// The entry that owns it, by its number in the symbol table of the object that owns it.
+    pub(crate) symbol: SymbolIndex,
+    /// How many bytes it takes.
+    pub(crate) size: u64,
+    /// Its alignment.
+    pub(crate) alignment: u64,
+}
 
 /// No common blocks, of this many objects.
 fn no_blocks(alloc: Global, count: usize) -> Result<Vec<Vec<CommonBlock>>, NoMemory>

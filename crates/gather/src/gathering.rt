@@ -1,25 +1,21 @@
 //! What gathering finds.
 
 ghost use Rattle.std.specs.Prelude.{◌≡◌, IfOk, map};
-ghost use Rattle.gather.specs.Apart.{AscendingSections};
 ghost use Rattle.gather.specs.Gathered.{AreGathered};
 ghost use Rattle.gather.specs.LiveMarks.{marked};
 ghost use Rattle.gather.specs.Gathering.{IsGathering};
 ghost use Rattle.gather.specs.ProjectMatches.{AreMatched};
-ghost use Rattle.gather.specs.ProjectMembers.{by_place};
 ghost use Rattle.ldmodel.specs.InputSections.{input_sections};
 ghost use Rattle.ldmodel.specs.Live.{live};
 ghost use Rattle.symres.specs.Naming.{IsNaming};
 ghost use Rattle.gather_sections.specs.SectionTable.{IsTableOf};
 
 use crate::blocks::{block_ranks, common_blocks};
-use crate::gathered::Gathered;
+use crate::gathered::{Gathered, input_sections};
 use crate::left_out::left_out;
 use crate::live::mark_live;
 use crate::live_sections::orphans;
 use crate::matches::Matches;
-use crate::member::input_sections;
-use crate::members::members;
 use crate::rows::rows;
 use gather_sections::section_table::SectionTable;
 use ldmodel::memory::NoMemory;
@@ -45,19 +41,18 @@ pub struct Gathering {
 fn sorted_out(
     alloc: Global,
     project: &ProjectView<'_>,
-    sections: &[Gathered<'_>],
+    sections: &[Gathered],
     marks: &[bool],
     table: SectionTable,
 ) -> Result<Gathering, NoMemory>
     requires table { IsTableOf project.now table }
-    requires ascending { AscendingSections project.now }
-    requires sections { AreGathered project.now (by_place project.now) sections.now }
+    requires sections { AreGathered project.now sections.now }
     requires marks { marked marks.now (input_sections project.now) ≡ live project.now }
     ensures { IfOk result (λ g. IsGathering project.now g) }
 {
     live_by_path();
     let orphans = orphans(alloc, sections, marks)?;
-    let rows = rows(alloc, project.script(), sections, marks)?;
+    let rows = rows(alloc, project, sections, marks)?;
     Ok(Gathering {
         table,
         rows,
@@ -83,8 +78,7 @@ impl Gathering {
         ensures { IfOk result (λ g. IsGathering project.now g) }
     {
         let blocks = common_blocks(alloc, project, naming)?;
-        let members = members(alloc, project, matches, &blocks)?;
-        let sections = input_sections(alloc, &members)?;
+        let sections = input_sections(alloc, project, matches, &blocks)?;
         let options = project.options();
         let out = left_out(alloc, project.script(), options.orphans(), &sections)?;
         let ranks = block_ranks(alloc, &blocks)?;

@@ -6,7 +6,7 @@ ghost use Rattle.ldmodel.specs.Gathering.{is_out};
 ghost use Rattle.ldmodel.specs.InputSections.{input_sections};
 ghost use Rattle.ldmodel.specs.Project.{Project};
 ghost use Rattle.gather.specs.declared.gathered.Gathered.{Gathered};
-ghost use Rattle.gather.specs.Gathered.{AreGathered, Keys};
+ghost use Rattle.gather.specs.Gathered.{AreGathered};
 ghost use Rattle.gather.specs.LeftOut.{is_out_of};
 ghost use Rattle.gather.specs.Matches.{number_of};
 
@@ -19,7 +19,7 @@ use std::alloc::Global;
 
 /// Whether a section is left out: one that `/DISCARD/` takes; and of those that no statement takes the empty ones,
 /// and all where orphans are discarded.
-pub fn is_out(statements: &[InputStatementAt<'_>], orphans: Orphans, section: &Gathered<'_>) -> bool
+pub fn is_out(statements: &[InputStatementAt<'_>], orphans: Orphans, section: &Gathered) -> bool
     ensures { result ≡ is_out_of (shown_inputs statements.now) orphans section.now.size
         (number_of section.now.statement) }
 {
@@ -38,7 +38,7 @@ fn each_out(
     alloc: Global,
     statements: &[InputStatementAt<'_>],
     orphans: Orphans,
-    sections: &[Gathered<'_>],
+    sections: &[Gathered],
 ) -> Result<Vec<bool>, NoMemory>
     ensures { IfOk result (λ out. out.items
         ≡ map (λ (x : Gathered). is_out_of (shown_inputs statements.now) orphans x.size (number_of x.statement))
@@ -60,10 +60,10 @@ pub fn left_out(
     alloc: Global,
     script: &Script,
     orphans: Orphans,
-    sections: &[Gathered<'_>],
+    sections: &[Gathered],
 ) -> Result<Vec<bool>, NoMemory>
-    ensures { IfOk result (λ out. (p : Project) (keys : Keys) → p.script ≡ script.now → p.options.orphans ≡ orphans
-        → AreGathered p keys sections.now → out.items ≡ map (is_out p) (input_sections p)) }
+    ensures { IfOk result (λ out. (p : Project) → p.script ≡ script.now → p.options.orphans ≡ orphans
+        → AreGathered p sections.now → out.items ≡ map (is_out p) (input_sections p)) }
 {
     let statements = script.input_statements(alloc)?;
     each_out(alloc, &statements, orphans, sections)

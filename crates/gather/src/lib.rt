@@ -4,10 +4,11 @@
 //!
 //! - `matcher` over `file_search`, `file_tables`, `word_table`, `word`, `name_places`: first match; `matches`: of one
 //!   object, and of all;
-//! - `member`, `members`, `gathered`, `blocks`, `cases`: the input sections, common blocks among them; `left_out`;
+//! - `gathered`, `blocks`, `cases`: the input sections, common blocks among them; `left_out`;
 //! - `roots`, `marking`, `references`, and of a project `live`, `referring`, `targets`, `places`: which sections are
 //!   live;
-//! - `rows`, `sorting`, `live_sections`: rows and orphans; `gathering`: all of it, for a project; `law`;
+//! - `rows`, `sorting`, `section_names`, `live_sections`: rows and orphans; `gathering`: all of it, for a project;
+//!   `law`;
 //! - the part `sections`: the table of input sections. Other families name this crate alone.
 #![tactic(auto)]
 
@@ -24,14 +25,13 @@ pub mod live_sections;
 pub mod marking;
 pub mod matcher;
 pub mod matches;
-pub mod member;
-mod members;
 mod name_places;
 mod places;
 pub mod references;
 mod referring;
 pub mod roots;
 pub mod rows;
+mod section_names;
 mod sorting;
 mod targets;
 mod word;

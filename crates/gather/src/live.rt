@@ -1,10 +1,8 @@
 //! Which input sections are live.
 
 ghost use Rattle.std.specs.Prelude.{◌≡◌, IfOk, map, true};
-ghost use Rattle.gather.specs.Apart.{AscendingSections};
 ghost use Rattle.gather.specs.Gathered.{AreGathered};
 ghost use Rattle.gather.specs.LiveMarks.{marked};
-ghost use Rattle.gather.specs.ProjectMembers.{by_place};
 ghost use Rattle.ldmodel.specs.Gathering.{is_out};
 ghost use Rattle.ldmodel.specs.InputSections.{input_sections};
 ghost use Rattle.ldmodel.specs.Live.{live};
@@ -31,14 +29,13 @@ fn mark_needed(
     project: &ProjectView<'_>,
     naming: &Naming,
     table: &SectionTable,
-    sections: &[Gathered<'_>],
+    sections: &[Gathered],
     out: &[bool],
 ) -> Result<Vec<bool>, NoMemory>
     requires naming { IsNaming project.now naming.now }
     requires table { IsTableOf project.now table.now }
     requires collected { project.now.options.gc ≡ true }
-    requires ascending { AscendingSections project.now }
-    requires sections { AreGathered project.now (by_place project.now) sections.now }
+    requires sections { AreGathered project.now sections.now }
     requires out { out.now ≡ map (is_out project.now) (input_sections project.now) }
     ensures { IfOk result (λ marks. marked marks.items (input_sections project.now) ≡ live project.now) }
 {
@@ -68,13 +65,12 @@ pub(crate) fn mark_live(
     project: &ProjectView<'_>,
     naming: &Naming,
     table: &SectionTable,
-    sections: &[Gathered<'_>],
+    sections: &[Gathered],
     out: &[bool],
 ) -> Result<Vec<bool>, NoMemory>
     requires naming { IsNaming project.now naming.now }
     requires table { IsTableOf project.now table.now }
-    requires ascending { AscendingSections project.now }
-    requires sections { AreGathered project.now (by_place project.now) sections.now }
+    requires sections { AreGathered project.now sections.now }
     requires out { out.now ≡ map (is_out project.now) (input_sections project.now) }
     ensures { IfOk result (λ marks. marked marks.items (input_sections project.now) ≡ live project.now) }
 {

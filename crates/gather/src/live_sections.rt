@@ -8,7 +8,7 @@ ghost use Rattle.ldmodel.specs.Live.{live, orphans};
 ghost use Rattle.ldmodel.specs.Project.{Project};
 ghost use Rattle.ldmodel.specs.Sections.{InputSection};
 ghost use Rattle.std.specs.List.{filter_map};
-ghost use Rattle.gather.specs.Gathered.{AreGathered, Keys, untaken};
+ghost use Rattle.gather.specs.Gathered.{AreGathered, untaken};
 ghost use Rattle.gather.specs.LiveMarks.{marked};
 
 use crate::gathered::Gathered;
@@ -45,7 +45,7 @@ pub(crate) fn is_marked(marks: &[bool], number: usize) -> bool
 /// Adds a section, if it is live and no statement takes it.
 fn add_untaken(
     found: &mut Vec<SectionKey>,
-    section: &Gathered<'_>,
+    section: &Gathered,
     is_live: bool,
 ) -> Result<(), NoMemory>
     ensures { OnOk result (found.new.items ≡ found.old.items
@@ -68,11 +68,11 @@ fn add_untaken(
 /// Where memory runs out.
 pub fn orphans(
     alloc: Global,
-    sections: &[Gathered<'_>],
+    sections: &[Gathered],
     marks: &[bool],
 ) -> Result<Vec<SectionKey>, NoMemory>
-    ensures { IfOk result (λ found. (p : Project) (keys : Keys) → AreGathered p keys sections.now
-        → marked marks.now (input_sections p) ≡ live p → map (section_id keys.number) found.items
+    ensures { IfOk result (λ found. (p : Project) → AreGathered p sections.now
+        → marked marks.now (input_sections p) ≡ live p → map (section_id (λ key. key)) found.items
         ≡ map (λ (s : InputSection). s.id) (orphans p)) }
 {
     let mut found = Vec::new(alloc);

@@ -1,9 +1,7 @@
 //! Where input sections stand in a list, by their numbers.
 
 ghost use Rattle.std.specs.Prelude.{◌≡◌, ◌<◌, IfOk, IfSome, length, option_and_then};
-ghost use Rattle.gather.specs.Apart.{AscendingSections};
 ghost use Rattle.gather.specs.Gathered.{AreGathered};
-ghost use Rattle.gather.specs.ProjectMembers.{by_place};
 ghost use Rattle.gather.specs.SectionPlaces.{AreProjectPlaces, place_in, place_under, with_place};
 ghost use Rattle.gather_sections.specs.SectionTable.{IsTableOf};
 
@@ -43,11 +41,10 @@ pub(crate) fn places_of(
     alloc: Global,
     project: &ProjectView<'_>,
     table: &SectionTable,
-    sections: &[Gathered<'_>],
+    sections: &[Gathered],
 ) -> Result<Vec<Option<usize>>, NoMemory>
     requires table { IsTableOf project.now table.now }
-    requires ascending { AscendingSections project.now }
-    requires sections { AreGathered project.now (by_place project.now) sections.now }
+    requires sections { AreGathered project.now sections.now }
     ensures { IfOk result (λ v. AreProjectPlaces project.now (place_under table.now v.items)) }
 {
     sections_apart();

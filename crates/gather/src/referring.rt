@@ -74,7 +74,7 @@ fn add_row(
     project: &ProjectView<'_>,
     naming: &Naming,
     places: &Places<'_>,
-    section: &Gathered<'_>,
+    section: &Gathered,
     targets: &mut Vec<usize>,
 ) -> Result<(), NoMemory>
     requires naming { IsNaming project.now naming.now }
@@ -100,14 +100,14 @@ fn add_row(
 /// The references between the input sections of a project, by the relocations of these. They are found anew for each
 /// section that is asked for, and nothing is kept of them. The time for a section grows with its relocations.
 #[derive(Drop)]
-pub(crate) struct ProjectReferences<'a, 'p, 's> {
+pub(crate) struct ProjectReferences<'a, 'p> {
     pub(crate) project: &'a ProjectView<'p>,
     pub(crate) naming: &'a Naming,
     pub(crate) places: &'a Places<'a>,
-    pub(crate) sections: &'a [Gathered<'s>],
+    pub(crate) sections: &'a [Gathered],
 }
 
-impl<'a, 'p, 's> References for ProjectReferences<'a, 'p, 's> {
+impl<'a, 'p> References for ProjectReferences<'a, 'p> {
     ghost can_find = { λ r. AreProjectReferences r.project.now r.naming.now r.places.now r.sections.now };
 
     ghost count = { λ r. length (input_sections r.project.now) };

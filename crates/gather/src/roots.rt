@@ -7,7 +7,7 @@ ghost use Rattle.ldmodel.specs.Gathering.{taken_by};
 ghost use Rattle.ldmodel.specs.Live.{is_kept};
 ghost use Rattle.ldmodel.specs.Project.{Project};
 ghost use Rattle.ldmodel.specs.Sections.{InputSection};
-ghost use Rattle.gather.specs.Gathered.{AreGathered, Keys};
+ghost use Rattle.gather.specs.Gathered.{AreGathered};
 ghost use Rattle.gather.specs.LiveMarks.{IsSectionAt};
 ghost use Rattle.gather.specs.Matches.{number_of};
 ghost use Rattle.gather.specs.Roots.{is_kept_by, kept_numbers};
@@ -46,7 +46,7 @@ fn add_kept(found: &mut Vec<usize>, number: usize, is_kept: bool) -> Result<(), 
 fn kept(
     alloc: Global,
     statements: &[InputStatementAt<'_>],
-    sections: &[Gathered<'_>],
+    sections: &[Gathered],
 ) -> Result<Vec<usize>, NoMemory>
     ensures { IfOk result (λ found. found.items ≡ kept_numbers (shown_inputs statements.now) 0 sections.now) }
 {
@@ -80,11 +80,11 @@ fn add_entry(found: &mut Vec<usize>, entry: Option<usize>) -> Result<(), NoMemor
 pub fn roots(
     alloc: Global,
     script: &Script,
-    sections: &[Gathered<'_>],
+    sections: &[Gathered],
     entry: Option<usize>,
 ) -> Result<Vec<usize>, NoMemory>
-    ensures { IfOk result (λ found. (p : Project) (keys : Keys) → p.script ≡ script.now
-        → AreGathered p keys sections.now → (k : ℕ) (s : InputSection) → IsSectionAt p k s
+    ensures { IfOk result (λ found. (p : Project) → p.script ≡ script.now
+        → AreGathered p sections.now → (k : ℕ) (s : InputSection) → IsSectionAt p k s
         → (IsTrue (is_kept (taken_by p s)) ⊎ (entry ≡ Some k)) ↔ Contains found.items k) }
 {
     let statements = script.input_statements(alloc)?;

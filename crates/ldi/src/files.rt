@@ -17,75 +17,59 @@ pub const MAP_MODE: u32 = 0o644;
 /// long is seen to be, and one without an end is not read for ever.
 const MOST: usize = MAX_PAYLOAD + 1;
 
-/// The length of the buffer that files are read into: a longer file is read piece by piece from there on.
+/// The longest buffer that one read is to fill. A buffer is zeros before it is read into: those of a longer one would
+/// have left the processor's cache by then, so a longer file is read piece by piece.
 const AT_ONCE: usize = 131_072;
 
-/// A buffer that files are read into, one after another. A buffer is zeros before it is read into: so there is one for
-/// all files of a link, and the bytes of each are copied out of it.
-#[derive(Drop)]
-pub struct ReadBuffer {
-    bytes: Vec<u8>,
+/// The first bytes of a file, as many as one read gives into this buffer. Gives whether it did read: a signal may
+/// interrupt it.
+fn read_once(file: &mut File, buffer: &mut Vec<u8>) -> io::Result<bool> {
+    match file.read(buffer) {
+        Ok(count) => {
+            buffer.truncate(count);
+            Ok(true)
+        }
+        Err(error) if error.kind() == ErrorKind::Interrupted => {
+            buffer.clear();
+            Ok(false)
+        }
+        Err(error) => Err(error),
+    }
 }
 
-impl ReadBuffer {
-    /// A buffer for files of up to 128 KiB.
-    ///
-    /// # Errors
-    ///
-    /// Where memory runs out.
-    pub fn new(rt: &HostRuntime) -> io::Result<ReadBuffer> {
-        Ok(ReadBuffer {
-            bytes: vec![in rt.alloc(); 0; AT_ONCE]?,
-        })
-    }
-
-    /// How many first bytes of a file one read gives; none where a signal interrupted it.
-    fn read_once(&mut self, file: &mut File) -> io::Result<Option<usize>> {
-        match file.read(&mut self.bytes) {
-            Ok(count) => Ok(Some(count)),
-            Err(error) if error.kind() == ErrorKind::Interrupted => Ok(None),
-            Err(error) => Err(error),
+/// The bytes of a file. A read that has room for more than the size that the system tells and gives just that many has
+/// met the end, so that most files take one.
+///
+/// # Errors
+///
+/// Where the file can't be read; of kind `OutOfMemory` where memory runs out.
+pub fn read_file(rt: &HostRuntime, name: &str) -> io::Result<Vec<u8>> {
+    let mut file = File::open(rt, name)?;
+    let size = usize::try_from(file.metadata()?.len()).unwrap_or(MOST);
+    let room = size.saturating_add(1).min(MOST);
+    let mut bytes = Vec::with_capacity(rt.alloc(), room)?;
+    if room <= AT_ONCE {
+        bytes.resize(room, 0)?;
+        let has_read = read_once(&mut file, &mut bytes)?;
+        if has_read && bytes.len() == size && size < room {
+            return Ok(bytes);
         }
     }
-
-    /// The bytes of a file. A read that has room for more than the size that the system tells and gives just that many
-    /// has met the end, so that most files take one.
-    ///
-    /// # Errors
-    ///
-    /// Where the file can't be read; of kind `OutOfMemory` where memory runs out.
-    pub fn read_file(&mut self, rt: &HostRuntime, name: &str) -> io::Result<Vec<u8>> {
-        let mut file = File::open(rt, name)?;
-        let size = usize::try_from(file.metadata()?.len()).unwrap_or(MOST);
-        let mut bytes = Vec::with_capacity(rt.alloc(), size.min(MOST))?;
-        if size < AT_ONCE {
-            let count = self.read_once(&mut file)?;
-            let first = self.bytes.get(..count.unwrap_or(0)).unwrap_or(&[]);
-            bytes.extend_from_slice(first)?;
-            if count == Some(size) {
-                return Ok(bytes);
-            }
-        }
-        let rest = MOST.saturating_sub(bytes.len()) as u64;
-        file.take(rest).read_to_end(&mut bytes)?;
-        Ok(bytes)
-    }
+    let rest = MOST.saturating_sub(bytes.len()) as u64;
+    file.take(rest).read_to_end(&mut bytes)?;
+    Ok(bytes)
 }
 
 /// The object files of these names, each under its name.
 ///
 /// # Errors
 ///
-/// As `ReadBuffer::read_file`, for the first that fails.
-pub fn read_objects(
-    rt: &HostRuntime,
-    names: &[String],
-    buffer: &mut ReadBuffer,
-) -> io::Result<Vec<ObjectFile>> {
+/// As `read_file`, for the first that fails.
+pub fn read_objects(rt: &HostRuntime, names: &[String]) -> io::Result<Vec<ObjectFile>> {
     let mut files = Vec::with_capacity(rt.alloc(), names.len())?;
     for name in names {
         let word = Vec::from_slice(rt.alloc(), name.as_bytes())?;
-        let bytes = buffer.read_file(rt, name.as_str())?;
+        let bytes = read_file(rt, name.as_str())?;
         files.push(ObjectFile { word, bytes })?;
     }
     Ok(files)

@@ -1,6 +1,6 @@
 //! `ldi link`: reads the files, the script first, links once, and writes the image and the map.
 
-use crate::files::{MAP_MODE, ReadBuffer, read_objects, write_file, write_image};
+use crate::files::{MAP_MODE, read_file, read_objects, write_file, write_image};
 use crate::{DEVICE, NO_MEMORY};
 use relink::link::ending::{exit_status, message};
 use relink::link::files_link::link;
@@ -35,10 +35,8 @@ fn write_output(rt: &HostRuntime, names: &FileNames, output: &Output) -> io::Res
 /// Reads all files, links, and writes the image and the map of a good link, or what else there is to say on standard
 /// error. Gives the status to end with.
 fn link_named(rt: &HostRuntime, names: &FileNames, options: Options) -> io::Result<u8> {
-    let mut buffer = ReadBuffer::new(rt)?;
-    let script = buffer.read_file(rt, names.script.as_str())?;
-    let objects = read_objects(rt, names.objects.as_slice(), &mut buffer)?;
-    drop(buffer);
+    let script = read_file(rt, names.script.as_str())?;
+    let objects = read_objects(rt, names.objects.as_slice())?;
     let seed = RandomState::new(rt)?;
     let outcome = link(rt.alloc(), seed, script, objects, options);
     let status = exit_status(&outcome);

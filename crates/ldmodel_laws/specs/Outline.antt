@@ -1,8 +1,11 @@
 -- What names, layout and map of a link turn on, of an object: all of it but the bytes and the relocations of its
--- sections (this project's own). An object that is compiled anew often differs from the one before it in these alone.
-use Rattle.std.specs.Prelude.{◌≡◌, ℕ, List, Some, map, false, slice_get}
+-- sections; and where sections are dropped that nothing refers to, also the symbols that its relocations name (this
+-- project's own). An object that is compiled anew often differs from the one before it in the rest alone.
+use Rattle.std.specs.Prelude.{◌≡◌, ℕ, List, Some, map, slice_get, true}
 use Rattle.elfobj.specs.Sections.{LinkedSection}
 use Rattle.elfobj.specs.Symbols.{NamedSymbol}
+use Rattle.elfobj.specs.declared.relocation.Relocation.{Relocation}
+use Rattle.elfobj.specs.declared.relocation.SymbolIndex.{SymbolIndex}
 use Rattle.elfobj.specs.declared.section.SectionIndex.{SectionIndex}
 use Rattle.elfobj.specs.declared.section.SectionKind.{SectionKind}
 use Rattle.ldmodel.specs.Image.{file_headers}
@@ -44,12 +47,21 @@ object_outline o = record {
   sections = map section_outline o.object.sections;
 }
 
+-- the symbols that the relocations of a section name, in their order
+abbrev pub section_targets : LinkedSection → List SymbolIndex
+section_targets x = map (λ (r : Relocation). r.symbol) x.relocations
+
+-- those of an object, section by section
+abbrev pub object_targets : NamedObject → List (List SymbolIndex)
+object_targets o = map section_targets o.object.sections
+
 -- the second project has, in one place, an object that differs from that of the first in what its sections hold alone;
--- and no section is dropped for want of a reference to it, since relocations are references
+-- where sections are dropped that nothing refers to, the relocations of each section name the same symbols, in their
+-- order
 pub record IsRetouched (p q : Project) (place : ℕ) : Type 0 where
   pub script : p.script ≡ q.script
   pub options : p.options ≡ q.options
-  pub all_kept : p.options.gc ≡ false
+  pub references : p.options.gc ≡ true → map object_targets p.objects ≡ map object_targets q.objects
   pub outlines : map object_outline p.objects ≡ map object_outline q.objects
   pub others : (j : ℕ) → (j ≡ place → ⊥) → slice_get p.objects j ≡ slice_get q.objects j
 

@@ -15,5 +15,4 @@ mod Numbers
 mod AllNumbered
 mod Collecting
 mod Column
-mod Cutting
 mod Placing

@@ -9,4 +9,3 @@ pub mod Entries
 pub mod InPlace
 pub mod Columns
 pub mod Arranged
-pub mod Cut

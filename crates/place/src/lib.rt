@@ -6,7 +6,7 @@
 //! - `segments` over `group`: what is loaded as one, and its offset in the file; `offsets`: where output sections begin
 //!   in the file; `length`: how long the image is;
 //! - `arranged` over `collected` and `entry`: all of that, and where each input section stands; `numbered`: the
-//!   sections of an object have different numbers; `rows`: rows as one list;
+//!   sections of an object have different numbers;
 //! - the parts `terms` (values of expressions, what a layout keeps) and `sections` (output sections placed). Other
 //!   families name this crate alone.
 #![tactic(auto)]
@@ -19,7 +19,6 @@ pub mod laying;
 pub mod length;
 pub mod numbered;
 mod offsets;
-pub mod rows;
 pub mod segments;
 
 pub use crate::laying::Laying;

@@ -1,4 +1,4 @@
-use Rattle.std.proofs.Common.{◌∙◌, ap, map, refl}
+use Rattle.std.proofs.Common.{◌∙◌, ap, map}
 use Rattle.ldscript.specs.Numbered.{shown_sections}
 use Rattle.ldscript.specs.Numbering.{output_sections}
 use Rattle.ldmodel.specs.Names.{provided}
@@ -20,7 +20,6 @@ returns c =
       laid = λ s l. c.laid.ensures.laid c.args.project.now.script s l.places;
       lent = c.requires;
       placed = λ s l. c.placed_are_rows.ensures c.args.project.now (provided c.args.project.now) s l.placed;
-      named = c.deref-3.ensures.value ∙ (c.in_ok-named.ensures ∙ ap (map map_symbol) c.deref.ensures.value);
-      given = refl;
+      symbols = c.deref-3.ensures.value ∙ (c.in_ok-symbols.ensures ∙ ap (map map_symbol) c.deref.ensures.value);
     })
     c.map_text.ensures

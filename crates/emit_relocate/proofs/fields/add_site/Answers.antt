@@ -1,9 +1,9 @@
-use Rattle.std.proofs.Common.{◌≡◌, ℕ, Some, arith, refl, subst, sym, true, ◌∙◌}
+use Rattle.std.proofs.Common.{◌≡◌, ℕ, Some, arith, refl, sym, ◌∙◌}
 use Rattle.std.specs.Prelude.{slice_get}
 use Rattle.elfobj.specs.Sections.{LinkedSection}
 use Rattle.elfobj.specs.declared.relocation.Relocation.{Relocation}
 use Rattle.ldmodel.specs.Project.{NamedObject}
-use Rattle.ldmodel.specs.Relocations.{Site, is_evaluated}
+use Rattle.ldmodel.specs.Relocations.{Site}
 use Rattle.emit_relocate.specs.KnownLink.{KnownLink}
 use Rattle.emit_relocate.specs.Sites.{IsPlaced, IsSiteAt}
 use Rattle.emit_relocate.specs.declared.site.PlacedSection.{PlacedSection}
@@ -14,12 +14,9 @@ use Rattle.emit_relocate.proofs.fields.add_site.Goals as goal
 abbrev site_of : NamedObject → LinkedSection → ℕ → Relocation → Site
 site_of o x start a = record { object = o; section = x; start = start; relocation = a }
 
-at_entry : (l : KnownLink) (m : PlacedSection) (o : NamedObject) (x : LinkedSection) (a : Relocation) (i k : ℕ)
-    → IsPlaced l m o x → slice_get m.relocations.now i ≡ Some a → k ≡ i → IsSiteAt l m k (site_of o x m.start a)
-at_entry l m o x a i k h is e = record {
-  site = record { placed = h; start_is = refl };
-  entry_is = subst (λ n. slice_get m.relocations.now n ≡ Some a) (sym e) is;
-}
+at_entry : (l : KnownLink) (m : PlacedSection) (o : NamedObject) (x : LinkedSection) (a : Relocation) (i : ℕ)
+    → IsPlaced l m o x → slice_get m.relocations.now i ≡ Some a → IsSiteAt l m i (site_of o x m.start a)
+at_entry l m o x a i h is = record { site = record { placed = h; start_is = refl }; entry_is = is }
 
 pub returns-then-not-is_evaluated-clause-tried : goal.returns-then-not-is_evaluated-clause-tried
 returns-then-not-is_evaluated-clause-tried c =
@@ -27,24 +24,20 @@ returns-then-not-is_evaluated-clause-tried c =
     c.args.faults.now.items c.args.meter.now (sym c.is_evaluated.ensures ∙ c.if-not-is_evaluated.true)
     (omega (arith, c.fields-fields.type_inv, c.fields-fields.ensures))
 
-pub returns-in_ok-push-in-Ok-evaluate-clause-tried : goal.returns-in_ok-push-in-Ok-evaluate-clause-tried
-returns-in_ok-push-in-Ok-evaluate-clause-tried c =
+pub returns-in-Ok-clause-tried : goal.returns-in-Ok-clause-tried
+returns-in-Ok-clause-tried c =
     λ l o x h.
-    let same : c.in-Ok.entry ≡ c.args.entry = omega (arith, c.in-Ok.ensures) in
-    let at = at_entry l c.args.section.now o x c.args.relocation.now c.args.entry c.in-Ok.entry h c.requires.entry_is
-    same in
-    let field = c.in-Ok-evaluate.ensures.evaluated l _ at refl in
+    let at = at_entry l c.args.section.now o x c.args.relocation.now c.args.entry h c.requires.entry_is in
+    let field = c.in-Ok.ensures.evaluated l _ at refl in
     tried_field l o x c.args.section.now.start c.args.relocation.now
     (sym c.is_evaluated.ensures ∙ c.if-not-is_evaluated.false)
-    _ _ c.in-Ok-evaluate.field _ _ _ field.0 field.1 c.in_ok-push-in-Ok-evaluate.ensures.items
-    (c.in-Ok-evaluate.ensures.counted l _ at refl)
+    _ _ c.in-Ok.field _ _ _ field.0 field.1 c.push_reserved.ensures.items
+    (c.in-Ok.ensures.counted l _ at refl)
 
 pub returns-in_ok-push-in-Err-clause-tried : goal.returns-in_ok-push-in-Err-clause-tried
 returns-in_ok-push-in-Err-clause-tried c =
     λ l o x h.
-    let same : c.in-Ok.entry ≡ c.args.entry = omega (arith, c.in-Ok.ensures) in
-    let at = at_entry l c.args.section.now o x c.args.relocation.now c.args.entry c.in-Ok.entry h c.requires.entry_is
-    same in
+    let at = at_entry l c.args.section.now o x c.args.relocation.now c.args.entry h c.requires.entry_is in
     tried_fault l o x c.args.section.now.start c.args.relocation.now
     (sym c.is_evaluated.ensures ∙ c.if-not-is_evaluated.false)
     _ c.in-Err.fault _ _ _ _ (c.in-Err.ensures.evaluated l _ at refl) c.in_ok-push-in-Err.ensures.items

@@ -1,16 +1,18 @@
-use Rattle.std.proofs.Common.{take}
+use Rattle.std.proofs.Common.{◌+◌, ◌≤◌, length, take, vec_len}
+use Rattle.std.specs.Prelude.{vec_capacity}
 use Rattle.elfobj.specs.Sections.{LinkedSection}
 use Rattle.ldmodel.specs.Project.{NamedObject}
-use Rattle.emit_relocate.specs.Fields.{AreFieldsOf, IsTried, sites_among}
+use Rattle.emit_relocate.specs.Fields.{AreAdded, IsTried, sites_among}
 use Rattle.emit_relocate.specs.KnownLink.{KnownLink}
 use Rattle.emit_relocate.specs.Sites.{IsPlaced}
 use Rattle.emit_relocate.proofs.fields.add_sites.Given as goal
 
 abbrev pub invariant-loop-entry : goal.invariant-loop-entry
 invariant-loop-entry l = record {
-  of : AreFieldsOf l.section.relocations.now l.entry l.fields.items;
+  of : AreAdded l.relocations l.entry l.fn.fields.items l.fields.items;
+  room : vec_len l.fields + length l.relocations ≤ vec_capacity l.fields + l.entry;
   tried : (k : KnownLink) (o : NamedObject) (x : LinkedSection) → IsPlaced k l.section o x
-      → IsTried k (sites_among o x l.section.start (take l.entry l.section.relocations.now)) l.initial.fields.items
+      → IsTried k (sites_among o x l.section.start (take l.entry l.relocations)) l.fn.fields.items
       l.fields.items
       l.initial.faults.items l.faults.items l.initial.meter l.meter;
 }

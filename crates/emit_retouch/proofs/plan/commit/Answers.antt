@@ -44,7 +44,8 @@ loop-rewrite-preserved c =
       room = w.room ∙ c.loop-rewrite.invariant.room;
       counted =
           w.counted
-          ∙ ap (λ (m : Counts). raised m Bytes (length c.rewrite-item.result.bytes.now)) c.loop-rewrite.invariant.counted
+          ∙ ap (λ (m : Counts). raised m Bytes (length c.rewrite-item.result.bytes.now))
+          c.loop-rewrite.invariant.counted
           ∙ more_raised c.args.meter.now
           (written_all (take c.loop-rewrite.rewrite-index c.args.rewrites.now)) (written c.rewrite-item.result)
           ∙ ap (λ ws. raised c.args.meter.now Bytes (sum_by count_of ws)) (sym list);

@@ -1,11 +1,11 @@
-use Rattle.std.proofs.Common.{◌≡◌, ◌∙◌, Some, ap, arith, subst, sym}
+use Rattle.std.proofs.Common.{◌≡◌, ◌∙◌, Some, ap, arith, length, subst, sym}
 use Rattle.std.specs.Prelude.{slice_get}
 use Rattle.std.proofs.lemmas.Bool.Decides.{nat_tests}
 use Rattle.std.proofs.lemmas.List.{nil_from_length}
 use Rattle.elfobj.specs.Object.{ObjectData}
 use Rattle.elfobj.specs.declared.section.SectionKind.TheVariants.{Progbits}
 use Rattle.emit_relocate.specs.Fields.{IsAdded}
-use Rattle.emit_retouch.proofs.Planning.{below, faultless, placed_of}
+use Rattle.emit_retouch.proofs.Planning.{below, faultless, placed_of, refused}
 use Rattle.emit_retouch.proofs.plan.fields_of.Goals as goal
 
 pub add_fields-requires-clause-below : goal.add_fields-requires-clause-below
@@ -40,7 +40,14 @@ pub returns-else-is_empty-clause-none : goal.returns-else-is_empty-clause-none
 returns-else-is_empty-clause-none c = λ l o x h is.
     let there : slice_get c.args.object.now.sections c.args.index.0 ≡ Some x =
     ap (λ (r : ObjectData). slice_get r.sections c.args.index.0) (sym h.same) ∙ is in
-    let added = c.in_ok-add_fields.ensures l o x
+    let added : IsAdded l o x c.args.start c.new-fields.result.items c.add_fields.new.fields.items
+    c.new-faults.result.items c.add_fields.new.faults.items c.args.meter.now c.add_fields.new.meter =
+    subst (λ n. IsAdded l o x n c.new-fields.result.items c.add_fields.new.fields.items c.new-faults.result.items
+    c.add_fields.new.faults.items c.args.meter.now c.add_fields.new.meter) c.new-section.ensures.start
+    (c.in_ok-add_fields.ensures l o x
     (placed_of l c.args.key c.args.object.now c.args.values.now c.new-section.result o x h
-    (c.new-section.ensures.section x there) c.new-section.ensures.values) in
-    (_, added.counts.counted)
+    (c.new-section.ensures.section x there) c.new-section.ensures.values)) in
+    refused l o x c.args.start c.new-fields.result.items c.add_fields.new.fields.items c.new-faults.result.items
+    c.add_fields.new.faults.items c.args.meter.now c.add_fields.new.meter added c.new-faults.ensures.items
+    (λ (zero : length c.add_fields.new.faults.items ≡ 0).
+    grind (arith, nat_tests, zero, c.is_empty.ensures, c.if-is_empty.false, c.add_fields.new.faults.ok))

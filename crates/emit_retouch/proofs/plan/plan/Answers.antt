@@ -1,18 +1,28 @@
 use Rattle.std.proofs.Common.{◌+◌, ◌∙◌, ap, get_or, subst, sym, take}
 use Rattle.std.specs.List.{AllZip}
+use Rattle.std.proofs.lemmas.Option.{slice_get-get_or}
 use Rattle.ldmodel.specs.Counts.{Counts}
 use Rattle.ldmodel.specs.Raised.{raised}
 use Rattle.elfobj.specs.declared.meter.Count.TheVariants.{Fields}
-use Rattle.emit_relocate.specs.Fields.{evaluations}
+use Rattle.emit_relocate.specs.Fields.{evaluations, fault_at}
 use Rattle.emit_retouch.specs.Plan.{IsPlannedAt, sites_in_all, sites_there, written_all}
 use Rattle.emit_retouch.proofs.Planning.{both_raised, count_more, planned_more, take_more, within_more}
+use Rattle.emit_retouch.proofs.Places.{none_at}
 use Rattle.emit_retouch.proofs.plan.plan.Goals as goal
 
 pub returns-in-None-clause-none : goal.returns-in-None-clause-none
 returns-in-None-clause-none c = λ l o h.
     let before = (c.loop-spot.invariant.planned l o h).1 in
     let last = (rw c.in-None.is at c.in_ok-plan_section.ensures.none) l o h in
-    (_, last.1 ∙ ap (λ (m : Counts). raised m Fields last.0) before ∙ both_raised c.args.meter.now _ last.0)
+    record {
+      evaluated = _;
+      counted = last.counted ∙ ap (λ (m : Counts). raised m Fields last.evaluated) before
+          ∙ both_raised c.args.meter.now _ last.evaluated;
+      faulty = λ none. last.faulty (none_at (fault_at l) (sites_there o) c.args.spots.now c.loop-spot.spot-index _ none
+          (slice_get-get_or c.args.spots.now c.loop-spot.spot-index
+          (record { index = record { 0 = 0 }; start = 0; range = record { offset = 0; length = 0 } })
+          c.loop-spot-test.true));
+    }
 
 pub loop-spot-preserved : goal.loop-spot-preserved
 loop-spot-preserved c =

@@ -1,4 +1,4 @@
-use Rattle.std.proofs.Common.{◌∙◌, ap, arith, length, sym}
+use Rattle.std.proofs.Common.{◌∙◌, ap, arith, length, subst, sym}
 use Rattle.std.specs.Prelude.{slice_get}
 use Rattle.std.proofs.lemmas.List.{length-map}
 use Rattle.elfobj.specs.Object.{ObjectData}
@@ -8,7 +8,8 @@ use Rattle.elfobj.specs.declared.section.SectionKind.TheVariants.{Progbits}
 use Rattle.ldmodel.specs.Raised.{raised}
 use Rattle.elfobj.specs.declared.meter.Count.TheVariants.{Fields}
 use Rattle.emit_relocate.specs.Fields.{evaluations}
-use Rattle.emit_retouch.proofs.Planning.{at_index, bytes_at, has, imply_none, imply_some, planned_at, sites_at_spot}
+use Rattle.emit_retouch.specs.Plan.{IsRefused, written}
+use Rattle.emit_retouch.proofs.Planning.{at_index, bytes_at, has, planned_at, sites_at_spot}
 use Rattle.emit_retouch.proofs.plan.plan_section.Goals as goal
 
 pub returns-in-None-clause-none : goal.returns-in-None-clause-none
@@ -16,12 +17,11 @@ returns-in-None-clause-none c = λ l o h.
     let many = ap length c.sections.ensures.value ∙ length-map c.args.object.now.sections section_of in
     let same = ap (λ (r : ObjectData). length r.sections) h.same in
     let own = has o.object.sections c.args.spot.index.0 (omega (arith, many, same, c.if-spot-sections.false)) in
-    (rw c.in-None.is at c.in_ok-fields_of.ensures.none) l o own.section h own.is
+    subst (λ ts. IsRefused l ts c.args.meter.now c.fields_of.new.meter) (sites_at_spot o c.args.spot own.section own.is)
+    ((rw c.in-None.is at c.in_ok-fields_of.ensures.none) l o own.section h own.is)
 
-pub returns-in-Some-clause-planned : goal.returns-in-Some-clause-planned
-returns-in-Some-clause-planned c =
-    imply_some _ _ c.rewrite_of.result
-    (λ w k l o h.
+pub returns-in_ok-rewrite-in-Some-clause-planned : goal.returns-in_ok-rewrite-in-Some-clause-planned
+returns-in_ok-rewrite-in-Some-clause-planned c = λ l o h.
     let many = ap length c.sections.ensures.value ∙ length-map c.args.object.now.sections section_of in
     let same = ap (λ (r : ObjectData). length r.sections) h.same in
     let own = has o.object.sections c.args.spot.index.0 (omega (arith, many, same, c.if-spot-sections.false)) in
@@ -34,18 +34,7 @@ returns-in-Some-clause-planned c =
           own.section there))
           (bytes_at c.args.object.now.sections c.args.spot.index.0 c.section_bytes-bytes.result.now
           c.section_bytes-bytes.ensures own.section there)
-          _ k,
+          (written c.in_ok-rewrite-in-Some.rewrite) c.in_ok-rewrite-in-Some.ensures.planned,
       run.1 ∙ ap (λ ts. raised c.args.meter.now Fields (evaluations l ts))
           (sites_at_spot o c.args.spot own.section own.is),
-    ))
-    c.rewrite_of.ensures.planned
-
-pub returns-in-Some-clause-none : goal.returns-in-Some-clause-none
-returns-in-Some-clause-none c =
-    imply_none _ c.rewrite_of.result
-    (λ l o h.
-    let many = ap length c.sections.ensures.value ∙ length-map c.args.object.now.sections section_of in
-    let same = ap (λ (r : ObjectData). length r.sections) h.same in
-    let own = has o.object.sections c.args.spot.index.0 (omega (arith, many, same, c.if-spot-sections.false)) in
-    let run = (rw c.in-Some.is at c.in_ok-fields_of.ensures.some) l o own.section h own.is in
-    (_, run.1))
+    )

@@ -1,17 +1,17 @@
 use Rattle.std.proofs.Common.{◌∙◌, ap, find, subst, sym, ◌==◌}
 use Rattle.std.specs.Prelude.{slice_get, sum_by}
-use Rattle.std.specs.List.{All}
+use Rattle.std.specs.List.{All, filter_map}
 use Rattle.elfobj.specs.Object.{ObjectData}
 use Rattle.elfobj.specs.Sections.{LinkedSection}
 use Rattle.elfobj.specs.declared.meter.Count.TheVariants.{Bytes, Fields}
 use Rattle.ldmodel.specs.Counts.{Counts}
 use Rattle.ldmodel.specs.Image.{image}
 use Rattle.ldmodel.specs.Raised.{raised}
-use Rattle.emit_relocate.specs.Fields.{evaluations}
+use Rattle.emit_relocate.specs.Fields.{evaluations, fault_at}
 use Rattle.emit_retouch.specs.Plan.{AreWritten, count_of, written_all}
 use Rattle.emit_retouch.specs.Retouches.{IsBare}
 use Rattle.emit_retouch.specs.Spots.{bytes_of}
-use Rattle.emit_retouch.proofs.Faults.{still_none}
+use Rattle.emit_retouch.proofs.Faults.{none_of_object, still_none}
 use Rattle.emit_retouch.proofs.Images.{new_image, no_fault}
 use Rattle.emit_retouch.proofs.Planning.{all_count}
 use Rattle.emit_retouch.proofs.Sites.{spots_have_sites}
@@ -19,7 +19,15 @@ use Rattle.emit_retouch.proofs.rewrite.retouch.Goals as goal
 
 pub returns-in-None-clause-counted_refused : goal.returns-in-None-clause-counted_refused
 returns-in-None-clause-counted_refused c = λ done l o named same row has.
-    (rw c.in-None.is at c.in_ok-plan.ensures.none) l o (record { named = named; same = same; row = row })
+    let h = (rw c.in-None.is at c.in_ok-plan.ensures.none) l o (record { named = named; same = same; row = row }) in
+    (h.evaluated, h.counted)
+
+pub returns-in-None-clause-refused_faulty : goal.returns-in-None-clause-refused_faulty
+returns-in-None-clause-refused_faulty c = λ done l o named same row has none.
+    let h = (rw c.in-None.is at c.in_ok-plan.ensures.none) l o (record { named = named; same = same; row = row }) in
+    h.faulty
+    (ap (λ ts. filter_map (fault_at l) ts) (spots_have_sites l.project l.layout o c.args.spots.now has)
+    ∙ none_of_object l.project l.layout (l.number c.args.key.0) o named none)
 
 pub returns-in-Some-clause-image : goal.returns-in-Some-clause-image
 returns-in-Some-clause-image c = λ done old l o h same row has start.

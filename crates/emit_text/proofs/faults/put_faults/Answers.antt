@@ -6,7 +6,7 @@ use Rattle.ldmodel.specs.FaultText.{fault_text}
 use Rattle.ldmodel.specs.Project.{Project}
 use Rattle.ldmodel.specs.declared.fault.Fault.{Fault}
 use Rattle.emit_text.specs.Naming.{line_of_fault}
-use Rattle.emit_text.proofs.Draftings.{added_step, added_end}
+use Rattle.emit_text.proofs.Appending.{written_step, written_end}
 use Rattle.emit_text.proofs.faults.put_faults.Goals as goal
 
 abbrev text : Project → (number : ℕ → ℕ) → List Fault → List ℕ
@@ -25,7 +25,7 @@ pub loop-fault-preserved : goal.loop-fault-preserved
 loop-fault-preserved g c =
     let p = g.M.Members.project c.args.members.now in
     let number = g.M.Members.number c.args.members.now in
-    added_step _ _ _ _ _ _ c.in_ok-put_fault.ensures
+    written_step _ _ _ _ _ _ c.in_ok-put_fault.ensures
     (at_drop_more (text p number) c.args.faults.now c.loop-fault.fault-index _ c.loop-fault-test.true
     ∙ text_more p number _ _)
     c.loop-fault.invariant
@@ -34,6 +34,6 @@ pub returns : goal.returns
 returns g c =
     let p = g.M.Members.project c.args.members.now in
     let number = g.M.Members.number c.args.members.now in
-    added_end _ _ _ (at_drop_all (text p number) c.args.faults.now c.loop-fault.fault-index c.loop-fault-test.false
+    written_end _ _ _ (at_drop_all (text p number) c.args.faults.now c.loop-fault.fault-index c.loop-fault-test.false
     ∙ text_none p number)
     c.loop-fault.invariant

@@ -2,15 +2,16 @@
 use Rattle.std.proofs.Common.{[], ◌∷◌}
 use Rattle.std.proofs.lemmas.List.{at_drop_more, at_drop_all}
 use Rattle.emit_text.specs.LineWords.{spaced_words}
-use Rattle.emit_text.proofs.Draftings.{added_step, added_both, added_end}
+use Rattle.emit_text.proofs.Appending.{written_step, written_both, written_end}
 use Rattle.emit_text.proofs.line.put_others.Goals as goal
 
 pub loop-word-preserved : goal.loop-word-preserved
 loop-word-preserved c =
-    added_step _ _ _ _ _ _ (added_both _ _ _ (32 ∷ []) _ c.in_ok-put_byte.ensures c.in_ok-put_word.ensures)
+    written_step _ _ _ _ _ _
+    (written_both _ _ _ (32 ∷ []) _ c.in_ok-push.ensures.items c.in_ok-put_word.ensures)
     (at_drop_more spaced_words c.args.words.now c.loop-word.word-index _ c.loop-word-test.true) c.loop-word.invariant
 
 pub returns : goal.returns
 returns c =
-    added_end _ _ _ (at_drop_all spaced_words c.args.words.now c.loop-word.word-index c.loop-word-test.false)
+    written_end _ _ _ (at_drop_all spaced_words c.args.words.now c.loop-word.word-index c.loop-word-test.false)
     c.loop-word.invariant

@@ -1,11 +1,13 @@
 -- The line of the entry point.
-use Rattle.std.proofs.Common.{◌≡◌, OnOk, subst}
-use Rattle.emit_text.proofs.Draftings.{added_both, added_last}
+use Rattle.std.proofs.Common.{◌∙◌, codes}
+use Rattle.emit_text.proofs.Appending.{written_both, written_last}
 use Rattle.emit_text.proofs.MapLines.{entry_spelled}
 use Rattle.emit_text.proofs.map_line.put_entry_line.Goals as goal
 
 pub returns : goal.returns
 returns c =
-    let front = added_both c.args.draft.now _ _ _ _ c.in_ok-put.ensures c.in_ok-put_hex.ensures in
-    subst (λ e. OnOk c.put_byte.result (c.put_byte.new.self ≡ e))
-    (added_last c.args.draft.now _ _ _ _ front (entry_spelled c.args.entry)) c.put_byte.ensures
+    let d = c.args.text.now.items in
+    let digits = c.hex_digits.result in
+    let front = written_both d _ _ (codes "entry ") digits c.in_ok-extend_from_slice.ensures.items
+    c.in_ok-extend_from_slice-2.ensures.items in
+    c.in_ok-push.ensures.items ∙ written_last d _ _ _ _ front (entry_spelled digits c.args.entry c.hex_digits.ensures)

@@ -1,12 +1,10 @@
 -- Two names, one after the other.
-use Rattle.std.proofs.Common.{◌≡◌, OnOk, subst, refl}
-use Rattle.emit_text.proofs.Draftings.{added_both, added_last}
+use Rattle.std.proofs.Common.{◌∙◌, refl}
+use Rattle.emit_text.proofs.Appending.{written_both, written_last}
 use Rattle.emit_text.proofs.map_line.put_names.Goals as goal
 
 pub returns : goal.returns
 returns c =
-    let d = c.args.draft.now in
-    let one = added_both d _ _ _ _ c.in_ok-put.ensures c.in_ok-put_byte.ensures in
-    let two = added_both d _ _ _ _ one c.in_ok-put-2.ensures in
-    subst (λ e. OnOk c.put_byte-2.result (c.put_byte-2.new.self ≡ e)) (added_last d _ _ _ _ two refl)
-    c.put_byte-2.ensures
+    let one = written_both _ _ _ _ _ c.in_ok-extend_from_slice.ensures.items c.in_ok-push.ensures.items in
+    let two = written_both _ _ _ _ _ one c.in_ok-extend_from_slice-2.ensures.items in
+    c.in_ok-push-2.ensures.items ∙ written_last _ _ _ _ _ two refl

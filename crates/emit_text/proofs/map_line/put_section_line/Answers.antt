@@ -1,16 +1,19 @@
 -- An output section's line.
-use Rattle.std.proofs.Common.{◌≡◌, OnOk, subst}
-use Rattle.emit_text.proofs.Draftings.{added_both, added_last}
+use Rattle.std.proofs.Common.{◌∙◌, codes}
+use Rattle.emit_text.proofs.Appending.{written_both, written_last}
 use Rattle.emit_text.proofs.MapLines.{section_spelled}
 use Rattle.emit_text.proofs.map_line.put_section_line.Goals as goal
 
 pub returns : goal.returns
 returns c =
-    let d = c.args.draft.now in
+    let d = c.args.text.now.items in
+    let name = c.args.name.now in
     let n = c.args.numbers in
-    let one = added_both d _ _ _ _ c.in_ok-put.ensures c.in_ok-put-2.ensures in
-    let two = added_both d _ _ _ _ one c.in_ok-put-3.ensures in
-    let three = added_both d _ _ _ _ two c.in_ok-put-4.ensures in
-    let spelled = section_spelled c.args.name.now n.0 n.1 n.2 c.args.flags.now in
-    subst (λ e. OnOk c.put_byte.result (c.put_byte.new.self ≡ e))
-    (added_last d _ _ _ _ three (rw c.section_numbers.ensures spelled)) c.put_byte.ensures
+    let middle = c.section_numbers.result in
+    let flags = c.args.flags.now in
+    let one = written_both d _ _ (codes "section ") name c.in_ok-extend_from_slice.ensures.items
+    c.in_ok-extend_from_slice-2.ensures.items in
+    let two = written_both d _ _ _ middle one c.in_ok-extend_from_slice-3.ensures.items in
+    let three = written_both d _ _ _ flags two c.in_ok-extend_from_slice-4.ensures.items in
+    c.in_ok-push.ensures.items
+    ∙ written_last d _ _ _ _ three (section_spelled name middle n.0 n.1 n.2 flags c.section_numbers.ensures)

@@ -1,10 +1,12 @@
 -- What was written is the map.
-use Rattle.std.proofs.Common.{◌∙◌}
-use Rattle.emit_text.proofs.Draftings.{written_whole}
+use Rattle.std.proofs.Common.{◌∙◌, ◌++◌, ap}
+use Rattle.emit_text.specs.ShownMap.{shown_map}
 use Rattle.emit_text.proofs.Mapped.{map_is_shown}
 use Rattle.emit_text.proofs.maps.map_text.Goals as goal
 
 pub returns : goal.returns
 returns g c s h =
-    c.into_bytes.ensures ∙ written_whole _ _ _ c.in_ok-written.ensures c.in_ok-put_map.ensures
-    ∙ map_is_shown (g.M.Members.project c.args.members.now) (g.M.Members.number c.args.members.now) s c.args.parts.now h
+    let p = g.M.Members.project c.args.members.now in
+    let number = g.M.Members.number c.args.members.now in
+    c.in_ok-put_map.ensures ∙ ap (λ xs. xs ++ shown_map p number c.args.parts.now) c.in_ok-text.ensures.items
+    ∙ map_is_shown p number s c.args.parts.now h

@@ -1,53 +1,46 @@
 -- The lines of a row.
-use Rattle.std.proofs.Common.{◌≡◌, ◌∙◌, ◌∷◌, [], ◌+◌, ◌<◌, ap, sym, drop, get_or, length, ℕ, List, refl, arith}
-use Rattle.std.proofs.lemmas.List.{at_drop_more, at_drop_all}
+use Rattle.std.proofs.Common.{◌≡◌, ◌∙◌, ◌∷◌, [], ◌++◌, ◌+◌, ◌<◌, ◌≤◌, drop, get_or, length, min, zero, suc, ℕ, List}
+use Rattle.std.proofs.Common.{refl, arith}
+use Rattle.std.proofs.lemmas.List.{at_drop_more}
 use Rattle.ldmodel.specs.Project.{Project}
 use Rattle.ldmodel.specs.declared.rows.Piece.{Piece}
-use Rattle.emit_text.specs.Drafts.{Drafted, added}
 use Rattle.emit_text.specs.ShownMap.{piece_text, pieces_text}
-use Rattle.emit_text.proofs.Draftings.{added_step, added_end}
-use Rattle.emit_text.proofs.SideBySide.{next_left}
+use Rattle.emit_text.proofs.Appending.{written_step, written_end}
 use Rattle.emit_text.proofs.maps.put_pieces.Goals as goal
 
-no_starts : (p : Project) (number : ℕ → ℕ) (xs : List Piece) (starts : List ℕ) → length starts ≡ 0
-    → pieces_text p number xs starts ≡ []
-no_starts p number [] starts h = refl
-no_starts p number (x ∷ xs) [] h = refl
-no_starts p number (x ∷ xs) (s ∷ ss) h = absurd (omega (arith, h))
-
 -- one piece further
-pieces_step : (p : Project) (number : ℕ → ℕ) (d e end : Drafted) (row : List Piece) (i : ℕ) (x : Piece)
-    (starts later : List ℕ) (start : ℕ) → i < length row
-    → starts ≡ start ∷ later → e ≡ added d (piece_text p number (get_or row i x) start)
-    → added d (pieces_text p number (drop i row) starts) ≡ end
-    → added e (pieces_text p number (drop (i + 1) row) later) ≡ end
-pieces_step p number d e end row i x starts later start h s f v =
-    added_step d e (piece_text p number (get_or row i x) start) (pieces_text p number (drop (i + 1) row) later)
-    (pieces_text p number (drop i row) starts) end f
-    (at_drop_more (λ xs. pieces_text p number xs starts) row i x h
-    ∙ ap (pieces_text p number (get_or row i x ∷ drop (i + 1) row)) s)
-    v
+more_pieces : (p : Project) (number : ℕ → ℕ) (row : List Piece) (starts : List ℕ) (i : ℕ) (x : Piece) (start : ℕ)
+    → i < min (length row) (length starts)
+    → pieces_text p number (drop i row) (drop i starts)
+    ≡ piece_text p number (get_or row i x) (get_or starts i start)
+    ++ pieces_text p number (drop (i + 1) row) (drop (i + 1) starts)
+more_pieces p number row starts i x start h =
+    at_drop_more (λ xs. pieces_text p number xs (drop i starts)) row i x (omega (arith, h))
+    ∙ at_drop_more (λ ss. pieces_text p number (get_or row i x ∷ drop (i + 1) row) ss) starts i start (omega (arith, h))
 
-pub loop-piece-preserved : goal.loop-piece-preserved
-loop-piece-preserved g c = record {
-  text = pieces_step (g.M.Members.project c.args.members.now) (g.M.Members.number c.args.members.now)
-      c.loop-piece.draft _ _ c.args.row.now
-      c.loop-piece.piece-index _ c.loop-piece.rest.now c.in-Some.others.now c.in-Some.start.now c.loop-piece-test.true
-      c.in-Some.ensures.cases.0
-      c.in_ok-place.ensures c.loop-piece.invariant.text;
-  rest = sym (next_left c.args.starts.now c.loop-piece.piece-index _ c.in-Some.others.now
-      (sym c.loop-piece.invariant.rest ∙ c.in-Some.ensures.cases.0));
-}
+no_starts : (p : Project) (number : ℕ → ℕ) (row : List Piece) → pieces_text p number row [] ≡ []
+no_starts p number [] = refl
+no_starts p number (x ∷ xs) = refl
 
-pub returns-in_default-clause-text : goal.returns-in_default-clause-text
-returns-in_default-clause-text g c =
-    added_end _ _ _ (no_starts (g.M.Members.project c.args.members.now) (g.M.Members.number c.args.members.now)
-    (drop c.loop-piece.piece-index c.args.row.now) c.loop-piece.rest.now c.in_default.ensures.cases)
-    c.loop-piece.invariant.text
+no_pieces : (p : Project) (number : ℕ → ℕ) (row : List Piece) (starts : List ℕ) (i : ℕ)
+    → min (length row) (length starts) ≤ i → pieces_text p number (drop i row) (drop i starts) ≡ []
+no_pieces p number [] starts zero h = refl
+no_pieces p number [] starts (suc i) h = refl
+no_pieces p number (x ∷ xs) [] zero h = refl
+no_pieces p number (x ∷ xs) [] (suc i) h = no_starts p number (drop i xs)
+no_pieces p number (x ∷ xs) (s ∷ ss) zero h = absurd (omega (arith, h))
+no_pieces p number (x ∷ xs) (s ∷ ss) (suc i) h = no_pieces p number xs ss i (omega (arith, h))
 
-pub returns-clause-text : goal.returns-clause-text
-returns-clause-text g c =
-    added_end _ _ _ (at_drop_all (λ xs.
-    pieces_text (g.M.Members.project c.args.members.now) (g.M.Members.number c.args.members.now) xs
-    c.loop-piece.rest.now) c.args.row.now c.loop-piece.piece-index c.loop-piece-test.false)
-    c.loop-piece.invariant.text
+pub loop-i-preserved : goal.loop-i-preserved
+loop-i-preserved g c =
+    written_step _ _ _ _ _ _ c.in_ok-place.ensures
+    (more_pieces (g.M.Members.project c.args.members.now) (g.M.Members.number c.args.members.now) c.args.row.now
+    c.args.starts.now c.loop-i.i _ _ (omega arith))
+    c.loop-i.invariant
+
+pub returns : goal.returns
+returns g c =
+    written_end _ _ _
+    (no_pieces (g.M.Members.project c.args.members.now) (g.M.Members.number c.args.members.now) c.args.row.now
+    c.args.starts.now c.loop-i.i (omega arith))
+    c.loop-i.invariant

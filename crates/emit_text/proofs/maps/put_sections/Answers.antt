@@ -1,7 +1,7 @@
 -- Output sections with their rows.
-use Rattle.std.proofs.Common.{◌≡◌, ◌∙◌, ◌∷◌, [], ◌+◌, ◌++◌, ◌<◌, ap, sym, drop, get_or, length, map, ℕ, List, refl}
-use Rattle.std.proofs.Common.{append_assoc}
-use Rattle.std.proofs.lemmas.List.{at_drop_more, at_drop_all}
+use Rattle.std.proofs.Common.{◌≡◌, ◌∙◌, ◌∷◌, [], ◌+◌, ◌++◌, ◌<◌, ap, sym, drop, get_or, length, map, min, ℕ, List, refl}
+use Rattle.std.proofs.Common.{append_assoc, arith, take, ◌-◌}
+use Rattle.std.proofs.lemmas.List.{at_drop_more, at_drop_all, drop_min, length-drop, take_all}
 use Rattle.std.specs.Vec.{vec_items}
 use Rattle.ldscript.specs.Numbering.{OutputSectionAt}
 use Rattle.ldscript.specs.Numbered.{shown_sections}
@@ -9,9 +9,8 @@ use Rattle.ldscript.specs.statements.declared.numbering.OutputSectionAt as code_
 use Rattle.ldmodel.specs.Project.{Project}
 use Rattle.ldmodel.specs.declared.laid.Placed.{Placed}
 use Rattle.ldmodel.specs.declared.rows.Piece.{Piece}
-use Rattle.emit_text.specs.Drafts.{Drafted, added}
 use Rattle.emit_text.specs.ShownMap.{pieces_text, section_text, sections_text}
-use Rattle.emit_text.proofs.Draftings.{added_step, added_both, added_end}
+use Rattle.emit_text.proofs.Appending.{written_step, written_both, written_end}
 use Rattle.emit_text.proofs.SideBySide.{some_left, none_left}
 use Rattle.emit_text.proofs.maps.put_sections.Goals as goal
 
@@ -20,22 +19,22 @@ abbrev shown_one : code_section.OutputSectionAt → OutputSectionAt
 shown_one s = record { line = s.line; section = s.section.now }
 
 -- one output section further
-sections_step : (p : Project) (number : ℕ → ℕ) (d e f end : Drafted) (placed : List Placed) (os : List OutputSectionAt)
+sections_step : (p : Project) (number : ℕ → ℕ) (d e f end : List ℕ) (placed : List Placed) (os : List OutputSectionAt)
     (rows : List (List Piece)) (starts later : List ℕ) (k : ℕ)
     (q : Placed) (o : OutputSectionAt) (row : List Piece) → k < length placed → drop k os ≡ o ∷ drop (k + 1) os
     → drop k rows ≡ row ∷ drop (k + 1) rows
-    → e ≡ added d (section_text o.section.name (get_or placed k q)) → f ≡ added e (pieces_text p number row starts)
+    → e ≡ d ++ section_text o.section.name (get_or placed k q) → f ≡ e ++ pieces_text p number row starts
     → later ≡ drop (length row) starts
-    → added d (sections_text p number (drop k placed) (drop k os) (drop k rows) starts) ≡ end
-    → added f (sections_text p number (drop (k + 1) placed) (drop (k + 1) os) (drop (k + 1) rows) later) ≡ end
+    → d ++ sections_text p number (drop k placed) (drop k os) (drop k rows) starts ≡ end
+    → f ++ sections_text p number (drop (k + 1) placed) (drop (k + 1) os) (drop (k + 1) rows) later ≡ end
 sections_step p number d e f end placed os rows starts later k q o row h a b x y r v =
     let line = section_text o.section.name (get_or placed k q) in
     let pieces = pieces_text p number row starts in
     let rest : List ℕ → List ℕ = λ ss.
     sections_text p number (drop (k + 1) placed) (drop (k + 1) os) (drop (k + 1) rows) ss in
-    added_step d f (line ++ pieces) (rest later)
+    written_step d f (line ++ pieces) (rest later)
     (sections_text p number (drop k placed) (drop k os) (drop k rows) starts) end
-    (added_both d e f line pieces x y)
+    (written_both d e f line pieces x y)
     (at_drop_more (λ qs. sections_text p number qs (drop k os) (drop k rows) starts) placed k q h
     ∙ ap (λ us. sections_text p number (get_or placed k q ∷ drop (k + 1) placed) us (drop k rows) starts) a
     ∙ ap (λ us. sections_text p number (get_or placed k q ∷ drop (k + 1) placed) (o ∷ drop (k + 1) os) us starts) b
@@ -44,18 +43,18 @@ sections_step p number d e f end placed os rows starts later k q o row h a b x y
     v
 
 -- the same by the name and the row as they are lent
-sections_lent : (p : Project) (number : ℕ → ℕ) (d e f end : Drafted) (placed : List Placed) (os : List OutputSectionAt)
+sections_lent : (p : Project) (number : ℕ → ℕ) (d e f end : List ℕ) (placed : List Placed) (os : List OutputSectionAt)
     (rows : List (List Piece)) (starts later : List ℕ) (k : ℕ)
     (q : Placed) (o : OutputSectionAt) (row : List Piece) (name : List ℕ) (items : List Piece) → k < length placed
     → drop k os ≡ o ∷ drop (k + 1) os → drop k rows ≡ row ∷ drop (k + 1) rows
-    → name ≡ o.section.name → items ≡ row → e ≡ added d (section_text name (get_or placed k q)) → f
-    ≡ added e (pieces_text p number items starts) → later ≡ drop (length items) starts
-    → added d (sections_text p number (drop k placed) (drop k os) (drop k rows) starts) ≡ end
-    → added f (sections_text p number (drop (k + 1) placed) (drop (k + 1) os) (drop (k + 1) rows) later) ≡ end
+    → name ≡ o.section.name → items ≡ row → e ≡ d ++ section_text name (get_or placed k q) → f
+    ≡ e ++ pieces_text p number items starts → later ≡ drop (length items) starts
+    → d ++ sections_text p number (drop k placed) (drop k os) (drop k rows) starts ≡ end
+    → f ++ sections_text p number (drop (k + 1) placed) (drop (k + 1) os) (drop (k + 1) rows) later ≡ end
 sections_lent p number d e f end placed os rows starts later k q o row name items h a b n r x y z v =
     sections_step p number d e f end placed os rows starts later k q o row h a b
-    (x ∙ ap (λ m. added d (section_text m (get_or placed k q))) n)
-    (y ∙ ap (λ i. added e (pieces_text p number i starts)) r)
+    (x ∙ ap (λ m. d ++ section_text m (get_or placed k q)) n)
+    (y ∙ ap (λ i. e ++ pieces_text p number i starts) r)
     (z ∙ ap (λ i. drop (length i) starts) r) v
 
 no_sections : (p : Project) (number : ℕ → ℕ) (placed : List Placed) (os : List OutputSectionAt)
@@ -71,25 +70,34 @@ no_rows p number (q ∷ qs) [] rows starts h = refl
 no_rows p number (q ∷ qs) (o ∷ os) [] starts h = refl
 no_rows p number (q ∷ qs) (o ∷ os) (r ∷ rs) starts h = cc
 
+-- what a row leaves of the addresses
+starts_left : (row : List Piece) (starts : List ℕ) (n : ℕ) → n ≡ min (length row) (length starts)
+    → take (length starts - n) (drop n starts) ≡ drop (length row) starts
+starts_left row starts n e =
+    take_all (length starts - n) (drop n starts) (omega (arith, length-drop n starts))
+    ∙ ap (λ m. drop m starts) e ∙ drop_min (length row) starts
+
 pub loop-k-preserved : goal.loop-k-preserved
 loop-k-preserved g c =
-    sections_lent (g.M.Members.project c.args.members.now) (g.M.Members.number c.args.members.now) c.loop-k.draft
-    c.put_section.new.draft c.put_pieces.new.draft _
+    sections_lent (g.M.Members.project c.args.members.now) (g.M.Members.number c.args.members.now) c.loop-k.text.items
+    c.put_section.new.text.items c.put_pieces.new.text.items _
     c.args.parts.now.laid.sections.now (shown_sections c.args.parts.now.sections.now)
     (map vec_items c.args.parts.now.rows.now) c.loop-k.starts.now
-    c.in_ok-starts.starts.now c.loop-k.k _ (shown_one c.in-Some.section.now) (vec_items c.in-Some-get.row.now)
+    _ c.loop-k.k _ (shown_one c.in-Some.section.now) (vec_items c.in-Some-get.row.now)
     c.as_bytes.result.now c.deref.result.now
     c.loop-k-test.true
     (some_left shown_one c.args.parts.now.sections.now c.loop-k.k c.in-Some.section.now c.in-Some.ensures.lookup.3.0
     c.in-Some.ensures.lookup.1)
     (some_left vec_items c.args.parts.now.rows.now c.loop-k.k c.in-Some-get.row.now c.in-Some-get.ensures.lookup.3.0
     c.in-Some-get.ensures.lookup.1)
-    c.as_bytes.ensures c.deref.ensures.value c.in_ok-put_section.ensures c.in_ok-starts.ensures.text
-    c.in_ok-starts.ensures.rest c.loop-k.invariant
+    c.as_bytes.ensures c.deref.ensures.value c.in_ok-put_section.ensures c.in_ok-put_pieces.ensures
+    (starts_left c.deref.result.now c.loop-k.starts.now c.min.result
+    (c.min.ensures ∙ ap (λ n. min n (length c.loop-k.starts.now)) (c.len.ensures ∙ sym c.deref.ensures.len)))
+    c.loop-k.invariant
 
 pub returns-in_default : goal.returns-in_default
 returns-in_default g c =
-    added_end _ _ _
+    written_end _ _ _
     (no_sections (g.M.Members.project c.args.members.now) (g.M.Members.number c.args.members.now)
     (drop c.loop-k.k c.args.parts.now.laid.sections.now)
     (drop c.loop-k.k (shown_sections c.args.parts.now.sections.now))
@@ -99,7 +107,7 @@ returns-in_default g c =
 
 pub returns-in_default-get : goal.returns-in_default-get
 returns-in_default-get g c =
-    added_end _ _ _
+    written_end _ _ _
     (no_rows (g.M.Members.project c.args.members.now) (g.M.Members.number c.args.members.now)
     (drop c.loop-k.k c.args.parts.now.laid.sections.now)
     (drop c.loop-k.k (shown_sections c.args.parts.now.sections.now))
@@ -109,7 +117,7 @@ returns-in_default-get g c =
 
 pub returns : goal.returns
 returns g c =
-    added_end _ _ _
+    written_end _ _ _
     (at_drop_all (λ qs. sections_text (g.M.Members.project c.args.members.now) (g.M.Members.number c.args.members.now)
     qs
     (drop c.loop-k.k (shown_sections c.args.parts.now.sections.now))

@@ -1,16 +1,15 @@
 -- With the lines still to come, the text is the whole one.
-use Rattle.std.proofs.Common.{◌≡◌, drop, map}
+use Rattle.std.proofs.Common.{◌≡◌, ◌++◌, drop, map}
 use Rattle.std.specs.Vec.{vec_items}
 use Rattle.ldscript.specs.Numbered.{shown_sections}
-use Rattle.emit_text.specs.Drafts.{added}
 use Rattle.emit_text.specs.ShownMap.{sections_text}
 use Rattle.emit_text.proofs.maps.put_sections.Given as goal
 
 abbrev pub invariant-loop-k : goal.invariant-loop-k
 invariant-loop-k g l =
-    added l.draft (sections_text (g.M.Members.project l.members) (g.M.Members.number l.members)
+    l.text.items ++ sections_text (g.M.Members.project l.members) (g.M.Members.number l.members)
     (drop l.k l.parts.laid.sections.now) (drop l.k (shown_sections l.parts.sections.now))
-    (drop l.k (map vec_items l.parts.rows.now)) l.starts)
-    ≡ added l.initial.draft
-    (sections_text (g.M.Members.project l.members) (g.M.Members.number l.members) l.parts.laid.sections.now
-    (shown_sections l.parts.sections.now) (map vec_items l.parts.rows.now) l.parts.laid.starts.now)
+    (drop l.k (map vec_items l.parts.rows.now)) l.starts
+    ≡ l.initial.text.items
+    ++ sections_text (g.M.Members.project l.members) (g.M.Members.number l.members) l.parts.laid.sections.now
+    (shown_sections l.parts.sections.now) (map vec_items l.parts.rows.now) l.parts.laid.starts.now

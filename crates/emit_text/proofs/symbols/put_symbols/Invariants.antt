@@ -1,14 +1,10 @@
 -- With the lines still to come, the text is the whole one.
-use Rattle.std.proofs.Common.{◌≡◌, ◌≤◌, drop, length}
-use Rattle.emit_text.specs.Drafts.{added}
-use Rattle.emit_text.specs.ShownMap.{merged, symbols_text}
+use Rattle.std.proofs.Common.{◌≡◌, ◌++◌, drop}
+use Rattle.emit_text.specs.ShownMap.{symbols_text}
 use Rattle.emit_text.proofs.symbols.put_symbols.Given as goal
 
 abbrev pub invariant-loop-symbol : goal.invariant-loop-symbol
-invariant-loop-symbol g l = record {
-  text : added l.draft (symbols_text (g.M.Members.project l.members) (g.M.Members.number l.members)
-      (merged (drop l.symbol-index l.named) (drop l.next l.given)))
-      ≡ added l.initial.draft
-      (symbols_text (g.M.Members.project l.members) (g.M.Members.number l.members) (merged l.named l.given));
-  within : l.next ≤ length l.given;
-}
+invariant-loop-symbol g l =
+    l.text.items ++ symbols_text (g.M.Members.project l.members) (g.M.Members.number l.members)
+    (drop l.symbol-index l.symbols)
+    ≡ l.initial.text.items ++ symbols_text (g.M.Members.project l.members) (g.M.Members.number l.members) l.symbols

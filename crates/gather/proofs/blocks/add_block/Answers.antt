@@ -2,7 +2,7 @@ use Rattle.std.proofs.Common.{◌∙◌, ap, arith, sym}
 use Rattle.std.specs.Prelude.{option_to_list}
 use Rattle.std.proofs.Common.{◌++◌, Some}
 use Rattle.ldmodel.specs.declared.names.Case.{Case}
-use Rattle.gather.specs.ProjectMembers.{block_here, blocks_at}
+use Rattle.gather.specs.Blocks.{block_here, blocks_at}
 use Rattle.gather.proofs.Collecting.{block_added}
 use Rattle.gather.proofs.blocks.add_block.Goals as goal
 

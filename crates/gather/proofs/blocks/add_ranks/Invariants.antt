@@ -1,5 +1,5 @@
 use Rattle.std.proofs.Common.{◌≡◌, ◌++◌, map, take}
-use Rattle.gather.specs.ProjectMembers.{block_rank}
+use Rattle.gather.specs.Blocks.{block_rank}
 use Rattle.gather.proofs.blocks.add_ranks.Given as goal
 
 abbrev pub invariant-loop-block : goal.invariant-loop-block

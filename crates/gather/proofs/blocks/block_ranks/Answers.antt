@@ -1,5 +1,5 @@
 use Rattle.std.proofs.Common.{◌++◌, ◌∙◌, ap, map, subst, sym}
-use Rattle.gather.specs.ProjectMembers.{block_rank}
+use Rattle.gather.specs.Blocks.{block_rank}
 use Rattle.gather.proofs.Ranked.{RankedUpTo, all_ranked, more_ranked, none_ranked}
 use Rattle.gather.proofs.blocks.block_ranks.Goals as goal
 

@@ -2,7 +2,7 @@ use Rattle.std.proofs.Common.{◌∙◌, ◌++◌, Option, ap, arith, sym}
 use Rattle.std.specs.Prelude.{option_to_list, take}
 use Rattle.std.specs.List.{filter_map}
 use Rattle.ldmodel.specs.declared.names.Case.{Case}
-use Rattle.gather.specs.ProjectMembers.{block_here}
+use Rattle.gather.specs.Blocks.{block_here}
 use Rattle.gather.proofs.Collecting.{case_more}
 use Rattle.gather.proofs.blocks.collected.Goals as goal
 

@@ -1,7 +1,7 @@
 -- The blocks of the names so far.
 use Rattle.std.proofs.Common.{◌≡◌, ◌<◌, ℕ, length, take}
 use Rattle.std.specs.List.{filter_map}
-use Rattle.gather.specs.ProjectMembers.{block_here, blocks_at}
+use Rattle.gather.specs.Blocks.{block_here, blocks_at}
 use Rattle.gather.proofs.blocks.collected.Given as goal
 
 abbrev pub invariant-loop-key : goal.invariant-loop-key

@@ -2,7 +2,7 @@ use Rattle.std.proofs.Common.{◌≡◌, ◌∙◌, ◌<◌, arith, subst}
 use Rattle.std.specs.Prelude.{length}
 use Rattle.std.specs.List.Sorted.{IsPermutation}
 use Rattle.std.proofs.lemmas.Option.{slice_get_within}
-use Rattle.gather.specs.ProjectMembers.{IsInOrder, blocks_at}
+use Rattle.gather.specs.Blocks.{IsInOrder, blocks_at}
 use Rattle.gather.proofs.Owning.{blocks_are}
 use Rattle.gather.proofs.Preparing.{all_blocks, as_many}
 use Rattle.gather.proofs.blocks.common_blocks.Goals as goal

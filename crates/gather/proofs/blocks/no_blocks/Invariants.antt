@@ -1,6 +1,6 @@
 -- Those so far.
 use Rattle.std.proofs.Common.{◌≡◌, ℕ, [], length}
-use Rattle.gather.specs.ProjectMembers.{blocks_at}
+use Rattle.gather.specs.Blocks.{blocks_at}
 use Rattle.gather.proofs.blocks.no_blocks.Given as goal
 
 abbrev pub invariant-loop : goal.invariant-loop

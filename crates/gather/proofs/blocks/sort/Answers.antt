@@ -1,6 +1,6 @@
 use Rattle.std.proofs.Common.{rules}
 use Rattle.std.proofs.lemmas.List.Sorted.{IsNonDecreasingBy-from_sort_by_key}
-use Rattle.gather.specs.declared.member.CommonBlock.{CommonBlock}
+use Rattle.gather.specs.declared.blocks.CommonBlock.{CommonBlock}
 use Rattle.gather.proofs.blocks.sort.Goals as goal
 
 pub returns : goal.returns

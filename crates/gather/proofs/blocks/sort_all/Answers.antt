@@ -2,7 +2,7 @@ use Rattle.std.proofs.Common.{◌≡◌, ◌∙◌, ◌<◌, inl, inr, arith, sy
 use Rattle.std.specs.Prelude.{length, slice_set}
 use Rattle.std.proofs.lemmas.Bool.{cases_eq}
 use Rattle.std.proofs.Math.ListN.{length-set}
-use Rattle.gather.specs.ProjectMembers.{IsInOrder, blocks_at}
+use Rattle.gather.specs.Blocks.{IsInOrder, blocks_at}
 use Rattle.gather.proofs.Collecting.{read_there, written_elsewhere, written_there}
 use Rattle.gather.proofs.blocks.sort_all.Goals as goal
 

@@ -1,6 +1,6 @@
 -- Those so far are sorted.
 use Rattle.std.proofs.Common.{◌≡◌, ◌<◌, ◌≤◌, ℕ, length}
-use Rattle.gather.specs.ProjectMembers.{IsInOrder, blocks_at}
+use Rattle.gather.specs.Blocks.{IsInOrder, blocks_at}
 use Rattle.gather.proofs.blocks.sort_all.Given as goal
 
 abbrev pub invariant-loop-place : goal.invariant-loop-place

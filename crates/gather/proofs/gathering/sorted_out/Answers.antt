@@ -1,7 +1,4 @@
-use Rattle.std.proofs.Common.{◌∙◌, sym}
-use Rattle.gather.specs.ProjectMembers.{by_place}
 use Rattle.gather.proofs.Named.{orphan_faults}
-use Rattle.gather.proofs.NamedRows.{same_rows}
 use Rattle.gather.proofs.gathering.sorted_out.Goals as goal
 
 pub returns : goal.returns
@@ -10,9 +7,8 @@ returns c =
     let in_order = c.live_by_path.ensures.in_order p in
     record {
       table = c.requires.table;
-      rows = same_rows p c.in_ok-rows.rows.items
-          ∙ c.in_ok-rows.ensures p (by_place p) (sym c.script.ensures) c.requires.sections c.requires.marks;
-      orphans = orphan_faults p c.requires.ascending in_order.0
+      rows = c.in_ok-rows.ensures c.requires.sections c.requires.marks;
+      orphans = orphan_faults p c.requires.sections.ascending in_order.0
           c.in_ok-orphans.orphans.items in_order.1
-          (c.in_ok-orphans.ensures p (by_place p) c.requires.sections c.requires.marks);
+          (c.in_ok-orphans.ensures p c.requires.sections c.requires.marks);
     }

@@ -4,7 +4,6 @@ use Rattle.ldscript.specs.statements.Numbering.{InputStatementAt, input_statemen
 use Rattle.ldscript.specs.statements.Numbered.{shown_inputs}
 use Rattle.ldmodel.specs.Project.{Project}
 use Rattle.ldmodel.specs.declared.options.Orphans.{Orphans}
-use Rattle.gather.specs.Gathered.{Keys}
 use Rattle.gather.specs.LeftOut.{is_out_of}
 use Rattle.gather.specs.Matches.{number_of}
 use Rattle.gather.specs.declared.gathered.Gathered.{Gathered}
@@ -20,8 +19,8 @@ returns c =
     let all : shown_inputs c.deref.result.now ≡ input_statements c.args.script.now =
     ap shown_inputs c.deref.ensures.value ∙ c.in_ok-statements.ensures in
     IfOk-weaker c.each_out.result _ _
-    (λ (out : Vec Bool Global) (h : out.items ≡ each (shown_inputs c.deref.result.now) c.args.orphans xs) (p : Project)
-    (keys : Keys) is o a.
+    (λ (out : Vec Bool Global) (h : out.items ≡ each (shown_inputs c.deref.result.now) c.args.orphans xs)
+    (p : Project) is o a.
     h ∙ ap (λ st. each st c.args.orphans xs) (all ∙ ap input_statements (sym is))
-    ∙ ap (λ or. each (input_statements p.script) or xs) (sym o) ∙ out_are p keys xs a)
+    ∙ ap (λ or. each (input_statements p.script) or xs) (sym o) ∙ out_are p xs a)
     c.each_out.ensures

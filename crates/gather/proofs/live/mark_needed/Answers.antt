@@ -7,7 +7,6 @@ use Rattle.ldmodel.specs.Gathering.{is_out, taken_by}
 use Rattle.ldmodel.specs.InputSections.{input_sections}
 use Rattle.ldmodel.specs.Live.{entry_section, is_kept}
 use Rattle.ldmodel.specs.Sections.{InputSection}
-use Rattle.gather.specs.ProjectMembers.{by_place}
 use Rattle.gather.specs.SectionPlaces.{AreProjectPlaces, IsPlaceOf, place_under}
 use Rattle.gather.proofs.Keyed.{place_of_key}
 use Rattle.gather.proofs.Starting.{graph_is}
@@ -22,7 +21,8 @@ pub returns : goal.returns
 returns c =
     let p = c.args.project.now in
     let place : IsPlaceOf p (entry_section p) c.find-entry.result =
-    place_of_key p (place_under c.args.table.now c.deref.result.now) c.entry_section.result (entry_section p) c.find-entry.result
+    place_of_key p (place_under c.args.table.now c.deref.result.now) c.entry_section.result (entry_section p)
+    c.find-entry.result
     (subst (λ (l : List (Option ℕ)). AreProjectPlaces p (place_under c.args.table.now l)) (sym c.deref.ensures.value)
     c.in_ok-column.ensures) c.entry_section.ensures c.find-entry.ensures in
     let roots : (k : ℕ) (s : InputSection) → IsSectionAt p k s
@@ -30,7 +30,7 @@ returns c =
     subst (λ (l : List ℕ). (k : ℕ) (s : InputSection) → IsSectionAt p k s
     → (IsTrue (is_kept (taken_by p s)) ⊎ (c.find-entry.result ≡ Some k)) ↔ Contains l k)
     (sym c.deref-2.ensures.value)
-    (c.in_ok-roots.ensures p (by_place p) (sym c.script.ensures) c.requires.sections) in
+    (c.in_ok-roots.ensures p (sym c.script.ensures) c.requires.sections) in
     IfOk-weaker c.mark.result _ _
     (λ (marks : Vec Bool Global) h. h p c.requires.collected
     (graph_is p c.args.out.now c.deref-2.result.now c.find-entry.result c.requires.out place roots))

@@ -10,7 +10,7 @@ loop-place-preserved c =
     c.loop-place-test.true c.is_marked.ensures c.in_ok-add_untaken.ensures c.loop-place.invariant
 
 pub returns : goal.returns
-returns c = λ p keys a l.
+returns c = λ p a l.
     let all = found_all untaken c.loop-place.found.items _ c.args.marks.now c.args.sections.now c.loop-place.place
     (omega (arith, c.loop-place-test.false)) c.loop-place.invariant in
-    orphans_are p keys c.args.marks.now c.args.sections.now c.loop-place.found.items all a l
+    orphans_are p c.args.marks.now c.args.sections.now c.loop-place.found.items all a l

@@ -28,4 +28,4 @@ returns c =
     let all : n ≡ length xs = omega arith in
     project_places p xs c.requires.sections (place_under t c.loop-place.places.items)
     (subst (λ (m : ℕ). ArePlaces xs m (place_under t c.loop-place.places.items)) all c.loop-place.invariant.are)
-    (c.sections_apart.ensures p c.requires.ascending)
+    (c.sections_apart.ensures p c.requires.sections.ascending)

@@ -1,8 +1,10 @@
-use Rattle.std.proofs.Common.{subst, List, ap, sym, ◌∙◌}
+use Rattle.std.proofs.Common.{subst, List, [], ap, sym, ◌∙◌}
 use Rattle.std.specs.Prelude.{OnOk, option_copied}
+use Rattle.elfobj.specs.Sections.{LinkedSection}
 use Rattle.elfobj.specs.declared.relocation.Relocation.{Relocation}
+use Rattle.gather.specs.Found.{relocations_of}
 use Rattle.gather.specs.SectionPlaces.{AddsTargets}
-use Rattle.gather.proofs.Starting.{row_of}
+use Rattle.gather.proofs.ByNumber.{asked_at}
 use Rattle.gather.proofs.referring.add_row.Goals as goal
 
 pub returns-in-Some : goal.returns-in-Some
@@ -10,7 +12,7 @@ returns-in-Some c =
     let key = c.args.section.now.section in
     subst (λ (rs : List Relocation). OnOk c.add_targets.result (AddsTargets c.args.project.now key.object.0
     rs c.args.targets.now.items c.add_targets.new.targets.items))
-    (row_of c.args.project.now key.object.0 key.part c.in-Some.object.now c.in-InTable.number
-    c.relocations_at-relocations.result.now (sym c.object.ensures ∙ ap option_copied c.in-Some.is) c.in-InTable.is
-    c.relocations_at-relocations.ensures)
+    (asked_at (λ (x : LinkedSection). x.relocations) [] c.args.project.now key.object.0 c.in-Some.object.now
+    c.in-InTable.number c.relocations_at-relocations.result.now (sym c.object.ensures ∙ ap option_copied c.in-Some.is)
+    c.relocations_at-relocations.ensures ∙ ap (relocations_of c.args.project.now key.object.0) (sym c.in-InTable.is))
     c.add_targets.ensures

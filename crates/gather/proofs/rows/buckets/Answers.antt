@@ -1,12 +1,14 @@
 -- Section by section.
 use Rattle.std.proofs.Common.{[], arith, refl, subst}
-use Rattle.gather.specs.Gathered.{taken_named}
+use Rattle.gather.specs.Gathered.{own_piece}
 use Rattle.gather.specs.RowPieces.{AreBuckets}
 use Rattle.gather.proofs.GatheredLists.{found_all, found_step}
 use Rattle.gather.proofs.rows.buckets.Goals as goal
 
 pub loop-place-init : goal.loop-place-init
-loop-place-init c = record { done = []; are = c.in_ok-buckets.ensures; rest = refl }
+loop-place-init c =
+    let none = c.in_ok-buckets.ensures in
+    record { done = []; are = record { long = none.long; bucket = none.each }; rest = refl }
 
 pub loop-place-preserved : goal.loop-place-preserved
 loop-place-preserved c =
@@ -14,7 +16,7 @@ loop-place-preserved c =
     record {
       done = _;
       are = c.in_ok-add_taken.ensures h.done c.args.statements h.are;
-      rest = found_step taken_named h.done _ _ c.args.marks.now c.args.sections.now c.loop-place.place _
+      rest = found_step own_piece h.done _ _ c.args.marks.now c.args.sections.now c.loop-place.place _
           c.is_marked.result c.loop-place-test.true c.is_marked.ensures refl h.rest;
     }
 
@@ -22,5 +24,5 @@ pub returns : goal.returns
 returns c =
     let h = c.loop-place.invariant in
     subst (λ xs. AreBuckets xs c.args.statements c.loop-place.buckets.items)
-    (found_all taken_named h.done _ c.args.marks.now c.args.sections.now c.loop-place.place
+    (found_all own_piece h.done _ c.args.marks.now c.args.sections.now c.loop-place.place
     (omega (arith, c.loop-place-test.false)) h.rest) h.are

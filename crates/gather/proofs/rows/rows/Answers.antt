@@ -1,4 +1,4 @@
-use Rattle.std.proofs.Common.{◌≡◌, ◌≢◌, ◌<◌, ◌+◌, ◌∷◌, [], length, drop, get_or, arith, ap, refl, sym, ◌∙◌}
+use Rattle.std.proofs.Common.{◌≡◌, ◌≢◌, ◌<◌, ◌+◌, ◌∷◌, [], length, drop, get_or, arith, ap, sym, ◌∙◌}
 use Rattle.std.proofs.Common.{get_or-set_other}
 use Rattle.std.specs.List.{enumerate_from}
 use Rattle.gather.specs.Gathered.{taken_in}
@@ -36,28 +36,27 @@ loop-number-preserved c =
       left = λ k d h l. let ne : k ≢ i = omega (arith, h) in
           ap (λ v. v.items) (get_or-set_other c.loop-number.buckets.items i k c.add_statement.new.pieces d ne)
           ∙ inv.left k d (omega (arith, h)) l;
-      rows = λ n named k d h.
+      rows = λ k d h.
           (let before : k < length c.loop-number.found.items = omega (arith, h, added.long) in
-          rows_step n (taken_in c.args.marks.now c.args.sections.now) c.index_mut.result.now.items k i
-          (shown_inputs (drop i items))
-          (shown_inputs (drop (i + 1) items)) st
-          (shown_row n (get_or c.loop-number.found.items k d))
-          (shown_row n (get_or c.add_statement.new.rows.items k d)) _
-          named is (λ of. added.row n of k d before) cut (inv.rows n named k d before));
+          rows_step c.args.project.now (taken_in c.args.marks.now c.args.sections.now) c.index_mut.result.now.items k i
+          (shown_inputs (drop i items)) (shown_inputs (drop (i + 1) items)) st
+          (shown_row c.args.project.now (get_or c.loop-number.found.items k d))
+          (shown_row c.args.project.now (get_or c.add_statement.new.rows.items k d)) _
+          is (added.row k d before) cut (inv.rows k d before));
     }
 
 pub returns : goal.returns
-returns c = λ p keys is gathered lives.
-    let n = keys.naming in
+returns c = λ gathered lives.
+    let p = c.args.project.now in
     let xs = taken_in c.args.marks.now c.args.sections.now in
-    let taken = taken_are p keys c.args.marks.now c.args.sections.now _ refl gathered lives in
     let i = c.loop-number.number in
     let inv = c.loop-number.invariant in
     let items = c.deref-statement-items.result.now in
     let none : drop i items ≡ [] = drop_all i items (omega (arith, c.loop-number-test.false)) in
-    let all : shown_inputs items ≡ input_statements c.args.script.now =
-    ap shown_inputs c.deref-statement-items.ensures.value ∙ c.in_ok-statements.ensures in
-    rows_are p n c.args.script.now xs c.loop-number.found.items is taken inv.long
-    (λ k d l. rows_end n xs k i (shown_inputs (drop i items)) _ _ (ap shown_inputs none)
-    (inv.rows n taken.named k d l)
-    ∙ ap (λ s. flat_map (pieces_at n xs k) (enumerate_from 0 s)) all)
+    let all : shown_inputs items ≡ input_statements p.script =
+    ap shown_inputs c.deref-statement-items.ensures.value ∙ c.in_ok-statements.ensures
+    ∙ ap input_statements c.script-script.ensures in
+    rows_are p xs c.loop-number.found.items
+    (taken_are p c.args.marks.now c.args.sections.now gathered lives) inv.long
+    (λ k d l. rows_end p xs k i (shown_inputs (drop i items)) _ _ (ap shown_inputs none) (inv.rows k d l)
+    ∙ ap (λ s. flat_map (pieces_at p xs k) (enumerate_from 0 s)) all)

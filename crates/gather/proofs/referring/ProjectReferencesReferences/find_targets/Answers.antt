@@ -7,4 +7,4 @@ returns c =
     let r = c.args.self.now in
     on_ok_weaker c.add_row.result
     (refers_at r.project.now r.sections.now c.args.section _ c.clear.new.self.items c.add_row.new.targets.items
-    c.requires.can.ascending c.requires.can.sections c.requires.within c.clear.ensures.items) c.add_row.ensures
+    c.requires.can.sections c.requires.within c.clear.ensures.items) c.add_row.ensures

@@ -1,6 +1,0 @@
--- The rows so far.
-use Rattle.gather.specs.RowPieces.{AreEmpty}
-use Rattle.gather.proofs.rows.empty_rows.Given as goal
-
-abbrev pub invariant-loop-number : goal.invariant-loop-number
-invariant-loop-number l = AreEmpty l._number l.rows.items
