@@ -1,5 +1,5 @@
 -- How much an edit between two links without faults counts.
-use Rattle.std.proofs.Common.{◌≡◌, ◌∙◌, ◌+◌, ◌-◌, ◌<◌, ◌≤◌, ◌^◌, ℕ, Bool, true, false, List, [], ◌∷◌, Option, Some}
+use Rattle.std.proofs.Common.{◌≡◌, ◌∙◌, ◌<◌, ◌≤◌, ◌^◌, ℕ, Bool, true, false, List, [], ◌∷◌, Option, Some}
 use Rattle.std.proofs.Common.{None}
 use Rattle.std.proofs.Common.{Global, Vec, ap, arith, inl, inr, length, refl, subst, sym}
 use Rattle.std.specs.Prelude.{◌&&◌, Err, IfSome, Ok, if◌then◌else◌, is_some, nat_lt, take}
@@ -17,7 +17,6 @@ use Rattle.ldmodel.specs.SectionHeaders.{image_length}
 use Rattle.ldmodel.specs.SessionWork.{IsWork, Rises, bytes_to_write, entries_from, entries_to_place, first_changed}
 use Rattle.ldmodel.specs.SessionWork.{objects_read, sites_to_evaluate}
 use Rattle.ldmodel.specs.Stayed.{GoodLink}
-use Rattle.ldmodel.specs.WorkBound.{bytes_stayed}
 use Rattle.symres.specs.decisions.Counted.{CountsNames}
 use Rattle.ldmodel_project.specs.Holding.{Holding, Listing, StandsAsNamed, TouchesOne, held}
 use Rattle.ldmodel_project.specs.Holding.{listing_of, next_listing, project_of}
@@ -258,8 +257,7 @@ whole_work h s same bytes new a e last from f change m0 m1 m2 given answers orig
         (worked kept.kept.old state u refl of_last laid_too) in
         let is : kept.kept.old ≡ old = current_is (listing_of h) bytes x p t kept refl laid in
         let image : IsImageCount old now m0 m2 =
-        subst (λ (g : GoodLink). IsImageCount g now m0 m2) is work.image in
-        (
+        subst (λ (g : GoodLink). IsImageCount g now m0 m2) is work.image in (
           record {
             objects = reading.objects;
             names = reading.names;

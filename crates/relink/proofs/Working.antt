@@ -1,6 +1,6 @@
 -- How much an edit counts.
-use Rattle.std.proofs.Common.{◌≡◌, ◌∙◌, ◌<◌, ◌≤◌, ◌+◌, ◌^◌, ◌++◌, ◌⊎◌, ℕ, Bool, true, false, List, [], ◌∷◌}
-use Rattle.std.proofs.Common.{Option, Some, None, append-nil, ap, arith, cond, get_or, inl, inr, length, map, refl}
+use Rattle.std.proofs.Common.{◌≡◌, ◌∙◌, ◌<◌, ◌≤◌, ◌+◌, ◌^◌, ◌++◌, ℕ, Bool, true, false, List, [], ◌∷◌}
+use Rattle.std.proofs.Common.{Option, Some, None, append-nil, ap, arith, cond, get_or, length, map, refl}
 use Rattle.std.proofs.Common.{subst, sym}
 use Rattle.std.specs.List.{count_by, find, insert, remove}
 use Rattle.std.specs.Option.{option_map_or}

@@ -1,9 +1,9 @@
-use Rattle.std.proofs.Common.{◌∙◌, ap, map, refl, subst, sym, true}
+use Rattle.std.proofs.Common.{◌∙◌, ap, map, refl, subst, true}
 use Rattle.ldmodel.specs.Project.{NamedObject}
 use Rattle.relink_link.specs.Stays.{last_of}
 use Rattle.relink_link.specs.Ended.{HasEnded}
 use Rattle.relink_link.specs.Worked.{HasWorked}
-use Rattle.relink.proofs.Lending.{followed_good}
+use Rattle.relink.proofs.Lending.{followed_again, followed_good}
 use Rattle.relink.proofs.linking.link_keyed.Goals as goal
 
 pub returns-clause-followed : goal.returns-clause-followed
@@ -29,5 +29,7 @@ returns-clause-worked c =
 pub returns-in-Ok-Retouched-clause-followed : goal.returns-in-Ok-Retouched-clause-followed
 returns-in-Ok-Retouched-clause-followed c = λ l is keys.
     followed_again l c.args.project.now c.args.keys.now (last_of c.args.last) c.relink.new.canvas.bytes
-    c.in_ok-origins.origins.items is keys c.requires.distinct c.in-Ok-Retouched.ensures.ended c.in_ok-origins.ensures
+    c.in_ok-origins.origins.items is keys c.requires.distinct
+    (subst (HasEnded c.args.project.now (last_of c.args.last) c.args.canvas.now.bytes c.relink.new.canvas.bytes)
+    c.in-Ok-Retouched.field-0-is c.in-Ok-Retouched.ensures.ended) c.in_ok-origins.ensures
     (c.found_where_placed.ensures l.entries)
