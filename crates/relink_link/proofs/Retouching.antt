@@ -23,7 +23,8 @@ use Rattle.ldmodel.specs.Rows as rows_of
 use Rattle.ldmodel.specs.Stayed.{GoodLink}
 use Rattle.ldmodel.specs.SymbolValues.{is_part, placed_part}
 use Rattle.ldmodel.specs.declared.sections.SectionKey.{SectionKey}
-use Rattle.ldmodel_laws.specs.Outline.{IsRetouched, ObjectOutline, SectionOutline, object_outline, section_outline}
+use Rattle.ldmodel_laws.specs.Outline.{IsRetouched, ObjectOutline, SectionOutline, object_outline, object_targets}
+use Rattle.ldmodel_laws.specs.Outline.{section_outline, section_targets}
 use Rattle.ldmodel_laws.specs.Untouched.{IsGood}
 use Rattle.ldscript.specs.statements.declared.statement.Statement.{Statement}
 use Rattle.emit.specs.Beside.{new_link}
@@ -107,13 +108,34 @@ module _ (old : GoodLink) (p : Project) (x : LastState) (r : ReplacedState) (is 
           ∙ sym (ap (option_map object_outline) f.at) ∙ ap (λ k. outline_at p k) (sym here)
       go false e = ap (option_map object_outline) (others j (eqb-false j r.new.0 e))
 
+  same_targets : p.options.gc ≡ true → (j : ℕ)
+      → option_map object_targets (slice_get old.project.objects j)
+      ≡ option_map object_targets (slice_get p.objects j)
+  same_targets on j = go (j == r.new.0) refl
+    where
+      there : object_targets came.before ≡ object_targets f.after
+      there = ap (λ (d : ObjectData). map section_targets d.sections) came.object ∙ f.references on
+
+      go : (b : Bool) → (j == r.new.0) ≡ b
+          → option_map object_targets (slice_get old.project.objects j)
+          ≡ option_map object_targets (slice_get p.objects j)
+      go true e =
+          let here : j ≡ r.new.0 = eqb-true j r.new.0 e in
+          let targets_in = λ (os : List NamedObject) (k : ℕ). option_map object_targets (slice_get os k) in
+          ap (targets_in old.project.objects) here ∙ ap (option_map object_targets) was ∙ ap Some there
+          ∙ sym (ap (option_map object_targets) f.at) ∙ ap (targets_in p.objects) (sym here)
+      go false e = ap (option_map object_targets) (others j (eqb-false j r.new.0 e))
+
   pub is_retouched : IsRetouched old.project p r.new.0
   is_retouched = record {
     script = is.script f.script;
     options = is.options;
     references = λ on.
-        let off : old.project.options.gc ≡ false = ap (λ (o : LinkOptions). o.gc) is.options ∙ f.all_kept in
-        absurd (let none : ⊥ = cc in none);
+        same_at (map object_targets old.project.objects) (map object_targets p.objects)
+        (length-map old.project.objects object_targets ∙ many ∙ sym (length-map p.objects object_targets))
+        (λ k within. slice_get-map object_targets old.project.objects k
+        ∙ same_targets (sym (ap (λ (o : LinkOptions). o.gc) is.options) ∙ on) k
+        ∙ sym (slice_get-map object_targets p.objects k));
     outlines = same_at (map object_outline old.project.objects) (map object_outline p.objects)
         (length-map old.project.objects object_outline ∙ many ∙ sym (length-map p.objects object_outline))
         (λ k within. slice_get-map object_outline old.project.objects k ∙ same_outline k

@@ -32,7 +32,7 @@ use Rattle.ldmodel.specs.Rows.{rows}
 use Rattle.ldmodel.specs.Rows as rows_of
 use Rattle.ldmodel.specs.SectionHeaders.{image_length}
 use Rattle.ldmodel.specs.Segments.{SectionInFile, file_offset, in_file, nonempty, segments}
-use Rattle.ldmodel.specs.SessionWork.{bytes_to_write, entries_from, sites_to_evaluate}
+use Rattle.ldmodel.specs.SessionWork.{bytes_to_write, entries_from}
 use Rattle.ldmodel.specs.Stayed.{GoodLink, LinkedPiece, has_stayed, link_pieces}
 use Rattle.ldmodel.specs.SymbolValues.{SymbolValue, Number, NotDefined, NotInOutput, entry_point}
 use Rattle.ldmodel.specs.SymbolValues as symbol

@@ -1,5 +1,5 @@
 -- A link whose project differs from that of an earlier one in what the input sections of one object hold.
-use Rattle.std.specs.Prelude.{◌≡◌, ◌<◌, ◌==◌, ℕ, true, false, List, Option, Some, None, length, map, slice_get}
+use Rattle.std.specs.Prelude.{◌≡◌, ◌<◌, ◌==◌, ℕ, true, List, Option, Some, None, length, map, slice_get}
 use Rattle.std.specs.Prelude.{[], Ok, find, if◌then◌else◌, slice_index_or, sum_by}
 use Rattle.std.specs.Option.{option_map_or}
 use Rattle.elfobj.specs.Profile.{size_in_file}
@@ -15,7 +15,7 @@ use Rattle.ldmodel.specs.Rows.{rows}
 use Rattle.ldmodel.specs.Stayed.{GoodLink, LinkedPiece, link_pieces}
 use Rattle.ldmodel.specs.SymbolValues.{name_value}
 use Rattle.ldmodel.specs.declared.sections.Part.TheVariants.{InTable}
-use Rattle.ldmodel_laws.specs.Outline.{HasSameFrame, IsRetouched, section_outline}
+use Rattle.ldmodel_laws.specs.Outline.{HasSameFrame, IsRetouched, section_outline, section_targets}
 use Rattle.ldmodel_laws.specs.StayedSites.{is_linked_part}
 use Rattle.relink_link.specs.Stays.{IsLastOf, LastState, ReplacedState}
 use Rattle.relink_link.specs.Table.{IsTable}
@@ -24,11 +24,11 @@ use Rattle.relink_link.specs.Table.{IsTable}
 abbrev pub origin_beside : (place i : ℕ) → Option ℕ
 origin_beside place i = if i == place then None else Some i
 
--- nothing differs from the earlier link, which is the one that is answered, but what the sections of one object hold
+-- nothing differs from the earlier link, which is the one that is answered, but what the sections of one object hold;
+-- where sections are dropped that nothing refers to, their relocations name the same symbols, in their order
 pub record IsFollowed (x : LastState) (p : Project) (r : ReplacedState) : Type 0 where
   pub script : x.same_script ≡ true
   pub current : x.is_current ≡ true
-  pub all_kept : p.options.gc ≡ false
   pub replaced : x.replaced ≡ Some r
   pub place : r.old.0 ≡ r.new.0
   pub objects : x.objects ≡ length p.objects
@@ -37,6 +37,8 @@ pub record IsFollowed (x : LastState) (p : Project) (r : ReplacedState) : Type 0
   pub at : slice_get p.objects r.new.0 ≡ Some after
   pub symbols : r.object.symbols ≡ after.object.symbols
   pub sections : map section_outline r.object.sections ≡ map section_outline after.object.sections
+  pub references : p.options.gc ≡ true
+      → map section_targets r.object.sections ≡ map section_targets after.object.sections
 
 -- what the laws on outlines say of two projects, at the layout of the first
 pub record IsKeptLink (p q : Project) (s : Layout) : Type 0 where

@@ -1,9 +1,9 @@
-//! Whether two objects differ in what their sections hold alone.
+//! Whether two objects differ in what their sections hold alone, and whether these refer to the same symbols.
 
 ghost use Rattle.std.specs.Prelude.{◌≡◌, map, true};
-ghost use Rattle.ldmodel_laws.specs.Outline.{section_outline};
+ghost use Rattle.ldmodel_laws.specs.Outline.{section_outline, section_targets};
 
-use elfobj::relocation::SymbolIndex;
+use elfobj::relocation::{Relocation, SymbolIndex};
 use elfobj::section::LinkedIndex;
 use elfobj::{Object, Section, Symbol};
 
@@ -23,6 +23,13 @@ fn is_same_symbol(a: Symbol, b: Symbol) -> bool
 
 /// Whether two sections are the same, whatever they hold.
 fn is_same_section(a: Section, b: Section) -> bool
+    ensures { result ≡ true → a ≡ b }
+{
+    a == b
+}
+
+/// Whether two indices are the same.
+fn is_same_index(a: SymbolIndex, b: SymbolIndex) -> bool
     ensures { result ≡ true → a ≡ b }
 {
     a == b
@@ -74,4 +81,37 @@ pub(crate) fn same_outline(a: &Object, b: &Object) -> bool
     ensures sections { result ≡ true → map section_outline a.now.sections ≡ map section_outline b.now.sections }
 {
     same_symbols(a, b) && same_sections(a, b)
+}
+
+/// Whether two lists of relocations name the same symbols, in their order.
+fn same_references(a: &[Relocation], b: &[Relocation]) -> bool
+    ensures { result ≡ true → map (λ r. r.symbol) a.now ≡ map (λ r. r.symbol) b.now }
+{
+    if a.len() != b.len() {
+        return false;
+    }
+    for number in 0..a.len() {
+        if !is_same_index(a[number].symbol, b[number].symbol) {
+            return false;
+        }
+    }
+    true
+}
+
+/// Whether the relocations of each section of two objects name the same symbols, in their order.
+pub(crate) fn same_targets(a: &Object, b: &Object) -> bool
+    ensures { result ≡ true → map section_targets a.now.sections ≡ map section_targets b.now.sections }
+{
+    let before = a.sections();
+    let now = b.sections();
+    if before.len() != now.len() {
+        return false;
+    }
+    for number in 0..before.len() {
+        let index = LinkedIndex(number);
+        if !same_references(a.relocations(index), b.relocations(index)) {
+            return false;
+        }
+    }
+    true
 }

@@ -12,7 +12,7 @@ ghost use Rattle.relink_link.specs.Reads.{ReadsNothing};
 ghost use Rattle.relink_link.specs.Touched.{HasFault, HasTouched, IsTouchedWork};
 
 use crate::lent::Lent;
-use crate::outline::same_outline;
+use crate::outline::{same_outline, same_targets};
 use crate::spots::spots_of;
 use crate::stays::{Last, Replaced};
 use emit::Canvas;
@@ -49,11 +49,11 @@ fn is_alone(last: &Last<'_>, count: usize, place: ObjectPlace) -> bool
 
 /// The object in whose place another one came, where nothing else differs from the earlier link, that one is answered,
 /// and the two objects differ in what their sections hold alone. Where sections may be dropped that nothing refers to,
-/// none, since relocations are references.
+/// their relocations name the same symbols too, since relocations are references.
 fn find_replaced<'a>(last: &Last<'a>, project: &ProjectView<'_>) -> Option<Replaced<'a>>
     ensures { IfSome result (λ r. IsFollowed (last_state last.now) project.now (replaced_state r)) }
 {
-    if !last.same_script || !last.is_current || project.options().gc() {
+    if !last.same_script || !last.is_current {
         return None;
     }
     let replaced = last.replaced?;
@@ -62,11 +62,13 @@ fn find_replaced<'a>(last: &Last<'a>, project: &ProjectView<'_>) -> Option<Repla
     if replaced.old != replaced.new || last.objects != count {
         return None;
     }
-    if is_alone(last, count, replaced.new) && same_outline(replaced.object, object) {
-        Some(replaced)
-    } else {
-        None
+    if !is_alone(last, count, replaced.new) || !same_outline(replaced.object, object) {
+        return None;
     }
+    if project.options().gc() && !same_targets(replaced.object, object) {
+        return None;
+    }
+    Some(replaced)
 }
 
 /// What the laws on projects whose objects have the same outlines say of a link beside an earlier one. The call does

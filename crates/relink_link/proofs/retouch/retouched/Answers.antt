@@ -1,4 +1,4 @@
-use Rattle.std.proofs.Common.{◌≡◌, ◌<◌, ◌^◌, Bool, Option, Some, ap, arith, false, subst, sym, true}
+use Rattle.std.proofs.Common.{◌≡◌, ◌<◌, ◌^◌, Option, Some, ap, arith, subst, sym}
 use Rattle.ldmodel.specs.Project.{Project}
 use Rattle.ldmodel.specs.Stayed.{GoodLink}
 use Rattle.relink_link.specs.Lent.{project_of}
