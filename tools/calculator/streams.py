@@ -100,7 +100,8 @@ class Objects(Chance):
         at = self.upto(len(of) - 1)
         one = of[at]
         if of is symbols:
-            of[at] = self.one(dataclasses.replace(one, size=one.size + 1), dataclasses.replace(one, value=one.value + 1),
+            of[at] = self.one(dataclasses.replace(one, size=one.size + 1),
+                              dataclasses.replace(one, value=one.value + 1),
                               dataclasses.replace(one, kind=1 - min(one.kind, 1)),
                               dataclasses.replace(one, name=self.of(SHARED)))
         else:
