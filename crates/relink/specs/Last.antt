@@ -112,8 +112,8 @@ pub record IsRetouchedBy (l : Listing) (last : Option LastState) (bytes : List �
   pub end : IsRetouchedEnd (project_of l) last bytes
   pub since : IsSince (objects_of l.entries) (origin_of origins) l.entries
 
--- what a link over the last one leads to: the last one stays, or this one takes its place, or it is this one but for the
--- image
+-- what a link over the last one leads to: the last one stays, or this one takes its place, or it is this one but for
+-- the image
 abbrev pub HasFollowed : Listing → Option LastState → (old new : List ℕ) → Followed → Type 0
 HasFollowed l last old new (Faulty text) =
     (link (project_of l) ≡ record { status = 1; image = []; map = []; faults = text.items }) × (new ≡ old)

@@ -1,6 +1,8 @@
--- Two projects of which one object differs in what its sections hold alone: what tables of a link say of them is the same.
+-- Two projects of which one object differs in what its sections hold alone: what tables of a link say of them is the
+-- same.
 use Rattle.std.proofs.Common.{◌≡◌, ◌∙◌, ℕ, ◌+◌, ◌==◌, Bool, true, false, cond, List, [], ◌∷◌, ◌++◌, map}
-use Rattle.std.proofs.Common.{Global, Vec, flat_map, find, Option, Some, None, ap, arith, length, refl, slice_get, subst, sym, take}
+use Rattle.std.proofs.Common.{Global, Vec, flat_map, find, Option, Some, None, ap, arith, length, refl, slice_get}
+use Rattle.std.proofs.Common.{subst, sym, take}
 use Rattle.std.specs.List.{Contains, cons_option, enumerate_from, filter_map}
 use Rattle.std.specs.Option.{option_and_then, option_map, option_map_or}
 use Rattle.std.specs.Prelude.{sum_by}

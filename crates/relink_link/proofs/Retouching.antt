@@ -1,6 +1,7 @@
--- A link whose project differs from that of an earlier one in what the input sections of one object hold: what is kept of
--- the earlier link is right for it.
-use Rattle.std.proofs.Common.{◌≡◌, ◌∙◌, ◌⊎◌, inl, inr, ◌<◌, ◌≤◌, ℕ, ◌==◌, Bool, true, false, cond, List, [], ◌∷◌, Option, Some}
+-- A link whose project differs from that of an earlier one in what the input sections of one object hold: what is kept
+-- of the earlier link is right for it.
+use Rattle.std.proofs.Common.{◌≡◌, ◌∙◌, ◌⊎◌, inl, inr, ◌<◌, ◌≤◌, ℕ, ◌==◌, Bool, true, false, cond, List, [], ◌∷◌}
+use Rattle.std.proofs.Common.{Option, Some}
 use Rattle.std.proofs.Common.{None, ap, arith, length, map, refl, slice_get, subst, sym}
 use Rattle.std.specs.List.{list_any}
 use Rattle.std.specs.Option.{option_map}

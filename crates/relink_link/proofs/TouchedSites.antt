@@ -33,7 +33,8 @@ use Rattle.ldmodel.specs.Segments.{segments}
 use Rattle.ldmodel.specs.SessionWork.{bytes_to_write, sites_to_evaluate}
 use Rattle.ldmodel.specs.Stayed.{GoodLink, LinkedPiece, has_stayed, is_moved, linked_piece, link_pieces, linked_pieces}
 use Rattle.ldmodel.specs.Stayed.{retargeted, same_piece, same_range, sites_in, stayed, text_of}
-use Rattle.ldmodel.specs.SymbolValues.{SymbolValue, is_part, name_value, number_or_0, own_value, placed_part, placed_pieces}
+use Rattle.ldmodel.specs.SymbolValues.{SymbolValue, is_part, name_value, number_or_0, own_value, placed_part}
+use Rattle.ldmodel.specs.SymbolValues.{placed_pieces}
 use Rattle.ldmodel.specs.SymbolValues as symbol
 use Rattle.ldmodel.specs.Names.{is_local, is_weak_binding}
 use Rattle.ldmodel.specs.Targets.{or_weak, referenced_value}

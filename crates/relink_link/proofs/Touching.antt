@@ -1,6 +1,8 @@
 -- The sections of an object are written over those of the one in whose place it came.
-use Rattle.std.proofs.Common.{◌≡◌, ◌∙◌, ◌⊎◌, inl, inr, ◌<◌, ◌≤◌, ℕ, zero, suc, ◌^◌, ◌==◌, Bool, true, false, cond, List, []}
-use Rattle.std.proofs.Common.{◌∷◌, ◌++◌, map, filter, flat_map, Option, Some, None, ap, arith, drop, length, refl, slice_get}
+use Rattle.std.proofs.Common.{◌≡◌, ◌∙◌, ◌⊎◌, inl, inr, ◌<◌, ◌≤◌, ℕ, zero, suc, ◌^◌, ◌==◌, Bool, true, false, cond, List}
+use Rattle.std.proofs.Common.{[]}
+use Rattle.std.proofs.Common.{◌∷◌, ◌++◌, map, filter, flat_map, Option, Some, None, ap, arith, drop, length, refl}
+use Rattle.std.proofs.Common.{slice_get}
 use Rattle.std.proofs.Common.{not, subst, sym, take}
 use Rattle.std.specs.List.{All, Contains, cons_option, filter_map}
 use Rattle.std.specs.List.Sorted.{IsPermutation}
@@ -26,7 +28,8 @@ use Rattle.ldmodel.specs.Link as model
 use Rattle.ldmodel.specs.Link.{Link, max_image_length, of_length, placed, unless}
 use Rattle.ldmodel.specs.MapText.{map_text}
 use Rattle.ldmodel.specs.Project.{NamedObject, Project}
-use Rattle.ldmodel.specs.Relocations.{Site, entry_fault, relocation_faults, site_field, site_field_with, site_value, sites}
+use Rattle.ldmodel.specs.Relocations.{Site, entry_fault, relocation_faults, site_field, site_field_with, site_value}
+use Rattle.ldmodel.specs.Relocations.{sites}
 use Rattle.ldmodel.specs.Relocations.{sites_of_section}
 use Rattle.ldmodel.specs.Rows.{rows}
 use Rattle.ldmodel.specs.Rows as rows_of
@@ -67,7 +70,8 @@ use Rattle.relink_link.specs.Worked.{HasWorked, IsLinkWork, IsWorkBeside}
 use Rattle.relink_link.specs.declared.again.Ended.{Ended}
 use Rattle.relink_link.specs.declared.again.Ended.TheVariants as ended
 use Rattle.relink_link.proofs.Outlined.{names_of}
-use Rattle.relink_link.proofs.Retouching.{beside_own, came_before, came_is, is_retouched, same_arranged, same_name_there}
+use Rattle.relink_link.proofs.Retouching.{beside_own, came_before, came_is, is_retouched, same_arranged}
+use Rattle.relink_link.proofs.Retouching.{same_name_there}
 use Rattle.relink_link.proofs.Retouching.{same_symbols, table_of, was}
 use Rattle.relink_link.proofs.Spotted.{has_spots, spots_bytes}
 use Rattle.relink_link.proofs.TouchedSites.{touched_bytes, touched_sites}

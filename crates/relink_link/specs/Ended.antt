@@ -25,8 +25,8 @@ pub record IsGoodEnd (p : Project) (bytes : List ℕ) (g : Good) (map : List ℕ
   pub table : IsTable (record { project = p; layout = layout }) g
   pub image : bytes ≡ image p layout
 
--- fault lines, where the bytes are as they were; or a link without faults, of which all but the image may be that of the
--- earlier link
+-- fault lines, where the bytes are as they were; or a link without faults, of which all but the image may be that of
+-- the earlier link
 abbrev pub HasEnded : Project → Option LastState → List ℕ → List ℕ → Ended → Type 0
 HasEnded p last old new (ended.Faulty t) =
     (link p ≡ record { status = 1; image = []; map = []; faults = t.items }) × (new ≡ old)

@@ -52,8 +52,8 @@ pub record IsKeptLink (p q : Project) (s : Layout) : Type 0 where
   pub link : model.layout p ≡ Ok s → (model.link p).status ≡ 0 → relocation_faults q s ≡ []
       → model.link q ≡ model.good q s
 
--- the earlier link is the one that is answered, and what is kept of it is right for the new one, which has no faults, the
--- same map and this image
+-- the earlier link is the one that is answered, and what is kept of it is right for the new one, which has no faults,
+-- the same map and this image
 pub record IsRetouchedEnd (p : Project) (last : Option LastState) (bytes : List ℕ) : Type 0 where
   pub before : LastState
   pub was : last ≡ Some before

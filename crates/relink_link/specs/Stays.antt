@@ -106,8 +106,8 @@ pub record IsReplaced (p q : Project) (r : ReplacedState) : Type 0 where
   pub object : before.object ≡ r.object
   pub name : after.name ≡ before.name
 
--- the earlier link is this one, with this number of objects, which are those of the next project as its origins say; its
--- options are the same, and so is its script where it is said to be
+-- the earlier link is this one, with this number of objects, which are those of the next project as its origins say;
+-- its options are the same, and so is its script where it is said to be
 pub record IsLastOf (old : GoodLink) (new : Project) (x : LastState) : Type 0 where
   pub table : IsTable old x.good
   pub objects : x.objects ≡ length old.project.objects

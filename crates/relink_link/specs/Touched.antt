@@ -15,8 +15,8 @@ use Rattle.relink_link.specs.Retouched.{IsRetouchedEnd, bytes_of_object}
 use Rattle.relink_link.specs.Stays.{IsLastOf, LastState}
 use Rattle.relink_link.specs.Worked.{IsWorkBeside}
 
--- the fields of what did not stay are counted, and the bytes of the sections of the object of a place, which are no more
--- than an incremental link may write
+-- the fields of what did not stay are counted, and the bytes of the sections of the object of a place, which are no
+-- more than an incremental link may write
 pub record IsTouchedCount (old new : GoodLink) (place : ℕ) (before after : Counts) : Type 0 where
   pub counted :
       after ≡ raised (raised before Fields (sites_to_evaluate old new)) Bytes (bytes_of_object new place)
@@ -32,8 +32,8 @@ IsTouchedWork p x place before after =
     (old : GoodLink) (s : Layout) → IsLastOf old p x → layout p ≡ Ok s
     → IsTouchedCount old (new_link p s) place before after
 
--- the link is the earlier one with another image; or the canvas is as it was, and nothing is counted unless a relocation
--- has a fault
+-- the link is the earlier one with another image; or the canvas is as it was, and nothing is counted unless a
+-- relocation has a fault
 abbrev pub HasTouched : Project → Option LastState → (old new : List ℕ) → Counts → Counts → Bool → Type 0
 HasTouched p last old new before after true =
     IsRetouchedEnd p last new × ReadsNothing before after × IsWorkBeside p last before after

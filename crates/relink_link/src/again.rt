@@ -38,8 +38,8 @@ pub enum Ended {
     Faulty(Vec<u8>),
     /// It has none: what is kept of the link, and its map.
     Good(Good, Vec<u8>),
-    /// It has none, and differs from the earlier link in what the input sections of one object hold: the image is the new
-    /// one; the map, and what is kept of the earlier link, are right for this one.
+    /// It has none, and differs from the earlier link in what the input sections of one object hold: the image is the
+    /// new one; the map, and what is kept of the earlier link, are right for this one.
     Retouched,
 }
 

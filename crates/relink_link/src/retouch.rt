@@ -140,8 +140,8 @@ fn touched(
 }
 
 /// Where the project follows the earlier one by an object that differs in what its sections hold alone, writes these
-/// sections over the earlier image. Answers whether it did: not where a relocation has a fault. Then the canvas is as it
-/// was.
+/// sections over the earlier image. Answers whether it did: not where a relocation has a fault. Then the canvas is as
+/// it was.
 ///
 /// # Errors
 ///
