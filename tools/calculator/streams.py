@@ -4,8 +4,8 @@
 
 writes COUNT streams and prints which answers, faults and refusals they have. A seed always gives the same streams.
 Objects and scripts are mostly good; each stream has a measure of trouble, by which names are missing or doubled,
-addresses meet, fields overflow, and bytes are broken. In every other stream most edits replace an object by one that is
-alike but for what its sections hold, or for one thing more.
+addresses meet, fields overflow, and bytes are broken. In half of the streams most edits replace an object by one that
+is alike but for what its sections hold, or for one thing more, and scripts come back.
 """
 import collections
 import dataclasses
@@ -450,7 +450,7 @@ class Streams:
 
     def __init__(self, seed, alike=False):
         source, trouble = random.Random(seed), (0.0, 0.15, 0.4, 1.0)[seed % 4]
-        self.alike, self.latest = alike, {}
+        self.alike, self.latest, self.earlier = alike, {}, []
         self.objects, self.scripts = Objects(source, trouble), Scripts(source, trouble)
         self.maker = maker = Chance(source, trouble)
         entry = self.maker.one("_start", "w", "own1", "own1") if maker.chance(0.05) else None
@@ -541,10 +541,15 @@ class Streams:
         return rows.remove(self.name(True))
 
     def script(self):
+        """A script; where alike objects are wanted, at times one that was set before."""
+        if self.alike and self.earlier and self.maker.chance(0.5):
+            return self.maker.of(self.earlier)
         decisions = Decisions(self.project)
         self.scripts.defined = [name for name in decisions.names if decisions.of(name).case is not Case.UNDEFINED
                                 and NAME_FORM.fullmatch(name)]
-        return rows.script(self.scripts.script())
+        made = rows.script(self.scripts.script())
+        self.earlier.append(made)
+        return made
 
 
 def main(folder, count, seed=0):
