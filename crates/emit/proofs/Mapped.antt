@@ -7,7 +7,7 @@ use Rattle.std.specs.Ordering.{is_lt}
 use Rattle.ldscript.specs.Numbered.{shown_sections}
 use Rattle.ldscript.specs.Numbering.{output_sections}
 use Rattle.ldmodel.specs.Layout.{Layout}
-use Rattle.ldmodel.specs.Lent.{IsLaid}
+use Rattle.ldmodel.specs.Lent.{IsPlacementView}
 use Rattle.ldmodel.specs.MapText.{map_text}
 use Rattle.ldmodel.specs.Names.{declared_names, decision}
 use Rattle.ldmodel.specs.OutputSymbols as model
@@ -16,9 +16,9 @@ use Rattle.ldmodel.specs.Project.{Project}
 use Rattle.ldmodel.specs.Rows.{rows}
 use Rattle.ldmodel.specs.SymbolValues.{SymbolValue, number_or_0}
 use Rattle.ldmodel_laws.specs.Spread.{entries_in}
-use Rattle.place.specs.Laying.{IsLaying}
-use Rattle.place.specs.declared.laying.Laying.{Laying}
-use Rattle.symres.specs.Naming.{NamingState}
+use Rattle.place.specs.LinkLayout.{IsLinkLayout}
+use Rattle.place.specs.declared.link_layout.LinkLayout.{LinkLayout}
+use Rattle.symres.specs.SymbolTable.{SymbolTableState}
 use Rattle.place.specs.sections.Meetings.{AreOutputs}
 use Rattle.ldmodel_project.specs.ByPlace.{rows_in}
 use Rattle.emit_relocate.specs.Values.{value_of}
@@ -172,32 +172,32 @@ all_there p s xs name same declared is =
     (sorted_in name (declared_names p) (in_contained name (declared_names p) declared)) is))
 
 -- what the map is made of
-pub record Makes (p : Project) (l : Laying) (v : Values) (m : MapParts) : Type 0 where
+pub record Makes (p : Project) (l : LinkLayout) (v : Values) (m : MapParts) : Type 0 where
   pub entry : m.entry ≡ number_or_0 (value_of v.entry)
   pub sections : shown_sections m.sections.now ≡ output_sections p.script
-  pub outputs : (s : Layout) → IsLaying p s l → AreOutputs p s.sections
-  pub laid : (s : Layout) → IsLaying p s l → IsLaid p.script s m.laid
+  pub outputs : (s : Layout) → IsLinkLayout p s l → AreOutputs p s.sections
+  pub placement : (s : Layout) → IsLinkLayout p s l → IsPlacementView p.script s m.placement
   pub lent : rows_in p m.rows.now ≡ rows p
-  pub placed : (s : Layout) → IsLaying p s l → map entries_in s.sections ≡ rows p
+  pub placed : (s : Layout) → IsLinkLayout p s l → map entries_in s.sections ≡ rows p
   pub symbols : m.symbols.now ≡ map map_symbol v.symbols.items
 
-is_map : (p : Project) (s : Layout) (a : NamingState) (l : Laying) (v : Values) (m : MapParts) → Makes p l v m
-    → IsLaying p s l → AreValues p s a v → IsMapOf p (λ key. key) s m
-is_map p s a l v m h laying values = record {
+is_map : (p : Project) (s : Layout) (a : SymbolTableState) (l : LinkLayout) (v : Values) (m : MapParts) → Makes p l v m
+    → IsLinkLayout p s l → AreValues p s a v → IsMapOf p (λ key. key) s m
+is_map p s a l v m h link_layout values = record {
   entry = h.entry ∙ ap number_or_0 values.entry;
   sections = h.sections;
-  names = h.outputs s laying;
-  laid = h.laid s laying;
-  rows = h.lent ∙ sym (h.placed s laying);
+  names = h.outputs s link_layout;
+  placement = h.placement s link_layout;
+  rows = h.lent ∙ sym (h.placed s link_layout);
   symbols = subst (AreSymbolsOf p (λ key. key) s) (sym h.symbols) (are_symbols p s v.symbols.items values.symbols);
   complete = λ name declared is.
       subst (λ (xs : List MapSymbol). Contains (symbol_names xs) name) (sym h.symbols)
       (all_there p s v.symbols.items name values.symbols declared is);
 }
 
-pub text_is : {E : Type 0} (p : Project) (l : Laying) (v : Values) (m : MapParts) (r : Result (Vec ℕ Global) E)
+pub text_is : {E : Type 0} (p : Project) (l : LinkLayout) (v : Values) (m : MapParts) (r : Result (Vec ℕ Global) E)
     → Makes p l v m → ((s : Layout) → IsMapOf p (λ key. key) s m → IfOk r (λ text. text.items ≡ map_text p s))
-    → IfOk r (λ text. (s : Layout) (a : NamingState) → IsLaying p s l → AreValues p s a v
+    → IfOk r (λ text. (s : Layout) (a : SymbolTableState) → IsLinkLayout p s l → AreValues p s a v
     → text.items ≡ map_text p s)
-text_is p l v m (Ok text) h is = λ s a laying values. is s (is_map p s a l v m h laying values)
+text_is p l v m (Ok text) h is = λ s a link_layout values. is s (is_map p s a l v m h link_layout values)
 text_is p l v m (Err e) h is = tt

@@ -11,7 +11,7 @@ use Rattle.ldmodel.specs.Each.{Each}
 use Rattle.ldmodel.specs.Layout.{PlacedSection}
 use Rattle.ldmodel.specs.Layout as layout
 use Rattle.ldmodel.specs.Lent.{NumberedData, data_of, numbered}
-use Rattle.ldmodel.specs.declared.laid.PlacedData.{PlacedData}
+use Rattle.ldmodel.specs.declared.placed.PlacedData.{PlacedData}
 use Rattle.emit.proofs.Lists.{zip_more}
 use Rattle.emit.specs.DataRuns.{AreDataFrom, AreDataOf, run_length}
 

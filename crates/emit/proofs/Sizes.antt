@@ -36,7 +36,7 @@ use Rattle.ldmodel.specs.SymbolValues.{is_part, placed_pieces}
 use Rattle.ldmodel.specs.declared.sections.Part.{Part}
 use Rattle.ldmodel.specs.declared.sections.Part.TheVariants.{InTable, InCommon}
 use Rattle.ldmodel_laws.specs.Spread.{entries_in}
-use Rattle.symres.specs.Naming.{NamingState}
+use Rattle.symres.specs.SymbolTable.{SymbolTableState}
 use Rattle.emit_relocate.specs.Filled.{EndBelow}
 use Rattle.emit_relocate.specs.Patched.{AreSized}
 use Rattle.emit_values.specs.LinkView.{known_link}
@@ -238,7 +238,7 @@ module _ (p : Project) (names : AreNamesDistinct p.objects)
         (All-weaker IsSizedPlace (λ z. IsSizedLinked (linked_piece p (segments s.sections) q z))
         (λ z k t d. linked_sized s q z k t d) q.pieces h)) s.sections (sections_sized s placed))) c t d
 
-    pub end_below : (s : Layout) → map entries_in s.sections ≡ rows p → All AreBelow s.sections → (a : NamingState)
+    pub end_below : (s : Layout) → map entries_in s.sections ≡ rows p → All AreBelow s.sections → (a : SymbolTableState)
         → EndBelow (known_link p s a)
     end_below s placed below a = λ key o x y e f g.
         let part : is_part o.name (InTable x.number) y ≡ true =

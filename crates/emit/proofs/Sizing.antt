@@ -12,7 +12,7 @@ use Rattle.ldmodel.specs.SectionHeaders as headings
 use Rattle.ldmodel.specs.SymbolValues.{SymbolValue, Number, NotDefined, NotInOutput}
 use Rattle.ldmodel.specs.Tail.{ValuedSymbol, string_table, symbol_name_table, table_symbols, with_value}
 use Rattle.ldmodel.specs.Tail as tail
-use Rattle.symres.specs.Naming.{NamingState}
+use Rattle.symres.specs.SymbolTable.{SymbolTableState}
 use Rattle.place.specs.sections.Meetings.{AreOutputs}
 use Rattle.place.specs.Length.{AreTailSizes}
 use Rattle.place.specs.declared.length.TailSizes.{TailSizes}
@@ -91,14 +91,14 @@ own_size : names_size own_names ≡ 26
 own_size = refl
 
 -- the symbols of the table are those that have a value
-pub table_is : (p : Project) (s : Layout) (a : NamingState) (v : Values) → AreValues p s a v
+pub table_is : (p : Project) (s : Layout) (a : SymbolTableState) (v : Values) → AreValues p s a v
     → table_symbols p s ≡ valued_in v.symbols.items
 table_is p s a v values =
     sym (ap (filter_map (λ (x : model.OutputSymbol). with_value x x.value)) values.symbols)
     ∙ valued_same v.symbols.items
 
 -- what was counted is the tail of a link
-pub sizes_of_tail : (p : Project) (s : Layout) (a : NamingState) (v : Values) (t : TailSizes) (z : SymbolSizes)
+pub sizes_of_tail : (p : Project) (s : Layout) (a : SymbolTableState) (v : Values) (t : TailSizes) (z : SymbolSizes)
     (os : List code_section.OutputSectionAt) → AreOutputs p s.sections → AreValues p s a v
     → shown_sections os ≡ output_sections p.script
     → z ≡ plus_symbols (record { count = 0; names = 0 }) v.symbols.items → t.symbols ≡ z.count

@@ -13,7 +13,7 @@ use Rattle.ldmodel.specs.Project.{Project}
 use Rattle.ldmodel.specs.Segments.{SectionInFile, in_file, nonempty, segments}
 use Rattle.ldmodel.specs.Stayed.{GoodLink, LinkedPiece, has_stayed, linked_piece, link_pieces}
 use Rattle.ldmodel.specs.declared.sections.SectionKey.{SectionKey}
-use Rattle.symres.specs.Naming.{NamingState}
+use Rattle.symres.specs.SymbolTable.{SymbolTableState}
 use Rattle.emit_relocate.specs.Earlier.{HasStayedAt, IsComplete, IsPieceOf}
 use Rattle.emit_relocate.specs.KnownLink.{KnownLink}
 use Rattle.emit_relocate.specs.declared.earlier.FileRange.{FileRange}
@@ -106,15 +106,15 @@ module _ (laws : Laws) (old new : GoodLink) (stays : SectionKey → Bool) (ys : 
 
 -- ---- what an earlier link says
 
-abbrev link_at : GoodLink → NamingState → KnownLink
+abbrev link_at : GoodLink → SymbolTableState → KnownLink
 link_at new a = known_link new.project new.layout a
 
-piece_of : (new : GoodLink) (a : NamingState) (k : SectionKey) (x : LinkedPiece) → IsKeyed new k x
+piece_of : (new : GoodLink) (a : SymbolTableState) (k : SectionKey) (x : LinkedPiece) → IsKeyed new k x
     → IsPieceOf (link_at new a) k x
 piece_of new a k x h = record { among = h.among; object_is = sym h.object; part_is = sym h.part }
 
 -- what is known to have stayed has
-pub only_said : (old new : GoodLink) (a : NamingState) (range : SectionKey → Option FileRange)
+pub only_said : (old new : GoodLink) (a : SymbolTableState) (range : SectionKey → Option FileRange)
     → IsSound range old (link_at new a) → HaveStayed old new (λ k. is_some (range k))
 only_said old new a range sound k x said is = go (range k) said (sound k)
   where
@@ -124,7 +124,7 @@ only_said old new a range sound k x said is = go (range k) said (sound k)
     go (Some r) e h = (h x (piece_of new a k x is)).0
 
 -- what has stayed is known to have
-pub all_said : (old new : GoodLink) (a : NamingState) (range : SectionKey → Option FileRange)
+pub all_said : (old new : GoodLink) (a : SymbolTableState) (range : SectionKey → Option FileRange)
     → IsComplete range old (link_at new a) → AreKept old new (λ k. is_some (range k))
 all_said old new a range complete k x is stayed = go (range k) refl
   where

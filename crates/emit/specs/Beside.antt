@@ -14,7 +14,7 @@ use Rattle.ldmodel.specs.SectionHeaders.{image_length}
 use Rattle.ldmodel.specs.Stayed.{GoodLink, retargeted}
 use Rattle.ldmodel.specs.WorkBound.{retargeted_bytes, sites_outside}
 use Rattle.ldmodel.specs.declared.sections.SectionKey.{SectionKey}
-use Rattle.symres.specs.Naming.{NamingState}
+use Rattle.symres.specs.SymbolTable.{SymbolTableState}
 use Rattle.ldmodel_project.specs.ByPlace.{faults_in}
 use Rattle.emit_relocate.specs.Earlier.{IsComplete}
 use Rattle.emit_relocate.specs.Fields.{evaluations}
@@ -33,7 +33,7 @@ new_link p s = record { project = p; layout = s }
 -- nothing is known to have stayed, all is evaluated, and each site counted whose symbol has a value. Nothing else is
 -- counted in any case
 pub record IsRelocatedBeside (old : GoodLink) (range : SectionKey → Option FileRange) (p : Project) (s : Layout)
-    (a : NamingState) (r : Relocated) (before after : Counts) : Type 0 where
+    (a : SymbolTableState) (r : Relocated) (before after : Counts) : Type 0 where
   pub fields : AreRunsUnless (known_link p s a) (λ k. is_some (range k)) r.patches.items r.ends.items
   pub faults : IsGood old → faults_in p r.faults.items ≡ relocation_faults p s
   pub each : All (IsSitePatch old (new_link p s)) r.retargeted.items

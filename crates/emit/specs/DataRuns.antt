@@ -4,7 +4,7 @@ use Rattle.std.specs.List.{AllZip, enumerate_from}
 use Rattle.emit_image.specs.OfLink.{IsImageData}
 use Rattle.ldmodel.specs.Layout.{PlacedSection}
 use Rattle.ldmodel.specs.Lent.{data_of, numbered}
-use Rattle.ldmodel.specs.declared.laid.PlacedData.{PlacedData}
+use Rattle.ldmodel.specs.declared.placed.PlacedData.{PlacedData}
 
 -- the data commands of output sections, the first of which has number k
 abbrev pub AreDataFrom : ℕ → List PlacedSection → List PlacedData → Type 0

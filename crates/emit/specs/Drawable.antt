@@ -6,7 +6,7 @@ use Rattle.ldmodel.specs.Link.{max_image_length}
 use Rattle.ldmodel.specs.Project.{Project}
 use Rattle.ldmodel.specs.SectionHeaders.{image_length}
 use Rattle.ldmodel.specs.declared.sections.SectionKey.{SectionKey}
-use Rattle.symres.specs.Naming.{NamingState}
+use Rattle.symres.specs.SymbolTable.{SymbolTableState}
 use Rattle.emit.specs.declared.relocated.Relocated.{Relocated}
 use Rattle.place.specs.Arranged.{IsArranged}
 use Rattle.place.specs.declared.arranged.Arranged.{Arranged}
@@ -18,7 +18,7 @@ use Rattle.emit.specs.Runs.{AreRunsUnless}
 use Rattle.emit.specs.declared.output.OutputDrawing.{OutputDrawing}
 
 -- the places, the values, and the fields of what does not stay, of a project at a layout whose image is not too long
-pub record IsDrawableAt (p : Project) (s : Layout) (a : NamingState) (x : Arranged) (v : Values) (r : Relocated)
+pub record IsDrawableAt (p : Project) (s : Layout) (a : SymbolTableState) (x : Arranged) (v : Values) (r : Relocated)
     (stays : SectionKey → Bool) : Type 0 where
   pub arranged : IsArranged p s x
   pub values : AreValues p s a v
@@ -29,13 +29,13 @@ pub record IsDrawableAt (p : Project) (s : Layout) (a : NamingState) (x : Arrang
 pub record IsDrawable (p : Project) (x : Arranged) (v : Values) (r : Relocated)
     (stays : SectionKey → Bool) : Type 0 where
   pub layout : Layout
-  pub names : NamingState
+  pub names : SymbolTableState
   pub is : IsDrawableAt p layout names x v r stays
 
 -- the same, and these are its output sections, of which these input sections stay
 pub record AreOutputs (p : Project) (x : Arranged) (v : Values) (s : Layout) (stays : SectionKey → Bool)
     (xs : List OutputDrawing) : Type 0 where
-  pub names : NamingState
+  pub names : SymbolTableState
   pub arranged : IsArranged p s x
   pub values : AreValues p s names v
   pub short : image_length p s ≤ max_image_length

@@ -6,8 +6,8 @@ use Rattle.place.specs.Offsets.{IsOffset}
 use Rattle.ldmodel.specs.Layout.{Layout, PlacedSection}
 use Rattle.ldmodel.specs.Lent.{placed_of}
 use Rattle.ldmodel.specs.Project.{Project}
-use Rattle.ldmodel.specs.declared.laid.Placed.{Placed}
-use Rattle.ldmodel.specs.declared.laid.PlacedData.{PlacedData}
+use Rattle.ldmodel.specs.declared.placed.Placed.{Placed}
+use Rattle.ldmodel.specs.declared.placed.PlacedData.{PlacedData}
 use Rattle.ldmodel.specs.declared.sections.SectionKey.{SectionKey}
 use Rattle.ldscript.specs.statements.Numbering.{OutputSectionAt}
 use Rattle.emit.specs.DataRuns.{AreDataOf}

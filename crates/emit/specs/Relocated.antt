@@ -5,7 +5,7 @@ use Rattle.emit_fields.specs.declared.patch.Patch.{Patch}
 use Rattle.ldmodel.specs.Layout.{Layout}
 use Rattle.ldmodel.specs.Project.{Project}
 use Rattle.ldmodel.specs.Relocations.{relocation_faults}
-use Rattle.symres.specs.Naming.{NamingState}
+use Rattle.symres.specs.SymbolTable.{SymbolTableState}
 use Rattle.ldmodel_project.specs.ByPlace.{faults_in}
 use Rattle.emit_relocate.specs.Filled.{IsRunOf, ends_of, sections_in}
 use Rattle.emit_relocate.specs.KnownLink.{KnownLink}
@@ -19,6 +19,6 @@ pub record AreRuns (l : KnownLink) (xs : List Patch) (places : List ℕ) : Type 
   pub ends : places ≡ ends_of 0 runs
   pub each : AllZip (IsRunOf l) (sections_in l.project.objects) runs
 
-pub record IsRelocated (p : Project) (s : Layout) (a : NamingState) (r : Relocated) : Type 0 where
+pub record IsRelocated (p : Project) (s : Layout) (a : SymbolTableState) (r : Relocated) : Type 0 where
   pub fields : AreRuns (known_link p s a) r.patches.items r.ends.items
   pub faults : faults_in p r.faults.items ≡ relocation_faults p s

@@ -5,8 +5,8 @@ ghost use Rattle.std.specs.List.{AllZip};
 ghost use Rattle.ldmodel.specs.Layout.{PlacedSection};
 ghost use Rattle.emit.specs.DataRuns.{AreDataFrom, AreDataOf, run_length};
 
-use ldmodel::laid::PlacedData;
 use ldmodel::memory::NoMemory;
+use ldmodel::placed::PlacedData;
 use std::alloc::Global;
 
 /// How many of these data commands, from the first on, stand in the output section of a number.

@@ -16,7 +16,7 @@ ghost use Rattle.ldmodel.specs.SectionHeaders.{image_length};
 ghost use Rattle.ldmodel.specs.Stayed.{GoodLink};
 ghost use Rattle.ldmodel.specs.WorkBound.{bytes_stayed, retargeted_bytes};
 ghost use Rattle.ldmodel.specs.declared.sections.SectionKey.{SectionKey};
-ghost use Rattle.symres.specs.Naming.{NamingState};
+ghost use Rattle.symres.specs.SymbolTable.{SymbolTableState};
 ghost use Rattle.emit_relocate.specs.Earlier.{IsComplete};
 ghost use Rattle.emit_values.specs.LinkView.{known_link};
 ghost use Rattle.emit.specs.Drawable.{AreOutputs, HasOutputs, IsDrawable, IsDrawableAt};
@@ -143,23 +143,23 @@ pub fn draw_image<'a, E: Earlier>(
         (λ k. is_some (E.range earlier.now k)) }
     requires patches { (s : Layout) → IsArranged project.now s arranged.now
         → All (EndsBy (image_length project.now s)) patches.now }
-    ensures image { OnOk result ((s : Layout) (a : NamingState)
+    ensures image { OnOk result ((s : Layout) (a : SymbolTableState)
         → IsDrawableAt project.now s a arranged.now values.now relocated.now
         (λ k. is_some (E.range earlier.now k)) → ((k : SectionKey) → E.range earlier.now k ≡ None)
         → canvas.new.bytes ≡ definition.image project.now s) }
-    ensures redrawn { OnOk result ((old new : GoodLink) (a : NamingState) → new.project ≡ project.now
+    ensures redrawn { OnOk result ((old new : GoodLink) (a : SymbolTableState) → new.project ≡ project.now
         → IsDrawableAt project.now new.layout a arranged.now values.now relocated.now
         (λ k. is_some (E.range earlier.now k)) → IsGood old → IsGood new
         → IsSound (E.range earlier.now) old (known_link new.project new.layout a)
         → ArePatchesOf old new patches.now → canvas.old.bytes ≡ definition.image old.project old.layout
         → canvas.new.bytes ≡ definition.image new.project new.layout) }
-    ensures work { OnOk result ((old new : GoodLink) (a : NamingState) → new.project ≡ project.now
+    ensures work { OnOk result ((old new : GoodLink) (a : SymbolTableState) → new.project ≡ project.now
         → IsDrawableAt project.now new.layout a arranged.now values.now relocated.now
         (λ k. is_some (E.range earlier.now k)) → IsGood new
         → IsComplete (E.range earlier.now) old (known_link new.project new.layout a)
         → patch_bytes patches.now ≤ retargeted_bytes old new → meter.new.bytes + bytes_stayed old new
         ≤ meter.old.bytes + (image_length new.project new.layout + retargeted_bytes old new)) }
-    ensures spent { OnOk result ((old new : GoodLink) (a : NamingState) → new.project ≡ project.now
+    ensures spent { OnOk result ((old new : GoodLink) (a : SymbolTableState) → new.project ≡ project.now
         → IsDrawableAt project.now new.layout a arranged.now values.now relocated.now
         (λ k. is_some (E.range earlier.now k)) → IsGood new
         → IsComplete (E.range earlier.now) old (known_link new.project new.layout a)
@@ -173,7 +173,7 @@ pub fn draw_image<'a, E: Earlier>(
     let pieces: Vec<Vec<ImagePiece<'a>>> = image_pieces(
         alloc, project, arranged, relocated, earlier,
     )?;
-    let outputs = outputs(alloc, project, &arranged.laying, &pieces)?;
+    let outputs = outputs(alloc, project, &arranged.link_layout, &pieces)?;
     draw_outputs(
         alloc, canvas, project, arranged, values, &outputs, patches, meter,
     )

@@ -29,7 +29,7 @@ pub fn fault_text(
     let script = project.script();
     let sections = script.output_sections(alloc)?;
     let regions = script.regions(alloc)?;
-    let commands = script.common_commands(alloc)?;
+    let commands = script.all_directives(alloc)?;
     let assertions = assertions(alloc, &commands)?;
     let mentioned = mentioned_names(alloc, script.statements())?;
     let names = ScriptNames {

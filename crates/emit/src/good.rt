@@ -2,7 +2,7 @@
 
 ghost use Rattle.std.specs.Prelude.{◌≡◌, ◌≤◌, []};
 ghost use Rattle.ldmodel_laws.specs.Untouched.{IsGood};
-ghost use Rattle.place.specs.Laying.{IsLaying};
+ghost use Rattle.place.specs.LinkLayout.{IsLinkLayout};
 ghost use Rattle.ldmodel.specs.Layout.{Layout};
 ghost use Rattle.ldmodel.specs.Link.{max_image_length};
 ghost use Rattle.ldmodel.specs.Relocations.{relocation_faults};
@@ -10,13 +10,13 @@ ghost use Rattle.ldmodel.specs.SectionHeaders.{image_length};
 
 use ldmodel_laws::stayed::faultless_is_good;
 use ldmodel_project::view::ProjectView;
-use place::Laying;
+use place::LinkLayout;
 use place::numbered::are_numbered;
 
 /// A link whose image is not too long and whose relocations have no faults is good. The call looks at each object once,
 /// and changes nothing.
-pub fn is_good(project: &ProjectView<'_>, laying: &Laying)
-    ensures { (s : Layout) → IsLaying project.now s laying.now → image_length project.now s ≤ max_image_length
+pub fn is_good(project: &ProjectView<'_>, link_layout: &LinkLayout)
+    ensures { (s : Layout) → IsLinkLayout project.now s link_layout.now → image_length project.now s ≤ max_image_length
         → relocation_faults project.now s ≡ [] → IsGood (record { project = project.now; layout = s }) }
 {
     faultless_is_good();

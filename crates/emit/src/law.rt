@@ -7,7 +7,7 @@ ghost use Rattle.ldmodel.specs.Names.{provided};
 ghost use Rattle.ldmodel.specs.Placement.{placement};
 ghost use Rattle.ldmodel.specs.Project.{NamedObject, Project};
 ghost use Rattle.ldmodel.specs.Rows.{rows};
-ghost use Rattle.symres.specs.Naming.{NamingState};
+ghost use Rattle.symres.specs.SymbolTable.{SymbolTableState};
 ghost use Rattle.emit.specs.Numbered.{AreAscending};
 ghost use Rattle.emit_relocate.specs.Filled.{EndBelow};
 ghost use Rattle.emit_relocate.specs.Patched.{AreSized};
@@ -18,7 +18,7 @@ use ldmodel_laws::layout::{layout_by_effects, placed_are_rows};
 
 /// Each section of an object that stands in a layout ends below 2^64, by its own size.
 pub(crate) fn sections_end_below()
-    ensures { (p : Project) (s : Layout) (a : NamingState) → AreNamesDistinct p.objects
+    ensures { (p : Project) (s : Layout) (a : SymbolTableState) → AreNamesDistinct p.objects
         → All (λ (o : NamedObject). AreAscending o.object.sections) p.objects
         → placement p.script (rows p) (provided p) ≡ Ok s → EndBelow (known_link p s a) }
 {

@@ -1,10 +1,10 @@
 //! The length of an image before it is drawn.
 
 ghost use Rattle.std.specs.Prelude.{◌≡◌, ◌+◌, IfOk, length, map};
-ghost use Rattle.place.specs.Laying.{IsLaying};
+ghost use Rattle.place.specs.LinkLayout.{IsLinkLayout};
 ghost use Rattle.ldmodel.specs.Layout.{Layout};
 ghost use Rattle.ldmodel.specs.SectionHeaders as definition;
-ghost use Rattle.symres.specs.Naming.{NamingState};
+ghost use Rattle.symres.specs.SymbolTable.{SymbolTableState};
 ghost use Rattle.place.specs.Length.{AreTailSizes};
 ghost use Rattle.ldscript.specs.statements.Numbered.{shown_sections};
 ghost use Rattle.ldscript.specs.statements.Numbering.{OutputSectionAt as SectionOfTree};
@@ -16,7 +16,7 @@ use emit_values::values::{OutputSymbol, Values};
 use ldmodel::memory::NoMemory;
 use ldmodel_project::view::ProjectView;
 use ldscript::tree::OutputSectionAt;
-use place::Laying;
+use place::LinkLayout;
 use place::length::{TailSizes, image_length as length_of};
 use place::sections::law::outputs_are_of_script;
 use std::alloc::{AllocError, Global};
@@ -89,7 +89,7 @@ fn tail_sizes(
     project: &ProjectView<'_>,
     values: &Values<'_>,
 ) -> Result<TailSizes, NoMemory>
-    ensures { IfOk result (λ t. (s : Layout) (a : NamingState) (l : Laying) → IsLaying project.now s l
+    ensures { IfOk result (λ t. (s : Layout) (a : SymbolTableState) (l : LinkLayout) → IsLinkLayout project.now s l
         → AreValues project.now s a values.now → AreTailSizes project.now s t) }
 {
     outputs_are_of_script();
@@ -115,12 +115,12 @@ fn tail_sizes(
 pub fn image_length(
     alloc: Global,
     project: &ProjectView<'_>,
-    laying: &Laying,
+    link_layout: &LinkLayout,
     values: &Values<'_>,
 ) -> Result<u128, NoMemory>
-    ensures { IfOk result (λ n. (s : Layout) (a : NamingState) → IsLaying project.now s laying.now
+    ensures { IfOk result (λ n. (s : Layout) (a : SymbolTableState) → IsLinkLayout project.now s link_layout.now
         → AreValues project.now s a values.now → n ≡ definition.image_length project.now s) }
 {
     let sizes = tail_sizes(alloc, project, values)?;
-    Ok(length_of(&laying.segments, sizes))
+    Ok(length_of(&link_layout.segments, sizes))
 }

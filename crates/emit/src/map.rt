@@ -1,12 +1,12 @@
 //! The map of a link.
 
 ghost use Rattle.std.specs.Prelude.{◌≡◌, IfOk, map};
-ghost use Rattle.place.specs.Laying.{IsLaying};
+ghost use Rattle.place.specs.LinkLayout.{IsLinkLayout};
 ghost use Rattle.emit.specs.Listed.{map_symbol};
 ghost use Rattle.ldmodel.specs.Layout.{Layout};
 ghost use Rattle.ldmodel.specs.MapText as definition;
 ghost use Rattle.ldmodel.specs.Rows as model;
-ghost use Rattle.symres.specs.Naming.{NamingState};
+ghost use Rattle.symres.specs.SymbolTable.{SymbolTableState};
 ghost use Rattle.ldmodel_project.specs.ByPlace.{rows_in};
 ghost use Rattle.emit_values.specs.Values.{AreValues};
 
@@ -19,7 +19,7 @@ use ldmodel::memory::NoMemory;
 use ldmodel::rows::Piece;
 use ldmodel_laws::layout::placed_are_rows;
 use ldmodel_project::view::ProjectView;
-use place::Laying;
+use place::LinkLayout;
 use place::sections::law::outputs_are_of_script;
 use std::alloc::Global;
 
@@ -50,11 +50,11 @@ pub fn map_text(
     alloc: Global,
     project: &ProjectView<'_>,
     rows: &[Vec<Piece>],
-    laying: &Laying,
+    link_layout: &LinkLayout,
     values: &Values<'_>,
 ) -> Result<Vec<u8>, NoMemory>
     requires { rows_in project.now rows.now ≡ model.rows project.now }
-    ensures { IfOk result (λ text. (s : Layout) (a : NamingState) → IsLaying project.now s laying.now
+    ensures { IfOk result (λ text. (s : Layout) (a : SymbolTableState) → IsLinkLayout project.now s link_layout.now
         → AreValues project.now s a values.now → text.items ≡ definition.map_text project.now s) }
 {
     placed_are_rows();
@@ -65,7 +65,7 @@ pub fn map_text(
     let parts = MapParts {
         entry: values.entry.number_or_0(),
         sections: &sections,
-        laid: laying.placement.laid(),
+        placement: link_layout.placement.view(),
         rows,
         symbols: &symbols,
     };

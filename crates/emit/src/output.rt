@@ -3,7 +3,7 @@
 ghost use Rattle.std.specs.Prelude.{◌≡◌, ◌<◌, ◌≤◌, ◌%◌, Bool, ℕ, IfOk, IfSome, List, length, map, slice_index};
 ghost use Rattle.std.specs.List.{AllZip};
 ghost use Rattle.std.specs.Vec.{vec_items};
-ghost use Rattle.place.specs.Laying.{IsLaying};
+ghost use Rattle.place.specs.LinkLayout.{IsLinkLayout};
 ghost use Rattle.ldmodel.specs.Image.{fill_byte};
 ghost use Rattle.ldmodel.specs.Layout.{Layout, PlacedSection};
 ghost use Rattle.ldmodel.specs.Project.{Project};
@@ -15,12 +15,12 @@ ghost use Rattle.emit.specs.Output.{IsJoinedRow, IsOutput};
 use crate::data_runs::data_runs;
 use emit_image::section::ImagePiece;
 use ldmodel::impossible::impossible;
-use ldmodel::laid::{Placed, PlacedData};
 use ldmodel::memory::NoMemory;
+use ldmodel::placed::{Placed, PlacedData};
 use ldmodel_laws::layout::layout_by_effects;
 use ldmodel_project::view::ProjectView;
 use ldscript::tree::{OutputSection, OutputSectionAt};
-use place::Laying;
+use place::LinkLayout;
 use place::sections::law::outputs_are_of_script;
 use std::alloc::Global;
 
@@ -118,10 +118,10 @@ fn join<'a>(
 pub(crate) fn outputs<'a>(
     alloc: Global,
     project: &'a ProjectView<'_>,
-    laying: &'a Laying,
+    link_layout: &'a LinkLayout,
     pieces: &'a [Vec<ImagePiece<'a>>],
 ) -> Result<Vec<OutputDrawing<'a>>, NoMemory>
-    ensures { IfOk result (λ v. (s : Layout) (stays : SectionKey → Bool) → IsLaying project.now s laying.now
+    ensures { IfOk result (λ v. (s : Layout) (stays : SectionKey → Bool) → IsLinkLayout project.now s link_layout.now
         → AllZip (IsJoinedRow project.now s stays) s.sections (map vec_items pieces.now)
         → AllZip (IsOutput project.now s stays) s.sections v.items) }
 {
@@ -129,13 +129,13 @@ pub(crate) fn outputs<'a>(
     outputs_are_of_script();
     let script = project.script();
     let sections = script.output_sections(alloc)?;
-    let laid = laying.placement.laid();
-    let runs = data_runs(alloc, laid.data_commands, laid.sections.len())?;
+    let placement = link_layout.placement.view();
+    let runs = data_runs(alloc, placement.data_commands, placement.sections.len())?;
     join(
         alloc,
-        laid.sections,
+        placement.sections,
         &sections,
-        &laying.offsets,
+        &link_layout.offsets,
         pieces,
         &runs,
     )

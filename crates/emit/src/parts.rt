@@ -134,7 +134,7 @@ pub(crate) fn drawing_parts<'a>(
         → AreOutputs project.now arranged.now values.now s stays outputs.now
         → ArePartsOf project.now s stays x) }
 {
-    let segments = arranged.laying.segments.as_slice();
+    let segments = arranged.link_layout.segments.as_slice();
     let symbols = table_symbols(alloc, project, arranged, values)?;
     let headings = table_sections(alloc, outputs)?;
     let end = loaded_end(segments)?;

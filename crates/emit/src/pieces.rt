@@ -13,7 +13,7 @@ ghost use Rattle.ldmodel.specs.Project.{NamedObject};
 ghost use Rattle.ldmodel.specs.SymbolValues.{placed_part};
 ghost use Rattle.ldmodel.specs.declared.sections.Part.TheVariants as part;
 ghost use Rattle.ldmodel.specs.declared.sections.SectionKey.{SectionKey as KeyOf};
-ghost use Rattle.symres.specs.Naming.{NamingState};
+ghost use Rattle.symres.specs.SymbolTable.{SymbolTableState};
 ghost use Rattle.ldmodel_project.specs.ByPlace.{piece_in, rows_in};
 ghost use Rattle.emit_relocate.specs.KnownLink.{KnownLink};
 ghost use Rattle.emit_values.specs.LinkView.{known_link};
@@ -252,7 +252,7 @@ pub(crate) fn image_pieces<'a, E: Earlier>(
     relocated: &'a Relocated,
     earlier: &E,
 ) -> Result<Vec<Vec<ImagePiece<'a>>>, NoMemory>
-    ensures { IfOk result (λ v. (s : Layout) (a : NamingState) → IsArranged project.now s arranged.now
+    ensures { IfOk result (λ v. (s : Layout) (a : SymbolTableState) → IsArranged project.now s arranged.now
         → AreRunsUnless (known_link project.now s a) (λ k. is_some (E.range earlier.now k))
         relocated.now.patches.items relocated.now.ends.items
         → AllZip (IsJoinedRow project.now s (λ k. is_some (E.range earlier.now k))) s.sections
@@ -263,6 +263,6 @@ pub(crate) fn image_pieces<'a, E: Earlier>(
     placed_are_rows();
     are_numbered(project);
     let _inputs = project.inputs();
-    let starts = arranged.laying.placement.pieces();
+    let starts = arranged.link_layout.placement.pieces();
     image_rows(alloc, project, relocated, arranged, earlier, starts)
 }

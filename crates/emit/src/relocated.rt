@@ -8,10 +8,10 @@ ghost use Rattle.ldmodel.specs.Project.{Project};
 ghost use Rattle.ldmodel.specs.Relocations.{entry_fault};
 ghost use Rattle.ldmodel.specs.Rows.{rows};
 ghost use Rattle.ldmodel.specs.Stayed.{GoodLink};
-ghost use Rattle.symres.specs.Naming.{NamingState};
+ghost use Rattle.symres.specs.SymbolTable.{SymbolTableState};
 ghost use Rattle.ldmodel_project.specs.ByPlace.{faults_in};
 ghost use Rattle.emit.specs.Beside.{IsRelocatedBeside};
-ghost use Rattle.emit_relocate.specs.SymbolTable.{AreSymbolValues};
+ghost use Rattle.emit_relocate.specs.SymbolValues.{AreSymbolValues};
 ghost use Rattle.emit_relocate.specs.Values.{value_of};
 ghost use Rattle.emit_values.specs.LinkView.{IsLinkView, known_link};
 ghost use Rattle.emit_values.specs.Values.{AreValues};
@@ -28,7 +28,7 @@ use emit_relocate::law::{
     patches_are_those_retargeted,
 };
 use emit_relocate::symbol::entry_fault;
-use emit_relocate::symbol_table::SymbolTable;
+use emit_relocate::symbol_values::SymbolValues;
 use emit_relocate::value::SymbolValue;
 use emit_values::link_view::LinkView;
 use emit_values::values::Values;
@@ -79,10 +79,10 @@ impl Relocated {
         link: &LinkView<'_, '_>,
         earlier: &E,
         values: &Values<'_>,
-        symbols: &SymbolTable,
+        symbols: &SymbolValues,
         meter: &mut Meter,
     ) -> Result<Relocated, NoMemory>
-        ensures { IfOk result (λ r. (s : Layout) (a : NamingState) (old : GoodLink)
+        ensures { IfOk result (λ r. (s : Layout) (a : SymbolTableState) (old : GoodLink)
             → placement project.now.script (rows project.now) (provided project.now) ≡ Ok s
             → IsLinkView (known_link project.now s a) link.now → AreValues project.now s a values.now
             → AreSymbolValues project.now s symbols.now → E.knows earlier.now old (known_link project.now s a)

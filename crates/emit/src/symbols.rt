@@ -9,7 +9,7 @@ ghost use Rattle.ldmodel.specs.Project.{Project};
 ghost use Rattle.ldmodel.specs.SymbolValues.{symbol_of_entry};
 ghost use Rattle.ldmodel.specs.Tail.{ValuedSymbol, header_of_part, header_of_place, table_symbols};
 ghost use Rattle.ldmodel.specs.declared.names.Case.TheVariants as code_case;
-ghost use Rattle.symres.specs.Naming.{NamingState};
+ghost use Rattle.symres.specs.SymbolTable.{SymbolTableState};
 ghost use Rattle.place.specs.Arranged.{IsArranged};
 ghost use Rattle.emit_image.specs.Tables.{IsTableSymbol};
 ghost use Rattle.emit_values.specs.Values.{AreValues};
@@ -22,9 +22,9 @@ use elfobj::symbol::{Symbol, SymbolKind, SymbolPlace};
 use emit_image::symbols::TableSymbol;
 use emit_relocate::value::SymbolValue;
 use emit_values::values::{OutputSymbol, Values};
-use ldmodel::laid::OutputIndex;
 use ldmodel::memory::NoMemory;
 use ldmodel::names::{Case, Entry, ObjectPlace};
+use ldmodel::placed::OutputIndex;
 use ldmodel::sections::{Part, SectionKey};
 use ldmodel_project::view::ProjectView;
 use place::arranged::Arranged;
@@ -193,7 +193,7 @@ pub(crate) fn table_symbols<'a>(
     arranged: &Arranged,
     values: &'a Values<'_>,
 ) -> Result<Vec<TableSymbol<'a>>, NoMemory>
-    ensures { IfOk result (λ v. (s : Layout) (a : NamingState) → IsArranged project.now s arranged.now
+    ensures { IfOk result (λ v. (s : Layout) (a : SymbolTableState) → IsArranged project.now s arranged.now
         → AreValues project.now s a values.now → AllZip (IsTableSymbol project.now s) (table_symbols project.now s)
         v.items) }
 {

@@ -8,7 +8,7 @@ use Rattle.std.proofs.lemmas.List.Sums.{fold-append}
 use Rattle.std.proofs.lemmas.Option.{same_Some}
 use Rattle.emit_fields.specs.declared.patch.Patch.{Patch}
 use Rattle.ldmodel.specs.Image.{covers}
-use Rattle.ldmodel.specs.declared.laid.PlacedData.{PlacedData}
+use Rattle.ldmodel.specs.declared.placed.PlacedData.{PlacedData}
 use Rattle.emit_image.specs.Drawing.{AreApart, AreData, AreParts, ArePieces, AreSections, IsDrawing, IsOrderly}
 use Rattle.emit_image.specs.Drawing.{covers_data}
 use Rattle.emit_image.specs.Drawing.{covers_part, covers_piece, covers_section, data_end, drawing_end, drawing_spot}

@@ -5,7 +5,7 @@ use Rattle.std.specs.Prelude.{slice_index, ◌==◌}
 use Rattle.std.specs.List.{All}
 use Rattle.std.proofs.lemmas.Bool.Decides.{nat_tests, leb_tells}
 use Rattle.std.proofs.lemmas.List.Elements.{All-append, All-map, Contains-append_left, Contains-append_right}
-use Rattle.ldmodel.specs.declared.laid.PlacedData.{PlacedData}
+use Rattle.ldmodel.specs.declared.placed.PlacedData.{PlacedData}
 use Rattle.ldscript.specs.statements.Widths.{byte_count}
 use Rattle.ldscript.specs.statements.declared.section.Width.{Width}
 use Rattle.ldscript.specs.statements.declared.section.Width.TheVariants.{Byte, Short, Long, Quad}

@@ -15,7 +15,7 @@ use Rattle.emit_fields.specs.Patches.{AreInOrder, patched_byte}
 use Rattle.emit_fields.specs.declared.patch.Patch.{Patch}
 use Rattle.ldmodel.specs.Each.{Each}
 use Rattle.ldmodel.specs.Image.{covers}
-use Rattle.ldmodel.specs.declared.laid.PlacedData.{PlacedData}
+use Rattle.ldmodel.specs.declared.placed.PlacedData.{PlacedData}
 use Rattle.emit_image.specs.Drawing.{AreApart, ArePieces, IsFilled, covers_piece, data_end, is_full, last_end}
 use Rattle.emit_image.specs.Drawing.{piece_end}
 use Rattle.emit_image.specs.Joined.{IsBare, IsKeptAt, StandFor, piece_ends, piece_spot, spot_in}

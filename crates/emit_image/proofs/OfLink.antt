@@ -17,7 +17,7 @@ use Rattle.ldmodel.specs.Layout as layout
 use Rattle.ldmodel.specs.Project.{Project}
 use Rattle.ldmodel.specs.SectionHeaders.{FilePart, end_of_part, image_length, tail}
 use Rattle.ldmodel.specs.Segments.{SectionInFile, segments, in_file}
-use Rattle.ldmodel.specs.declared.laid.PlacedData.{PlacedData}
+use Rattle.ldmodel.specs.declared.placed.PlacedData.{PlacedData}
 use Rattle.ldscript.specs.statements.Widths.{byte_count}
 use Rattle.ldscript.specs.statements.declared.section.Width.{Width}
 use Rattle.ldscript.specs.statements.declared.section.Width.TheVariants.{Byte, Short, Long, Quad}

@@ -23,7 +23,7 @@ use Rattle.emit_image.specs.declared.section.Drawing.{Drawing}
 use Rattle.emit_image.specs.declared.section.ImagePart.{ImagePart}
 use Rattle.emit_image.specs.declared.section.ImagePiece.{ImagePiece}
 use Rattle.emit_image.specs.declared.section.ImageSection.{ImageSection}
-use Rattle.ldmodel.specs.declared.laid.PlacedData.{PlacedData}
+use Rattle.ldmodel.specs.declared.placed.PlacedData.{PlacedData}
 use Rattle.emit_image.proofs.Members.{zip_both}
 use Rattle.emit_image.proofs.OfLink.{end-same}
 use Rattle.emit_image.proofs.Sparing.{all_spared, by_loaded, counted, kept_bytes, kept_size, stayed_in}

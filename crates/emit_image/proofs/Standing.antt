@@ -20,7 +20,7 @@ use Rattle.ldmodel.specs.Segments.{SectionInFile, Segment, end_of, headers_end, 
 use Rattle.ldmodel.specs.Segments.{loaded_end, nonempty, group_sections, segments, segment_start}
 use Rattle.ldmodel.specs.SymbolValues.{entry_point, number_or_0}
 use Rattle.ldmodel.specs.Sorting.{insert_by, sort_by}
-use Rattle.ldmodel.specs.declared.laid.PlacedData.{PlacedData}
+use Rattle.ldmodel.specs.declared.placed.PlacedData.{PlacedData}
 use Rattle.emit_image.specs.Drawing.{AreApart, AreData, AreParts, ArePieces, AreSections, IsDrawing, IsOrderly}
 use Rattle.emit_image.specs.Drawing.{data_end}
 use Rattle.emit_image.specs.Drawing.{end_of_sections, part_end, piece_end}

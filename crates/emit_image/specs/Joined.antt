@@ -4,7 +4,7 @@ use Rattle.std.specs.Prelude.{◌≡◌, ℕ, List, [], Option, None, find, filt
 use Rattle.std.specs.List.{All, AllZip}
 use Rattle.std.specs.Option.{option_map}
 use Rattle.ldmodel.specs.Each.{Each}
-use Rattle.ldmodel.specs.declared.laid.PlacedData.{PlacedData}
+use Rattle.ldmodel.specs.declared.placed.PlacedData.{PlacedData}
 use Rattle.emit_image.specs.Drawing.{AreApart, ArePieces, IsFilled, covers_piece, drawing_end, drawing_spot, is_full}
 use Rattle.emit_image.specs.Drawing.{last_end, piece_byte, piece_end}
 use Rattle.emit_image.specs.Stretches.{Spot}

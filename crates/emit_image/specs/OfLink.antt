@@ -12,7 +12,7 @@ use Rattle.ldmodel.specs.Project.{Project}
 use Rattle.ldmodel.specs.SectionHeaders.{FilePart}
 use Rattle.ldmodel.specs.SectionHeaders as headings
 use Rattle.ldmodel.specs.Segments.{SectionInFile, segments, in_file}
-use Rattle.ldmodel.specs.declared.laid.PlacedData.{PlacedData}
+use Rattle.ldmodel.specs.declared.placed.PlacedData.{PlacedData}
 use Rattle.ldscript.specs.statements.Widths.{byte_count}
 use Rattle.emit_image.specs.declared.section.Drawing.{Drawing}
 use Rattle.emit_image.specs.declared.section.ImagePart.{ImagePart}

@@ -1,7 +1,7 @@
 -- How far the parts of an output section are added.
 use Rattle.std.specs.Prelude.{◌≡◌, ℕ, ◌+◌, ◌-◌, ◌<◌, ◌≤◌, ◌⊎◌, length, slice_index, slice_index_or, Contains, drop}
 use Rattle.std.specs.Prelude.{nat_lt, false, if◌then◌else◌}
-use Rattle.ldmodel.specs.declared.laid.PlacedData.{PlacedData}
+use Rattle.ldmodel.specs.declared.placed.PlacedData.{PlacedData}
 use Rattle.emit_image.specs.Drawing.{AreParts, AreSections, data_end, drawing_end, end_of_parts, end_of_sections}
 use Rattle.emit_image.specs.Drawing.{ends_in}
 use Rattle.emit_image.specs.Drawing.{part_end}

@@ -14,7 +14,7 @@ use Rattle.ldmodel.specs.SectionHeaders.{table_headers}
 use Rattle.ldmodel.specs.Segments.{segments, file_offset, loaded_end}
 use Rattle.ldmodel.specs.Tail.{SymbolEntry, ValuedSymbol, name_offset, kind_number, symbol_bytes, table_symbols}
 use Rattle.ldmodel.specs.Tail.{st_binding, st_type_of, st_shndx, st_size, string_table}
-use Rattle.ldmodel.specs.declared.laid.Placed.{Placed}
+use Rattle.ldmodel.specs.declared.placed.Placed.{Placed}
 use Rattle.emit_image.specs.declared.sections.TableSection.{TableSection}
 use Rattle.emit_image.specs.declared.symbols.TableSymbol.{TableSymbol}
 

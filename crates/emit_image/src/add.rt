@@ -8,8 +8,8 @@ ghost use Rattle.emit_image.specs.Stretches.{Fills, Stand, content_byte};
 
 use crate::section::ImagePiece;
 use crate::stretch::{Content, Stretch};
-use ldmodel::laid::PlacedData;
 use ldmodel::memory::NoMemory;
+use ldmodel::placed::PlacedData;
 use std::alloc::Global;
 
 /// What lies between output sections, and where an input section has no bytes.

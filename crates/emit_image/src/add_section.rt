@@ -2,7 +2,7 @@
 //! gaps between them.
 
 ghost use Rattle.std.specs.Prelude.{◌≡◌, ◌≤◌, ◌<◌, ◌+◌, IfOk, OnOk, length, slice_index_or};
-ghost use Rattle.ldmodel.specs.declared.laid.PlacedData.{PlacedData};
+ghost use Rattle.ldmodel.specs.declared.placed.PlacedData.{PlacedData};
 ghost use Rattle.emit_image.specs.Drawing.{IsOrderly};
 ghost use Rattle.emit_image.specs.Grown.{Grown};
 ghost use Rattle.emit_image.specs.Reached.{DataFrom, IsReached, PiecesFrom, place_of, section_image};

@@ -1,7 +1,7 @@
 //! What the image is made of: headers, output sections with what stands in them, and the tail.
 
 use emit_fields::patch::Patch;
-use ldmodel::laid::PlacedData;
+use ldmodel::placed::PlacedData;
 
 /// An input section in its place.
 #[derive(Clone, Copy)]

@@ -11,8 +11,8 @@ ghost use Rattle.emit_image.specs.HeaderRecord.{header_of};
 use crate::number::{put_u32, put_u64};
 use crate::strings::{add_name, no_names};
 use elfobj::file::constants::{SHF_ALLOC, SHF_EXECINSTR, SHF_WRITE, SHT_NOBITS, SHT_PROGBITS};
-use ldmodel::laid::Placed;
 use ldmodel::memory::NoMemory;
+use ldmodel::placed::Placed;
 use std::alloc::Global;
 
 /// An output section, for its header.

@@ -18,7 +18,7 @@ use Rattle.ldmodel.specs.Project.{NamedObject}
 use Rattle.ldmodel.specs.declared.names.ObjectPlace.{ObjectPlace}
 use Rattle.emit_relocate.specs.KnownLink.{KnownLink, named_object}
 use Rattle.emit_relocate.specs.Sites.{IsPlaced, IsSectionOf}
-use Rattle.emit_relocate.specs.SymbolTable.{IsRow}
+use Rattle.emit_relocate.specs.SymbolValues.{IsRow}
 use Rattle.emit_relocate.specs.declared.site.PlacedSection.{PlacedSection}
 
 abbrev Ascend : List LinkedSection → Type 0

@@ -13,9 +13,9 @@ use Rattle.ldmodel.specs.SymbolValues as model
 use Rattle.ldmodel.specs.Targets.{referenced_value}
 use Rattle.ldmodel.specs.declared.names.ObjectPlace.{ObjectPlace}
 use Rattle.emit_relocate.specs.KnownLink.{KnownLink, named_object}
-use Rattle.emit_relocate.specs.SymbolTable.{HasSymbolValues, IsRow, row_at}
+use Rattle.emit_relocate.specs.SymbolValues.{HasSymbolValues, IsRow, row_at}
 use Rattle.emit_relocate.specs.Values.{value_of}
-use Rattle.emit_relocate.specs.declared.symbol_table.SymbolTable.{SymbolTable}
+use Rattle.emit_relocate.specs.declared.symbol_values.SymbolValues.{SymbolValues}
 use Rattle.emit_relocate.specs.declared.value.SymbolValue as code
 use Rattle.emit_relocate.specs.declared.value.SymbolValue.TheVariants.{NotDefined}
 
@@ -28,7 +28,7 @@ short : {X : Type 0} (n : ℕ) (xs : List X) → length (take n xs) ≤ n
 short n xs = omega (arith, length-take n xs)
 
 -- the row of the object of a key has the values of the object's symbols
-pub row_is : (l : KnownLink) (t : SymbolTable) (key : ObjectPlace) (o : NamedObject) (read : ObjectData)
+pub row_is : (l : KnownLink) (t : SymbolValues) (key : ObjectPlace) (o : NamedObject) (read : ObjectData)
     (symbols : List Symbol) (row : List code.SymbolValue) → HasSymbolValues l t → named_object l key ≡ Some o
     → o.object ≡ read → symbols ≡ map (λ (y : NamedSymbol). y.symbol) read.symbols
     → row ≡ row_at t key.0 (length symbols) → IsRow l o row

@@ -1,7 +1,7 @@
 pub mod Values
 pub mod KnownLink
 pub mod Earlier
-pub mod SymbolTable
+pub mod SymbolValues
 pub mod Sites
 pub mod Fields
 pub mod Index

@@ -14,14 +14,14 @@ ghost use Rattle.emit_relocate.specs.Earlier.{IsKept};
 ghost use Rattle.emit_relocate.specs.Fields.{IsAdded};
 ghost use Rattle.emit_relocate.specs.Filled.{EndBelow, IsOrder, IsRunAdded, sections_in, sections_of};
 ghost use Rattle.emit_relocate.specs.KnownLink.{KnownLink, named_object};
-ghost use Rattle.emit_relocate.specs.SymbolTable.{HasSymbolValues, IsRow};
+ghost use Rattle.emit_relocate.specs.SymbolValues.{HasSymbolValues, IsRow};
 
 use crate::earlier::{Earlier, FileRange};
 use crate::fields::add_fields;
 use crate::known::Known;
 use crate::moved::add_moved;
 use crate::site::PlacedSection;
-use crate::symbol_table::SymbolTable;
+use crate::symbol_values::SymbolValues;
 use crate::value::SymbolValue;
 use elfobj::Object;
 use elfobj::section::LinkedIndex;
@@ -260,7 +260,7 @@ fn add_object<L: Known, E: Earlier>(
     alloc: Global,
     link: &L,
     earlier: &E,
-    symbols: &SymbolTable,
+    symbols: &SymbolValues,
     key: ObjectPlace,
     object: &Object,
     fields: &mut ChangedFields,
@@ -289,7 +289,7 @@ fn add_of_key<L: Known, E: Earlier>(
     alloc: Global,
     link: &L,
     earlier: &E,
-    symbols: &SymbolTable,
+    symbols: &SymbolValues,
     key: ObjectPlace,
     fields: &mut ChangedFields,
     meter: &mut Meter,
@@ -360,7 +360,7 @@ pub fn changed_fields<L: Known, E: Earlier>(
     alloc: Global,
     link: &L,
     earlier: &E,
-    symbols: &SymbolTable,
+    symbols: &SymbolValues,
     objects: &[ObjectPlace],
     meter: &mut Meter,
 ) -> Result<ChangedFields, NoMemory>

@@ -2,7 +2,7 @@
 //! and perhaps of an earlier one; gives fields, or their faults.
 //!
 //! - `known`, `earlier`: what a linker says of its link and of an earlier one; `symbol`, `value`, `target`: values;
-//! - `symbol_table`: the values of the symbols of all objects, which evaluation reads;
+//! - `symbol_values`: the values of the symbols of all objects, which evaluation reads;
 //! - `site`, `fields`, `moved`, `changed_fields`: fields, all of them or those that an earlier link did not have;
 //!   `law`;
 //! - `index`, `bucket`, `walk`: from targets to relocations.
@@ -18,7 +18,7 @@ pub mod law;
 mod moved;
 pub mod site;
 pub mod symbol;
-pub mod symbol_table;
+pub mod symbol_values;
 pub mod target;
 pub mod value;
 pub mod walk;

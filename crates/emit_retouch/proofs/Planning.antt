@@ -34,7 +34,7 @@ use Rattle.ldmodel.specs.declared.names.ObjectPlace.{ObjectPlace}
 use Rattle.emit_relocate.specs.Fields.{IsAdded, IsRun, evaluations, fault_at, faults_of, work_of}
 use Rattle.emit_relocate.specs.KnownLink.{KnownLink}
 use Rattle.emit_relocate.specs.Sites.{IsPlaced, IsSectionOf}
-use Rattle.emit_relocate.specs.SymbolTable.{IsRow}
+use Rattle.emit_relocate.specs.SymbolValues.{IsRow}
 use Rattle.emit_relocate.specs.declared.site.PlacedSection.{PlacedSection}
 use Rattle.emit_relocate.specs.declared.value.SymbolValue.{SymbolValue}
 use Rattle.emit_retouch.specs.Plan.{IsAtHand, IsFaultlessRun, IsNothing, IsPlanned, IsPlannedAt, IsRefused}

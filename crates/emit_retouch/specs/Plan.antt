@@ -17,7 +17,7 @@ use Rattle.ldmodel.specs.Relocations.{Site, sites_at}
 use Rattle.ldmodel.specs.declared.names.ObjectPlace.{ObjectPlace}
 use Rattle.emit_relocate.specs.Fields.{IsRun, fault_at}
 use Rattle.emit_relocate.specs.KnownLink.{KnownLink, named_object}
-use Rattle.emit_relocate.specs.SymbolTable.{IsRow}
+use Rattle.emit_relocate.specs.SymbolValues.{IsRow}
 use Rattle.emit_relocate.specs.declared.earlier.FileRange.{FileRange}
 use Rattle.emit_relocate.specs.declared.value.SymbolValue.{SymbolValue}
 use Rattle.emit_retouch.specs.declared.plan.Rewrite.{Rewrite}

@@ -8,7 +8,7 @@ ghost use Rattle.ldmodel.specs.Project.{NamedObject, Project};
 ghost use Rattle.ldmodel.specs.Relocations.{relocation_faults};
 ghost use Rattle.emit_relocate.specs.Fields.{evaluations};
 ghost use Rattle.emit_relocate.specs.KnownLink.{KnownLink, named_object};
-ghost use Rattle.emit_relocate.specs.SymbolTable.{IsRow};
+ghost use Rattle.emit_relocate.specs.SymbolValues.{IsRow};
 ghost use Rattle.emit_retouch.specs.Retouches.{IsRetouch};
 ghost use Rattle.emit_retouch.specs.Spots.{HasSpots, bytes_of, sites_of};
 

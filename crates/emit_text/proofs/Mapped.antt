@@ -188,19 +188,19 @@ pub map_is_shown : (p : Project) (number : ℕ → ℕ) (s : Layout) (m : MapPar
     → shown_map p number m ≡ map_text p s
 unfolding shown_map map_text
 map_is_shown p number s m h =
-    let sections : sections_text p number m.laid.sections.now (shown_sections m.sections.now)
-    (map vec_items m.rows.now) m.laid.starts.now ≡ flat_map section_lines s.sections =
-    ap (λ qs. sections_text p number qs (shown_sections m.sections.now) (map vec_items m.rows.now) m.laid.starts.now)
-    h.laid.sections
+    let sections : sections_text p number m.placement.sections.now (shown_sections m.sections.now)
+    (map vec_items m.rows.now) m.placement.starts.now ≡ flat_map section_lines s.sections =
+    ap (λ qs. sections_text p number qs (shown_sections m.sections.now) (map vec_items m.rows.now) m.placement.starts.now)
+    h.placement.sections
     ∙ ap (λ ss. sections_text p number (map placed_of s.sections) (shown_sections m.sections.now)
-    (map vec_items m.rows.now) ss) h.laid.starts
+    (map vec_items m.rows.now) ss) h.placement.starts
     ∙ ap (λ os. sections_text p number (map placed_of s.sections) os (map vec_items m.rows.now)
     (flat_map starts_of s.sections)) h.sections
     ∙ sections_same p number s.sections (output_sections p.script) (map vec_items m.rows.now) h.names h.rows in
     let symbols = all_symbols p number s m.symbols.now h.symbols h.complete in
     ap (λ e. line_of (codes "entry" ∷ hex e ∷ [])
-    ++ (sections_text p number m.laid.sections.now (shown_sections m.sections.now) (map vec_items m.rows.now)
-    m.laid.starts.now ++ symbols_text p number m.symbols.now)) h.entry
+    ++ (sections_text p number m.placement.sections.now (shown_sections m.sections.now) (map vec_items m.rows.now)
+    m.placement.starts.now ++ symbols_text p number m.symbols.now)) h.entry
     ∙ ap (λ t. entry_line p s ++ (t ++ symbols_text p number m.symbols.now)) sections
     ∙ ap (λ t. entry_line p s ++ (flat_map section_lines s.sections ++ t)) symbols
     ∙ sym (append_assoc (entry_line p s) (flat_map section_lines s.sections)

@@ -6,7 +6,7 @@ use Rattle.ldscript.specs.Numbering.{OutputSectionAt, output_sections}
 use Rattle.ldmodel.specs.FaultCode.{name_of_part}
 use Rattle.ldmodel.specs.HandedOver.{decision_of, piece_of}
 use Rattle.ldmodel.specs.Layout.{Layout, PlacedPiece, PlacedSection}
-use Rattle.ldmodel.specs.Lent.{IsLaid}
+use Rattle.ldmodel.specs.Lent.{IsPlacementView}
 use Rattle.ldmodel.specs.NameFaults.{object_name}
 use Rattle.ldmodel.specs.Names.{declared_names, decision}
 use Rattle.ldmodel.specs.OutputSymbols.{is_before, is_defined}
@@ -62,7 +62,7 @@ pub record IsMapOf (p : Project) (number : ℕ → ℕ) (s : Layout) (m : MapPar
   pub entry : m.entry ≡ number_or_0 (entry_point p s)
   pub sections : shown_sections m.sections.now ≡ output_sections p.script
   pub names : map name_of s.sections ≡ map name_in (output_sections p.script)
-  pub laid : IsLaid p.script s m.laid
+  pub placement : IsPlacementView p.script s m.placement
   pub rows : map (shown_row p number) (map vec_items m.rows.now) ≡ map row_of s.sections
   pub symbols : AreSymbolsOf p number s m.symbols.now
   -- each name that stands for something is one of theirs

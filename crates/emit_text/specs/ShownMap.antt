@@ -11,7 +11,7 @@ use Rattle.ldmodel.specs.Lines.{line_of, hex}
 use Rattle.ldmodel.specs.NameFaults.{object_name}
 use Rattle.ldmodel.specs.OutputSymbols.{is_defined, owner}
 use Rattle.ldmodel.specs.Project.{Project}
-use Rattle.ldmodel.specs.declared.laid.Placed.{Placed}
+use Rattle.ldmodel.specs.declared.placed.Placed.{Placed}
 use Rattle.ldmodel.specs.declared.rows.Piece.{Piece}
 use Rattle.emit_text.specs.declared.maps.MapParts.{MapParts}
 use Rattle.emit_text.specs.declared.symbols.MapSymbol.{MapSymbol}
@@ -62,6 +62,6 @@ symbols_text p number xs = flat_map (symbol_text p number) xs
 unfoldable pub shown_map : Project → (number : ℕ → ℕ) → MapParts → List ℕ
 shown_map p number m =
     line_of (codes "entry" ∷ hex m.entry ∷ [])
-    ++ (sections_text p number m.laid.sections.now (shown_sections m.sections.now) (map vec_items m.rows.now)
-    m.laid.starts.now
+    ++ (sections_text p number m.placement.sections.now (shown_sections m.sections.now) (map vec_items m.rows.now)
+    m.placement.starts.now
     ++ symbols_text p number m.symbols.now)

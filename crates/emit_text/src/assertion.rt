@@ -2,11 +2,11 @@
 
 ghost use Rattle.std.specs.Prelude.{◌≡◌, OnOk, IfOk, ◌++◌};
 ghost use Rattle.ldscript.specs.Numbering.{asserted_by, asserted_in};
-ghost use Rattle.ldscript.specs.Numbered.{shown_commons};
+ghost use Rattle.ldscript.specs.Numbered.{shown_directives};
 ghost use Rattle.emit_text.specs.Naming.{shown_assertions};
 
 use ldmodel::memory::NoMemory;
-use ldscript::tree::{Assertion, Common, CommonAt};
+use ldscript::tree::{Assertion, Directive, DirectiveAt};
 use std::alloc::Global;
 
 /// An ASSERT.
@@ -20,18 +20,18 @@ pub struct AssertionAt<'a> {
 
 fn add_assertion<'a>(
     list: &mut Vec<AssertionAt<'a>>,
-    command: &CommonAt<'a>,
+    command: &DirectiveAt<'a>,
 ) -> Result<(), NoMemory>
     ensures { OnOk result (shown_assertions list.new.items ≡ shown_assertions list.old.items
         ++ asserted_by command.now.line command.now.command.now) }
 {
     match command.command {
-        Common::Assert(assertion) => {
+        Directive::Assert(assertion) => {
             let line = command.line;
             list.push(AssertionAt { line, assertion })?;
             Ok(())
         }
-        Common::Assign(_) | Common::Provide(_) => Ok(()),
+        Directive::Assign(_) | Directive::Provide(_) => Ok(()),
     }
 }
 
@@ -43,9 +43,9 @@ fn add_assertion<'a>(
 /// Where there is no memory for the list.
 pub fn assertions<'a>(
     alloc: Global,
-    commands: &[CommonAt<'a>],
+    commands: &[DirectiveAt<'a>],
 ) -> Result<Vec<AssertionAt<'a>>, NoMemory>
-    ensures { IfOk result (λ v. shown_assertions v.items ≡ asserted_in (shown_commons commands.now)) }
+    ensures { IfOk result (λ v. shown_assertions v.items ≡ asserted_in (shown_directives commands.now)) }
 {
     let mut list = Vec::new(alloc);
     for command in commands {

@@ -12,8 +12,8 @@ use crate::map_line::{put_entry_line, put_piece_line, put_section_line};
 use crate::members::Members;
 use crate::named::next_part_name;
 use crate::symbols::{MapSymbol, put_symbols};
-use ldmodel::laid::{Laid, Placed};
 use ldmodel::memory::NoMemory;
+use ldmodel::placed::{Placed, PlacementView};
 use ldmodel::rows::Piece;
 use ldscript::tree::OutputSectionAt;
 use std::alloc::{AllocError, Global};
@@ -26,7 +26,7 @@ pub struct MapParts<'a> {
     /// The output sections of the script, in their order.
     pub sections: &'a [OutputSectionAt<'a>],
     /// Where they stand.
-    pub laid: Laid<'a>,
+    pub placement: PlacementView<'a>,
     /// The input sections in each.
     pub rows: &'a [Vec<Piece>],
     /// Names in byte order, among them all that stand for something.
@@ -94,19 +94,19 @@ fn put_sections<M: Members>(
     parts: &MapParts<'_>,
 ) -> Result<(), AllocError>
     ensures { OnOk result (text.new.items
-        ≡ text.old.items ++ sections_text (M.project members.now) (M.number members.now) parts.now.laid.sections.now
-        (shown_sections parts.now.sections.now) (map vec_items parts.now.rows.now) parts.now.laid.starts.now) }
+        ≡ text.old.items ++ sections_text (M.project members.now) (M.number members.now) parts.now.placement.sections.now
+        (shown_sections parts.now.sections.now) (map vec_items parts.now.rows.now) parts.now.placement.starts.now) }
 {
-    let mut starts = parts.laid.starts;
+    let mut starts = parts.placement.starts;
     // three tables side by side
-    for k in 0..parts.laid.sections.len() {
+    for k in 0..parts.placement.sections.len() {
         let Some(section) = parts.sections.get(k) else {
             return Ok(());
         };
         let Some(row) = parts.rows.get(k) else {
             return Ok(());
         };
-        let placed = &parts.laid.sections[k];
+        let placed = &parts.placement.sections[k];
         put_section(text, section.section.name.as_bytes(), placed)?;
         put_pieces(text, members, row, starts)?;
         starts = &starts[row.len().min(starts.len())..];
@@ -137,9 +137,9 @@ const SECTION_ROOM: usize = 96;
 
 /// Room for the lines of the map, if names are of common length. What is not written of it is not touched.
 fn likely_size(parts: &MapParts<'_>) -> usize {
-    let pieces = parts.laid.starts.len().saturating_mul(PIECE_ROOM);
+    let pieces = parts.placement.starts.len().saturating_mul(PIECE_ROOM);
     let symbols = parts.symbols.len().saturating_mul(SYMBOL_ROOM);
-    let lines = parts.laid.sections.len().saturating_add(1);
+    let lines = parts.placement.sections.len().saturating_add(1);
     let sections = lines.saturating_mul(SECTION_ROOM);
     pieces.saturating_add(symbols).saturating_add(sections)
 }

@@ -10,7 +10,7 @@ ghost use Rattle.emit_text.specs.Naming.{region_name};
 
 use crate::assertion::AssertionAt;
 use ldmodel::fault::{AssertionIndex, MentionIndex};
-use ldmodel::laid::{OutputIndex, RegionIndex};
+use ldmodel::placed::{OutputIndex, RegionIndex};
 use ldscript::tree::{OutputSectionAt, Region};
 
 /// The names of a script by their numbers, and the entry symbol's. `specs/Naming.antt` says whose names these are.

@@ -32,10 +32,10 @@ some_same x y h = cc
 
 -- the symbol of a name with a key
 pub named_symbol : (p : Project) (s : Layout) (src : Sources) (k : ℕ) (x : OutputSymbol) → AreSources p s src
-    → IsNamed src.naming.now.names k x.name.now → Some x.case ≡ case_at src.naming.now.cases k
+    → IsNamed src.symbol_table.now.names k x.name.now → Some x.case ≡ case_at src.symbol_table.now.cases k
     → Some x.value ≡ slice_get src.names.now k → shown_symbol x ≡ output_symbol p s x.name.now
 named_symbol p s src k x h named case value =
-    same_symbol p s x ((h.naming.sound k x.case (sym case)).case x.name.now named)
+    same_symbol p s x ((h.symbol_table.sound k x.case (sym case)).case x.name.now named)
     (some_same (value_of x.value) (name_value p s x.name.now)
     (ap (option_map value_of) value ∙ h.names k x.name.now named))
 

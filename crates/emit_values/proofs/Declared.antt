@@ -6,13 +6,13 @@ use Rattle.std.specs.Prelude.{Option, Some, None, bytes_eq}
 use Rattle.std.proofs.lemmas.Bool.{true≢false}
 use Rattle.std.proofs.lemmas.Slice.Eq.{bytes_eq-Decides}
 use Rattle.ldscript.specs.statements.Given.{assigned_from, assigned_here, given_as, provided_from}
-use Rattle.ldscript.specs.statements.Numbering.{AssignmentAt, CommonAt, assigned_by, assigned_in, common_commands}
-use Rattle.ldscript.specs.statements.declared.common.Common.{Common}
-use Rattle.ldscript.specs.statements.declared.common.Common.TheVariants as commons
+use Rattle.ldscript.specs.statements.Numbering.{AssignmentAt, DirectiveAt, assigned_by, assigned_in, all_directives}
+use Rattle.ldscript.specs.statements.declared.directive.Directive.{Directive}
+use Rattle.ldscript.specs.statements.declared.directive.Directive.TheVariants as directives
 use Rattle.ldscript.specs.statements.declared.statement.Statement.{Statement}
 use Rattle.ldmodel.specs.Assertions.{number_if_any}
 use Rattle.ldmodel.specs.Layout.{Layout}
-use Rattle.ldmodel.specs.Names.{Declaration, Decision, Strong, Script, Common as CommonCase, Weak, Provided, Undefined}
+use Rattle.ldmodel.specs.Names.{Declaration, Decision, Strong, Script, Directive as DirectiveCase, Weak, Provided, Undefined}
 use Rattle.ldmodel.specs.Names.{Duplicate, decided, decision, declarations, declared_names, entries, is_of_name}
 use Rattle.ldmodel.specs.Names.{names_in_objects}
 use Rattle.ldmodel.specs.OutputSymbols.{is_defined}
@@ -42,19 +42,19 @@ no_entries (d ∷ ds) name n = go (bytes_eq name d.name) refl (no_entries ds nam
 abbrev name_of : AssignmentAt → Name
 name_of a = a.assignment.name
 
-assigned_at : (n line : ℕ) (c : Common) (name : Name) (later : Option ℕ) (rest : List AssignmentAt) (k : ℕ)
+assigned_at : (n line : ℕ) (c : Directive) (name : Name) (later : Option ℕ) (rest : List AssignmentAt) (k : ℕ)
     → assigned_here n c name later ≡ Some k → (later ≡ Some k → In name (map name_of rest))
     → In name (map name_of (assigned_by line c ++ rest))
-assigned_at n line (commons.Assign a) name later rest k h more = go (bytes_eq name a.name) refl h
+assigned_at n line (directives.Assign a) name later rest k h more = go (bytes_eq name a.name) refl h
   where
     go : (b : Bool) → bytes_eq name a.name ≡ b → cond b (Some n) later ≡ Some k
         → (name ≡ a.name) ⊎ In name (map name_of rest)
     go true e h = inl (same_name name a.name e)
     go false e h = inr (more h)
-assigned_at n line (commons.Provide a) name later rest k h more = more h
-assigned_at n line (commons.Assert a) name later rest k h more = more h
+assigned_at n line (directives.Provide a) name later rest k h more = more h
+assigned_at n line (directives.Assert a) name later rest k h more = more h
 
-assigned_found : (cs : List CommonAt) (n : ℕ) (name : Name) (k : ℕ) → assigned_from n cs name ≡ Some k
+assigned_found : (cs : List DirectiveAt) (n : ℕ) (name : Name) (k : ℕ) → assigned_from n cs name ≡ Some k
     → In name (map name_of (assigned_in cs))
 assigned_found [] n name k h = absurd (cc)
 assigned_found (c ∷ cs) n name k h =
@@ -65,11 +65,11 @@ not_assigned : (script : List Statement) (name : Name) → (In name (assigned_na
     → is_assigned script name ≡ false
 unfolding assigned_names
 not_assigned script name n =
-    go (assigned_from 0 (common_commands script) name) (provided_from 0 (common_commands script) name) refl
+    go (assigned_from 0 (all_directives script) name) (provided_from 0 (all_directives script) name) refl
   where
-    go : (a b : Option ℕ) → assigned_from 0 (common_commands script) name ≡ a
+    go : (a b : Option ℕ) → assigned_from 0 (all_directives script) name ≡ a
         → is_assignment (given_as a b) ≡ false
-    go (Some k) b e = absurd (n (assigned_found (common_commands script) 0 name k e))
+    go (Some k) b e = absurd (n (assigned_found (all_directives script) 0 name k e))
     go None (Some k) e = refl
     go None None e = refl
 
@@ -93,7 +93,7 @@ undefined_value : (p : Project) (s : Layout) (name : Name) (d : Decision) → is
     → number_if_any (decided_value p s name d) ≡ None
 undefined_value p s name (Strong e) h = absurd (true≢false h)
 undefined_value p s name Script h = absurd (true≢false h)
-undefined_value p s name (CommonCase e size align) h = absurd (true≢false h)
+undefined_value p s name (DirectiveCase e size align) h = absurd (true≢false h)
 undefined_value p s name (Weak e) h = absurd (true≢false h)
 undefined_value p s name Provided h = absurd (true≢false h)
 undefined_value p s name Undefined h = refl

@@ -8,9 +8,9 @@ use Rattle.std.proofs.lemmas.Slice.Eq.{bytes_eq-Decides}
 use Rattle.emit_text.proofs.ByteOrder.{Asc, In, Name, contained_in, distinct_once, filtered_asc, filtered_in}
 use Rattle.emit_text.proofs.ByteOrder.{in_filtered, in_sorted, same_list, sorted_asc, sorted_in}
 use Rattle.ldscript.specs.statements.Given.{assigned_from, assigned_here, given_as, provided_from}
-use Rattle.ldscript.specs.statements.Numbering.{AssignmentAt, CommonAt, assigned_by, assigned_in, common_commands}
-use Rattle.ldscript.specs.statements.declared.common.Common.{Common}
-use Rattle.ldscript.specs.statements.declared.common.Common.TheVariants as common
+use Rattle.ldscript.specs.statements.Numbering.{AssignmentAt, DirectiveAt, assigned_by, assigned_in, all_directives}
+use Rattle.ldscript.specs.statements.declared.directive.Directive.{Directive}
+use Rattle.ldscript.specs.statements.declared.directive.Directive.TheVariants as directive
 use Rattle.ldscript.specs.statements.declared.statement.Statement.{Statement}
 use Rattle.ldmodel.specs.Layout.{Layout}
 use Rattle.ldmodel.specs.Names.{Declaration, decided, declarations, declared_names, decision, entries, is_of_name}
@@ -20,7 +20,7 @@ use Rattle.ldmodel.specs.OutputSymbols.{in_byte_order, is_before, is_defined, ou
 use Rattle.ldmodel.specs.Project.{Project}
 use Rattle.ldmodel.specs.ScriptNames.{assigned_names, is_assigned, is_assignment, is_provided}
 use Rattle.ldmodel.specs.ScriptNames.{provided_names}
-use Rattle.symres.specs.Naming.{IsNaming, NamingState}
+use Rattle.symres.specs.SymbolTable.{IsSymbolTable, SymbolTableState}
 use Rattle.emit_values.specs.Candidates.{names_of, AreCandidates}
 use Rattle.emit_values.specs.Symbols.{AddsSymbols, defined, defined_symbols, distinct_first, fresh, shown}
 use Rattle.emit_values.specs.declared.candidate.Candidate.{Candidate}
@@ -41,32 +41,32 @@ in_entries z (d ∷ ds) e es h = go (bytes_eq z d.name) refl h (in_entries z ds 
     go true same k rest = inl ((bytes_eq-Decides z d.name).0 same)
     go false same k rest = inr (rest k)
 
-assigned_there : (n : ℕ) (cs : List CommonAt) (z : Name) (k : ℕ) → assigned_from n cs z ≡ Some k
+assigned_there : (n : ℕ) (cs : List DirectiveAt) (z : Name) (k : ℕ) → assigned_from n cs z ≡ Some k
     → In z (map (λ (a : AssignmentAt). a.assignment.name) (assigned_in cs))
 assigned_there n [] z k e = absurd (cc)
 assigned_there n (c ∷ cs) z k e = go c.line c.command e (assigned_there (suc n) cs z k)
   where
-    go : (line : ℕ) (d : Common) → assigned_here n d z (assigned_from (suc n) cs z) ≡ Some k
+    go : (line : ℕ) (d : Directive) → assigned_here n d z (assigned_from (suc n) cs z) ≡ Some k
         → (assigned_from (suc n) cs z ≡ Some k → In z (map (λ (a : AssignmentAt). a.assignment.name) (assigned_in cs)))
         → In z (map (λ (a : AssignmentAt). a.assignment.name) (assigned_by line d ++ assigned_in cs))
-    go line (common.Assign a) h rest = split (bytes_eq z a.name) refl h
+    go line (directive.Assign a) h rest = split (bytes_eq z a.name) refl h
       where
         split : (b : Bool) → bytes_eq z a.name ≡ b → cond b (Some n) (assigned_from (suc n) cs z) ≡ Some k
             → (z ≡ a.name) ⊎ In z (map (λ (x : AssignmentAt). x.assignment.name) (assigned_in cs))
         split true same i = inl ((bytes_eq-Decides z a.name).0 same)
         split false same i = inr (rest i)
-    go line (common.Provide a) h rest = rest h
-    go line (common.Assert a) h rest = rest h
+    go line (directive.Provide a) h rest = rest h
+    go line (directive.Assert a) h rest = rest h
 
 in_assigned_names : (script : List Statement) (z : Name) → is_assigned script z ≡ true → In z (assigned_names script)
 unfolding assigned_names
 in_assigned_names script z h =
-    go (assigned_from 0 (common_commands script) z) refl (provided_from 0 (common_commands script) z) h
+    go (assigned_from 0 (all_directives script) z) refl (provided_from 0 (all_directives script) z) h
   where
-    go : (a : Option ℕ) → assigned_from 0 (common_commands script) z ≡ a → (q : Option ℕ)
+    go : (a : Option ℕ) → assigned_from 0 (all_directives script) z ≡ a → (q : Option ℕ)
         → is_assignment (given_as a q) ≡ true
-        → In z (map (λ (x : AssignmentAt). x.assignment.name) (assigned_in (common_commands script)))
-    go (Some k) e q i = assigned_there 0 (common_commands script) z k e
+        → In z (map (λ (x : AssignmentAt). x.assignment.name) (assigned_in (all_directives script)))
+    go (Some k) e q i = assigned_there 0 (all_directives script) z k e
     go None e (Some k) i = absurd (cc)
     go None e None i = absurd (cc)
 
@@ -129,15 +129,15 @@ same_symbols p s ns up all =
 -- ---- candidates
 
 -- all candidates are seen to
-pub symbols_are : (p : Project) (s : Layout) (a : NamingState) (script : List Statement) (xs : List Candidate) (n : ℕ)
-    → AreCandidates a script xs → IsNaming p a → p.script ≡ script → n ≡ length xs
+pub symbols_are : (p : Project) (s : Layout) (a : SymbolTableState) (script : List Statement) (xs : List Candidate) (n : ℕ)
+    → AreCandidates a script xs → IsSymbolTable p a → p.script ≡ script → n ≡ length xs
     → defined_symbols p s (distinct_first (names_of xs) n) ≡ output_symbols p s
-symbols_are p s a script xs n h naming same all =
+symbols_are p s a script xs n h symbol_table same all =
     let names : List Name = names_of xs in
     let long : length names ≡ length xs = length-map xs (λ (x : Candidate). x.name.now) in
     same_symbols p s (distinct_first names n) (first_asc names (names_up xs h.order) n (omega (arith, all, long)))
     (λ z i.
-    let c = h.complete p naming same z (contained_in z (declared_names p) i) in
+    let c = h.complete p symbol_table same z (contained_in z (declared_names p) i) in
     subst (λ (w : Name). In w (distinct_first names n)) (there names z c)
     (first_in names (names_up xs h.order) n c.0 (omega (arith, c.1, all, long))))
   where

@@ -9,19 +9,19 @@ use Rattle.std.proofs.lemmas.Bool.{cases_eq, cases_lt, true≢false}
 use Rattle.std.proofs.lemmas.List.{map-append, take_all, get_or-set_same, get_or-set_other}
 use Rattle.std.proofs.lemmas.List.{length-map, length-replicate, length-set}
 use Rattle.std.proofs.lemmas.Slice.Eq.{bytes_eq-Decides}
-use Rattle.ldscript.specs.statements.Numbered.{shown_commons}
-use Rattle.ldscript.specs.statements.Numbering.{CommonAt, common_commands}
-use Rattle.ldscript.specs.statements.declared.numbering.CommonAt as code_common
+use Rattle.ldscript.specs.statements.Numbered.{shown_directives}
+use Rattle.ldscript.specs.statements.Numbering.{DirectiveAt, all_directives}
+use Rattle.ldscript.specs.statements.declared.numbering.DirectiveAt as code_directive
 use Rattle.ldscript.specs.statements.declared.statement.Statement.{Statement}
 use Rattle.ldmodel.specs.Layout.{Layout, ScriptSymbol}
 use Rattle.ldmodel.specs.Lent.{given_name, name_given_by, symbol_of}
 use Rattle.ldmodel.specs.declared.script_symbol.ScriptSymbol as code
 use Rattle.symres.specs.Decided.{HasCase}
-use Rattle.symres.specs.Naming.{NamingState}
+use Rattle.symres.specs.SymbolTable.{SymbolTableState}
 use Rattle.symres.specs.declared.sorted.NamedKey.{NamedKey}
 use Rattle.place.specs.sections.Places.{AreOf, Places}
 use Rattle.place.proofs.TermNumbers.{symbol_at, symbol_named_by}
-use Rattle.place.specs.terms.SymbolTable.{AreValuesOf, value_of}
+use Rattle.place.specs.terms.SymbolValues.{AreValuesOf, value_of}
 use Rattle.place.specs.terms.Tables.{entry_under, symbol_number}
 use Rattle.symres.specs.table.State.{AreDistinct, IsNamed, slot}
 use Rattle.emit_values.specs.GivenTable.{HasPlaces, IsGivenTable, IsPut}
@@ -83,7 +83,7 @@ some_same : {X : Type 0} (x y : X) → Some x ≡ Some y → x ≡ y
 some_same x y h = cc
 
 -- a value is put under a key
-pub put_under : (a : NamingState) (key : ℕ) (name : List ℕ) (value : Option ℕ) (old new : List (Option ℕ))
+pub put_under : (a : SymbolTableState) (key : ℕ) (name : List ℕ) (value : Option ℕ) (old new : List (Option ℕ))
     → AreDistinct a.names → IsNamed a.names key name → HasPlaces a old → new ≡ set old key value
     → IsPut a name value old new
 put_under a key name value old new distinct named places is = record {
@@ -100,26 +100,26 @@ put_under a key name value old new distinct named places is = record {
 }
 
 -- the name of a command, as the code has it
-pub called_here : (script : List Statement) (commands : List code_common.CommonAt) (i : ℕ) (x : code_common.CommonAt)
-    → i < length commands → x ≡ get_or commands i x → shown_commons commands ≡ common_commands script
+pub called_here : (script : List Statement) (commands : List code_directive.DirectiveAt) (i : ℕ) (x : code_directive.DirectiveAt)
+    → i < length commands → x ≡ get_or commands i x → shown_directives commands ≡ all_directives script
     → given_name x.command.now ≡ name_given_by script i
 called_here script commands i x within is shown =
-    let f : code_common.CommonAt → CommonAt =
-    λ (c : code_common.CommonAt). record { line = c.line; command = c.command.now } in
+    let f : code_directive.DirectiveAt → DirectiveAt =
+    λ (c : code_directive.DirectiveAt). record { line = c.line; command = c.command.now } in
     let there : slice_get commands i ≡ Some x = slice_get-get_or commands i x within ∙ ap Some (sym is) in
-    let at : slice_get (common_commands script) i ≡ Some (f x) =
-    ap (λ (cs : List CommonAt). slice_get cs i) (sym shown)
+    let at : slice_get (all_directives script) i ≡ Some (f x) =
+    ap (λ (cs : List DirectiveAt). slice_get cs i) (sym shown)
     ∙ (slice_get-map f commands i ∙ ap (option_map f) there) in
-    sym (ap (λ (o : Option CommonAt). option_map_or (λ (c : CommonAt). given_name c.command) o []) at)
+    sym (ap (λ (o : Option DirectiveAt). option_map_or (λ (c : DirectiveAt). given_name c.command) o []) at)
 
 -- under the key of each name stands its value; or nothing, where none of the first commands gives it one
-pub record Noted (a : NamingState) (v : ScriptValues) (i : ℕ) (table : List (Option ℕ)) : Type 0 where
+pub record Noted (a : SymbolTableState) (v : ScriptValues) (i : ℕ) (table : List (Option ℕ)) : Type 0 where
   pub places : HasPlaces a table
   pub values : (k : ℕ) (name : List ℕ) → IsNamed a.names k name
       → (get_or table k None ≡ value_in v name)
       ⊎ ((get_or table k None ≡ None) × ((j : ℕ) → symbol_number v.script.now name ≡ Some j → i ≤ j))
 
-pub none_noted : (a : NamingState) (v : ScriptValues) (n : ℕ) (table : List (Option ℕ))
+pub none_noted : (a : SymbolTableState) (v : ScriptValues) (n : ℕ) (table : List (Option ℕ))
     → ((k : ℕ) (name : List ℕ) → IsNamed a.names k name → HasCase a.cases k) → n ≡ length a.cases
     → table ≡ replicate n None → Noted a v 0 table
 none_noted a v n table cases long is = record {
@@ -138,7 +138,7 @@ beyond i j at_least other =
     (cases_lt i j)
 
 -- one more command
-pub next_noted : (a : NamingState) (v : ScriptValues) (i : ℕ) (called : List ℕ) (old new : List (Option ℕ))
+pub next_noted : (a : SymbolTableState) (v : ScriptValues) (i : ℕ) (called : List ℕ) (old new : List (Option ℕ))
     → called ≡ name_given_by v.script.now i → IsPut a called (value_in v called) old new → Noted a v i old
     → Noted a v (i + 1) new
 next_noted a v i called old new is put h = record {
@@ -170,9 +170,9 @@ next_noted a v i called old new is put h = record {
         )
 
 -- all commands
-pub all_noted : (a : NamingState) (v : ScriptValues) (commands : List code_common.CommonAt) (i : ℕ)
+pub all_noted : (a : SymbolTableState) (v : ScriptValues) (commands : List code_directive.DirectiveAt) (i : ℕ)
     (table : List (Option ℕ)) → ((k : ℕ) (name : List ℕ) → IsNamed a.names k name → HasCase a.cases k)
-    → shown_commons commands ≡ common_commands v.script.now → length commands ≤ i → Noted a v i table
+    → shown_directives commands ≡ all_directives v.script.now → length commands ≤ i → Noted a v i table
     → IsGivenTable a (value_in v) table
 all_noted a v commands i table cases shown past h = record {
   cases = cases;
@@ -182,8 +182,8 @@ all_noted a v commands i table cases shown past h = record {
     inside : (name : List ℕ) (j : ℕ) → symbol_number v.script.now name ≡ Some j → j < length commands
     inside name j n =
         let f = symbol_at v.script.now name j n in
-        let long : length (shown_commons commands) ≡ length commands =
-        length-map commands (λ (c : code_common.CommonAt). record { line = c.line; command = c.command.now }) in
+        let long : length (shown_directives commands) ≡ length commands =
+        length-map commands (λ (c : code_directive.DirectiveAt). record { line = c.line; command = c.command.now }) in
         omega (arith, f.here, f.inside, ap length shown, long)
 
     unknown : (name : List ℕ) (o : Option ℕ) → symbol_number v.script.now name ≡ o

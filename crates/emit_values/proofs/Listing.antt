@@ -8,18 +8,18 @@ use Rattle.std.proofs.lemmas.List.Elements.{All-append, All-map}
 use Rattle.std.proofs.lemmas.List.Sorted.{All-permutation, Contains-permutation, IsPermutation-append_right}
 use Rattle.std.proofs.lemmas.List.Sorted.{IsPermutation-map, IsPermutation-trans}
 use Rattle.emit_text.proofs.ByteOrder.{In, append_in, contained_in, distinct_in, in_append, in_contained, in_distinct}
-use Rattle.ldscript.specs.statements.Numbering.{AssignmentAt, CommonAt, assigned_by, assigned_in, common_commands}
+use Rattle.ldscript.specs.statements.Numbering.{AssignmentAt, DirectiveAt, assigned_by, assigned_in, all_directives}
 use Rattle.ldscript.specs.statements.Numbering.{provided_by}
 use Rattle.ldscript.specs.statements.Numbering.{provided_in}
-use Rattle.ldscript.specs.statements.Numbered.{shown_commons}
-use Rattle.ldscript.specs.statements.declared.numbering.CommonAt as code
-use Rattle.ldscript.specs.statements.declared.common.Common.{Common}
-use Rattle.ldscript.specs.statements.declared.common.Common.TheVariants as common
+use Rattle.ldscript.specs.statements.Numbered.{shown_directives}
+use Rattle.ldscript.specs.statements.declared.numbering.DirectiveAt as code
+use Rattle.ldscript.specs.statements.declared.directive.Directive.{Directive}
+use Rattle.ldscript.specs.statements.declared.directive.Directive.TheVariants as directive
 use Rattle.ldscript.specs.statements.declared.statement.Statement.{Statement}
 use Rattle.ldmodel.specs.Names.{declared_names, names_in_objects}
 use Rattle.ldmodel.specs.Project.{Project}
 use Rattle.ldmodel.specs.ScriptNames.{assigned_names, provided_names}
-use Rattle.symres.specs.Naming.{IsNaming, NamingState}
+use Rattle.symres.specs.SymbolTable.{IsSymbolTable, SymbolTableState}
 use Rattle.symres.specs.Sorted.{AreSorted}
 use Rattle.symres.specs.declared.sorted.NamedKey.{NamedKey}
 use Rattle.emit_values.specs.Candidates.{all_given, comes_before, names_given, names_of, with_key, AreCandidates}
@@ -43,24 +43,24 @@ more_keys first xs i x old new within is added h =
     ∙ map-append with_key (take i xs) (x ∷ [])))))
 
 -- one more command
-pub more_given : (first : List (List ℕ)) (commands : List code.CommonAt) (i : ℕ) (x : code.CommonAt)
+pub more_given : (first : List (List ℕ)) (commands : List code.DirectiveAt) (i : ℕ) (x : code.DirectiveAt)
     (old new : List (List ℕ)) → i < length commands → x ≡ get_or commands i x → new ≡ old ++ names_given x.command.now
-    → old ≡ first ++ all_given (shown_commons (take i commands))
-    → new ≡ first ++ all_given (shown_commons (take (i + 1) commands))
+    → old ≡ first ++ all_given (shown_directives (take i commands))
+    → new ≡ first ++ all_given (shown_directives (take (i + 1) commands))
 more_given first commands i x old new within is added h =
-    let shown : code.CommonAt → CommonAt =
-    λ (c : code.CommonAt). record { line = c.line; command = c.command.now } in
-    let these : List (List ℕ) = all_given (shown_commons (take i commands)) in
-    let more : all_given (shown_commons (take (i + 1) commands)) ≡ these ++ names_given x.command.now =
-    ap (λ (cs : List code.CommonAt). all_given (shown_commons cs)) (take_more commands i x within (sym is))
+    let shown : code.DirectiveAt → DirectiveAt =
+    λ (c : code.DirectiveAt). record { line = c.line; command = c.command.now } in
+    let these : List (List ℕ) = all_given (shown_directives (take i commands)) in
+    let more : all_given (shown_directives (take (i + 1) commands)) ≡ these ++ names_given x.command.now =
+    ap (λ (cs : List code.DirectiveAt). all_given (shown_directives cs)) (take_more commands i x within (sym is))
     ∙ (ap all_given (map-append shown (take i commands) (x ∷ []))
-    ∙ (flat_map-append (λ (c : CommonAt). names_given c.command) (shown_commons (take i commands)) (shown x ∷ [])
+    ∙ (flat_map-append (λ (c : DirectiveAt). names_given c.command) (shown_directives (take i commands)) (shown x ∷ [])
     ∙ ap (λ (ns : List (List ℕ)). these ++ ns) (append-nil (names_given x.command.now)))) in
     added
     ∙ (ap (λ (ns : List (List ℕ)). ns ++ names_given x.command.now) h
     ∙ (append_assoc first these (names_given x.command.now) ∙ ap (λ (ns : List (List ℕ)). first ++ ns) (sym more)))
 
-in_assigned : (z : List ℕ) (cs : List CommonAt) → In z (map (λ (a : AssignmentAt). a.assignment.name) (assigned_in cs))
+in_assigned : (z : List ℕ) (cs : List DirectiveAt) → In z (map (λ (a : AssignmentAt). a.assignment.name) (assigned_in cs))
     → In z (all_given cs)
 in_assigned z [] i = i
 in_assigned z (c ∷ cs) i =
@@ -70,13 +70,13 @@ in_assigned z (c ∷ cs) i =
     (in_append z (map f (assigned_by c.line c.command)) (map f (assigned_in cs))
     (subst (In z) (map-append f (assigned_by c.line c.command) (assigned_in cs)) i)))
   where
-    here : (line : ℕ) (k : Common) → In z (map (λ (a : AssignmentAt). a.assignment.name) (assigned_by line k))
+    here : (line : ℕ) (k : Directive) → In z (map (λ (a : AssignmentAt). a.assignment.name) (assigned_by line k))
         → In z (names_given k)
-    here line (common.Assign a) j = j
-    here line (common.Provide a) j = absurd j
-    here line (common.Assert a) j = absurd j
+    here line (directive.Assign a) j = j
+    here line (directive.Provide a) j = absurd j
+    here line (directive.Assert a) j = absurd j
 
-in_provided : (z : List ℕ) (cs : List CommonAt) → In z (map (λ (a : AssignmentAt). a.assignment.name) (provided_in cs))
+in_provided : (z : List ℕ) (cs : List DirectiveAt) → In z (map (λ (a : AssignmentAt). a.assignment.name) (provided_in cs))
     → In z (all_given cs)
 in_provided z [] i = i
 in_provided z (c ∷ cs) i =
@@ -86,11 +86,11 @@ in_provided z (c ∷ cs) i =
     (in_append z (map f (provided_by c.line c.command)) (map f (provided_in cs))
     (subst (In z) (map-append f (provided_by c.line c.command) (provided_in cs)) i)))
   where
-    here : (line : ℕ) (k : Common) → In z (map (λ (a : AssignmentAt). a.assignment.name) (provided_by line k))
+    here : (line : ℕ) (k : Directive) → In z (map (λ (a : AssignmentAt). a.assignment.name) (provided_by line k))
         → In z (names_given k)
-    here line (common.Assign a) j = absurd j
-    here line (common.Provide a) j = j
-    here line (common.Assert a) j = absurd j
+    here line (directive.Assign a) j = absurd j
+    here line (directive.Provide a) j = j
+    here line (directive.Assert a) j = absurd j
 
 names_with_keys : (xs : List NamedKey) → names_of (map with_key xs) ≡ map (λ (x : NamedKey). x.name.now) xs
 names_with_keys [] = refl
@@ -121,19 +121,19 @@ declared_in p z i =
     (λ k. inr k) j) i))
 
 assigned_given : (script : List Statement) (z : List ℕ) → In z (assigned_names script)
-    → In z (all_given (common_commands script))
+    → In z (all_given (all_directives script))
 unfolding assigned_names
-assigned_given script z i = in_assigned z (common_commands script) i
+assigned_given script z i = in_assigned z (all_directives script) i
 
 provided_given : (script : List Statement) (z : List ℕ) → In z (provided_names script)
-    → In z (all_given (common_commands script))
+    → In z (all_given (all_directives script))
 unfolding provided_names
-provided_given script z i = in_provided z (common_commands script) i
+provided_given script z i = in_provided z (all_directives script) i
 
 -- the names of objects and of a script, sorted
-pub candidates_are : (a : NamingState) (script : List Statement) (xs : List NamedKey) (cs : List CommonAt)
-    (first list sorted : List Candidate) → AreSorted a xs → cs ≡ common_commands script → first ≡ map with_key xs
-    → names_of list ≡ names_of first ++ all_given cs → ((b : NamingState) → AreKeyed b first → AreKeyed b list)
+pub candidates_are : (a : SymbolTableState) (script : List Statement) (xs : List NamedKey) (cs : List DirectiveAt)
+    (first list sorted : List Candidate) → AreSorted a xs → cs ≡ all_directives script → first ≡ map with_key xs
+    → names_of list ≡ names_of first ++ all_given cs → ((b : SymbolTableState) → AreKeyed b first → AreKeyed b list)
     → IsPermutation list sorted → IsSortedBy comes_before sorted → AreCandidates a script sorted
 candidates_are a script xs cs first list sorted up commands keys names keyed moved order = record {
   order = order;
@@ -142,35 +142,35 @@ candidates_are a script xs cs first list sorted up commands keys names keyed mov
       (keyed a (subst (AreKeyed a) (sym keys)
       (All-map (λ (x : Candidate). HasKeyOr a x.name.now x.key) with_key xs up.named)));
   distinct = up.distinct;
-  complete = λ p naming same z c.
+  complete = λ p symbol_table same z c.
       Contains-permutation (names_of list) (names_of sorted) z
       (IsPermutation-map (λ (x : Candidate). x.name.now) list sorted moved)
       (contained_in z (names_of list) (subst (In z) (sym names)
       (append_in z (names_of first) (all_given cs)
-      (⊎_elim (λ i. inl (by_object p naming z i)) (λ i. inr (by_script p same z i))
+      (⊎_elim (λ i. inl (by_object p symbol_table z i)) (λ i. inr (by_script p same z i))
       (in_declared p z (in_contained z (declared_names p) c))))));
 }
   where
-    by_object : (p : Project) → IsNaming p a → (z : List ℕ) → In z (names_in_objects p.objects)
+    by_object : (p : Project) → IsSymbolTable p a → (z : List ℕ) → In z (names_in_objects p.objects)
         → In z (names_of first)
-    by_object p naming z i =
+    by_object p symbol_table z i =
         subst (In z) (sym (ap names_of keys ∙ names_with_keys xs))
         (in_contained z (map (λ (x : NamedKey). x.name.now) xs)
-        (up.declared p naming z (contained_in z (names_in_objects p.objects) i)))
+        (up.declared p symbol_table z (contained_in z (names_in_objects p.objects) i)))
 
     by_script : (p : Project) → p.script ≡ script → (z : List ℕ)
         → In z (assigned_names p.script) ⊎ In z (provided_names p.script) → In z (all_given cs)
     by_script p same z i =
-        subst (In z) (ap (λ (t : List Statement). all_given (common_commands t)) same ∙ ap all_given (sym commands))
+        subst (In z) (ap (λ (t : List Statement). all_given (all_directives t)) same ∙ ap all_given (sym commands))
         (⊎_elim (λ j. assigned_given p.script z j) (λ j. provided_given p.script z j) i)
 
-pub none_keyed : (xs : List Candidate) → xs ≡ [] → (b : NamingState) → AreKeyed b xs
+pub none_keyed : (xs : List Candidate) → xs ≡ [] → (b : SymbolTableState) → AreKeyed b xs
 none_keyed xs none b = subst (AreKeyed b) (sym none) (λ i d w. absurd (omega (arith, w)))
 
 -- the names of objects, and those of a script at their places
-pub merged_are : (a : NamingState) (script : List Statement) (xs : List NamedKey) (cs : List CommonAt)
-    (given by_name list : List Candidate) → AreSorted a xs → cs ≡ common_commands script
-    → names_of given ≡ all_given cs → ((b : NamingState) → AreKeyed b given) → IsPermutation given by_name
+pub merged_are : (a : SymbolTableState) (script : List Statement) (xs : List NamedKey) (cs : List DirectiveAt)
+    (given by_name list : List Candidate) → AreSorted a xs → cs ≡ all_directives script
+    → names_of given ≡ all_given cs → ((b : SymbolTableState) → AreKeyed b given) → IsPermutation given by_name
     → IsSortedBy comes_before by_name → Merged xs by_name list → AreCandidates a script list
 merged_are a script xs cs given by_name list up commands names keyed moved order merged =
     let first : List Candidate = map with_key xs in

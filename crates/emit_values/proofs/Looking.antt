@@ -10,15 +10,15 @@ use Rattle.ldscript.specs.statements.Numbering.{OutputSectionAt, output_sections
 use Rattle.ldscript.specs.statements.declared.statement.Region.{Region}
 use Rattle.ldmodel.specs.Assertions.{final_scope, number_if_any}
 use Rattle.ldmodel.specs.Layout.{Layout, MemoryRegion, PlacedSection}
-use Rattle.ldmodel.specs.Lent.{IsLaid, placed_of, region_of}
+use Rattle.ldmodel.specs.Lent.{IsPlacementView, placed_of, region_of}
 use Rattle.ldmodel.specs.Names.{declared_names, decision}
 use Rattle.ldmodel.specs.OutputSymbols as model
 use Rattle.ldmodel.specs.OutputSymbols.{in_byte_order, is_defined, output_symbol, output_symbols}
 use Rattle.ldmodel.specs.Project.{Project}
 use Rattle.ldmodel.specs.SymbolValues.{name_value}
 use Rattle.ldmodel.specs.Value.{Scope}
-use Rattle.ldmodel.specs.declared.laid.Placed.{Placed}
-use Rattle.ldmodel.specs.declared.laid.PlacedRegion.{PlacedRegion}
+use Rattle.ldmodel.specs.declared.placed.Placed.{Placed}
+use Rattle.ldmodel.specs.declared.placed.PlacedRegion.{PlacedRegion}
 use Rattle.place.specs.sections.Meetings.{AreOutputs}
 use Rattle.place.specs.terms.Scopes as code
 use Rattle.emit_values.specs.Values.{shown_symbol}
@@ -245,19 +245,19 @@ same_scope : (m n : Scope) → ((z : Name) → m.symbol z ≡ n.symbol z) → ((
     → ((z : Name) → m.region z ≡ n.region z) → m ≡ n
 same_scope m n a b c = λ i. record { symbol = λ z. a z i; section = λ z. b z i; region = λ z. c z i }
 
-pub scope_is : (p : Project) (s : Layout) (f : FinalScope) → f.script.now ≡ p.script → IsLaid p.script s f.laid
+pub scope_is : (p : Project) (s : Layout) (f : FinalScope) → f.script.now ≡ p.script → IsPlacementView p.script s f.placement
     → map shown_symbol f.symbols.list.now ≡ output_symbols p s → AreOutputs p s.sections
     → map (λ (m : MemoryRegion). m.name) s.regions ≡ map (λ (r : Region). r.name) (regions p.script)
     → meaning_of f ≡ final_scope p s
-scope_is p s f script laid symbols outputs memory =
+scope_is p s f script placement symbols outputs memory =
     same_scope (meaning_of f) (final_scope p s) (λ z. symbol_found p s f.symbols.list.now z symbols)
     (λ z.
     ap (λ (qs : List Placed). option_map code.section_numbers (numbered qs
-    (section_from 0 (output_sections f.script.now) z))) laid.sections
+    (section_from 0 (output_sections f.script.now) z))) placement.sections
     ∙ section_found s.sections (output_sections f.script.now) z
     (outputs ∙ sym (ap (λ st. map (λ (o : OutputSectionAt). o.section.name) (output_sections st)) script)))
     (λ z.
     ap (λ (rs : List PlacedRegion). option_map code.region_numbers (numbered rs
-    (region_from 0 (regions f.script.now) z))) laid.regions
+    (region_from 0 (regions f.script.now) z))) placement.regions
     ∙ region_found s.regions (regions f.script.now) z
     (memory ∙ sym (ap (λ st. map (λ (r : Region). r.name) (regions st)) script)))

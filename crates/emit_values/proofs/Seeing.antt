@@ -14,7 +14,7 @@ use Rattle.ldmodel.specs.Names.{is_local, symbol_tables}
 use Rattle.ldmodel.specs.Project.{NamedObject, Project}
 use Rattle.ldmodel.specs.declared.names.Case.{Case}
 use Rattle.symres.specs.Decided.{HasCase}
-use Rattle.symres.specs.Naming.{IsNameAt, IsNaming, IsSeenAt, NamingState}
+use Rattle.symres.specs.SymbolTable.{IsNameAt, IsSymbolTable, IsSeenAt, SymbolTableState}
 use Rattle.emit_relocate.specs.KnownLink.{KnownLink}
 use Rattle.emit_values.specs.LinkView.{IsLinkView}
 use Rattle.emit_values.specs.declared.link_view.LinkView.{LinkView}
@@ -55,7 +55,7 @@ table_at objects i o t e =
     ∙ (get_or-map (λ (y : NamedObject). y.object.symbols) objects i o t.1 within
     ∙ ap (λ (y : NamedObject). y.object.symbols) (get_or_from_slice_get objects i o o e))
 
-pub all_seen : (p : Project) (a : NamingState) → IsNaming p a → AreSeen p a
+pub all_seen : (p : Project) (a : SymbolTableState) → IsSymbolTable p a → AreSeen p a
 all_seen p a h i k s = go (slice_get p.objects i) refl s
   where
     go : (x : Option NamedObject) → slice_get p.objects i ≡ x
@@ -84,18 +84,18 @@ case_within cases k n e h = ⊎_elim (λ lt. lt) (λ le. absurd (past le)) (case
 
 -- the key of a symbol has its name
 pub key_named : (l : KnownLink) (v : LinkView) (i k n : ℕ) (x : NamedSymbol) → IsLinkView l v
-    → IsNameAt v.naming.now i k n → symbol_at l.project (l.number i) k ≡ Some x → l.name n ≡ Some x.name
+    → IsNameAt v.symbol_table.now i k n → symbol_at l.project (l.number i) k ≡ Some x → l.name n ≡ Some x.name
 key_named l v i k n x h named e =
     let number : l.number i ≡ i = ap (λ (m : KnownLink). m.number i) h.link in
-    let names : l.name n ≡ get_or v.naming.now.names n None = ap (λ (m : KnownLink). m.name n) h.link in
+    let names : l.name n ≡ get_or v.symbol_table.now.names n None = ap (λ (m : KnownLink). m.name n) h.link in
     let here : symbol_at l.project i k ≡ Some x = ap (λ (j : ℕ). symbol_at l.project j k) (sym number) ∙ e in
     let t : ℕ × List NamedSymbol = (0, []) in
     option_and_then_some (λ (o : NamedObject). slice_get o.object.symbols k) (slice_get l.project.objects i) x here
     (λ o at found.
-    let table : (get_or v.naming.now.objects i t).1 ≡ o.object.symbols =
-    ap (λ (ts : List (ℕ × List NamedSymbol)). (get_or ts i t).1) h.naming.objects
+    let table : (get_or v.symbol_table.now.objects i t).1 ≡ o.object.symbols =
+    ap (λ (ts : List (ℕ × List NamedSymbol)). (get_or ts i t).1) h.symbol_table.objects
     ∙ table_at l.project.objects i o t at in
-    let symbol : get_or (get_or v.naming.now.objects i t).1 k x ≡ x =
+    let symbol : get_or (get_or v.symbol_table.now.objects i t).1 k x ≡ x =
     ap (λ (xs : List NamedSymbol). get_or xs k x) table ∙ get_or_from_slice_get o.object.symbols k x x found in
     names
-    ∙ subst (λ (y : NamedSymbol). get_or v.naming.now.names n None ≡ Some y.name) symbol (named t x))
+    ∙ subst (λ (y : NamedSymbol). get_or v.symbol_table.now.names n None ≡ Some y.name) symbol (named t x))

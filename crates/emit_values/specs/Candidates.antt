@@ -1,15 +1,15 @@
 -- The names that may be symbols of the output.
 use Rattle.std.specs.Prelude.{◌≡◌, ℕ, List, [], ◌∷◌, flat_map, map, Option, Some, None, Bool, All, Contains}
 use Rattle.std.specs.List.Sorted.{IsSortedBy}
-use Rattle.ldscript.specs.statements.Numbering.{CommonAt}
-use Rattle.ldscript.specs.statements.declared.common.Common.{Common}
-use Rattle.ldscript.specs.statements.declared.common.Common.TheVariants as common
+use Rattle.ldscript.specs.statements.Numbering.{DirectiveAt}
+use Rattle.ldscript.specs.statements.declared.directive.Directive.{Directive}
+use Rattle.ldscript.specs.statements.declared.directive.Directive.TheVariants as directive
 use Rattle.ldscript.specs.statements.declared.statement.Statement.{Statement}
 use Rattle.ldmodel.specs.Names.{declared_names}
 use Rattle.ldmodel.specs.OutputSymbols.{is_before}
 use Rattle.ldmodel.specs.Project.{Project}
 use Rattle.ldmodel.specs.declared.names.NameKey.{NameKey}
-use Rattle.symres.specs.Naming.{IsNaming, NamingState}
+use Rattle.symres.specs.SymbolTable.{IsSymbolTable, SymbolTableState}
 use Rattle.symres.specs.declared.sorted.NamedKey.{NamedKey}
 use Rattle.symres.specs.table.State.{AreDistinct, IsNamed}
 use Rattle.emit_values.specs.declared.candidate.Candidate.{Candidate}
@@ -21,20 +21,20 @@ abbrev pub with_key : NamedKey → Candidate
 with_key x = record { name = x.name; key = Some x.key }
 
 -- the name that a command gives a value to, if it gives one
-abbrev pub names_given : Common → List (List ℕ)
-names_given (common.Assign a) = a.name ∷ []
-names_given (common.Provide a) = a.name ∷ []
-names_given (common.Assert a) = []
+abbrev pub names_given : Directive → List (List ℕ)
+names_given (directive.Assign a) = a.name ∷ []
+names_given (directive.Provide a) = a.name ∷ []
+names_given (directive.Assert a) = []
 
-abbrev pub all_given : List CommonAt → List (List ℕ)
-all_given commands = flat_map (λ (c : CommonAt). names_given c.command) commands
+abbrev pub all_given : List DirectiveAt → List (List ℕ)
+all_given commands = flat_map (λ (c : DirectiveAt). names_given c.command) commands
 
 -- where there is a key, it is that of the name
-abbrev pub HasKeyOr : NamingState → List ℕ → Option NameKey → Type 0
+abbrev pub HasKeyOr : SymbolTableState → List ℕ → Option NameKey → Type 0
 HasKeyOr a name None = Unit {0}
 HasKeyOr a name (Some k) = IsNamed a.names k.0 name
 
-abbrev pub AreKeyed : NamingState → List Candidate → Type 0
+abbrev pub AreKeyed : SymbolTableState → List Candidate → Type 0
 AreKeyed a xs = All (λ (x : Candidate). HasKeyOr a x.name.now x.key) xs
 
 -- the one name comes before the other in byte order
@@ -42,9 +42,9 @@ abbrev pub comes_before : Candidate → Candidate → Bool
 comes_before x y = is_before x.name.now y.name.now
 
 -- they stand in byte order, and each declared name is among them. No two keys have one name
-pub record AreCandidates (a : NamingState) (script : List Statement) (xs : List Candidate) : Type 0 where
+pub record AreCandidates (a : SymbolTableState) (script : List Statement) (xs : List Candidate) : Type 0 where
   pub order : IsSortedBy comes_before xs
   pub keyed : AreKeyed a xs
   pub distinct : AreDistinct a.names
-  pub complete : (p : Project) → IsNaming p a → p.script ≡ script → (name : List ℕ) → Contains (declared_names p) name
+  pub complete : (p : Project) → IsSymbolTable p a → p.script ≡ script → (name : List ℕ) → Contains (declared_names p) name
       → Contains (names_of xs) name

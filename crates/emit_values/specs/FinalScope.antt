@@ -26,8 +26,8 @@ numbered xs k = option_and_then (λ (i : ℕ). slice_get xs i) k
 abbrev pub meaning_of : FinalScope → Scope
 meaning_of f = record {
   symbol = λ name. number_of (found_symbol f.symbols.list.now name);
-  section = λ name. option_map section_numbers (numbered f.laid.sections.now (section_number f.script.now name));
-  region = λ name. option_map region_numbers (numbered f.laid.regions.now (region_number f.script.now name));
+  section = λ name. option_map section_numbers (numbered f.placement.sections.now (section_number f.script.now name));
+  region = λ name. option_map region_numbers (numbered f.placement.regions.now (region_number f.script.now name));
 }
 
 abbrev pub holds_in : Scope → Expr → Bool

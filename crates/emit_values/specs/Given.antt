@@ -1,14 +1,14 @@
 -- What the script gives names, and the order of names.
-use Rattle.place.specs.Laying.{IsLaying}
-use Rattle.place.specs.declared.laying.Laying.{Laying}
+use Rattle.place.specs.LinkLayout.{IsLinkLayout}
+use Rattle.place.specs.declared.link_layout.LinkLayout.{LinkLayout}
 use Rattle.ldmodel.specs.Layout.{Layout}
 use Rattle.ldmodel.specs.Project.{Project}
-use Rattle.symres.specs.Naming.{NamingState}
+use Rattle.symres.specs.SymbolTable.{SymbolTableState}
 use Rattle.symres.specs.Sorted.{AreSorted}
 use Rattle.emit_values.specs.ScriptValues.{AreScriptValues}
 use Rattle.emit_values.specs.declared.given.GivenValues.{GivenValues}
 
 -- the values are those of the layout, and the names are all in byte order
-pub record IsGiven (p : Project) (a : NamingState) (l : Laying) (g : GivenValues) : Type 0 where
-  pub values : (s : Layout) → IsLaying p s l → AreScriptValues s g.values
+pub record IsGiven (p : Project) (a : SymbolTableState) (l : LinkLayout) (g : GivenValues) : Type 0 where
+  pub values : (s : Layout) → IsLinkLayout p s l → AreScriptValues s g.values
   pub sorted : AreSorted a g.sorted.items

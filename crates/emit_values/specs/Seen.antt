@@ -4,7 +4,7 @@ use Rattle.elfobj.specs.Symbols.{NamedSymbol}
 use Rattle.ldmodel.specs.Live.{symbol_at}
 use Rattle.ldmodel.specs.Names.{is_local}
 use Rattle.ldmodel.specs.Project.{Project}
-use Rattle.symres.specs.Naming.{IsSeenAt, NamingState}
+use Rattle.symres.specs.SymbolTable.{IsSeenAt, SymbolTableState}
 
 -- there is a symbol, and it isn't local
 abbrev pub is_seen : Option NamedSymbol → Bool
@@ -12,5 +12,5 @@ is_seen None = false
 is_seen (Some x) = not (is_local x.symbol.binding)
 
 -- each such symbol is known under the place of its object
-abbrev pub AreSeen : Project → NamingState → Type 0
+abbrev pub AreSeen : Project → SymbolTableState → Type 0
 AreSeen p a = (place number : ℕ) → is_seen (symbol_at p place number) ≡ true → IsSeenAt a.objects place number

@@ -5,7 +5,7 @@ use Rattle.ldmodel.specs.Layout.{Layout}
 use Rattle.ldmodel.specs.OutputSymbols as model
 use Rattle.ldmodel.specs.OutputSymbols.{is_defined, output_symbol}
 use Rattle.ldmodel.specs.Project.{Project}
-use Rattle.symres.specs.Naming.{IsNaming}
+use Rattle.symres.specs.SymbolTable.{IsSymbolTable}
 use Rattle.emit_relocate.specs.KnownLink.{AreNameValues}
 use Rattle.emit_values.specs.LinkView.{known_link}
 use Rattle.emit_values.specs.ScriptValues.{AreScriptValues}
@@ -25,9 +25,9 @@ defined_symbols p s names = defined (map (output_symbol p s) names)
 
 -- they are those of a project at a layout
 pub record AreSources (p : Project) (s : Layout) (x : Sources) : Type 0 where
-  pub naming : IsNaming p x.naming.now
+  pub symbol_table : IsSymbolTable p x.symbol_table.now
   pub script : p.script ≡ x.script.now
-  pub names : AreNameValues (known_link p s x.naming.now) x.names.now
+  pub names : AreNameValues (known_link p s x.symbol_table.now) x.names.now
   pub given : AreScriptValues s x.given.now
 
 -- the symbols of these names were added

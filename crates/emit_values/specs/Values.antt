@@ -6,7 +6,7 @@ use Rattle.ldmodel.specs.OutputSymbols as model
 use Rattle.ldmodel.specs.OutputSymbols.{output_symbols}
 use Rattle.ldmodel.specs.Project.{Project}
 use Rattle.ldmodel.specs.SymbolValues.{entry_point}
-use Rattle.symres.specs.Naming.{NamingState}
+use Rattle.symres.specs.SymbolTable.{SymbolTableState}
 use Rattle.emit_relocate.specs.KnownLink.{AreNameValues}
 use Rattle.emit_relocate.specs.Values.{value_of}
 use Rattle.emit_values.specs.LinkView.{known_link}
@@ -17,7 +17,7 @@ abbrev pub shown_symbol : OutputSymbol → model.OutputSymbol
 shown_symbol x = record { name = x.name.now; decision = decision_of (λ key. key) x.case; value = value_of x.value }
 
 -- they are those of the project at a layout, where names have the keys of a table
-pub record AreValues (p : Project) (s : Layout) (a : NamingState) (v : Values) : Type 0 where
+pub record AreValues (p : Project) (s : Layout) (a : SymbolTableState) (v : Values) : Type 0 where
   pub names : AreNameValues (known_link p s a) v.names.items
   pub entry : value_of v.entry ≡ entry_point p s
   pub symbols : map shown_symbol v.symbols.items ≡ output_symbols p s

@@ -2,10 +2,10 @@
 
 ghost use Rattle.std.specs.Prelude.{◌≡◌, ◌++◌, IfOk, OnOk};
 ghost use Rattle.emit_values.specs.FinalScope.{fault_unless, holds_in, meaning_of};
-ghost use Rattle.place.specs.Laying.{IsLaying};
+ghost use Rattle.place.specs.LinkLayout.{IsLinkLayout};
 ghost use Rattle.ldmodel.specs.Assertions as definition;
 ghost use Rattle.ldmodel.specs.Layout.{Layout};
-ghost use Rattle.symres.specs.Naming.{NamingState};
+ghost use Rattle.symres.specs.SymbolTable.{SymbolTableState};
 ghost use Rattle.ldmodel_project.specs.ByPlace.{faults_in};
 ghost use Rattle.place.specs.terms.Outcomes.{outcome_of};
 ghost use Rattle.emit_values.specs.Values.{AreValues};
@@ -21,7 +21,7 @@ use ldmodel_laws::layout::layout_by_effects;
 use ldmodel_project::view::ProjectView;
 use ldscript::tree::Assertion;
 use place::sections::law::outputs_are_of_script;
-use place::{Laying, ValueFault, value};
+use place::{LinkLayout, ValueFault, value};
 use std::alloc::Global;
 
 /// Whether a value counts as true; where there is none, it does not.
@@ -72,17 +72,17 @@ fn add_unless_holds(
 pub fn assertion_faults(
     alloc: Global,
     project: &ProjectView<'_>,
-    laying: &Laying,
+    link_layout: &LinkLayout,
     values: &Values<'_>,
 ) -> Result<Vec<Fault>, NoMemory>
-    ensures { IfOk result (λ fs. (s : Layout) (a : NamingState) → IsLaying project.now s laying.now
+    ensures { IfOk result (λ fs. (s : Layout) (a : SymbolTableState) → IsLinkLayout project.now s link_layout.now
         → AreValues project.now s a values.now
         → faults_in project.now fs.items ≡ definition.assertion_faults project.now s) }
 {
     layout_by_effects();
     outputs_are_of_script();
     let script = project.script();
-    let commands = script.common_commands(alloc)?;
+    let commands = script.all_directives(alloc)?;
     let assertions = assertions(alloc, &commands)?;
     if assertions.is_empty() {
         // without conditions the names are not looked at
@@ -90,7 +90,7 @@ pub fn assertion_faults(
     }
     let scope = FinalScope {
         script,
-        laid: laying.placement.laid(),
+        placement: link_layout.placement.view(),
         symbols: SymbolsByName::of(&values.symbols),
     };
     let mut faults = Vec::new(alloc);

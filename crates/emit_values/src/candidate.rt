@@ -1,8 +1,8 @@
 //! The names that may be symbols of the output, in byte order.
 
 ghost use Rattle.std.specs.Prelude.{◌≡◌, ◌++◌, IfOk, OnOk, map};
-ghost use Rattle.ldscript.specs.statements.Numbered.{shown_commons};
-ghost use Rattle.symres.specs.Naming.{NamingState};
+ghost use Rattle.ldscript.specs.statements.Numbered.{shown_directives};
+ghost use Rattle.symres.specs.SymbolTable.{SymbolTableState};
 ghost use Rattle.symres.specs.Sorted.{AreSorted};
 ghost use Rattle.emit_values.specs.Candidates.{all_given, names_given, names_of, AreCandidates, AreKeyed};
 
@@ -10,9 +10,9 @@ use crate::merged::merge_names;
 use ldmodel::memory::NoMemory;
 use ldmodel::names::NameKey;
 use ldscript::Script;
-use ldscript::tree::{Common, CommonAt};
+use ldscript::tree::{Directive, DirectiveAt};
 use std::alloc::Global;
-use symres::Naming;
+use symres::SymbolTable;
 use symres::sorted::NamedKey;
 
 /// A name that may be a symbol of the output.
@@ -25,30 +25,30 @@ pub(crate) struct Candidate<'a> {
 }
 
 /// Adds the name that a command gives a value to, if it gives one.
-fn add_given<'a>(list: &mut Vec<Candidate<'a>>, command: &'a Common) -> Result<(), NoMemory>
+fn add_given<'a>(list: &mut Vec<Candidate<'a>>, command: &'a Directive) -> Result<(), NoMemory>
     ensures names { OnOk result (names_of list.new.items ≡ names_of list.old.items ++ names_given command.now) }
-    ensures keyed { OnOk result ((a : NamingState) → AreKeyed a list.old.items → AreKeyed a list.new.items) }
+    ensures keyed { OnOk result ((a : SymbolTableState) → AreKeyed a list.old.items → AreKeyed a list.new.items) }
 {
     match command {
-        Common::Assign(assignment) | Common::Provide(assignment) => {
+        Directive::Assign(assignment) | Directive::Provide(assignment) => {
             list.push(Candidate {
                 name: assignment.name.as_bytes(),
                 key: None,
             })?;
             Ok(())
         }
-        Common::Assert(_) => Ok(()),
+        Directive::Assert(_) => Ok(()),
     }
 }
 
 /// Adds the candidate of each of these commands.
 fn add_all_given<'a>(
     list: &mut Vec<Candidate<'a>>,
-    commands: &[CommonAt<'a>],
+    commands: &[DirectiveAt<'a>],
 ) -> Result<(), NoMemory>
     ensures names { OnOk result (names_of list.new.items
-        ≡ names_of list.old.items ++ all_given (shown_commons commands.now)) }
-    ensures keyed { OnOk result ((a : NamingState) → AreKeyed a list.old.items → AreKeyed a list.new.items) }
+        ≡ names_of list.old.items ++ all_given (shown_directives commands.now)) }
+    ensures keyed { OnOk result ((a : SymbolTableState) → AreKeyed a list.old.items → AreKeyed a list.new.items) }
 {
     for at in commands {
         add_given(list, at.command)?;
@@ -64,14 +64,14 @@ fn add_all_given<'a>(
 /// Where memory runs out.
 pub(crate) fn candidates<'a>(
     alloc: Global,
-    naming: &Naming,
+    symbol_table: &SymbolTable,
     script: &'a Script,
     sorted: &[NamedKey<'a>],
 ) -> Result<Vec<Candidate<'a>>, NoMemory>
-    requires { AreSorted naming.now sorted.now }
-    ensures { IfOk result (λ list. AreCandidates naming.now script.now list.items) }
+    requires { AreSorted symbol_table.now sorted.now }
+    ensures { IfOk result (λ list. AreCandidates symbol_table.now script.now list.items) }
 {
-    let commands = script.common_commands(alloc)?;
+    let commands = script.all_directives(alloc)?;
     let mut given = Vec::with_capacity(alloc, commands.len())?;
     add_all_given(&mut given, &commands)?;
     given.sort_by(|x, y| x.name.cmp(y.name))?;

@@ -5,7 +5,7 @@ ghost use Rattle.ldmodel.specs.Assertions.{number_if_any};
 ghost use Rattle.emit_relocate.specs.Values.{value_of};
 
 use crate::symbols_by_name::SymbolsByName;
-use ldmodel::laid::{Laid, Placed, PlacedRegion};
+use ldmodel::placed::{Placed, PlacedRegion, PlacementView};
 use ldscript::Script;
 use place::terms::scope::Scope;
 
@@ -15,7 +15,7 @@ pub struct FinalScope<'a, 'b> {
     /// The script.
     pub script: &'a Script,
     /// Where the output sections and memory regions are.
-    pub laid: Laid<'a>,
+    pub placement: PlacementView<'a>,
     /// The symbols of the output.
     pub symbols: SymbolsByName<'a, 'b>,
 }
@@ -37,14 +37,14 @@ impl<'a, 'b> Scope for FinalScope<'a, 'b> {
 
     fn section(&self, name: &[u8]) -> Option<Placed> {
         match self.script.section_number(name) {
-            Some(number) => self.laid.sections.get(number).copied(),
+            Some(number) => self.placement.sections.get(number).copied(),
             None => None,
         }
     }
 
     fn region(&self, name: &[u8]) -> Option<PlacedRegion> {
         match self.script.region_number(name) {
-            Some(number) => self.laid.regions.get(number).copied(),
+            Some(number) => self.placement.regions.get(number).copied(),
             None => None,
         }
     }

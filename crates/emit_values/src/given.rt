@@ -6,9 +6,9 @@ ghost use Rattle.std.specs.Prelude.{IfOk};
 use crate::script_values::ScriptValues;
 use ldmodel::memory::NoMemory;
 use ldmodel_project::view::ProjectView;
-use place::Laying;
+use place::LinkLayout;
 use std::alloc::Global;
-use symres::Naming;
+use symres::SymbolTable;
 use symres::sorted::NamedKey;
 
 /// The values that the script gives names, and all names that objects declare in byte order.
@@ -29,14 +29,14 @@ impl<'a> GivenValues<'a> {
     pub fn of(
         alloc: Global,
         project: &'a ProjectView<'_>,
-        naming: &'a Naming,
-        laying: &Laying,
+        symbol_table: &'a SymbolTable,
+        link_layout: &LinkLayout,
     ) -> Result<GivenValues<'a>, NoMemory>
-        ensures { IfOk result (IsGiven project.now naming.now laying.now) }
+        ensures { IfOk result (IsGiven project.now symbol_table.now link_layout.now) }
     {
         let script = project.script();
-        let values = ScriptValues::of(alloc, script, &laying.placement)?;
-        let sorted = naming.sorted(alloc)?;
+        let values = ScriptValues::of(alloc, script, &link_layout.placement)?;
+        let sorted = symbol_table.sorted(alloc)?;
         Ok(GivenValues { values, sorted })
     }
 }

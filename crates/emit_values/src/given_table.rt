@@ -7,7 +7,7 @@ ghost use Rattle.emit_values.specs.ScriptValues.{value_in};
 use crate::script_values::{ScriptValues, given_name};
 use ldmodel::memory::NoMemory;
 use std::alloc::Global;
-use symres::Naming;
+use symres::SymbolTable;
 
 /// A table of no values.
 fn no_values(alloc: Global, count: usize) -> Result<Vec<Option<u64>>, NoMemory>
@@ -17,12 +17,17 @@ fn no_values(alloc: Global, count: usize) -> Result<Vec<Option<u64>>, NoMemory>
 }
 
 /// Puts a value under the key of a name, if the name has one.
-fn put_given(naming: &Naming, name: &[u8], value: Option<u64>, table: &mut Vec<Option<u64>>)
-    requires { HasPlaces naming.now table.old.items }
-    ensures { IsPut naming.now name.now value table.old.items table.new.items }
+fn put_given(
+    symbol_table: &SymbolTable,
+    name: &[u8],
+    value: Option<u64>,
+    table: &mut Vec<Option<u64>>,
+)
+    requires { HasPlaces symbol_table.now table.old.items }
+    ensures { IsPut symbol_table.now name.now value table.old.items table.new.items }
 {
-    naming.keys_decided();
-    match naming.key_named(name) {
+    symbol_table.keys_decided();
+    match symbol_table.key_named(name) {
         Some(key) => table[key.0] = value,
         None => {}
     }
@@ -36,17 +41,17 @@ fn put_given(naming: &Naming, name: &[u8], value: Option<u64>, table: &mut Vec<O
 /// Where memory runs out.
 pub(crate) fn given_table(
     alloc: Global,
-    naming: &Naming,
+    symbol_table: &SymbolTable,
     values: &ScriptValues<'_>,
 ) -> Result<Vec<Option<u64>>, NoMemory>
-    ensures { IfOk result (λ table. IsGivenTable naming.now (value_in values.now) table.items) }
+    ensures { IfOk result (λ table. IsGivenTable symbol_table.now (value_in values.now) table.items) }
 {
-    naming.keys_decided();
-    let commands = values.script.common_commands(alloc)?;
-    let mut table = no_values(alloc, naming.limit())?;
+    symbol_table.keys_decided();
+    let commands = values.script.all_directives(alloc)?;
+    let mut table = no_values(alloc, symbol_table.limit())?;
     for at in &commands {
         let name = given_name(at.command);
-        put_given(naming, name, values.value(name), &mut table);
+        put_given(symbol_table, name, values.value(name), &mut table);
     }
     Ok(table)
 }

@@ -61,15 +61,15 @@ impl<'a, 'p> Known for LinkView<'a, 'p> {
         if !sees(self.project, object, symbol) {
             return NameKey(0);
         }
-        self.naming.key_of(object.0, symbol)
+        self.symbol_table.key_of(object.0, symbol)
     }
 
     fn name_limit(&self) -> usize {
-        self.naming.limit()
+        self.symbol_table.limit()
     }
 
     fn case(&self, name: NameKey) -> Option<Case> {
-        self.naming.case_of(name)
+        self.symbol_table.case_of(name)
     }
 
     fn script_value(&self, name: NameKey) -> Option<u64> {

@@ -2,7 +2,7 @@
 
 ghost use Rattle.std.specs.Prelude.{◌≡◌, IfOk};
 ghost use Rattle.ldmodel.specs.Layout.{Layout};
-ghost use Rattle.symres.specs.Naming.{IsNaming};
+ghost use Rattle.symres.specs.SymbolTable.{IsSymbolTable};
 ghost use Rattle.place.specs.Arranged.{IsArranged};
 ghost use Rattle.emit_values.specs.Seen.{AreSeen};
 
@@ -12,17 +12,17 @@ use ldmodel::memory::NoMemory;
 use ldmodel_project::view::ProjectView;
 use place::arranged::Arranged;
 use std::alloc::Global;
-use symres::Naming;
+use symres::SymbolTable;
 
 /// A link whose names are decided and whose parts have their places: it is `Known` to the evaluation of relocations.
 #[derive(Drop)]
 pub struct LinkView<'a, 'p> {
     pub(crate) project: &'a ProjectView<'p>,
-    pub(crate) naming: &'a Naming,
+    pub(crate) symbol_table: &'a SymbolTable,
     pub(crate) arranged: &'a Arranged,
     // what the script gives the name of each key
     pub(crate) given: Vec<Option<u64>>,
-    ghost seen: { AreSeen project.now naming.now },
+    ghost seen: { AreSeen project.now symbol_table.now },
 }
 
 impl<'a, 'p> LinkView<'a, 'p> {
@@ -37,18 +37,18 @@ impl<'a, 'p> LinkView<'a, 'p> {
     pub fn new(
         alloc: Global,
         project: &'a ProjectView<'p>,
-        naming: &'a Naming,
+        symbol_table: &'a SymbolTable,
         arranged: &'a Arranged,
         given: &GivenValues<'_>,
     ) -> Result<LinkView<'a, 'p>, NoMemory>
-        requires { IsNaming project.now naming.now }
+        requires { IsSymbolTable project.now symbol_table.now }
         ensures { IfOk result (λ v. (s : Layout) → AreScriptValues s given.now.values
-            → IsArranged project.now s arranged.now → IsLinkView (known_link project.now s naming.now) v) }
+            → IsArranged project.now s arranged.now → IsLinkView (known_link project.now s symbol_table.now) v) }
     {
-        let given = given_table(alloc, naming, &given.values)?;
+        let given = given_table(alloc, symbol_table, &given.values)?;
         Ok(LinkView {
             project,
-            naming,
+            symbol_table,
             arranged,
             given,
         })

@@ -1,20 +1,20 @@
 //! The values that a script gives names, by name.
 
 ghost use Rattle.std.specs.Prelude.{◌≡◌, ◌∷◌, ◌++◌, [], List, IfOk, OnOk};
-ghost use Rattle.ldscript.specs.statements.Numbered.{shown_commons};
-ghost use Rattle.ldscript.specs.statements.Numbering.{common_commands};
+ghost use Rattle.ldscript.specs.statements.Numbered.{shown_directives};
+ghost use Rattle.ldscript.specs.statements.Numbering.{all_directives};
 ghost use Rattle.ldscript.specs.statements.declared.statement.Statement.{Statement};
 ghost use Rattle.ldmodel.specs.Layout.{Layout, ScriptSymbol};
 ghost use Rattle.ldmodel.specs.Lent.{given_name, name_given_by};
 ghost use Rattle.place.specs.sections.Places.{AreOf};
-ghost use Rattle.place.specs.terms.SymbolTable.{AreValuesOf};
+ghost use Rattle.place.specs.terms.SymbolValues.{AreValuesOf};
 ghost use Rattle.emit_values.specs.ScriptValues.{AreScriptValues, value_in};
 
 use ldmodel::impossible::impossible;
 use ldmodel::memory::NoMemory;
-use ldmodel::script_symbol::CommonIndex;
+use ldmodel::script_symbol::DirectiveIndex;
 use ldscript::Script;
-use ldscript::tree::{Common, CommonAt};
+use ldscript::tree::{Directive, DirectiveAt};
 use place::Placement;
 use place::terms::commands::number_in;
 use std::alloc::Global;
@@ -27,18 +27,20 @@ pub(crate) struct ScriptValues<'a> {
 }
 
 /// The name that a command gives a value to; no bytes where it gives none.
-pub(crate) fn given_name(command: &Common) -> &[u8]
+pub(crate) fn given_name(command: &Directive) -> &[u8]
     ensures { result.now ≡ given_name command.now }
 {
     match command {
-        Common::Assign(assignment) | Common::Provide(assignment) => assignment.name.as_bytes(),
-        Common::Assert(_) => &[],
+        Directive::Assign(assignment) | Directive::Provide(assignment) => assignment
+            .name
+            .as_bytes(),
+        Directive::Assert(_) => &[],
     }
 }
 
 /// The name that the command of a number gives a value to; no bytes where there is none.
-fn name_given<'a>(commands: &[CommonAt<'a>], number: CommonIndex) -> &'a [u8]
-    ensures { (script : List Statement) → shown_commons commands.now ≡ common_commands script → result.now
+fn name_given<'a>(commands: &[DirectiveAt<'a>], number: DirectiveIndex) -> &'a [u8]
+    ensures { (script : List Statement) → shown_directives commands.now ≡ all_directives script → result.now
         ≡ name_given_by script number.0 }
 {
     match commands.get(number.0 as usize) {
@@ -87,7 +89,7 @@ impl<'a> ScriptValues<'a> {
     ) -> Result<ScriptValues<'a>, NoMemory>
         ensures { IfOk result (λ v. (s : Layout) → AreOf script.now s placement.now → AreScriptValues s v) }
     {
-        let commands = script.common_commands(alloc)?;
+        let commands = script.all_directives(alloc)?;
         let mut values = vec![in alloc; None; commands.len()]?;
         for symbol in placement.symbols() {
             let name = name_given(&commands, symbol.command);

@@ -21,7 +21,7 @@ use ldmodel::memory::NoMemory;
 use ldmodel::names::{Case, NameKey};
 use ldscript::Script;
 use std::alloc::Global;
-use symres::Naming;
+use symres::SymbolTable;
 
 /// What the symbols of the output are made of.
 #[derive(Clone, Copy)]
@@ -29,7 +29,7 @@ pub(crate) struct Sources<'a> {
     /// The script.
     pub script: &'a Script,
     /// What names stand for.
-    pub naming: &'a Naming,
+    pub symbol_table: &'a SymbolTable,
     /// The values of names under their keys.
     pub names: &'a [SymbolValue],
     /// The values that the script gives names.
@@ -85,12 +85,12 @@ fn add_named<'a>(
     list: &mut Vec<OutputSymbol<'a>>,
 ) -> Result<(), NoMemory>
     ensures { OnOk result ((p : Project) (s : Layout) → AreSources p s sources.now
-        → IsNamed sources.now.naming.now.names key.0 name.now
+        → IsNamed sources.now.symbol_table.now.names key.0 name.now
         → AddsSymbols p s (name.now ∷ []) list.old.items list.new.items) }
 {
     // Each key of a name has a case and a value, so neither error comes up
-    let naming = sources.naming;
-    let Some(case) = naming.case_of(key) else {
+    let symbol_table = sources.symbol_table;
+    let Some(case) = symbol_table.case_of(key) else {
         return Err(impossible());
     };
     let Some(value) = sources.names.get(key.0) else {
@@ -115,9 +115,9 @@ fn add_unnamed<'a>(
     ensures { OnOk result ((p : Project) (s : Layout) → AreSources p s sources.now
         → AddsSymbols p s (name.now ∷ []) list.old.items list.new.items) }
 {
-    let naming = sources.naming;
+    let symbol_table = sources.symbol_table;
     let given = sources.given;
-    let case = naming.case_named(sources.script, name);
+    let case = symbol_table.case_named(sources.script, name);
     let Some(value) = value_by_script(case, given.value(name)) else {
         // A name that an object defines has a key
         return Err(impossible());
@@ -132,7 +132,7 @@ fn add_symbol<'a>(
     list: &mut Vec<OutputSymbol<'a>>,
 ) -> Result<(), NoMemory>
     ensures { OnOk result ((p : Project) (s : Layout) → AreSources p s sources.now
-        → HasKeyOr sources.now.naming.now candidate.now.name.now candidate.now.key
+        → HasKeyOr sources.now.symbol_table.now candidate.now.name.now candidate.now.key
         → AddsSymbols p s (candidate.now.name.now ∷ []) list.old.items list.new.items) }
 {
     match candidate.key {
@@ -143,9 +143,9 @@ fn add_symbol<'a>(
 
 /// Whether two candidates have one name. Where both have keys, these are compared, so that no name is read.
 fn have_one_name(sources: &Sources<'_>, one: &Candidate<'_>, other: &Candidate<'_>) -> bool
-    requires distinct { AreDistinct sources.now.naming.now.names }
-    requires one { HasKeyOr sources.now.naming.now one.now.name.now one.now.key }
-    requires other { HasKeyOr sources.now.naming.now other.now.name.now other.now.key }
+    requires distinct { AreDistinct sources.now.symbol_table.now.names }
+    requires one { HasKeyOr sources.now.symbol_table.now one.now.name.now one.now.key }
+    requires other { HasKeyOr sources.now.symbol_table.now other.now.name.now other.now.key }
     ensures { result ≡ bytes_eq one.now.name.now other.now.name.now }
 {
     match one.key {
@@ -160,7 +160,7 @@ fn have_one_name(sources: &Sources<'_>, one: &Candidate<'_>, other: &Candidate<'
 /// Whether the name at a place is that before it.
 fn is_repeat(sources: &Sources<'_>, candidates: &[Candidate<'_>], place: usize) -> bool
     requires place { place < length candidates.now }
-    requires candidates { AreCandidates sources.now.naming.now sources.now.script.now candidates.now }
+    requires candidates { AreCandidates sources.now.symbol_table.now sources.now.script.now candidates.now }
     ensures { result ≡ is_repeat (names_of candidates.now) place }
 {
     if place == 0 {
@@ -177,7 +177,7 @@ fn add_unless_repeat<'a>(
     list: &mut Vec<OutputSymbol<'a>>,
 ) -> Result<(), NoMemory>
     requires place { place < length candidates.now }
-    requires candidates { AreCandidates sources.now.naming.now sources.now.script.now candidates.now }
+    requires candidates { AreCandidates sources.now.symbol_table.now sources.now.script.now candidates.now }
     ensures { OnOk result ((p : Project) (s : Layout) → AreSources p s sources.now
         → AddsSymbols p s (fresh (names_of candidates.now) place) list.old.items list.new.items) }
 {
@@ -197,7 +197,7 @@ pub(crate) fn symbols_of<'a>(
     sources: &Sources<'_>,
     candidates: &[Candidate<'a>],
 ) -> Result<Vec<OutputSymbol<'a>>, NoMemory>
-    requires { AreCandidates sources.now.naming.now sources.now.script.now candidates.now }
+    requires { AreCandidates sources.now.symbol_table.now sources.now.script.now candidates.now }
     ensures { IfOk result (λ list. (p : Project) (s : Layout) → AreSources p s sources.now → shown list.items
         ≡ output_symbols p s) }
 {

@@ -2,7 +2,7 @@
 
 ghost use Rattle.std.specs.Prelude.{◌≡◌, IfOk};
 ghost use Rattle.ldmodel.specs.Layout.{Layout};
-ghost use Rattle.symres.specs.Naming.{IsNaming};
+ghost use Rattle.symres.specs.SymbolTable.{IsSymbolTable};
 ghost use Rattle.symres.specs.Sorted.{AreSorted};
 ghost use Rattle.ldmodel.specs.SymbolValues.{entry_point};
 ghost use Rattle.emit_relocate.specs.Values.{value_of};
@@ -21,7 +21,7 @@ use ldmodel::memory::NoMemory;
 use ldmodel::names::Case;
 use ldmodel_project::view::ProjectView;
 use std::alloc::Global;
-use symres::Naming;
+use symres::SymbolTable;
 
 /// A symbol of the output: a name that stands for something.
 #[derive(Clone, Copy, Debug)]
@@ -48,18 +48,18 @@ pub struct Values<'a> {
 /// The value of the entry symbol, which is looked up.
 fn entry_value(
     project: &ProjectView<'_>,
-    naming: &Naming,
+    symbol_table: &SymbolTable,
     given: &ScriptValues<'_>,
     link: &LinkView<'_, '_>,
 ) -> SymbolValue
-    ensures { (s : Layout) → IsNaming project.now naming.now → AreScriptValues s given.now
-        → IsLinkView (known_link project.now s naming.now) link.now
+    ensures { (s : Layout) → IsSymbolTable project.now symbol_table.now → AreScriptValues s given.now
+        → IsLinkView (known_link project.now s symbol_table.now) link.now
         → value_of result ≡ entry_point project.now s }
 {
     match project.entry_symbol() {
         None => entry_point(link, None, None),
         Some(name) => {
-            let case = naming.case_named(project.script(), name);
+            let case = symbol_table.case_named(project.script(), name);
             entry_point(link, Some(case), given.value(name))
         }
     }
@@ -74,23 +74,23 @@ impl<'a> Values<'a> {
     pub fn of(
         alloc: Global,
         project: &'a ProjectView<'_>,
-        naming: &'a Naming,
+        symbol_table: &'a SymbolTable,
         link: &LinkView<'_, '_>,
         given: &GivenValues<'a>,
     ) -> Result<Values<'a>, NoMemory>
-        requires naming { IsNaming project.now naming.now }
-        requires sorted { AreSorted naming.now given.now.sorted.items }
+        requires symbol_table { IsSymbolTable project.now symbol_table.now }
+        requires sorted { AreSorted symbol_table.now given.now.sorted.items }
         ensures { IfOk result (λ v. (s : Layout) → AreScriptValues s given.now.values
-            → IsLinkView (known_link project.now s naming.now) link.now
-            → AreValues project.now s naming.now v) }
+            → IsLinkView (known_link project.now s symbol_table.now) link.now
+            → AreValues project.now s symbol_table.now v) }
     {
         let script = project.script();
         let names = name_values(alloc, link)?;
-        let entry = entry_value(project, naming, &given.values, link);
-        let candidates = candidates(alloc, naming, script, &given.sorted)?;
+        let entry = entry_value(project, symbol_table, &given.values, link);
+        let candidates = candidates(alloc, symbol_table, script, &given.sorted)?;
         let sources = Sources {
             script,
-            naming,
+            symbol_table,
             names: &names,
             given: &given.values,
         };

@@ -24,7 +24,7 @@ use Rattle.ldmodel.specs.declared.names.Case.TheVariants as case
 use Rattle.ldmodel.specs.declared.names.Entry as code
 use Rattle.symres.specs.Decided.{case_at}
 use Rattle.symres.specs.Keyed.{AreKeyed}
-use Rattle.symres.specs.Naming.{IsNaming, NamingState}
+use Rattle.symres.specs.SymbolTable.{IsSymbolTable, SymbolTableState}
 use Rattle.symres.specs.table.State.{IsNamed}
 use Rattle.gather.specs.Blocks.{AreBlocksOf, block_here}
 use Rattle.gather.proofs.Merging.{AreOnce, Stands, at, has_number, merged, number, rise}
@@ -172,7 +172,7 @@ owns name i n Provided y h = absurd (cc)
 owns name i n Undefined y h = absurd (cc)
 owns name i n Duplicate y h = absurd (cc)
 
-module _ (p : Project) (a : NamingState) (i : ℕ) (o : NamedObject) (naming : IsNaming p a) (keyed : AreKeyed a)
+module _ (p : Project) (a : SymbolTableState) (i : ℕ) (o : NamedObject) (symbol_table : IsSymbolTable p a) (keyed : AreKeyed a)
     (here : slice_get p.objects i ≡ Some o) where
   -- the name of a key comes to a block of this object
   record IsOwner (k : ℕ) (b : CommonBlock) : Type 0 where
@@ -184,7 +184,7 @@ module _ (p : Project) (a : NamingState) (i : ℕ) (o : NamedObject) (naming : I
   owner : (k : ℕ) (b : CommonBlock) → block_here i (case_at a.cases k) ≡ Some b → IsOwner k b
   owner k b h =
       let c = is_common i (case_at a.cases k) b h in
-      let sound = naming.sound k (case.Common c.owner b.size b.alignment) c.case in
+      let sound = symbol_table.sound k (case.Common c.owner b.size b.alignment) c.case in
       let is : decision p sound.named.0 ≡ Common (record { object = i; symbol = b.symbol.0 }) b.size b.alignment =
       sym (sound.case sound.named.0 sound.named.1)
       ∙ (ap (λ (m : ℕ). Common (record { object = m; symbol = c.owner.symbol }) b.size b.alignment) c.object
@@ -234,7 +234,7 @@ module _ (p : Project) (a : NamingState) (i : ℕ) (o : NamedObject) (naming : I
       same_Some declared.symbol s (sym declared.at ∙ (symbol_in p i n o here ∙ at_n)) in
       let seen : is_local s.symbol.binding ≡ false =
       ap (λ (x : NamedSymbol). is_local x.symbol.binding) (sym same) ∙ declared.seen in
-      let key = keyed.keyed i n (is_seen p a i n o.object naming (object_is p i o here)
+      let key = keyed.keyed i n (is_seen p a i n o.object symbol_table (object_is p i o here)
       (slice_get_within o.object.symbols n s at_n)
       (λ d. ap (λ (x : NamedSymbol). is_local x.symbol.binding) (get_or_from_slice_get o.object.symbols n s d at_n)
       ∙ seen)) in
@@ -242,9 +242,9 @@ module _ (p : Project) (a : NamingState) (i : ℕ) (o : NamedObject) (naming : I
       let at_key : IsNamed a.names key.key s.name =
       subst (λ (x : NamedSymbol). IsNamed a.names key.key x.name) (get_or_from_slice_get o.object.symbols n s s at_n)
       (subst (λ (u : ℕ × List NamedSymbol). IsNamed a.names key.key (get_or u.1 n s).name)
-      (table_at p a i o t naming here) (key.name t s)) in
+      (table_at p a i o t symbol_table here) (key.name t s)) in
       let is : decision_of (λ key. key) key.case.0 ≡ Common (record { object = i; symbol = n }) own.size own.alignment =
-      (naming.sound key.key key.case.0 key.case.1).case s.name at_key ∙ own.is in
+      (symbol_table.sound key.key key.case.0 key.case.1).case s.name at_key ∙ own.is in
       any_found (block_here i) refl (has_number n) a.cases key.key
       (record { symbol = record { 0 = n }; size = own.size; alignment = own.alignment })
       (ap (block_here i) key.case.1

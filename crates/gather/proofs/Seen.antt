@@ -12,7 +12,7 @@ use Rattle.ldmodel.specs.Names.{is_local, symbol_tables}
 use Rattle.ldmodel.specs.Project.{NamedObject, Project}
 use Rattle.ldmodel.specs.declared.names.Case.{Case}
 use Rattle.symres.specs.Decided.{HasCase, case_at}
-use Rattle.symres.specs.Naming.{IsNameAt, IsNaming, IsSeenAt, NamingState}
+use Rattle.symres.specs.SymbolTable.{IsNameAt, IsSymbolTable, IsSeenAt, SymbolTableState}
 use Rattle.symres.specs.table.State.{IsNamed}
 use Rattle.gather.specs.Symbols.{IsCaseOf, IsObjectAt}
 
@@ -32,9 +32,9 @@ pub object_is : (p : Project) (i : ℕ) (o : NamedObject) → slice_get p.object
 object_is p i o h = ap (option_map (λ (x : NamedObject). x.object)) h
 
 -- the symbol table of an object
-pub table_at : (p : Project) (a : NamingState) (i : ℕ) (o : NamedObject) (t : Table) → IsNaming p a
+pub table_at : (p : Project) (a : SymbolTableState) (i : ℕ) (o : NamedObject) (t : Table) → IsSymbolTable p a
     → slice_get p.objects i ≡ Some o → get_or a.objects i t ≡ (i, o.object.symbols)
-table_at p a i o t naming e =
+table_at p a i o t symbol_table e =
     let within : i < length p.objects = slice_get_within p.objects i o e in
     let tables : List (List NamedSymbol) = symbol_tables p.objects in
     let many : length (symbol_tables p.objects) ≡ length p.objects =
@@ -43,17 +43,17 @@ table_at p a i o t naming e =
     let here : get_or (symbol_tables p.objects) i t.1 ≡ o.object.symbols =
     get_or-map (λ (o : NamedObject). o.object.symbols) p.objects i o t.1 within
     ∙ ap (λ (x : NamedObject). x.object.symbols) (get_or_from_slice_get p.objects i o o e) in
-    ap (λ (ts : List Table). get_or ts i t) naming.objects
+    ap (λ (ts : List Table). get_or ts i t) symbol_table.objects
     ∙ (get_or-enumerate_from 0 (symbol_tables p.objects) i t (omega (arith, many, within))
     ∙ (ap (λ (n : ℕ). let u : Table = (n, get_or (symbol_tables p.objects) i t.1) in u) from_0
     ∙ ap (λ (ss : List NamedSymbol). let u : Table = (i, ss) in u) here))
 
-module _ (p : Project) (a : NamingState) (i n : ℕ) (object : ObjectData) (naming : IsNaming p a)
+module _ (p : Project) (a : SymbolTableState) (i n : ℕ) (object : ObjectData) (symbol_table : IsSymbolTable p a)
     (at : IsObjectAt p i object) where
   symbols_at : (t : Table) → (get_or a.objects i t).1 ≡ object.symbols
   symbols_at t =
       let o = object_at p i object at in
-      ap (λ (u : Table). u.1) (table_at p a i o.0 t naming o.1) ∙ ap (λ (x : ObjectData). x.symbols) o.2
+      ap (λ (u : Table). u.1) (table_at p a i o.0 t symbol_table o.1) ∙ ap (λ (x : ObjectData). x.symbols) o.2
 
   pub is_seen : n < length object.symbols
       → ((d : NamedSymbol) → is_local (get_or object.symbols n d).symbol.binding ≡ false) → IsSeenAt a.objects i n
@@ -61,7 +61,7 @@ module _ (p : Project) (a : NamingState) (i n : ℕ) (object : ObjectData) (nami
       let o = object_at p i object at in
       let within : i < length p.objects = slice_get_within p.objects i o.0 o.1 in
       let many : length a.objects ≡ length p.objects =
-      ap length naming.objects ∙ (length-enumerate_from 0 (symbol_tables p.objects)
+      ap length symbol_table.objects ∙ (length-enumerate_from 0 (symbol_tables p.objects)
       ∙ length-map p.objects (λ (o : NamedObject). o.object.symbols)) in
       record {
         within = omega (arith, within, many);
@@ -79,7 +79,7 @@ module _ (p : Project) (a : NamingState) (i n : ℕ) (object : ObjectData) (nami
       let t : Table = (i, object.symbols) in
       let named : IsNamed a.names key s.name =
       subst (λ (ss : List NamedSymbol). IsNamed a.names key (get_or ss n d).name) (symbols_at t) (name t d) in
-      subst (IsCaseOf p s) (sym (is ∙ has.1)) (seen, (naming.sound key has.0 has.1).case s.name named)
+      subst (IsCaseOf p s) (sym (is ∙ has.1)) (seen, (symbol_table.sound key has.0 has.1).case s.name named)
 
 -- whether a symbol is local
 pub declared : (object : ObjectData) (shown : List Symbol) (n : ℕ) (x : Symbol) (b : Bool) (d : NamedSymbol)

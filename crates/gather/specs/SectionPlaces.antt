@@ -12,7 +12,7 @@ use Rattle.ldmodel.specs.Live.{is_section, refers_to, target_section}
 use Rattle.ldmodel.specs.Project.{Project}
 use Rattle.ldmodel.specs.Sections.{InputSection, SectionId, is_same_part}
 use Rattle.ldmodel.specs.declared.sections.SectionKey.{SectionKey}
-use Rattle.symres.specs.Naming.{IsNaming, NamingState}
+use Rattle.symres.specs.SymbolTable.{IsSymbolTable, SymbolTableState}
 use Rattle.gather.specs.declared.places.Places.{Places}
 use Rattle.gather_sections.specs.SectionTable.{number_of}
 use Rattle.gather_sections.specs.declared.section_table.SectionId as code
@@ -68,8 +68,8 @@ abbrev pub Refers : Project → ℕ → ℕ → Type 0
 Refers p a b = (s t : InputSection) → IsSectionAt p a s → IsSectionAt p b t → IsTrue (refers_to p s t)
 
 -- the parts by which references are found are those of the project
-pub record AreProjectReferences (p : Project) (naming : NamingState) (places : Places) (xs : List Gathered)
+pub record AreProjectReferences (p : Project) (symbol_table : SymbolTableState) (places : Places) (xs : List Gathered)
     : Type 0 where
-  pub named : IsNaming p naming
+  pub named : IsSymbolTable p symbol_table
   pub sections : AreGathered p xs
   pub placed : AreProjectPlaces p (place_in places)

@@ -4,7 +4,7 @@ ghost use Rattle.std.specs.Prelude.{◌≡◌, ◌<◌, ◌++◌, ℕ, [], IfOk,
 ghost use Rattle.std.specs.List.{filter_map};
 ghost use Rattle.gather.specs.Blocks.{AreBlocks, IsInOrder, block_here, block_rank, blocks_at};
 ghost use Rattle.ldmodel.specs.Project.{Project};
-ghost use Rattle.symres.specs.Naming.{IsNaming};
+ghost use Rattle.symres.specs.SymbolTable.{IsSymbolTable};
 ghost use Rattle.gather_sections.specs.SectionTable.{AreBlockRanks};
 
 use elfobj::relocation::SymbolIndex;
@@ -13,7 +13,7 @@ use ldmodel::memory::NoMemory;
 use ldmodel::names::{Case, NameKey};
 use ldmodel_project::view::ProjectView;
 use std::alloc::Global;
-use symres::Naming;
+use symres::SymbolTable;
 
 /// A common block.
 #[derive(Clone, Copy, Debug, PartialEq, Eq)]
@@ -75,16 +75,16 @@ fn add_if_named(all: &mut Vec<Vec<CommonBlock>>, case: Option<Case>) -> Result<(
 /// The common blocks that names stand for, each with the object that owns it, of this many objects.
 fn collected(
     alloc: Global,
-    naming: &Naming,
+    symbol_table: &SymbolTable,
     count: usize,
 ) -> Result<Vec<Vec<CommonBlock>>, NoMemory>
     ensures len { IfOk result (λ all. length all.items ≡ count) }
     ensures blocks { IfOk result (λ all. (i : ℕ) → i < count → blocks_at all.items i
-        ≡ filter_map (block_here i) naming.now.cases) }
+        ≡ filter_map (block_here i) symbol_table.now.cases) }
 {
     let mut all = no_blocks(alloc, count)?;
-    for key in 0..naming.limit() {
-        add_if_named(&mut all, naming.case_of(NameKey(key)))?;
+    for key in 0..symbol_table.limit() {
+        add_if_named(&mut all, symbol_table.case_of(NameKey(key)))?;
     }
     Ok(all)
 }
@@ -115,14 +115,14 @@ fn sort_all(all: &mut Vec<Vec<CommonBlock>>)
 pub(crate) fn common_blocks(
     alloc: Global,
     project: &ProjectView<'_>,
-    naming: &Naming,
+    symbol_table: &SymbolTable,
 ) -> Result<Vec<Vec<CommonBlock>>, NoMemory>
-    requires { IsNaming project.now naming.now }
+    requires { IsSymbolTable project.now symbol_table.now }
     ensures { IfOk result (λ all. AreBlocks project.now all.items) }
 {
-    let mut all = collected(alloc, naming, project.inputs().len())?;
+    let mut all = collected(alloc, symbol_table, project.inputs().len())?;
     sort_all(&mut all);
-    naming.all_keyed();
+    symbol_table.all_keyed();
     Ok(all)
 }
 

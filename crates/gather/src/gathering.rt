@@ -7,7 +7,7 @@ ghost use Rattle.gather.specs.Gathering.{IsGathering};
 ghost use Rattle.gather.specs.ProjectMatches.{AreMatched};
 ghost use Rattle.ldmodel.specs.InputSections.{input_sections};
 ghost use Rattle.ldmodel.specs.Live.{live};
-ghost use Rattle.symres.specs.Naming.{IsNaming};
+ghost use Rattle.symres.specs.SymbolTable.{IsSymbolTable};
 ghost use Rattle.gather_sections.specs.SectionTable.{IsTableOf};
 
 use crate::blocks::{block_ranks, common_blocks};
@@ -24,7 +24,7 @@ use ldmodel::sections::SectionKey;
 use ldmodel_laws::gathering::live_by_path;
 use ldmodel_project::view::ProjectView;
 use std::alloc::Global;
-use symres::Naming;
+use symres::SymbolTable;
 
 /// What gathering finds: the numbers of the input sections, the row of each output section, and the orphans.
 #[derive(Drop)]
@@ -70,20 +70,20 @@ impl Gathering {
     pub fn of(
         alloc: Global,
         project: &ProjectView<'_>,
-        naming: &Naming,
+        symbol_table: &SymbolTable,
         matches: &[&Matches],
     ) -> Result<Gathering, NoMemory>
-        requires naming { IsNaming project.now naming.now }
+        requires symbol_table { IsSymbolTable project.now symbol_table.now }
         requires matches { AreMatched project.now (map (λ x. x.now) matches.now) }
         ensures { IfOk result (λ g. IsGathering project.now g) }
     {
-        let blocks = common_blocks(alloc, project, naming)?;
+        let blocks = common_blocks(alloc, project, symbol_table)?;
         let sections = input_sections(alloc, project, matches, &blocks)?;
         let options = project.options();
         let out = left_out(alloc, project.script(), options.orphans(), &sections)?;
         let ranks = block_ranks(alloc, &blocks)?;
         let table = SectionTable::of(alloc, project, ranks)?;
-        let marks = mark_live(alloc, project, naming, &table, &sections, &out)?;
+        let marks = mark_live(alloc, project, symbol_table, &table, &sections, &out)?;
         sorted_out(alloc, project, &sections, &marks, table)
     }
 }

@@ -6,7 +6,7 @@ ghost use Rattle.gather.specs.LiveMarks.{marked};
 ghost use Rattle.ldmodel.specs.Gathering.{is_out};
 ghost use Rattle.ldmodel.specs.InputSections.{input_sections};
 ghost use Rattle.ldmodel.specs.Live.{live};
-ghost use Rattle.symres.specs.Naming.{IsNaming};
+ghost use Rattle.symres.specs.SymbolTable.{IsSymbolTable};
 ghost use Rattle.gather_sections.specs.SectionTable.{IsTableOf};
 
 use crate::gathered::Gathered;
@@ -20,19 +20,19 @@ use gather_sections::section_table::SectionTable;
 use ldmodel::memory::NoMemory;
 use ldmodel_project::view::ProjectView;
 use std::alloc::Global;
-use symres::Naming;
+use symres::SymbolTable;
 
 /// Marks the sections that the program needs. `out` says of each whether it is left out. The relocations of the other
 /// sections are not gone through.
 fn mark_needed(
     alloc: Global,
     project: &ProjectView<'_>,
-    naming: &Naming,
+    symbol_table: &SymbolTable,
     table: &SectionTable,
     sections: &[Gathered],
     out: &[bool],
 ) -> Result<Vec<bool>, NoMemory>
-    requires naming { IsNaming project.now naming.now }
+    requires symbol_table { IsSymbolTable project.now symbol_table.now }
     requires table { IsTableOf project.now table.now }
     requires collected { project.now.options.gc ≡ true }
     requires sections { AreGathered project.now sections.now }
@@ -44,11 +44,11 @@ fn mark_needed(
         table: &*table,
         places: &column,
     };
-    let entry = places.find(entry_section(project, naming));
+    let entry = places.find(entry_section(project, symbol_table));
     let roots = roots(alloc, project.script(), sections, entry)?;
     let references = ProjectReferences {
         project,
-        naming,
+        symbol_table,
         places: &places,
         sections,
     };
@@ -63,12 +63,12 @@ fn mark_needed(
 pub(crate) fn mark_live(
     alloc: Global,
     project: &ProjectView<'_>,
-    naming: &Naming,
+    symbol_table: &SymbolTable,
     table: &SectionTable,
     sections: &[Gathered],
     out: &[bool],
 ) -> Result<Vec<bool>, NoMemory>
-    requires naming { IsNaming project.now naming.now }
+    requires symbol_table { IsSymbolTable project.now symbol_table.now }
     requires table { IsTableOf project.now table.now }
     requires sections { AreGathered project.now sections.now }
     requires out { out.now ≡ map (is_out project.now) (input_sections project.now) }
@@ -76,7 +76,7 @@ pub(crate) fn mark_live(
 {
     let options = project.options();
     if options.gc() {
-        mark_needed(alloc, project, naming, table, sections, out)
+        mark_needed(alloc, project, symbol_table, table, sections, out)
     } else {
         not_out(alloc, out)
     }

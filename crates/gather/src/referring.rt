@@ -8,7 +8,7 @@ ghost use Rattle.gather.specs.Found.{relocations_of};
 ghost use Rattle.gather.specs.SectionPlaces.{AddsTargets, AreProjectPlaces, AreProjectReferences, Refers, place_in};
 ghost use Rattle.gather.specs.Symbols.{IsObjectAt};
 ghost use Rattle.ldmodel.specs.InputSections.{input_sections};
-ghost use Rattle.symres.specs.Naming.{IsNaming};
+ghost use Rattle.symres.specs.SymbolTable.{IsSymbolTable};
 
 use crate::gathered::Gathered;
 use crate::places::Places;
@@ -19,7 +19,7 @@ use elfobj::{Object, Relocation};
 use ldmodel::memory::NoMemory;
 use ldmodel::sections::Part;
 use ldmodel_project::view::ProjectView;
-use symres::Naming;
+use symres::SymbolTable;
 
 /// Adds the number of a section, if there is one.
 fn add_number(targets: &mut Vec<usize>, number: Option<usize>) -> Result<(), NoMemory>
@@ -50,20 +50,20 @@ fn relocations_at(object: &Object, number: SectionIndex) -> &[Relocation]
 /// Adds the numbers of the sections that these relocations of the object at a place refer to.
 fn add_targets(
     project: &ProjectView<'_>,
-    naming: &Naming,
+    symbol_table: &SymbolTable,
     places: &Places<'_>,
     place: usize,
     object: &Object,
     relocations: &[Relocation],
     targets: &mut Vec<usize>,
 ) -> Result<(), NoMemory>
-    requires naming { IsNaming project.now naming.now }
+    requires symbol_table { IsSymbolTable project.now symbol_table.now }
     requires object { IsObjectAt project.now place object.now }
     requires places { AreProjectPlaces project.now (place_in places.now) }
     ensures { OnOk result (AddsTargets project.now place relocations.now targets.old.items targets.new.items) }
 {
     for relocation in relocations {
-        let section = target_section(project, naming, place, object, relocation);
+        let section = target_section(project, symbol_table, place, object, relocation);
         add_number(targets, places.find(section))?;
     }
     Ok(())
@@ -72,12 +72,12 @@ fn add_targets(
 /// Adds the numbers of the sections that an input section refers to.
 fn add_row(
     project: &ProjectView<'_>,
-    naming: &Naming,
+    symbol_table: &SymbolTable,
     places: &Places<'_>,
     section: &Gathered,
     targets: &mut Vec<usize>,
 ) -> Result<(), NoMemory>
-    requires naming { IsNaming project.now naming.now }
+    requires symbol_table { IsSymbolTable project.now symbol_table.now }
     requires places { AreProjectPlaces project.now (place_in places.now) }
     ensures { OnOk result (AddsTargets project.now section.now.section.object.0
         (relocations_of project.now section.now.section.object.0 section.now.section.part)
@@ -89,7 +89,15 @@ fn add_row(
             Some(object) => {
                 let relocations = relocations_at(object, number);
                 let place = key.object.0;
-                add_targets(project, naming, places, place, object, relocations, targets)
+                add_targets(
+                    project,
+                    symbol_table,
+                    places,
+                    place,
+                    object,
+                    relocations,
+                    targets,
+                )
             }
             None => Ok(()),
         },
@@ -102,13 +110,13 @@ fn add_row(
 #[derive(Drop)]
 pub(crate) struct ProjectReferences<'a, 'p> {
     pub(crate) project: &'a ProjectView<'p>,
-    pub(crate) naming: &'a Naming,
+    pub(crate) symbol_table: &'a SymbolTable,
     pub(crate) places: &'a Places<'a>,
     pub(crate) sections: &'a [Gathered],
 }
 
 impl<'a, 'p> References for ProjectReferences<'a, 'p> {
-    ghost can_find = { λ r. AreProjectReferences r.project.now r.naming.now r.places.now r.sections.now };
+    ghost can_find = { λ r. AreProjectReferences r.project.now r.symbol_table.now r.places.now r.sections.now };
 
     ghost count = { λ r. length (input_sections r.project.now) };
 
@@ -117,6 +125,12 @@ impl<'a, 'p> References for ProjectReferences<'a, 'p> {
     fn find_targets(&self, section: usize, targets: &mut Vec<usize>) -> Result<(), NoMemory> {
         targets.clear();
         let section = &self.sections[section];
-        add_row(self.project, self.naming, self.places, section, targets)
+        add_row(
+            self.project,
+            self.symbol_table,
+            self.places,
+            section,
+            targets,
+        )
     }
 }

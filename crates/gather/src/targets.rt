@@ -7,7 +7,7 @@ ghost use Rattle.gather.specs.Symbols.{IsObjectAt};
 ghost use Rattle.ldmodel.specs.HandedOver.{decision_of, entry_of, section_id};
 ghost use Rattle.ldmodel.specs.Live.{entry_section, section_of_place, section_of_decision, section_of_entry};
 ghost use Rattle.ldmodel.specs.Live.{section_of_symbol, symbol_at};
-ghost use Rattle.symres.specs.Naming.{IsNaming};
+ghost use Rattle.symres.specs.SymbolTable.{IsSymbolTable};
 
 use crate::cases::case_of_symbol;
 use elfobj::Object;
@@ -16,7 +16,7 @@ use elfobj::symbol::SymbolPlace;
 use ldmodel::names::{Case, Entry, ObjectPlace};
 use ldmodel::sections::{Part, SectionKey};
 use ldmodel_project::view::ProjectView;
-use symres::Naming;
+use symres::SymbolTable;
 
 /// The section that a symbol of the object at a place is defined in, if it is in one.
 fn section_at(place: usize, at: SymbolPlace) -> Option<SectionKey>
@@ -74,12 +74,12 @@ fn section_of_case(project: &ProjectView<'_>, case: Case) -> Option<SectionKey>
 /// The section that a relocation of the object at a place refers to, if its target is in one. The time is constant.
 pub(crate) fn target_section(
     project: &ProjectView<'_>,
-    naming: &Naming,
+    symbol_table: &SymbolTable,
     place: usize,
     object: &Object,
     relocation: &Relocation,
 ) -> Option<SectionKey>
-    requires naming { IsNaming project.now naming.now }
+    requires symbol_table { IsSymbolTable project.now symbol_table.now }
     requires object { IsObjectAt project.now place object.now }
     ensures { option_map (section_id (λ key. key)) result
         ≡ option_and_then (section_of_symbol project.now place) (symbol_at project.now place relocation.now.symbol.0) }
@@ -89,7 +89,7 @@ pub(crate) fn target_section(
     if number >= symbols.len() {
         return None;
     }
-    match case_of_symbol(project, naming, place, object, number) {
+    match case_of_symbol(project, symbol_table, place, object, number) {
         Some(case) => section_of_case(project, case),
         None => section_at(place, symbols[number].place),
     }
@@ -97,12 +97,15 @@ pub(crate) fn target_section(
 
 /// The section of the entry symbol, if it is in one. The symbol's name is hashed and looked up.
 #[tactic(auto, unfolding(ldmodel::specs::Live::entry_section))]
-pub(crate) fn entry_section(project: &ProjectView<'_>, naming: &Naming) -> Option<SectionKey>
-    requires { IsNaming project.now naming.now }
+pub(crate) fn entry_section(
+    project: &ProjectView<'_>,
+    symbol_table: &SymbolTable,
+) -> Option<SectionKey>
+    requires { IsSymbolTable project.now symbol_table.now }
     ensures { option_map (section_id (λ key. key)) result ≡ entry_section project.now }
 {
     match project.entry_symbol() {
-        Some(name) => section_of_case(project, naming.case_named(project.script(), name)),
+        Some(name) => section_of_case(project, symbol_table.case_named(project.script(), name)),
         None => None,
     }
 }

@@ -4,17 +4,17 @@ use Rattle.std.specs.Prelude.{◌≡◌, ℕ, List, [], map, flat_map, Some, sli
 use Rattle.std.specs.List.{enumerate_from, last_or, AllZip}
 use Rattle.std.specs.Option.{option_map_or}
 use Rattle.byteorder.specs.Endian.{little_bytes}
-use Rattle.ldscript.specs.statements.Numbering.{CommonAt, common_commands}
+use Rattle.ldscript.specs.statements.Numbering.{DirectiveAt, all_directives}
 use Rattle.ldscript.specs.statements.Widths.{byte_count}
-use Rattle.ldscript.specs.statements.declared.common.Common.{Common}
-use Rattle.ldscript.specs.statements.declared.common.Common.TheVariants as common
+use Rattle.ldscript.specs.statements.declared.directive.Directive.{Directive}
+use Rattle.ldscript.specs.statements.declared.directive.Directive.TheVariants as directive
 use Rattle.ldscript.specs.statements.declared.statement.Statement.{Statement}
 use Rattle.ldmodel.specs.Layout.{Layout, MemoryRegion, PlacedPiece, PlacedSection, PlacedData, ScriptSymbol}
 use Rattle.ldmodel.specs.Segments.{Segment, segment_start, segment_load, file_size, memory_size}
-use Rattle.ldmodel.specs.declared.laid.Laid.{Laid}
-use Rattle.ldmodel.specs.declared.laid.Placed.{Placed}
-use Rattle.ldmodel.specs.declared.laid.PlacedData as code_data
-use Rattle.ldmodel.specs.declared.laid.PlacedRegion.{PlacedRegion}
+use Rattle.ldmodel.specs.declared.placed.PlacementView.{PlacementView}
+use Rattle.ldmodel.specs.declared.placed.Placed.{Placed}
+use Rattle.ldmodel.specs.declared.placed.PlacedData as code_data
+use Rattle.ldmodel.specs.declared.placed.PlacedRegion.{PlacedRegion}
 use Rattle.ldmodel.specs.declared.script_symbol.ScriptSymbol as code_symbol
 use Rattle.ldmodel.specs.declared.segment.Segment as code
 
@@ -46,15 +46,15 @@ numbered q = map (λ (d : PlacedData). record { section = q.0; start = d.start; 
 abbrev pub data_of : code_data.PlacedData → NumberedData
 data_of d = record { section = d.section.0; start = d.start; bytes = little_bytes (byte_count d.width) d.value }
 
-abbrev pub given_name : Common → List ℕ
-given_name (common.Assign a) = a.name
-given_name (common.Provide a) = a.name
-given_name (common.Assert a) = []
+abbrev pub given_name : Directive → List ℕ
+given_name (directive.Assign a) = a.name
+given_name (directive.Provide a) = a.name
+given_name (directive.Assert a) = []
 
 -- the name that a command gives a value to
 abbrev pub name_given_by : List Statement → ℕ → List ℕ
 name_given_by script k =
-    option_map_or (λ (c : CommonAt). given_name c.command) (slice_get (common_commands script) k) []
+    option_map_or (λ (c : DirectiveAt). given_name c.command) (slice_get (all_directives script) k) []
 
 abbrev pub symbol_of : List Statement → code_symbol.ScriptSymbol → ScriptSymbol
 symbol_of script x = record { name = name_given_by script x.command.0; value = x.value }
@@ -63,13 +63,13 @@ abbrev pub region_of : MemoryRegion → PlacedRegion
 region_of r = record { origin = r.origin; extent = r.extent }
 
 -- what is lent is the layout of a script
-pub record IsLaid (script : List Statement) (s : Layout) (laid : Laid) : Type 0 where
-  pub sections : laid.sections.now ≡ map placed_of s.sections
-  pub starts : laid.starts.now ≡ flat_map starts_of s.sections
-  pub data_commands : map data_of laid.data_commands.now ≡ flat_map numbered (enumerate_from 0 s.sections)
-  pub dots : laid.dots.now ≡ s.dots
-  pub symbols : map (symbol_of script) laid.symbols.now ≡ s.symbols
-  pub regions : laid.regions.now ≡ map region_of s.regions
+pub record IsPlacementView (script : List Statement) (s : Layout) (view : PlacementView) : Type 0 where
+  pub sections : view.sections.now ≡ map placed_of s.sections
+  pub starts : view.starts.now ≡ flat_map starts_of s.sections
+  pub data_commands : map data_of view.data_commands.now ≡ flat_map numbered (enumerate_from 0 s.sections)
+  pub dots : view.dots.now ≡ s.dots
+  pub symbols : map (symbol_of script) view.symbols.now ≡ s.symbols
+  pub regions : view.regions.now ≡ map region_of s.regions
 
 -- a segment of the code
 pub record IsSegment (sections : List PlacedSection) (g : Segment) (x : code.Segment) : Type 0 where

@@ -4,10 +4,10 @@ use Rattle.std.specs.Prelude.{ℕ, List, [], ◌∷◌, ◌++◌, flat_map, Opti
 use Rattle.ldscript.specs.terms.Expressions.{Expr, Number, Dot, Name, Unary, Binary, Choice, OfRegion, OfSection}
 use Rattle.ldscript.specs.terms.Expressions.{AlignDot}
 use Rattle.ldscript.specs.terms.Expressions.{Align}
-use Rattle.ldscript.specs.statements.declared.common.Common.{Common}
-use Rattle.ldscript.specs.statements.declared.common.Common.TheVariants as common
-use Rattle.ldscript.specs.statements.declared.common.DotCommand.{DotCommand}
-use Rattle.ldscript.specs.statements.declared.common.DotCommand.TheVariants.{Set, Add}
+use Rattle.ldscript.specs.statements.declared.directive.Directive.{Directive}
+use Rattle.ldscript.specs.statements.declared.directive.Directive.TheVariants as directive
+use Rattle.ldscript.specs.statements.declared.directive.DotCommand.{DotCommand}
+use Rattle.ldscript.specs.statements.declared.directive.DotCommand.TheVariants.{Set, Add}
 use Rattle.ldscript.specs.statements.declared.section.BodyCommand.{BodyCommand}
 use Rattle.ldscript.specs.statements.declared.section.BodyCommand.TheVariants as body
 use Rattle.ldscript.specs.statements.declared.section.BodyStatement.{BodyStatement}
@@ -37,10 +37,10 @@ abbrev pub in_optional : Option Expr → List (List ℕ)
 in_optional None = []
 in_optional (Some e) = in_expression e
 
-abbrev pub in_common : Common → List (List ℕ)
-in_common (common.Assign a) = in_expression a.value
-in_common (common.Provide a) = in_expression a.value
-in_common (common.Assert a) = in_expression a.condition
+abbrev pub in_directive : Directive → List (List ℕ)
+in_directive (directive.Assign a) = in_expression a.value
+in_directive (directive.Provide a) = in_expression a.value
+in_directive (directive.Assert a) = in_expression a.condition
 
 abbrev pub in_dot_command : DotCommand → List (List ℕ)
 in_dot_command (Set e) = in_expression e
@@ -48,7 +48,7 @@ in_dot_command (Add e) = in_expression e
 
 abbrev pub in_body_command : BodyCommand → List (List ℕ)
 in_body_command (body.Dot c) = in_dot_command c
-in_body_command (body.Common c) = in_common c
+in_body_command (body.Directive c) = in_directive c
 in_body_command (body.Data w e) = in_expression e
 in_body_command (body.Input i) = []
 
@@ -59,7 +59,7 @@ in_section o =
 
 abbrev pub in_item : ItemCommand → List (List ℕ)
 in_item (item.Dot c) = in_dot_command c
-in_item (item.Common c) = in_common c
+in_item (item.Directive c) = in_directive c
 in_item (item.Section o) = in_section o
 in_item (item.Discard inputs) = []
 
@@ -67,7 +67,7 @@ abbrev pub in_command : Command → List (List ℕ)
 in_command (top.Entry n) = []
 in_command (top.Memory regions) = flat_map (λ (r : Region). in_expression r.origin ++ in_expression r.extent) regions
 in_command (top.Sections items) = flat_map (λ (i : Item). in_item i.command) items
-in_command (top.Common c) = in_common c
+in_command (top.Directive c) = in_directive c
 
 unfoldable pub mentioned_names : List Statement → List (List ℕ)
 mentioned_names script = flat_map (λ (s : Statement). in_command s.command) script

@@ -9,7 +9,7 @@
 --   `section_end`   its size, load size and flags, and whether its regions have room
 --   `body_step`     a statement of its body: `.`, an assignment, a data command, or an input statement
 --   `head_of`       its alignment, then its start, then its load address, each with its fault
---   `common_step`   an assignment of a symbol, a PROVIDE, an ASSERT
+--   `directive_step`   an assignment of a symbol, a PROVIDE, an ASSERT
 --
 -- The first fault ends the pass. `Layout` has what a layout is, and `number` and `address`, which give most faults.
 use Rattle.std.specs.Prelude.{ℕ, ◌+◌, ◌-◌, max, List, [], ◌∷◌, ◌++◌, length, map, filter, slice_index_or, Option, Some}
@@ -23,11 +23,11 @@ use Rattle.elfobj.specs.declared.section.SectionKind.{SectionKind}
 use Rattle.elfobj.specs.declared.section.SectionKind.TheVariants.{Nobits}
 use Rattle.elfobj.specs.file.declared.constants.TheConstants.{SHF_WRITE, SHF_EXECINSTR}
 use Rattle.ldscript.specs.statements.Widths.{byte_count}
-use Rattle.ldscript.specs.statements.declared.common.Assignment.{Assignment}
-use Rattle.ldscript.specs.statements.declared.common.Common.{Common}
-use Rattle.ldscript.specs.statements.declared.common.Common.TheVariants as common
-use Rattle.ldscript.specs.statements.declared.common.DotCommand.{DotCommand}
-use Rattle.ldscript.specs.statements.declared.common.DotCommand.TheVariants.{Set, Add}
+use Rattle.ldscript.specs.statements.declared.directive.Assignment.{Assignment}
+use Rattle.ldscript.specs.statements.declared.directive.Directive.{Directive}
+use Rattle.ldscript.specs.statements.declared.directive.Directive.TheVariants as directive
+use Rattle.ldscript.specs.statements.declared.directive.DotCommand.{DotCommand}
+use Rattle.ldscript.specs.statements.declared.directive.DotCommand.TheVariants.{Set, Add}
 use Rattle.ldscript.specs.statements.declared.section.BodyCommand.{BodyCommand}
 use Rattle.ldscript.specs.statements.declared.section.BodyCommand.TheVariants as body
 use Rattle.ldscript.specs.statements.declared.section.BodyStatement.{BodyStatement}
@@ -60,10 +60,10 @@ assigned s line a = and_then (number s line a.value) (λ x. Ok (with_symbol s a.
 
 -- NAME = e; PROVIDE(NAME = e), which does nothing where it is not in force; ASSERT, which is tested at the end of the
 -- link
-unfoldable pub common_step : List (List ℕ) → Layout → ℕ → Common → Result Layout Fault
-common_step provided s line (common.Assign a) = assigned s line a
-common_step provided s line (common.Provide a) = if list_any (bytes_eq a.name) provided then assigned s line a else Ok s
-common_step provided s line (common.Assert a) = Ok s
+unfoldable pub directive_step : List (List ℕ) → Layout → ℕ → Directive → Result Layout Fault
+directive_step provided s line (directive.Assign a) = assigned s line a
+directive_step provided s line (directive.Provide a) = if list_any (bytes_eq a.name) provided then assigned s line a else Ok s
+directive_step provided s line (directive.Assert a) = Ok s
 
 -- THE HEAD of an output section: its alignment, start and load address (GNU ld manual, "Output Section Address",
 -- "Output Section LMA" and "Forced Output Alignment"). In its expressions `.` is the value before the section. That an
@@ -239,8 +239,8 @@ dot_step line b (Set e) = set_to line b (dot_form e)
 
 unfoldable pub body_command_step : List (List ℕ) → ℕ → Body → BodyCommand → Result Body Fault
 body_command_step provided line b (body.Dot c) = dot_step line b c
-body_command_step provided line b (body.Common c) =
-    and_then (common_step provided b.layout line c) (λ s. Ok (record b { layout = s }))
+body_command_step provided line b (body.Directive c) =
+    and_then (directive_step provided b.layout line c) (λ s. Ok (record b { layout = s }))
 body_command_step provided line b (body.Data w e) = data_step line b w e
 body_command_step provided line b (body.Input i) = input_step line b
 
@@ -377,7 +377,7 @@ next_row rows s = slice_index_or rows (length s.sections) []
 
 unfoldable pub item_command_step : List (List Piece) → List (List ℕ) → ℕ → Layout → ItemCommand → Result Layout Fault
 item_command_step rows provided line s (item.Dot c) = free_dot_step s line c
-item_command_step rows provided line s (item.Common c) = common_step provided s line c
+item_command_step rows provided line s (item.Directive c) = directive_step provided s line c
 item_command_step rows provided line s (item.Section o) = section_step provided (next_row rows s) s line o
 item_command_step rows provided line s (item.Discard inputs) = Ok (record s { inputs = s.inputs + length inputs })
 
@@ -389,7 +389,7 @@ unfoldable pub command_step : List (List Piece) → List (List ℕ) → ℕ → 
 command_step rows provided line s (top.Entry name) = Ok s
 command_step rows provided line s (top.Memory regions) = run region_step s regions
 command_step rows provided line s (top.Sections items) = run (item_step rows provided) s items
-command_step rows provided line s (top.Common c) = common_step provided s line c
+command_step rows provided line s (top.Directive c) = directive_step provided s line c
 
 -- a statement of the script
 abbrev pub statement_step : List (List Piece) → List (List ℕ) → Layout → Statement → Result Layout Fault

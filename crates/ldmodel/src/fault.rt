@@ -1,8 +1,8 @@
 //! The faults of a link, as layers hand them on: small values without names, which stand for those of the definitions
 //! (`specs/FaultCode.antt`). A name is found by the number or key that a fault has in its place.
 
-use crate::laid::{OutputIndex, RegionIndex};
 use crate::names::{Entry, ObjectPlace};
+use crate::placed::{OutputIndex, RegionIndex};
 use crate::sections::SectionKey;
 use elfobj::section::SectionIndex;
 

@@ -2,7 +2,7 @@
 //! that the layers of a link hand one another.
 //!
 //! - `edit`, `options`, `linker`: edits, their answers and limits; options; the trait of linkers;
-//! - `names`, `sections`, `rows`, `laid`, `segment`, `target`, `fault`, `script_symbol`: what layers hand one another;
+//! - `names`, `sections`, `rows`, `placed`, `segment`, `target`, `fault`, `script_symbol`: what layers hand one another;
 //! - `given`: what a script makes of a name; `impossible`: the error of a case that cannot come up.
 #![tactic(auto)]
 
@@ -10,10 +10,10 @@ pub mod edit;
 pub mod fault;
 pub mod given;
 pub mod impossible;
-pub mod laid;
 pub mod linker;
 pub mod names;
 pub mod options;
+pub mod placed;
 pub mod rows;
 pub mod script_symbol;
 pub mod sections;

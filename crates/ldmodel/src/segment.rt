@@ -1,6 +1,6 @@
 //! Segments of the image.
 
-use crate::laid::OutputIndex;
+use crate::placed::OutputIndex;
 
 /// A segment: one PT_LOAD of the image (`specs/Lent.antt` says which).
 #[derive(Clone, Copy, Debug, PartialEq, Eq)]

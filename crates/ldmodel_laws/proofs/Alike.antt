@@ -13,18 +13,18 @@ use Rattle.byteorder.specs.Endian.{little_bytes}
 use Rattle.ldscript.specs.terms.DotForms.{DotForm, Advance, Align, Offset, dot_form}
 use Rattle.ldscript.specs.terms.Expressions as expression
 use Rattle.ldscript.specs.terms.Expressions.{Expr}
-use Rattle.ldscript.specs.statements.Numbering.{commons_of}
+use Rattle.ldscript.specs.statements.Numbering.{directives_of}
 use Rattle.ldscript.specs.statements.Widths.{byte_count}
-use Rattle.ldscript.specs.statements.declared.common.Common.{Common}
-use Rattle.ldscript.specs.statements.declared.common.Common.TheVariants as common
-use Rattle.ldscript.specs.statements.declared.common.Assignment.{Assignment}
-use Rattle.ldscript.specs.statements.declared.common.DotCommand.{DotCommand}
-use Rattle.ldscript.specs.statements.declared.common.DotCommand.TheVariants.{Set, Add}
+use Rattle.ldscript.specs.statements.declared.directive.Directive.{Directive}
+use Rattle.ldscript.specs.statements.declared.directive.Directive.TheVariants as directive
+use Rattle.ldscript.specs.statements.declared.directive.Assignment.{Assignment}
+use Rattle.ldscript.specs.statements.declared.directive.DotCommand.{DotCommand}
+use Rattle.ldscript.specs.statements.declared.directive.DotCommand.TheVariants.{Set, Add}
 use Rattle.ldscript.specs.statements.declared.section.BodyCommand.{BodyCommand}
 use Rattle.ldscript.specs.statements.declared.section.BodyCommand.TheVariants as body
 use Rattle.ldscript.specs.statements.declared.section.BodyStatement.{BodyStatement}
 use Rattle.ldscript.specs.statements.declared.section.Width.{Width}
-use Rattle.ldmodel.specs.Placement.{assigned, common_step, Body, piece_placed, piece_start, pieces_placed, input_step}
+use Rattle.ldmodel.specs.Placement.{assigned, directive_step, Body, piece_placed, piece_start, pieces_placed, input_step}
 use Rattle.ldmodel.specs.Placement.{with_dot, with_data, data_step, moved_on, advanced, set_to, dot_step}
 use Rattle.ldmodel.specs.Placement.{body_command_step, body_step}
 use Rattle.ldmodel.specs.Chain.{and_then}
@@ -185,12 +185,12 @@ module _ (s : Layout) (ys : List ScriptSymbol) (names : List (List ℕ)) where
             absurd (let none : ⊥ = cc in none));
       }) t u e k.gives
 
-  pub common_both : (earlier provided : List (List ℕ)) (line : ℕ) (c : Common)
+  pub directive_both : (earlier provided : List (List ℕ)) (line : ℕ) (c : Directive)
       → AreSymbolsAlike (given_names c ++ names) s.symbols ys
-      → Both (AreAlike names) (common_step earlier s line c) (common_step provided (having s ys) line c)
-  unfolding common_step
-  common_both earlier provided line (common.Assign a) h = assigned_both line a h
-  common_both earlier provided line (common.Provide a) h =
+      → Both (AreAlike names) (directive_step earlier s line c) (directive_step provided (having s ys) line c)
+  unfolding directive_step
+  directive_both earlier provided line (directive.Assign a) h = assigned_both line a h
+  directive_both earlier provided line (directive.Provide a) h =
       go (list_any (bytes_eq a.name) earlier) (list_any (bytes_eq a.name) provided)
     where
       go : (b c : Bool) → Both (AreAlike names) (cond b (assigned s line a) (Ok s))
@@ -203,7 +203,7 @@ module _ (s : Layout) (ys : List ScriptSymbol) (names : List (List ℕ)) where
             same = refl;
             symbols = symbols_fewer a.name names s.symbols ys h;
           })
-  common_both earlier provided line (common.Assert a) h =
+  directive_both earlier provided line (directive.Assert a) h =
       both_ok (AreAlike names) s (having s ys) (record { same = refl; symbols = h })
 
 -- bodies
@@ -325,13 +325,13 @@ input_alike line b ys d e =
 
 -- a statement of a body
 module _ (b : Body) (ys : List ScriptSymbol) (names : List (List ℕ)) (earlier provided : List (List ℕ)) where
-  common_in_body : (line : ℕ) (x : Common) → AreSymbolsAlike (given_names x ++ names) b.layout.symbols ys
-      → Both (AreBodiesAlike names) (and_then (common_step earlier b.layout line x) (λ s. Ok (record b { layout = s })))
-      (and_then (common_step provided (having b.layout ys) line x) (λ s. Ok (record b { layout = s })))
-  common_in_body line x h =
-      both_then (AreAlike names) (AreBodiesAlike names) (common_step earlier b.layout line x)
-      (common_step provided (having b.layout ys) line x) (λ s. Ok (record b { layout = s }))
-      (λ s. Ok (record b { layout = s })) (common_both b.layout ys names earlier provided line x h)
+  directive_in_body : (line : ℕ) (x : Directive) → AreSymbolsAlike (given_names x ++ names) b.layout.symbols ys
+      → Both (AreBodiesAlike names) (and_then (directive_step earlier b.layout line x) (λ s. Ok (record b { layout = s })))
+      (and_then (directive_step provided (having b.layout ys) line x) (λ s. Ok (record b { layout = s })))
+  directive_in_body line x h =
+      both_then (AreAlike names) (AreBodiesAlike names) (directive_step earlier b.layout line x)
+      (directive_step provided (having b.layout ys) line x) (λ s. Ok (record b { layout = s }))
+      (λ s. Ok (record b { layout = s })) (directive_both b.layout ys names earlier provided line x h)
       (λ s t a. both_ok (AreBodiesAlike names) (record b { layout = s }) (record b { layout = t })
       (record { same = ap (λ z. record b { layout = z }) a.same; symbols = a.symbols }))
 
@@ -344,20 +344,20 @@ module _ (b : Body) (ys : List ScriptSymbol) (names : List (List ℕ)) (earlier 
       (record { same = refl; symbols = subst (λ z. AreSymbolsAlike names z ys) (sym a.1) h })
 
   pub body_both : (line : ℕ) (x : BodyCommand)
-      → AreSymbolsAlike (names_given (commons_of line x) ++ names) b.layout.symbols ys
+      → AreSymbolsAlike (names_given (directives_of line x) ++ names) b.layout.symbols ys
       → Both (AreBodiesAlike names) (body_command_step earlier line b x)
       (body_command_step provided line (with_symbols b ys) x)
   unfolding body_command_step
   body_both line (body.Dot d) h = dot_both b ys names h line d
-  body_both line (body.Common x) h =
-      common_in_body line x
+  body_both line (body.Directive x) h =
+      directive_in_body line x
       (subst (λ z. AreSymbolsAlike (z ++ names) b.layout.symbols ys) (append-nil (given_names x)) h)
   body_both line (body.Data w e) h = data_both b ys names h line w e
   body_both line (body.Input i) h = input_both line h
 
 -- in bodies that differ in symbols alone
 pub bodies_alike : (earlier provided names : List (List ℕ)) (x : BodyStatement) (b c d e : Body)
-    → AreBodiesAlike (names_given (commons_of x.line x.command) ++ names) b c → body_step earlier b x ≡ Ok d
+    → AreBodiesAlike (names_given (directives_of x.line x.command) ++ names) b c → body_step earlier b x ≡ Ok d
     → body_step provided c x ≡ Ok e → AreBodiesAlike names d e
 bodies_alike earlier provided names x b c d e a p q =
     body_both (record b { layout = noted b.layout }) c.layout.symbols names earlier provided x.line x.command a.symbols

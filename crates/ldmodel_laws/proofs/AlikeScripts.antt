@@ -7,15 +7,15 @@ use Rattle.std.specs.Prelude.{⊤}
 use Rattle.std.proofs.lemmas.List.{append-nil}
 use Rattle.std.proofs.lemmas.Slice.Eq.{bytes_eq-Decides}
 use Rattle.ldscript.specs.Script.{IsSound}
-use Rattle.ldscript.specs.statements.Mentions.{Clashes, Mention, SymbolGiven, in_body, in_body_command, in_common}
+use Rattle.ldscript.specs.statements.Mentions.{Clashes, Mention, SymbolGiven, in_body, in_body_command, in_directive}
 use Rattle.ldscript.specs.statements.Mentions.{in_item_command, in_items, in_load_head, in_load_tail, in_optional}
 use Rattle.ldscript.specs.statements.Mentions.{in_region_name}
 use Rattle.ldscript.specs.statements.Mentions.{in_section, in_top_command, mentions}
-use Rattle.ldscript.specs.statements.Numbering.{CommonAt, common_commands, commons_in, commons_of, item_commons}
-use Rattle.ldscript.specs.statements.Numbering.{items_commons}
-use Rattle.ldscript.specs.statements.Numbering.{top_commons}
-use Rattle.ldscript.specs.statements.declared.common.Common.{Common}
-use Rattle.ldscript.specs.statements.declared.common.Common.TheVariants as common
+use Rattle.ldscript.specs.statements.Numbering.{DirectiveAt, all_directives, directives_in, directives_of, item_directives}
+use Rattle.ldscript.specs.statements.Numbering.{items_directives}
+use Rattle.ldscript.specs.statements.Numbering.{top_directives}
+use Rattle.ldscript.specs.statements.declared.directive.Directive.{Directive}
+use Rattle.ldscript.specs.statements.declared.directive.Directive.TheVariants as directive
 use Rattle.ldscript.specs.statements.declared.section.BodyCommand.{BodyCommand}
 use Rattle.ldscript.specs.statements.declared.section.BodyCommand.TheVariants as body
 use Rattle.ldscript.specs.statements.declared.section.BodyStatement.{BodyStatement}
@@ -27,7 +27,7 @@ use Rattle.ldscript.specs.statements.declared.statement.ItemCommand.{ItemCommand
 use Rattle.ldscript.specs.statements.declared.statement.ItemCommand.TheVariants as item
 use Rattle.ldscript.specs.statements.declared.statement.Region.{Region}
 use Rattle.ldscript.specs.statements.declared.statement.Statement.{Statement}
-use Rattle.ldmodel.specs.Placement.{common_step}
+use Rattle.ldmodel.specs.Placement.{directive_step}
 use Rattle.ldmodel.specs.Chain.{and_then, run}
 use Rattle.ldmodel.specs.Fault.{Fault}
 use Rattle.ldmodel.specs.Layout.{Layout, ScriptSymbol, nothing_placed, number}
@@ -35,9 +35,9 @@ use Rattle.ldmodel.specs.Placement.{command_step, item_step, region_step, statem
 use Rattle.ldmodel.specs.Rows.{Piece}
 use Rattle.ldmodel_laws.specs.Alike.{AreAlike, AreNew, AreSameBefore, AreSymbolsAlike, IsPartedAt, LeadTo, given_names}
 use Rattle.ldmodel_laws.specs.Alike.{names_given}
-use Rattle.ldmodel_laws.proofs.Alike.{Both, IsSame, both_ok, both_then, common_both, having, number_both}
+use Rattle.ldmodel_laws.proofs.Alike.{Both, IsSame, both_ok, both_then, directive_both, having, number_both}
 use Rattle.ldmodel_laws.proofs.AlikeSections.{item_fewer, items_alike, names_on}
-use Rattle.ldmodel_laws.proofs.Effects.{came, common_named, kept_same, named_kept, region_kept, run_by}
+use Rattle.ldmodel_laws.proofs.Effects.{came, directive_named, kept_same, named_kept, region_kept, run_by}
 use Rattle.ldmodel_laws.proofs.Finding.{in_append, in_front}
 
 -- the statements of SECTIONS
@@ -51,7 +51,7 @@ module _ (first : ℕ) (old rows : List (List Piece)) (earlier provided : List (
         item_fewer rows provided (length s.sections) y u v f h) xs s t e (omega arith)
 
     pub run_items : (names : List (List ℕ)) (xs : List Item) (s t u v : Layout)
-        → AreAlike (names_given (items_commons xs) ++ names) s t → run (item_step old earlier) s xs ≡ Ok u
+        → AreAlike (names_given (items_directives xs) ++ names) s t → run (item_step old earlier) s xs ≡ Ok u
         → run (item_step rows provided) t xs ≡ Ok v → length v.sections ≤ first → AreAlike names u v
     unfolding run
     run_items names [] s t u v a p q l =
@@ -62,8 +62,8 @@ module _ (first : ℕ) (old rows : List (List Piece)) (earlier provided : List (
         let m = came (item_step rows provided t x) (λ z. run (item_step rows provided) z xs) v q in
         let few = fewer xs m.value v m.gives in
         run_items names xs k.value m.value u v
-        (items_alike first old rows earlier provided (names_given (items_commons xs) ++ names) x s t k.value m.value rs
-        (subst (λ z. AreAlike z s t) (names_on (item_commons x.line x.command) (items_commons xs) names) a) k.is m.is
+        (items_alike first old rows earlier provided (names_given (items_directives xs) ++ names) x s t k.value m.value rs
+        (subst (λ z. AreAlike z s t) (names_on (item_directives x.line x.command) (items_directives xs) names) a) k.is m.is
         (omega (arith, few, l))) k.gives m.gives l
 
     -- regions
@@ -101,16 +101,16 @@ module _ (first : ℕ) (old rows : List (List Piece)) (earlier provided : List (
 
     -- statements
     command_alike : (names : List (List ℕ)) (line : ℕ) (c : Command) (s t u v : Layout)
-        → AreAlike (names_given (top_commons line c) ++ names) s t → command_step old earlier line s c ≡ Ok u
+        → AreAlike (names_given (top_directives line c) ++ names) s t → command_step old earlier line s c ≡ Ok u
         → command_step rows provided line t c ≡ Ok v → length v.sections ≤ first → AreAlike names u v
     unfolding command_step
     command_alike names line (top.Entry n) s t u v a p q l = both_ok (AreAlike names) s t a u v p q
     command_alike names line (top.Memory regions) s t u v a p q l = regions_alike names regions s t u v a p q
     command_alike names line (top.Sections xs) s t u v a p q l = run_items names xs s t u v a p q l
-    command_alike names line (top.Common c) s t u v a p q l =
-        common_both s t.symbols names earlier provided line c
+    command_alike names line (top.Directive c) s t u v a p q l =
+        directive_both s t.symbols names earlier provided line c
         (subst (λ z. AreSymbolsAlike (z ++ names) s.symbols t.symbols) (append-nil (given_names c)) a.symbols) u v p
-        (ap (λ z. common_step provided z line c) (sym a.same) ∙ q)
+        (ap (λ z. directive_step provided z line c) (sym a.same) ∙ q)
 
     command_fewer : (n line : ℕ) (c : Command) (s t : Layout) → command_step rows provided line s c ≡ Ok t
         → n ≤ length s.sections → n ≤ length t.sections
@@ -122,8 +122,8 @@ module _ (first : ℕ) (old rows : List (List Piece)) (earlier provided : List (
     command_fewer n line (top.Sections xs) s t e h =
         run_by (item_step rows provided) (λ (u : Layout) ys. n ≤ length u.sections) (λ u y ys v f g.
         item_fewer rows provided n y u v f g) xs s t e h
-    command_fewer n line (top.Common c) s t e h =
-        subst (λ xs. n ≤ length xs) (named_kept s t (common_named provided s line c t e)).sections h
+    command_fewer n line (top.Directive c) s t e h =
+        subst (λ xs. n ≤ length xs) (named_kept s t (directive_named provided s line c t e)).sections h
 
     fewer_after : (xs : List Statement) (s t : Layout) → run (statement_step rows provided) s xs ≡ Ok t
         → length s.sections ≤ length t.sections
@@ -132,7 +132,7 @@ module _ (first : ℕ) (old rows : List (List Piece)) (earlier provided : List (
         command_fewer (length s.sections) y.line y.command u v f h) xs s t e (omega arith)
 
     pub run_statements : (names : List (List ℕ)) (xs : List Statement) (s t u v : Layout)
-        → AreAlike (names_given (common_commands xs) ++ names) s t → run (statement_step old earlier) s xs ≡ Ok u
+        → AreAlike (names_given (all_directives xs) ++ names) s t → run (statement_step old earlier) s xs ≡ Ok u
         → run (statement_step rows provided) t xs ≡ Ok v → length v.sections ≤ first → AreAlike names u v
     unfolding run
     run_statements names [] s t u v a p q l =
@@ -143,13 +143,13 @@ module _ (first : ℕ) (old rows : List (List Piece)) (earlier provided : List (
         let m = came (statement_step rows provided t x) (λ z. run (statement_step rows provided) z xs) v q in
         let few = fewer_after xs m.value v m.gives in
         run_statements names xs k.value m.value u v
-        (command_alike (names_given (common_commands xs) ++ names) x.line x.command s t k.value m.value
-        (subst (λ z. AreAlike z s t) (names_on (top_commons x.line x.command) (common_commands xs) names) a) k.is m.is
+        (command_alike (names_given (all_directives xs) ++ names) x.line x.command s t k.value m.value
+        (subst (λ z. AreAlike z s t) (names_on (top_directives x.line x.command) (all_directives xs) names) a) k.is m.is
         (omega (arith, few, l))) k.gives m.gives l
 
 pub statements_alike : (first : ℕ) (old rows : List (List Piece)) (earlier provided names : List (List ℕ))
     (xs : List Statement) (s t u v : Layout) → AreSameBefore first old rows
-    → AreAlike (names_given (common_commands xs) ++ names) s t → run (statement_step old earlier) s xs ≡ Ok u
+    → AreAlike (names_given (all_directives xs) ++ names) s t → run (statement_step old earlier) s xs ≡ Ok u
     → run (statement_step rows provided) t xs ≡ Ok v → length v.sections ≤ first → AreAlike names u v
 statements_alike first old rows earlier provided names xs s t u v rs a p q l =
     run_statements first old rows earlier provided rs names xs s t u v a p q l
@@ -176,59 +176,59 @@ both {ms = ms} no_more k = past ms k
 both (passed h) k = passed (both h k)
 both (given h) k = given (both h k)
 
-names_of_both : (cs ds : List CommonAt) → names_given (cs ++ ds) ≡ names_given cs ++ names_given ds
+names_of_both : (cs ds : List DirectiveAt) → names_given (cs ++ ds) ≡ names_given cs ++ names_given ds
 names_of_both cs ds =
     sym (append-nil (names_given (cs ++ ds)))
     ∙ (names_on cs ds [] ∙ ap (λ l. names_given cs ++ l) (append-nil (names_given ds)))
 
-both_lists : (cs ds : List CommonAt) (ms ls : List Mention) → Among (names_given cs) ms → Among (names_given ds) ls
+both_lists : (cs ds : List DirectiveAt) (ms ls : List Mention) → Among (names_given cs) ms → Among (names_given ds) ls
     → Among (names_given (cs ++ ds)) (ms ++ ls)
 both_lists cs ds ms ls h k = subst (λ ns. Among ns (ms ++ ls)) (sym (names_of_both cs ds)) (both h k)
 
-in_one : (line : ℕ) (c : Common) → Among (names_given (record { line = line; command = c } ∷ [])) (in_common c)
-in_one line (common.Assign a) = given no_more
-in_one line (common.Provide a) = given no_more
-in_one line (common.Assert a) = no_more
+in_one : (line : ℕ) (c : Directive) → Among (names_given (record { line = line; command = c } ∷ [])) (in_directive c)
+in_one line (directive.Assign a) = given no_more
+in_one line (directive.Provide a) = given no_more
+in_one line (directive.Assert a) = no_more
 
-in_body_one : (line : ℕ) (c : BodyCommand) → Among (names_given (commons_of line c)) (in_body_command c)
-in_body_one line (body.Common c) = in_one line c
+in_body_one : (line : ℕ) (c : BodyCommand) → Among (names_given (directives_of line c)) (in_body_command c)
+in_body_one line (body.Directive c) = in_one line c
 in_body_one line (body.Dot c) = no_more
 in_body_one line (body.Data w e) = no_more
 in_body_one line (body.Input i) = no_more
 
-in_bodies : (ss : List BodyStatement) → Among (names_given (commons_in ss)) (in_body ss)
+in_bodies : (ss : List BodyStatement) → Among (names_given (directives_in ss)) (in_body ss)
 in_bodies [] = no_more
 in_bodies (s ∷ ss) =
-    both_lists (commons_of s.line s.command) (commons_in ss) (in_body_command s.command) (in_body ss)
+    both_lists (directives_of s.line s.command) (directives_in ss) (in_body_command s.command) (in_body ss)
     (in_body_one s.line s.command) (in_bodies ss)
 
-in_output : (s : OutputSection) → Among (names_given (commons_in s.body)) (in_section s)
+in_output : (s : OutputSection) → Among (names_given (directives_in s.body)) (in_section s)
 in_output s =
     passed (wider (in_load_tail s.load) (wider (in_region_name s.region)
     (past (in_optional s.address ++ in_load_head s.load ++ in_optional s.alignment) (in_bodies s.body))))
 
-in_item : (line : ℕ) (c : ItemCommand) → Among (names_given (item_commons line c)) (in_item_command c)
-in_item line (item.Common c) = in_one line c
+in_item : (line : ℕ) (c : ItemCommand) → Among (names_given (item_directives line c)) (in_item_command c)
+in_item line (item.Directive c) = in_one line c
 in_item line (item.Section s) = in_output s
 in_item line (item.Dot c) = no_more
 in_item line (item.Discard is) = no_more
 
-in_all : (is : List Item) → Among (names_given (items_commons is)) (in_items is)
+in_all : (is : List Item) → Among (names_given (items_directives is)) (in_items is)
 in_all [] = no_more
 in_all (i ∷ is) =
-    both_lists (item_commons i.line i.command) (items_commons is) (in_item_command i.command) (in_items is)
+    both_lists (item_directives i.line i.command) (items_directives is) (in_item_command i.command) (in_items is)
     (in_item i.line i.command) (in_all is)
 
-in_top : (line : ℕ) (c : Command) → Among (names_given (top_commons line c)) (in_top_command c)
-in_top line (top.Common c) = in_one line c
+in_top : (line : ℕ) (c : Command) → Among (names_given (top_directives line c)) (in_top_command c)
+in_top line (top.Directive c) = in_one line c
 in_top line (top.Sections is) = passed (in_all is)
 in_top line (top.Entry n) = no_more
 in_top line (top.Memory rs) = no_more
 
-in_script : (ss : List Statement) → Among (names_given (common_commands ss)) (mentions ss)
+in_script : (ss : List Statement) → Among (names_given (all_directives ss)) (mentions ss)
 in_script [] = no_more
 in_script (s ∷ ss) =
-    both_lists (top_commons s.line s.command) (common_commands ss) (in_top_command s.command) (mentions ss)
+    both_lists (top_directives s.line s.command) (all_directives ss) (in_top_command s.command) (mentions ss)
     (in_top s.line s.command) (in_script ss)
 
 -- nothing of some mentions clashes with what stands before it
@@ -279,7 +279,7 @@ all_new before (given {n = n} {ms = ms} r) h =
     )
 
 pub begun_alike : (script : List Statement) → IsSound script
-    → AreAlike (names_given (common_commands script)) nothing_placed nothing_placed
+    → AreAlike (names_given (all_directives script)) nothing_placed nothing_placed
 begun_alike script sound = record {
   same = refl;
   symbols = record {
@@ -290,43 +290,43 @@ begun_alike script sound = record {
 }
 
 -- ---- two layouts of a script
-commons_on : (xs ys : List Statement) → common_commands (xs ++ ys) ≡ common_commands xs ++ common_commands ys
-commons_on [] ys = refl
-commons_on (x ∷ xs) ys =
-    ap (λ l. top_commons x.line x.command ++ l) (commons_on xs ys)
-    ∙ sym (append_assoc (top_commons x.line x.command) (common_commands xs) (common_commands ys))
+directives_on : (xs ys : List Statement) → all_directives (xs ++ ys) ≡ all_directives xs ++ all_directives ys
+directives_on [] ys = refl
+directives_on (x ∷ xs) ys =
+    ap (λ l. top_directives x.line x.command ++ l) (directives_on xs ys)
+    ∙ sym (append_assoc (top_directives x.line x.command) (all_directives xs) (all_directives ys))
 
-items_commons_on : (xs ys : List Item) → items_commons (xs ++ ys) ≡ items_commons xs ++ items_commons ys
-items_commons_on [] ys = refl
-items_commons_on (x ∷ xs) ys =
-    ap (λ l. item_commons x.line x.command ++ l) (items_commons_on xs ys)
-    ∙ sym (append_assoc (item_commons x.line x.command) (items_commons xs) (items_commons ys))
+items_directives_on : (xs ys : List Item) → items_directives (xs ++ ys) ≡ items_directives xs ++ items_directives ys
+items_directives_on [] ys = refl
+items_directives_on (x ∷ xs) ys =
+    ap (λ l. item_directives x.line x.command ++ l) (items_directives_on xs ys)
+    ∙ sym (append_assoc (item_directives x.line x.command) (items_directives xs) (items_directives ys))
 
 -- the names that come after some statements
 names_left : (script before : List Statement) (items : List Item) (p : IsPartedAt script before items)
-    → names_given (common_commands script)
-    ≡ names_given (common_commands before) ++ (names_given (items_commons items)
-    ++ names_given (items_commons p.more ++ common_commands p.after))
+    → names_given (all_directives script)
+    ≡ names_given (all_directives before) ++ (names_given (items_directives items)
+    ++ names_given (items_directives p.more ++ all_directives p.after))
 names_left script before items p =
-    let later : List CommonAt = items_commons p.more ++ common_commands p.after in
-    ap (λ l. names_given (common_commands l)) p.parts
-    ∙ (ap names_given (commons_on before (record { line = p.line; command = top.Sections (items ++ p.more) } ∷ p.after))
-    ∙ (names_of_both (common_commands before) (items_commons (items ++ p.more) ++ common_commands p.after)
-    ∙ ap (λ l. names_given (common_commands before) ++ l)
-    (ap (λ l. names_given (l ++ common_commands p.after)) (items_commons_on items p.more)
-    ∙ (ap names_given (append_assoc (items_commons items) (items_commons p.more) (common_commands p.after))
-    ∙ names_of_both (items_commons items) later))))
+    let later : List DirectiveAt = items_directives p.more ++ all_directives p.after in
+    ap (λ l. names_given (all_directives l)) p.parts
+    ∙ (ap names_given (directives_on before (record { line = p.line; command = top.Sections (items ++ p.more) } ∷ p.after))
+    ∙ (names_of_both (all_directives before) (items_directives (items ++ p.more) ++ all_directives p.after)
+    ∙ ap (λ l. names_given (all_directives before) ++ l)
+    (ap (λ l. names_given (l ++ all_directives p.after)) (items_directives_on items p.more)
+    ∙ (ap names_given (append_assoc (items_directives items) (items_directives p.more) (all_directives p.after))
+    ∙ names_of_both (items_directives items) later))))
 
 pub placements_alike : (script before : List Statement) (items : List Item) (first : ℕ) (old rows : List (List Piece))
     (earlier provided : List (List ℕ)) (s t : Layout) → IsSound script → IsPartedAt script before items
     → AreSameBefore first old rows → LeadTo old earlier before items s → LeadTo rows provided before items t
     → length t.sections ≤ first → AreAlike [] s t
 placements_alike script before items first old rows earlier provided s t sound p rs h k l =
-    let later : List (List ℕ) = names_given (items_commons p.more ++ common_commands p.after) in
+    let later : List (List ℕ) = names_given (items_directives p.more ++ all_directives p.after) in
     let begun = subst (λ ns. AreAlike ns nothing_placed nothing_placed) (names_left script before items p)
     (begun_alike script sound) in
     let few = fewer first old rows earlier provided rs items k.state t k.goes in
-    let one = run_statements first old rows earlier provided rs (names_given (items_commons items) ++ later) before
+    let one = run_statements first old rows earlier provided rs (names_given (items_directives items) ++ later) before
     nothing_placed nothing_placed h.state k.state begun h.first k.first (omega (arith, few, l)) in
     let all = run_items first old rows earlier provided rs later items h.state k.state s t one h.goes k.goes l in
     record { same = all.same; symbols = record { values = all.symbols.values; new = tt } }

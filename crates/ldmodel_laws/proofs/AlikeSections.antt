@@ -4,9 +4,9 @@ use Rattle.std.proofs.Common.{Result, Ok, Err, refl, sym, ap, subst, ◌∙◌, 
 use Rattle.std.proofs.lemmas.List.{append-nil}
 use Rattle.std.specs.Prelude.{slice_index_or}
 use Rattle.ldscript.specs.terms.Expressions.{Expr}
-use Rattle.ldscript.specs.statements.Numbering.{commons_in, commons_of, item_commons, items_commons}
-use Rattle.ldscript.specs.statements.declared.common.DotCommand.{DotCommand}
-use Rattle.ldscript.specs.statements.declared.common.DotCommand.TheVariants.{Set, Add}
+use Rattle.ldscript.specs.statements.Numbering.{directives_in, directives_of, item_directives, items_directives}
+use Rattle.ldscript.specs.statements.declared.directive.DotCommand.{DotCommand}
+use Rattle.ldscript.specs.statements.declared.directive.DotCommand.TheVariants.{Set, Add}
 use Rattle.ldscript.specs.statements.declared.section.BodyStatement.{BodyStatement}
 use Rattle.ldscript.specs.statements.declared.section.Load.{Load}
 use Rattle.ldscript.specs.statements.declared.section.Load.TheVariants.{Unstated, At, InRegion}
@@ -15,7 +15,7 @@ use Rattle.ldscript.specs.statements.declared.statement.Item.{Item}
 use Rattle.ldscript.specs.statements.declared.statement.ItemCommand.{ItemCommand}
 use Rattle.ldscript.specs.statements.declared.statement.ItemCommand.TheVariants as item
 use Rattle.ldmodel.specs.Arithmetic.{plus_modulo}
-use Rattle.ldmodel.specs.Placement.{common_step, Body, body_step}
+use Rattle.ldmodel.specs.Placement.{directive_step, Body, body_step}
 use Rattle.ldmodel.specs.Chain.{and_then, run}
 use Rattle.ldmodel.specs.Fault.{Fault}
 use Rattle.ldmodel.specs.Layout.{Layout, PlacedSection, ScriptSymbol, address, noted, number}
@@ -26,11 +26,11 @@ use Rattle.ldmodel.specs.Placement.{Given, Head, first_free, given, given_alignm
 use Rattle.ldmodel.specs.Placement.{number_if_given, section_start, widest}
 use Rattle.ldmodel_laws.specs.Alike.{AreAlike, AreBodiesAlike, AreSameBefore, AreSymbolsAlike, given_names, names_given}
 use Rattle.ldmodel_laws.specs.Alike.{with_symbols}
-use Rattle.ldscript.specs.statements.Numbering.{CommonAt}
-use Rattle.ldmodel_laws.proofs.Alike.{Both, IsSame, bodies_alike, both_ok, both_then, common_both, having, number_both}
+use Rattle.ldscript.specs.statements.Numbering.{DirectiveAt}
+use Rattle.ldmodel_laws.proofs.Alike.{Both, IsSame, bodies_alike, both_ok, both_then, directive_both, having, number_both}
 use Rattle.ldmodel_laws.proofs.Alike.{same_both}
 use Rattle.ldmodel_laws.specs.Placed.{PieceTo}
-use Rattle.ldmodel_laws.proofs.Effects.{came, common_named, free_dot_kept, named_kept, run_by, Quiet, added, onward}
+use Rattle.ldmodel_laws.proofs.Effects.{came, directive_named, free_dot_kept, named_kept, run_by, Quiet, added, onward}
 use Rattle.ldmodel_laws.proofs.Effects.{renamed, still, command_by, section_placed}
 
 -- heads
@@ -125,7 +125,7 @@ heads_agree names row s t line o h g a p q =
     head_both names s t.symbols a.symbols row line o h g p (ap (λ z. head_of z row line o) (sym a.same) ∙ q)
 
 -- names that are given in one part and in another
-pub names_on : (cs ds : List CommonAt) (names : List (List ℕ))
+pub names_on : (cs ds : List DirectiveAt) (names : List (List ℕ))
     → names_given (cs ++ ds) ++ names ≡ names_given cs ++ (names_given ds ++ names)
 names_on [] ds names = refl
 names_on (c ∷ cs) ds names =
@@ -135,7 +135,7 @@ names_on (c ∷ cs) ds names =
 
 -- the statements of a body
 run_alike : (earlier provided names : List (List ℕ)) (xs : List BodyStatement) (b c d e : Body)
-    → AreBodiesAlike (names_given (commons_in xs) ++ names) b c → run (body_step earlier) b xs ≡ Ok d
+    → AreBodiesAlike (names_given (directives_in xs) ++ names) b c → run (body_step earlier) b xs ≡ Ok d
     → run (body_step provided) c xs ≡ Ok e → AreBodiesAlike names d e
 unfolding run
 run_alike earlier provided names [] b c d e a p q =
@@ -145,8 +145,8 @@ run_alike earlier provided names (x ∷ xs) b c d e a p q =
     let k = came (body_step earlier b x) (λ z. run (body_step earlier) z xs) d p in
     let l = came (body_step provided c x) (λ z. run (body_step provided) z xs) e q in
     run_alike earlier provided names xs k.value l.value d e
-    (bodies_alike earlier provided (names_given (commons_in xs) ++ names) x b c k.value l.value
-    (subst (λ z. AreBodiesAlike z b c) (names_on (commons_of x.line x.command) (commons_in xs) names) a) k.is l.is)
+    (bodies_alike earlier provided (names_given (directives_in xs) ++ names) x b c k.value l.value
+    (subst (λ z. AreBodiesAlike z b c) (names_on (directives_of x.line x.command) (directives_in xs) names) a) k.is l.is)
     k.gives l.gives
 
 -- the end of an output section
@@ -175,11 +175,11 @@ opened_alike : (names : List (List ℕ)) (row : List Piece) (h : Head) (s t : La
 opened_alike names row h s t a = record { same = ap (λ z. opened z row h) a.same; symbols = a.symbols }
 
 section_alike : (earlier provided names : List (List ℕ)) (row : List Piece) (line : ℕ) (o : OutputSection)
-    (s t u v : Layout) → AreAlike (names_given (commons_in o.body) ++ names) s t
+    (s t u v : Layout) → AreAlike (names_given (directives_in o.body) ++ names) s t
     → section_step earlier row s line o ≡ Ok u → section_step provided row t line o ≡ Ok v → AreAlike names u v
 unfolding section_step
 section_alike earlier provided names row line o s t u v a p q =
-    let all : List (List ℕ) = names_given (commons_in o.body) ++ names in
+    let all : List (List ℕ) = names_given (directives_in o.body) ++ names in
     let h = came (head_of s row line o) (λ h.
     and_then (run (body_step earlier) (opened s row h) o.body) (λ b. section_end line o h b)) u p in
     let g = came (head_of t row line o) (λ h.
@@ -255,15 +255,15 @@ section_adds provided row s line o t e =
 -- statements of SECTIONS
 command_alike : (first : ℕ) (old rows : List (List Piece)) (earlier provided names : List (List ℕ)) (line : ℕ)
     (x : ItemCommand) (s t u v : Layout) → AreSameBefore first old rows
-    → AreAlike (names_given (item_commons line x) ++ names) s t → item_command_step old earlier line s x ≡ Ok u
+    → AreAlike (names_given (item_directives line x) ++ names) s t → item_command_step old earlier line s x ≡ Ok u
     → item_command_step rows provided line t x ≡ Ok v → length v.sections ≤ first → AreAlike names u v
 unfolding item_command_step
 command_alike first old rows earlier provided names line (item.Dot c) s t u v rs a p q l =
     free_dot_alike names s t u v line c a p q
-command_alike first old rows earlier provided names line (item.Common c) s t u v rs a p q l =
-    common_both s t.symbols names earlier provided line c
+command_alike first old rows earlier provided names line (item.Directive c) s t u v rs a p q l =
+    directive_both s t.symbols names earlier provided line c
     (subst (λ z. AreSymbolsAlike (z ++ names) s.symbols t.symbols) (append-nil (given_names c)) a.symbols) u v p
-    (ap (λ z. common_step provided z line c) (sym a.same) ∙ q)
+    (ap (λ z. directive_step provided z line c) (sym a.same) ∙ q)
 command_alike first old rows earlier provided names line (item.Section o) s t u v rs a p q l =
     let more = section_adds provided (next_row rows t) t line o v q in
     let number : length s.sections ≡ length t.sections = ap (λ (z : Layout). length z.sections) (sym a.same) in
@@ -278,7 +278,7 @@ command_alike first old rows earlier provided names line (item.Discard inputs) s
 
 pub items_alike : (first : ℕ) (old rows : List (List Piece)) (earlier provided names : List (List ℕ)) (x : Item)
     (s t u v : Layout) → AreSameBefore first old rows
-    → AreAlike (names_given (item_commons x.line x.command) ++ names) s t → item_step old earlier s x ≡ Ok u
+    → AreAlike (names_given (item_directives x.line x.command) ++ names) s t → item_step old earlier s x ≡ Ok u
     → item_step rows provided t x ≡ Ok v → length v.sections ≤ first → AreAlike names u v
 items_alike first old rows earlier provided names x s t u v rs a p q l =
     command_alike first old rows earlier provided names x.line x.command (noted s) (noted t) u v rs
@@ -293,8 +293,8 @@ command_fewer : (rows : List (List Piece)) (provided : List (List ℕ)) (n line 
 unfolding item_command_step
 command_fewer rows provided n line (item.Dot c) s t e h =
     subst (λ xs. n ≤ length xs) (free_dot_kept s line c t e).sections h
-command_fewer rows provided n line (item.Common c) s t e h =
-    subst (λ xs. n ≤ length xs) (named_kept s t (common_named provided s line c t e)).sections h
+command_fewer rows provided n line (item.Directive c) s t e h =
+    subst (λ xs. n ≤ length xs) (named_kept s t (directive_named provided s line c t e)).sections h
 command_fewer rows provided n line (item.Section o) s t e h =
     let more = section_adds provided (next_row rows s) s line o t e in omega (arith, more, h)
 command_fewer rows provided n line (item.Discard inputs) s t e h =

@@ -18,7 +18,7 @@ use Rattle.ldmodel.specs.Rows.{Piece}
 use Rattle.ldmodel_laws.specs.Placed.{PieceTo}
 use Rattle.ldmodel_laws.specs.Spread.{Notes, dots_of, dots_of_all, dots_of_command, dots_in}
 use Rattle.ldmodel_laws.proofs.Effects.{run_by, Kept, kept_same, Quiet, still, renamed, onward, added, named_kept}
-use Rattle.ldmodel_laws.proofs.Effects.{common_named, free_dot_kept, region_kept, SectionPlaced, section_placed}
+use Rattle.ldmodel_laws.proofs.Effects.{directive_named, free_dot_kept, region_kept, SectionPlaced, section_placed}
 use Rattle.ldmodel_laws.proofs.Effects.{command_by}
 
 -- what was kept of `.` in a body stays
@@ -82,8 +82,8 @@ module _ (rows : List (List Piece)) (provided : List (List ℕ)) where
       → item_command_step rows provided line (noted s) c ≡ Ok t → Notes (dots_of_command c) s t
   unfolding item_command_step
   command_notes line s (item.Dot c) t e = kept_notes s t (free_dot_kept (noted s) line c t e)
-  command_notes line s (item.Common c) t e =
-      kept_notes s t (named_kept (noted s) t (common_named provided (noted s) line c t e))
+  command_notes line s (item.Directive c) t e =
+      kept_notes s t (named_kept (noted s) t (directive_named provided (noted s) line c t e))
   command_notes line s (item.Section o) t e =
       section_notes provided (next_row rows (noted s)) s o t
       (section_placed provided (next_row rows (noted s)) (noted s) line o t e)
@@ -116,8 +116,8 @@ module _ (rows : List (List Piece)) (provided : List (List ℕ)) where
         → command_step rows provided line s c ≡ Ok t → Left s (items_of c ++ is) → Left t is
     unfolding command_step
     statement_left line s (top.Entry n) is t e h = kept_left s t is (kept_same s t cc) h
-    statement_left line s (top.Common c) is t e h =
-        kept_left s t is (named_kept s t (common_named provided s line c t e)) h
+    statement_left line s (top.Directive c) is t e h =
+        kept_left s t is (named_kept s t (directive_named provided s line c t e)) h
     statement_left line s (top.Memory rs) is t e h =
         run_by region_step (λ u xs. Left u is) (λ u r xs v f g. kept_left u v is (region_kept u r v f) g) rs s t e h
     statement_left line s (top.Sections js) is t e h =

@@ -8,18 +8,18 @@ use Rattle.ldscript.specs.terms.DotForms.{DotForm, Advance, Align, Offset, dot_f
 use Rattle.ldscript.specs.terms.Expressions as expression
 use Rattle.ldscript.specs.terms.Expressions.{Expr}
 use Rattle.ldscript.specs.statements.Widths.{byte_count}
-use Rattle.ldscript.specs.statements.declared.common.Common.{Common}
-use Rattle.ldscript.specs.statements.declared.common.Common.TheVariants as common
-use Rattle.ldscript.specs.statements.declared.common.Assignment.{Assignment}
-use Rattle.ldscript.specs.statements.declared.common.DotCommand.{DotCommand}
-use Rattle.ldscript.specs.statements.declared.common.DotCommand.TheVariants.{Set, Add}
+use Rattle.ldscript.specs.statements.declared.directive.Directive.{Directive}
+use Rattle.ldscript.specs.statements.declared.directive.Directive.TheVariants as directive
+use Rattle.ldscript.specs.statements.declared.directive.Assignment.{Assignment}
+use Rattle.ldscript.specs.statements.declared.directive.DotCommand.{DotCommand}
+use Rattle.ldscript.specs.statements.declared.directive.DotCommand.TheVariants.{Set, Add}
 use Rattle.ldscript.specs.statements.declared.section.BodyCommand.{BodyCommand}
 use Rattle.ldscript.specs.statements.declared.section.BodyCommand.TheVariants as body
 use Rattle.ldscript.specs.statements.declared.section.OutputSection.{OutputSection}
 use Rattle.ldscript.specs.statements.declared.section.Width.{Width}
 use Rattle.ldscript.specs.statements.declared.section.Width.TheVariants.{Byte, Short, Long, Quad}
 use Rattle.ldscript.specs.statements.declared.statement.Region.{Region}
-use Rattle.ldmodel.specs.Placement.{assigned, common_step, Body, piece_placed, pieces_placed, body_command_step}
+use Rattle.ldmodel.specs.Placement.{assigned, directive_step, Body, piece_placed, pieces_placed, body_command_step}
 use Rattle.ldmodel.specs.Placement.{with_dot, with_data, data_step, moved_on, advanced, set_to, dot_step, body_step}
 use Rattle.ldmodel.specs.Chain.{and_then, run}
 use Rattle.ldmodel.specs.Fault.{Fault, MovedBack, PastAddressSpace}
@@ -84,16 +84,16 @@ assigned_named s line a t e =
     let k = came (number s line a.value) (λ x. Ok (with_symbol s a.name x)) t e in
     named a.name k.value (let f = k.gives in cc)
 
-pub common_named : (provided : List (List ℕ)) (s : Layout) (line : ℕ) (c : Common) (t : Layout)
-    → common_step provided s line c ≡ Ok t → Named s t
-unfolding common_step
-common_named provided s line (common.Assign a) t e = assigned_named s line a t e
-common_named provided s line (common.Provide a) t e = go (list_any (bytes_eq a.name) provided) e
+pub directive_named : (provided : List (List ℕ)) (s : Layout) (line : ℕ) (c : Directive) (t : Layout)
+    → directive_step provided s line c ≡ Ok t → Named s t
+unfolding directive_step
+directive_named provided s line (directive.Assign a) t e = assigned_named s line a t e
+directive_named provided s line (directive.Provide a) t e = go (list_any (bytes_eq a.name) provided) e
   where
     go : (b : Bool) → cond b (assigned s line a) (Ok s) ≡ Ok t → Named s t
     go true k = assigned_named s line a t k
     go false k = unchanged cc
-common_named provided s line (common.Assert a) t e = unchanged cc
+directive_named provided s line (directive.Assert a) t e = unchanged cc
 
 pub named_kept : (s t : Layout) → Named s t → Kept s t
 named_kept s t (unchanged e) = kept_same s t e
@@ -156,11 +156,11 @@ pub dot_quiet : (line : ℕ) (b : Body) (d : DotCommand) (c : Body) → dot_step
 dot_quiet line b (Add e) c h = advanced_quiet line b e c h
 dot_quiet line b (Set e) c h = set_quiet line b (dot_form e) c h
 
-pub common_quiet : (provided : List (List ℕ)) (line : ℕ) (b : Body) (d : Common) (c : Body)
-    → and_then (common_step provided b.layout line d) (λ s. Ok (record b { layout = s })) ≡ Ok c → Quiet b c
-common_quiet provided line b d c h =
-    let k = came (common_step provided b.layout line d) (λ s. Ok (record b { layout = s })) c h in
-    renamed k.value (common_named provided b.layout line d k.value k.is) (let f = k.gives in cc)
+pub directive_quiet : (provided : List (List ℕ)) (line : ℕ) (b : Body) (d : Directive) (c : Body)
+    → and_then (directive_step provided b.layout line d) (λ s. Ok (record b { layout = s })) ≡ Ok c → Quiet b c
+directive_quiet provided line b d c h =
+    let k = came (directive_step provided b.layout line d) (λ s. Ok (record b { layout = s })) c h in
+    renamed k.value (directive_named provided b.layout line d k.value k.is) (let f = k.gives in cc)
 
 bytes_of_width : (w : Width) (x : ℕ) → length (little_bytes (byte_count w) x) ≡ byte_count w
 bytes_of_width Byte x = refl
@@ -245,7 +245,7 @@ pub command_by : (provided : List (List ℕ)) (I : Body → Type 0) → ((b c : 
     → (line : ℕ) (b : Body) (x : BodyCommand) (c : Body) → body_command_step provided line b x ≡ Ok c → I b → I c
 unfolding body_command_step
 command_by provided I quiet piece past line b (body.Dot d) c e h = quiet b c (dot_quiet line b d c e) h
-command_by provided I quiet piece past line b (body.Common d) c e h = quiet b c (common_quiet provided line b d c e) h
+command_by provided I quiet piece past line b (body.Directive d) c e h = quiet b c (directive_quiet provided line b d c e) h
 command_by provided I quiet piece past line b (body.Data w x) c e h = quiet b c (data_quiet line b w x c e) h
 command_by provided I quiet piece past line b (body.Input i) c e h =
     let d = came (pieces_placed line b.layout.inputs b b.rest) (λ d. Ok (past_inputs b d)) c e in

@@ -71,7 +71,7 @@ module _ (of : ℕ → InputStatementAt → List Piece) (mark : (n : ℕ) (i : I
       → coming of mark k n (record { line = line; command = c } ∷ is)
       ≡ all_rows k n (record { line = line; command = c } ∷ is)
   by_command k n line (item.Dot c) is h = no_section k n line (item.Dot c) is refl (λ j l. tt) h
-  by_command k n line (item.Common c) is h = no_section k n line (item.Common c) is refl (λ j l. tt) h
+  by_command k n line (item.Directive c) is h = no_section k n line (item.Directive c) is refl (λ j l. tt) h
   by_command k n line (item.Discard ds) is h =
       no_section k n line (item.Discard ds) is refl (λ j l. stands_discarded of mark j ds) h
   by_command k n line (item.Section o) is h =

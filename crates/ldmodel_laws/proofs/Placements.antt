@@ -162,7 +162,7 @@ module _ (provided : List (List ℕ)) where
   unfolding body_command_step
   body_to line b (body.Input i) t e = inputs_to line b t e
   body_to line b (body.Dot d) t e = e
-  body_to line b (body.Common d) t e = e
+  body_to line b (body.Directive d) t e = e
   body_to line b (body.Data w x) t e = e
 
   body_of : (line : ℕ) (b : Body) (c : BodyCommand) (t : Body) → BodyCommandTo provided line b c t
@@ -170,7 +170,7 @@ module _ (provided : List (List ℕ)) where
   unfolding body_command_step
   body_of line b (body.Input i) t e = inputs_of line b t e
   body_of line b (body.Dot d) t e = e
-  body_of line b (body.Common d) t e = e
+  body_of line b (body.Directive d) t e = e
   body_of line b (body.Data w x) t e = e
 
   body_at : (line : ℕ) (b : Body) (c : BodyCommand) (f : Fault) → body_command_step provided line b c ≡ Err f
@@ -178,7 +178,7 @@ module _ (provided : List (List ℕ)) where
   unfolding body_command_step
   body_at line b (body.Input i) f e = inputs_at line b f e
   body_at line b (body.Dot d) f e = e
-  body_at line b (body.Common d) f e = e
+  body_at line b (body.Directive d) f e = e
   body_at line b (body.Data w x) f e = e
 
   body_from : (line : ℕ) (b : Body) (c : BodyCommand) (f : Fault) → BodyCommandAt provided line b c f
@@ -186,7 +186,7 @@ module _ (provided : List (List ℕ)) where
   unfolding body_command_step
   body_from line b (body.Input i) f e = inputs_from line b f e
   body_from line b (body.Dot d) f e = e
-  body_from line b (body.Common d) f e = e
+  body_from line b (body.Directive d) f e = e
   body_from line b (body.Data w x) f e = e
 
   abbrev before : Body → Body
@@ -276,7 +276,7 @@ module _ (rows : List (List Piece)) (provided : List (List ℕ)) where
   unfolding item_command_step
   item_to line s (item.Section o) t e = section_to provided (next_row rows s) s line o t e
   item_to line s (item.Dot c) t e = e
-  item_to line s (item.Common c) t e = e
+  item_to line s (item.Directive c) t e = e
   item_to line s (item.Discard i) t e = e
 
   item_of : (line : ℕ) (s : Layout) (c : ItemCommand) (t : Layout) → ItemCommandTo rows provided line s c t
@@ -284,7 +284,7 @@ module _ (rows : List (List Piece)) (provided : List (List ℕ)) where
   unfolding item_command_step
   item_of line s (item.Section o) t e = section_of provided (next_row rows s) s line o t e
   item_of line s (item.Dot c) t e = e
-  item_of line s (item.Common c) t e = e
+  item_of line s (item.Directive c) t e = e
   item_of line s (item.Discard i) t e = e
 
   item_fault : (line : ℕ) (s : Layout) (c : ItemCommand) (f : Fault) → item_command_step rows provided line s c ≡ Err f
@@ -292,7 +292,7 @@ module _ (rows : List (List Piece)) (provided : List (List ℕ)) where
   unfolding item_command_step
   item_fault line s (item.Section o) f e = section_at provided (next_row rows s) s line o f e
   item_fault line s (item.Dot c) f e = e
-  item_fault line s (item.Common c) f e = e
+  item_fault line s (item.Directive c) f e = e
   item_fault line s (item.Discard i) f e = e
 
   item_from : (line : ℕ) (s : Layout) (c : ItemCommand) (f : Fault) → ItemCommandAt rows provided line s c f
@@ -300,7 +300,7 @@ module _ (rows : List (List Piece)) (provided : List (List ℕ)) where
   unfolding item_command_step
   item_from line s (item.Section o) f e = section_from provided (next_row rows s) s line o f e
   item_from line s (item.Dot c) f e = e
-  item_from line s (item.Common c) f e = e
+  item_from line s (item.Directive c) f e = e
   item_from line s (item.Discard i) f e = e
 
   is_item_step : IsStep (item_step rows provided) (ItemTo rows provided) (ItemAt rows provided)
@@ -318,7 +318,7 @@ module _ (rows : List (List Piece)) (provided : List (List ℕ)) where
   command_to line s (top.Sections is) t e =
       runs_of (item_step rows provided) (ItemTo rows provided) (ItemAt rows provided) is_item_step is s t e
   command_to line s (top.Entry n) t e = e
-  command_to line s (top.Common c) t e = e
+  command_to line s (top.Directive c) t e = e
 
   command_of : (line : ℕ) (s : Layout) (c : Command) (t : Layout) → CommandTo rows provided line s c t
       → command_step rows provided line s c ≡ Ok t
@@ -327,7 +327,7 @@ module _ (rows : List (List Piece)) (provided : List (List ℕ)) where
   command_of line s (top.Sections is) t e =
       run_of (item_step rows provided) (ItemTo rows provided) (ItemAt rows provided) is_item_step s t is e
   command_of line s (top.Entry n) t e = e
-  command_of line s (top.Common c) t e = e
+  command_of line s (top.Directive c) t e = e
 
   command_at : (line : ℕ) (s : Layout) (c : Command) (f : Fault) → command_step rows provided line s c ≡ Err f
       → CommandAt rows provided line s c f
@@ -336,7 +336,7 @@ module _ (rows : List (List Piece)) (provided : List (List ℕ)) where
   command_at line s (top.Sections is) f e =
       stops_of (item_step rows provided) (ItemTo rows provided) (ItemAt rows provided) is_item_step is s f e
   command_at line s (top.Entry n) f e = e
-  command_at line s (top.Common c) f e = e
+  command_at line s (top.Directive c) f e = e
 
   command_from : (line : ℕ) (s : Layout) (c : Command) (f : Fault) → CommandAt rows provided line s c f
       → command_step rows provided line s c ≡ Err f
@@ -345,7 +345,7 @@ module _ (rows : List (List Piece)) (provided : List (List ℕ)) where
   command_from line s (top.Sections is) f e =
       stop_of (item_step rows provided) (ItemTo rows provided) (ItemAt rows provided) is_item_step s f is e
   command_from line s (top.Entry n) f e = e
-  command_from line s (top.Common c) f e = e
+  command_from line s (top.Directive c) f e = e
 
   is_statement_step : IsStep (statement_step rows provided) (StatementTo rows provided) (StatementAt rows provided)
   is_statement_step = record {

@@ -148,7 +148,7 @@ module _ (of : ℕ → InputStatementAt → List Piece) (mark : (n : ℕ) (i : I
       → Each (StandsIn j b) (inputs_of (InSection k) line c)
   stands_of k j line b e (body.Input i) = (e, tt)
   stands_of k j line b e (body.Dot c) = tt
-  stands_of k j line b e (body.Common c) = tt
+  stands_of k j line b e (body.Directive c) = tt
   stands_of k j line b e (body.Data w x) = tt
 
   pub stands_in : (k j : ℕ) (b : Bool) → (k == j) ≡ b → (ss : List BodyStatement)
@@ -173,7 +173,7 @@ module _ (of : ℕ → InputStatementAt → List Piece) (mark : (n : ℕ) (i : I
           go false e = refl
   stands_item k j l (item.Discard is) = stands_discarded j is
   stands_item k j l (item.Dot c) = tt
-  stands_item k j l (item.Common c) = tt
+  stands_item k j l (item.Directive c) = tt
 
   pub stands_later : (k j : ℕ) → j < k → (is : List Item) → Each (StandsIn j false) (inputs_from k is)
   stands_later k j l [] = tt

@@ -27,7 +27,7 @@ use Rattle.ldmodel.specs.Placement.{placed_section}
 use Rattle.ldmodel_laws.specs.Placed.{past_inputs}
 use Rattle.ldmodel_laws.specs.Spread.{entries_in}
 use Rattle.ldmodel_laws.proofs.Effects.{came, run_by, Kept, kept_same, Quiet, still, renamed, onward, added, named_kept}
-use Rattle.ldmodel_laws.proofs.Effects.{common_named, free_dot_kept, region_kept, dot_quiet, common_quiet, data_quiet}
+use Rattle.ldmodel_laws.proofs.Effects.{directive_named, free_dot_kept, region_kept, dot_quiet, directive_quiet, data_quiet}
 use Rattle.ldmodel_laws.proofs.Effects.{SectionPlaced, section_placed}
 use Rattle.ldmodel_laws.proofs.RowParts.{entries, IsOf, Took, takes, of_all, later}
 
@@ -104,8 +104,8 @@ module _ (of : ℕ → InputStatementAt → List Piece) (mark : (n : ℕ) (i : I
     command_so_far provided line b (body.Dot d) ss c e h r n s =
         kept_so_far b c ss (quiet_kept b c (dot_quiet line b d c e))
         (record { whole = h; rest = r; inputs = n; before = s })
-    command_so_far provided line b (body.Common d) ss c e h r n s =
-        kept_so_far b c ss (quiet_kept b c (common_quiet provided line b d c e))
+    command_so_far provided line b (body.Directive d) ss c e h r n s =
+        kept_so_far b c ss (quiet_kept b c (directive_quiet provided line b d c e))
         (record { whole = h; rest = r; inputs = n; before = s })
     command_so_far provided line b (body.Data w x) ss c e h r n s =
         kept_so_far b c ss (quiet_kept b c (data_quiet line b w x c e))
@@ -218,8 +218,8 @@ module _ (of : ℕ → InputStatementAt → List Piece) (mark : (n : ℕ) (i : I
     unfolding item_command_step
     command_adds line s (item.Dot c) others t e w =
         adds_none line (item.Dot c) s t (free_dot_kept s line c t e) refl refl refl
-    command_adds line s (item.Common c) others t e w =
-        adds_none line (item.Common c) s t (named_kept s t (common_named provided s line c t e)) refl refl refl
+    command_adds line s (item.Directive c) others t e w =
+        adds_none line (item.Directive c) s t (named_kept s t (directive_named provided s line c t e)) refl refl refl
     command_adds line s (item.Section o) others t e w =
         adds_section provided s line o t (next_row rows s) (own_row s _ others w)
         (section_placed provided (next_row rows s) s line o t e)
@@ -245,8 +245,8 @@ module _ (of : ℕ → InputStatementAt → List Piece) (mark : (n : ℕ) (i : I
         → command_step rows provided line s c ≡ Ok t → Whole s (items_of c ++ is) → Whole t is
     unfolding command_step
     statement_whole line s (top.Entry n) is t e w = kept_whole s t is (kept_same s t cc) w
-    statement_whole line s (top.Common c) is t e w =
-        kept_whole s t is (named_kept s t (common_named provided s line c t e)) w
+    statement_whole line s (top.Directive c) is t e w =
+        kept_whole s t is (named_kept s t (directive_named provided s line c t e)) w
     statement_whole line s (top.Memory rs) is t e w =
         run_by region_step (λ u xs. Whole u is) (λ u r xs v f h. kept_whole u v is (region_kept u r v f) h) rs s t e w
     statement_whole line s (top.Sections js) is t e w =

@@ -9,9 +9,9 @@ use Rattle.ldscript.specs.terms.Expressions.{Expr}
 use Rattle.ldscript.specs.statements.Numbering.{OutputSectionAt, items, items_of, output_sections, regions, regions_in}
 use Rattle.ldscript.specs.statements.Numbering.{sections_in, item_sections}
 use Rattle.ldscript.specs.statements.Widths.{byte_count}
-use Rattle.ldscript.specs.statements.declared.common.Common.{Common}
-use Rattle.ldscript.specs.statements.declared.common.DotCommand.{DotCommand}
-use Rattle.ldscript.specs.statements.declared.common.DotCommand.TheVariants.{Set, Add}
+use Rattle.ldscript.specs.statements.declared.directive.Directive.{Directive}
+use Rattle.ldscript.specs.statements.declared.directive.DotCommand.{DotCommand}
+use Rattle.ldscript.specs.statements.declared.directive.DotCommand.TheVariants.{Set, Add}
 use Rattle.ldscript.specs.statements.declared.section.BodyCommand.{BodyCommand}
 use Rattle.ldscript.specs.statements.declared.section.BodyCommand.TheVariants as body
 use Rattle.ldscript.specs.statements.declared.section.BodyStatement.{BodyStatement}
@@ -25,7 +25,7 @@ use Rattle.ldscript.specs.statements.declared.statement.ItemCommand.{ItemCommand
 use Rattle.ldscript.specs.statements.declared.statement.ItemCommand.TheVariants as item
 use Rattle.ldscript.specs.statements.declared.statement.Region.{Region}
 use Rattle.ldscript.specs.statements.declared.statement.Statement.{Statement}
-use Rattle.ldmodel.specs.Placement.{common_step, Body, advanced, body_command_step, body_step, data_step, dot_step}
+use Rattle.ldmodel.specs.Placement.{directive_step, Body, advanced, body_command_step, body_step, data_step, dot_step}
 use Rattle.ldmodel.specs.Placement.{moved_on, piece_placed, pieces_placed, set_to, with_data, with_dot}
 use Rattle.ldmodel.specs.Chain.{and_then, run}
 use Rattle.ldmodel.specs.Fault.{Fault, MovedBack, PastAddressSpace}
@@ -37,7 +37,7 @@ use Rattle.ldmodel_laws.specs.Placed.{PieceTo, past_inputs, with_piece}
 use Rattle.ldmodel_laws.specs.Traces.{BodyEffect, dot_noted, inputs_counted, symbol_given, dot_moved, entry_placed}
 use Rattle.ldmodel_laws.specs.Traces.{data_added, BodyEffects, no_effect, effect_then, AddsNothing, AddsSection, Trace}
 use Rattle.ldmodel_laws.specs.Traces.{all_added, nothing_added, region_added, section_added}
-use Rattle.ldmodel_laws.proofs.Effects.{came, Named, unchanged, named, common_named, section_placed}
+use Rattle.ldmodel_laws.proofs.Effects.{came, Named, unchanged, named, directive_named, section_placed}
 use Rattle.ldmodel_laws.proofs.Placements.{piece_to}
 
 -- a state that is given is that of the result
@@ -103,12 +103,12 @@ named_does b s (unchanged e) = subst (λ (t : Layout). BodyEffects b (record b {
 named_does b s (named name x e) =
     subst (λ (t : Layout). BodyEffects b (record b { layout = t })) e (effect_then (symbol_given name x) no_effect)
 
-common_does : (provided : List (List ℕ)) (line : ℕ) (b : Body) (d : Common) (c : Body)
-    → and_then (common_step provided b.layout line d) (λ s. Ok (record b { layout = s })) ≡ Ok c → BodyEffects b c
-common_does provided line b d c h =
-    let k = came (common_step provided b.layout line d) (λ s. Ok (record b { layout = s })) c h in
+directive_does : (provided : List (List ℕ)) (line : ℕ) (b : Body) (d : Directive) (c : Body)
+    → and_then (directive_step provided b.layout line d) (λ s. Ok (record b { layout = s })) ≡ Ok c → BodyEffects b c
+directive_does provided line b d c h =
+    let k = came (directive_step provided b.layout line d) (λ s. Ok (record b { layout = s })) c h in
     subst (BodyEffects b) (given_is (record b { layout = k.value }) c k.gives)
-    (named_does b k.value (common_named provided b.layout line d k.value k.is))
+    (named_does b k.value (directive_named provided b.layout line d k.value k.is))
 
 bytes_of_width : (w : Width) (x : ℕ) → length (little_bytes (byte_count w) x) ≡ byte_count w
 bytes_of_width Byte x = refl
@@ -153,7 +153,7 @@ command_does : (provided : List (List ℕ)) (line : ℕ) (b : Body) (x : BodyCom
     → body_command_step provided line b x ≡ Ok c → BodyEffects b c
 unfolding body_command_step
 command_does provided line b (body.Dot d) c e = dot_does line b d c e
-command_does provided line b (body.Common d) c e = common_does provided line b d c e
+command_does provided line b (body.Directive d) c e = directive_does provided line b d c e
 command_does provided line b (body.Data w x) c e = data_does line b w x c e
 command_does provided line b (body.Input i) c e =
     let d = came (pieces_placed line b.layout.inputs b b.rest) (λ d. Ok (past_inputs b d)) c e in
@@ -247,8 +247,8 @@ module _ (rows : List (List Piece)) (provided : List (List ℕ)) where
       → item_command_step rows provided line s c ≡ Ok t → Trace t rs os u → Trace s rs (item_sections line c ++ os) u
   unfolding item_command_step
   item_traced line s (item.Dot c) t u rs os e k = nothing_added (free_dot_adds s line c t e) k
-  item_traced line s (item.Common c) t u rs os e k =
-      nothing_added (named_adds s t (common_named provided s line c t e)) k
+  item_traced line s (item.Directive c) t u rs os e k =
+      nothing_added (named_adds s t (directive_named provided s line c t e)) k
   item_traced line s (item.Section o) t u rs os e k =
       section_added (section_adds provided (next_row rows s) s line o t e) k
   item_traced line s (item.Discard is) t u rs os e k =
@@ -272,8 +272,8 @@ module _ (rows : List (List Piece)) (provided : List (List ℕ)) where
       → Trace s (regions_in c ++ rs) (sections_in (items_of c ++ is)) u
   unfolding command_step
   command_traced line s (top.Entry name) t u rs is e k = nothing_added (same_added s t e) k
-  command_traced line s (top.Common c) t u rs is e k =
-      nothing_added (named_adds s t (common_named provided s line c t e)) k
+  command_traced line s (top.Directive c) t u rs is e k =
+      nothing_added (named_adds s t (directive_named provided s line c t e)) k
   command_traced line s (top.Memory ms) t u rs is e k = regions_traced ms s t u rs (sections_in is) e k
   command_traced line s (top.Sections js) t u rs is e k =
       subst (λ l. Trace s rs l u) (sym (sections_append js is)) (items_traced js s t u rs (sections_in is) e k)

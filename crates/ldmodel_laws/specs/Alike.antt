@@ -3,9 +3,9 @@ use Rattle.std.specs.Prelude.{◌≡◌, ℕ, ◌+◌, ◌<◌, ◌≤◌, List,
 use Rattle.std.specs.Prelude.{Ok, false, bytes_eq}
 use Rattle.std.specs.List.{list_any}
 use Rattle.std.specs.Option.{option_map}
-use Rattle.ldscript.specs.statements.Numbering.{CommonAt, common_commands, commons_of, item_commons, items_commons}
-use Rattle.ldscript.specs.statements.declared.common.Common.{Common}
-use Rattle.ldscript.specs.statements.declared.common.Common.TheVariants as common
+use Rattle.ldscript.specs.statements.Numbering.{DirectiveAt, all_directives, directives_of, item_directives, items_directives}
+use Rattle.ldscript.specs.statements.declared.directive.Directive.{Directive}
+use Rattle.ldscript.specs.statements.declared.directive.Directive.TheVariants as directive
 use Rattle.ldscript.specs.statements.declared.section.BodyStatement.{BodyStatement}
 use Rattle.ldscript.specs.statements.declared.section.OutputSection.{OutputSection}
 use Rattle.ldscript.specs.statements.declared.statement.Command.TheVariants as top
@@ -19,13 +19,13 @@ use Rattle.ldmodel.specs.Rows.{Piece}
 use Rattle.ldmodel.specs.Placement.{Head, head_of}
 
 -- the name that a command gives a value, if it gives one
-abbrev pub given_names : Common → List (List ℕ)
-given_names (common.Assign a) = a.name ∷ []
-given_names (common.Provide a) = a.name ∷ []
-given_names (common.Assert a) = []
+abbrev pub given_names : Directive → List (List ℕ)
+given_names (directive.Assign a) = a.name ∷ []
+given_names (directive.Provide a) = a.name ∷ []
+given_names (directive.Assert a) = []
 
 -- the names that commands give values
-abbrev pub names_given : List CommonAt → List (List ℕ)
+abbrev pub names_given : List DirectiveAt → List (List ℕ)
 names_given [] = []
 names_given (c ∷ cs) = given_names c.command ++ names_given cs
 
@@ -69,14 +69,14 @@ HeadsAgree = (names : List (List ℕ)) (row : List Piece) (s t : Layout) (line :
 -- a statement of a body leads to bodies that are alike
 abbrev pub BodiesStayAlike : Type 0
 BodiesStayAlike = (earlier provided names : List (List ℕ)) (x : BodyStatement) (b c d e : Body)
-    → AreBodiesAlike (names_given (commons_of x.line x.command) ++ names) b c
+    → AreBodiesAlike (names_given (directives_of x.line x.command) ++ names) b c
     → body_step earlier b x ≡ Ok d → body_step provided c x ≡ Ok e → AreBodiesAlike names d e
 
 -- a statement of SECTIONS leads to layouts that are alike, as long as the rows of their output sections are the same
 abbrev pub ItemsStayAlike : Type 0
 ItemsStayAlike = (first : ℕ) (old rows : List (List Piece)) (earlier provided names : List (List ℕ)) (x : Item)
     (s t u v : Layout) → AreSameBefore first old rows
-    → AreAlike (names_given (item_commons x.line x.command) ++ names) s t
+    → AreAlike (names_given (item_directives x.line x.command) ++ names) s t
     → item_step old earlier s x ≡ Ok u → item_step rows provided t x ≡ Ok v → length v.sections ≤ first
     → AreAlike names u v
 
@@ -84,7 +84,7 @@ ItemsStayAlike = (first : ℕ) (old rows : List (List Piece)) (earlier provided 
 abbrev pub StatementsStayAlike : Type 0
 StatementsStayAlike = (first : ℕ) (old rows : List (List Piece)) (earlier provided names : List (List ℕ))
     (xs : List Statement) (s t u v : Layout) → AreSameBefore first old rows
-    → AreAlike (names_given (common_commands xs) ++ names) s t
+    → AreAlike (names_given (all_directives xs) ++ names) s t
     → run (statement_step old earlier) s xs ≡ Ok u → run (statement_step rows provided) t xs ≡ Ok v
     → length v.sections ≤ first → AreAlike names u v
 

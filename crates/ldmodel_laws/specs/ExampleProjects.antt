@@ -6,7 +6,7 @@ use Rattle.elfobj.specs.declared.relocation.Relocation.{Relocation}
 use Rattle.elfobj.specs.declared.relocation.RelocationKind.TheVariants as kind
 use Rattle.elfobj.specs.declared.relocation.RelocationKind.TheVariants.{Plt32}
 use Rattle.ldscript.specs.terms.Expressions.{Number}
-use Rattle.ldscript.specs.statements.declared.common.DotCommand.TheVariants.{Set}
+use Rattle.ldscript.specs.statements.declared.directive.DotCommand.TheVariants.{Set}
 use Rattle.ldscript.specs.statements.declared.statement.ItemCommand.TheVariants as item
 use Rattle.elfobj.specs.declared.symbol.Binding.TheVariants.{Global}
 use Rattle.ldscript.specs.statements.declared.input.Input.{Input}

@@ -13,7 +13,7 @@ use Rattle.elfobj.specs.declared.symbol.SymbolPlace.{SymbolPlace}
 use Rattle.elfobj.specs.declared.symbol.SymbolPlace.TheVariants as place
 use Rattle.ldscript.specs.terms.Parts as pattern
 use Rattle.ldscript.specs.terms.Expressions.{Dot}
-use Rattle.ldscript.specs.statements.declared.common.Common.TheVariants as commons
+use Rattle.ldscript.specs.statements.declared.directive.Directive.TheVariants as directive
 use Rattle.ldscript.specs.statements.declared.input.Input.{Input}
 use Rattle.ldscript.specs.statements.declared.input.SectionWord.{SectionWord}
 use Rattle.ldscript.specs.statements.declared.section.BodyCommand.TheVariants as body
@@ -116,7 +116,7 @@ sections items = command (top.Sections items)
 
 -- `PROVIDE(NAME = .)`
 abbrev pub provide : List ℕ → Statement
-provide name = command (top.Common (commons.Provide (record { name = name; value = Dot })))
+provide name = command (top.Directive (directive.Provide (record { name = name; value = Dot })))
 
 -- the names of objects and sections in rows
 abbrev pub names : List (List Piece) → List (List (List ℕ × List ℕ))

@@ -2,7 +2,7 @@
 
 ghost use Rattle.std.specs.Prelude.{◌≡◌, ◌↔◌, ◌≤◌, ◌==◌, ℕ, List, [], ◌∷◌, ◌++◌, length, Ok, Err, map, not};
 ghost use Rattle.ldscript.specs.Script.{IsSound};
-ghost use Rattle.ldscript.specs.statements.Numbering.{common_commands, output_sections, regions};
+ghost use Rattle.ldscript.specs.statements.Numbering.{all_directives, output_sections, regions};
 ghost use Rattle.ldscript.specs.statements.declared.section.BodyStatement.{BodyStatement};
 ghost use Rattle.ldscript.specs.statements.declared.section.OutputSection.{OutputSection};
 ghost use Rattle.ldscript.specs.statements.declared.statement.Item.{Item};
@@ -89,7 +89,7 @@ pub fn placements_alike()
 /// alone, leads to ones that do, and the names to come stay new.
 pub fn steps_stay_alike()
     ensures begun { (script : List Statement) → IsSound script
-        → AreAlike (names_given (common_commands script)) nothing_placed nothing_placed }
+        → AreAlike (names_given (all_directives script)) nothing_placed nothing_placed }
     ensures statements { StatementsStayAlike }
     ensures items { ItemsStayAlike }
     ensures heads { HeadsAgree }

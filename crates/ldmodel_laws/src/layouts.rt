@@ -2,7 +2,7 @@
 
 ghost use Rattle.std.specs.Prelude.{◌≡◌, [], ◌∷◌, Err, codes, drop, take};
 ghost use Rattle.ldscript.specs.terms.Expressions.{Number};
-ghost use Rattle.ldscript.specs.statements.declared.common.DotCommand.TheVariants.{Add, Set};
+ghost use Rattle.ldscript.specs.statements.declared.directive.DotCommand.TheVariants.{Add, Set};
 ghost use Rattle.ldmodel.specs.Fault.{AddressesMeet, LoadAddressesMeet, MovedBack, PastAddressSpace, RegionFull};
 ghost use Rattle.ldmodel.specs.Link.{link};
 ghost use Rattle.ldmodel.specs.Placement.{placement};

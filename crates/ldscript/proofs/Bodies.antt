@@ -9,12 +9,12 @@ use Rattle.ldscript_tokens.specs.declared.token.Mark.TheVariants.{AddAssign}
 use Rattle.ldscript_tokens.specs.declared.token.Mode.TheVariants.{Pattern}
 use Rattle.ldscript_terms.specs.Expressions.{Expr}
 use Rattle.ldscript.specs.Steps.{◌▸◌, mark, token, key, statements}
-use Rattle.ldscript.specs.Grammar.{dot_command, common, in_parentheses, width_word, input, body_command, body_statement}
+use Rattle.ldscript.specs.Grammar.{dot_command, directive, in_parentheses, width_word, input, body_command, body_statement}
 use Rattle.ldscript.specs.Readings.{NoneAt, data_part, width_part}
-use Rattle.ldscript_statements.specs.declared.common.Common.{Common}
-use Rattle.ldscript_statements.specs.declared.common.Common.TheVariants as commons
-use Rattle.ldscript_statements.specs.declared.common.DotCommand.{DotCommand}
-use Rattle.ldscript_statements.specs.declared.common.DotCommand.TheVariants.{Set, Add}
+use Rattle.ldscript_statements.specs.declared.directive.Directive.{Directive}
+use Rattle.ldscript_statements.specs.declared.directive.Directive.TheVariants as directives
+use Rattle.ldscript_statements.specs.declared.directive.DotCommand.{DotCommand}
+use Rattle.ldscript_statements.specs.declared.directive.DotCommand.TheVariants.{Set, Add}
 use Rattle.ldscript_statements.specs.declared.input.Input.{Input}
 use Rattle.ldscript_statements.specs.declared.section.Width.{Width}
 use Rattle.ldscript_statements.specs.declared.section.Width.TheVariants.{Byte, Short, Long, Quad}
@@ -22,7 +22,7 @@ use Rattle.ldscript_statements.specs.declared.section.BodyCommand.{BodyCommand}
 use Rattle.ldscript_statements.specs.declared.section.BodyCommand.TheVariants as body
 use Rattle.ldscript_statements.specs.declared.section.BodyStatement.{BodyStatement}
 use Rattle.ldscript.proofs.Singles.{Single, tokens_same, words_same, mark_fixed, pair_single, behind_tree, keys_differ}
-use Rattle.ldscript.proofs.Singles.{name_no_key, common_single, dot_command_single, in_parentheses_single}
+use Rattle.ldscript.proofs.Singles.{name_no_key, directive_single, dot_command_single, in_parentheses_single}
 use Rattle.ldscript.proofs.Inputs.{pattern_no_key, word_no_mark, input_single, input_no_mark, marks_apart, kept_cases}
 use Rattle.ldscript.proofs.Lists.{Listed, closing_single}
 
@@ -101,12 +101,12 @@ word_no_input w m d e k i ts us r s x h y = elim (kept_cases i.keep i ts s y) [
   | inr p ↦ keys_differ Pattern w (codes "KEEP") e k ts us p.0 x p.1
 ]
 
-dot_no_common : (a : DotCommand) (b : Common) (ts r s : List Lexeme) → dot_command Pattern a ts r
-    → common Pattern b ts s → ⊥
-dot_no_common a (commons.Assign b) ts r s x y = name_no_key Pattern b.name (codes ".") dot_no_name ts y.0 x.0 y.1 x.1
-dot_no_common a (commons.Provide b) ts r s x y =
+dot_no_directive : (a : DotCommand) (b : Directive) (ts r s : List Lexeme) → dot_command Pattern a ts r
+    → directive Pattern b ts s → ⊥
+dot_no_directive a (directives.Assign b) ts r s x y = name_no_key Pattern b.name (codes ".") dot_no_name ts y.0 x.0 y.1 x.1
+dot_no_directive a (directives.Provide b) ts r s x y =
     keys_differ Pattern (codes ".") (codes "PROVIDE") refl refl ts x.0 y.0 x.1 y.1
-dot_no_common a (commons.Assert b) ts r s x y =
+dot_no_directive a (directives.Assert b) ts r s x y =
     keys_differ Pattern (codes ".") (codes "ASSERT") refl refl ts x.0 y.0 x.1 y.1
 
 dot_no_data : (a : DotCommand) (w : Width) (e : Expr) (ts r s : List Lexeme) → dot_command Pattern a ts r
@@ -117,26 +117,26 @@ dot_no_input : (a : DotCommand) (i : Input) (ts r s : List Lexeme) → dot_comma
 dot_no_input (Set e) i ts r s x y = word_no_input (codes ".") Assign (λ q. cc) refl refl i ts x.0 x.2.0 s x.1 x.2.1 y
 dot_no_input (Add e) i ts r s x y = word_no_input (codes ".") AddAssign (λ q. cc) refl refl i ts x.0 x.2.0 s x.1 x.2.1 y
 
-common_no_data : (a : Common) (w : Width) (e : Expr) (ts r s : List Lexeme) → common Pattern a ts r
+directive_no_data : (a : Directive) (w : Width) (e : Expr) (ts r s : List Lexeme) → directive Pattern a ts r
     → data_part (w, e) ts s → ⊥
-common_no_data (commons.Assign a) w e ts r s x y =
+directive_no_data (directives.Assign a) w e ts r s x y =
     name_no_key Pattern a.name (width_word w) (width_no_name w) ts x.0 y.0 x.1 y.1
-common_no_data (commons.Provide a) w e ts r s x y =
+directive_no_data (directives.Provide a) w e ts r s x y =
     width_no_key w (codes "PROVIDE") (refl, refl, refl, refl) ts y.0 x.0 y.1 x.1
-common_no_data (commons.Assert a) w e ts r s x y =
+directive_no_data (directives.Assert a) w e ts r s x y =
     width_no_key w (codes "ASSERT") (refl, refl, refl, refl) ts y.0 x.0 y.1 x.1
 
-common_no_input : (a : Common) (i : Input) (ts r s : List Lexeme) → common Pattern a ts r → input i ts s → ⊥
-common_no_input (commons.Assign a) i ts r s x y = elim (kept_cases i.keep i ts s y) [
+directive_no_input : (a : Directive) (i : Input) (ts r s : List Lexeme) → directive Pattern a ts r → input i ts s → ⊥
+directive_no_input (directives.Assign a) i ts r s x y = elim (kept_cases i.keep i ts s y) [
   | inl p ↦
       let same = (tokens_same (Word p.1.0) (Word a.name) ts p.0 x.0 p.1.3 x.1.1).1 in
       marks_apart Assign OpenParenthesis x.0 x.2.0 p.2.0 (λ q. cc) x.2.1
       (subst (λ l. mark OpenParenthesis l p.2.0) same p.2.1)
   | inr p ↦ name_no_key Pattern a.name (codes "KEEP") keep_no_name ts x.0 p.0 x.1 p.1
 ]
-common_no_input (commons.Provide a) i ts r s x y =
+directive_no_input (directives.Provide a) i ts r s x y =
     key_no_input (codes "PROVIDE") provide_no_word refl refl i ts x.0 s x.1 y
-common_no_input (commons.Assert a) i ts r s x y =
+directive_no_input (directives.Assert a) i ts r s x y =
     key_no_input (codes "ASSERT") assert_no_word refl refl i ts x.0 s x.1 y
 
 data_no_input : (w : Width) (e : Expr) (i : Input) (ts r s : List Lexeme) → data_part (w, e) ts r → input i ts s → ⊥
@@ -151,24 +151,24 @@ data_same v w e f p q = ap (λ x. body.Data x e) p ∙ ap (λ x. body.Data w x) 
 pub body_command_single : Single body_command
 body_command_single ts r s (body.Dot a) (body.Dot b) x y = let e = dot_command_single Pattern ts r s a b x y in
     (ap body.Dot e.0, e.1)
-body_command_single ts r s (body.Common a) (body.Common b) x y = let e = common_single Pattern ts r s a b x y in
-    (ap body.Common e.0, e.1)
+body_command_single ts r s (body.Directive a) (body.Directive b) x y = let e = directive_single Pattern ts r s a b x y in
+    (ap body.Directive e.0, e.1)
 body_command_single ts r s (body.Data v e) (body.Data w f) x y =
     let h = pair_single width_part in_parentheses width_single in_parentheses_single ts r s v w e f x y in
     (data_same v w e f h.0 h.1, h.2)
 body_command_single ts r s (body.Input a) (body.Input b) x y = let e = input_single ts r s a b x y in
     (ap body.Input e.0, e.1)
-body_command_single ts r s (body.Dot a) (body.Common b) x y = absurd (dot_no_common a b ts r s x y)
+body_command_single ts r s (body.Dot a) (body.Directive b) x y = absurd (dot_no_directive a b ts r s x y)
 body_command_single ts r s (body.Dot a) (body.Data w e) x y = absurd (dot_no_data a w e ts r s x y)
 body_command_single ts r s (body.Dot a) (body.Input b) x y = absurd (dot_no_input a b ts r s x y)
-body_command_single ts r s (body.Common a) (body.Dot b) x y = absurd (dot_no_common b a ts s r y x)
-body_command_single ts r s (body.Common a) (body.Data w e) x y = absurd (common_no_data a w e ts r s x y)
-body_command_single ts r s (body.Common a) (body.Input b) x y = absurd (common_no_input a b ts r s x y)
+body_command_single ts r s (body.Directive a) (body.Dot b) x y = absurd (dot_no_directive b a ts s r y x)
+body_command_single ts r s (body.Directive a) (body.Data w e) x y = absurd (directive_no_data a w e ts r s x y)
+body_command_single ts r s (body.Directive a) (body.Input b) x y = absurd (directive_no_input a b ts r s x y)
 body_command_single ts r s (body.Data w e) (body.Dot b) x y = absurd (dot_no_data b w e ts s r y x)
-body_command_single ts r s (body.Data w e) (body.Common b) x y = absurd (common_no_data b w e ts s r y x)
+body_command_single ts r s (body.Data w e) (body.Directive b) x y = absurd (directive_no_data b w e ts s r y x)
 body_command_single ts r s (body.Data w e) (body.Input b) x y = absurd (data_no_input w e b ts r s x y)
 body_command_single ts r s (body.Input a) (body.Dot b) x y = absurd (dot_no_input b a ts s r y x)
-body_command_single ts r s (body.Input a) (body.Common b) x y = absurd (common_no_input b a ts s r y x)
+body_command_single ts r s (body.Input a) (body.Directive b) x y = absurd (directive_no_input b a ts s r y x)
 body_command_single ts r s (body.Input a) (body.Data w e) x y = absurd (data_no_input w e a ts s r y x)
 
 body_statements_same : (a b : BodyStatement) → a.line ≡ b.line → a.command ≡ b.command → a ≡ b
@@ -183,9 +183,9 @@ body_statement_single ts r s a b x y =
 
 pub body_no_mark : (m : Mark) (c : BodyCommand) (ts r s : List Lexeme) → body_command c ts r → mark m ts s → ⊥
 body_no_mark m (body.Dot a) ts r s x y = word_no_mark (codes ".") m ts x.0 s x.1 y
-body_no_mark m (body.Common (commons.Assign a)) ts r s x y = word_no_mark a.name m ts x.0 s x.1.1 y
-body_no_mark m (body.Common (commons.Provide a)) ts r s x y = word_no_mark (codes "PROVIDE") m ts x.0 s x.1 y
-body_no_mark m (body.Common (commons.Assert a)) ts r s x y = word_no_mark (codes "ASSERT") m ts x.0 s x.1 y
+body_no_mark m (body.Directive (directives.Assign a)) ts r s x y = word_no_mark a.name m ts x.0 s x.1.1 y
+body_no_mark m (body.Directive (directives.Provide a)) ts r s x y = word_no_mark (codes "PROVIDE") m ts x.0 s x.1 y
+body_no_mark m (body.Directive (directives.Assert a)) ts r s x y = word_no_mark (codes "ASSERT") m ts x.0 s x.1 y
 body_no_mark m (body.Data w e) ts r s x y = word_no_mark (width_word w) m ts x.0 s x.1 y
 body_no_mark m (body.Input i) ts r s x y = input_no_mark m i ts r s x y
 
@@ -217,9 +217,9 @@ pub data_none : (ts us : List Lexeme) (w : Width) → width_part w ts us → Non
 data_none ts us w h n (v, e) more d =
     n e more (behind_tree width_part (in_parentheses e) width_single ts us more w v h d).1
 
-pub body_none : (ts : List Lexeme) → NoneAt (dot_command Pattern) ts → NoneAt (common Pattern) ts → NoneAt data_part ts
+pub body_none : (ts : List Lexeme) → NoneAt (dot_command Pattern) ts → NoneAt (directive Pattern) ts → NoneAt data_part ts
     → NoneAt input ts → NoneAt body_command ts
 body_none ts a b c d (body.Dot y) more k = a y more k
-body_none ts a b c d (body.Common y) more k = b y more k
+body_none ts a b c d (body.Directive y) more k = b y more k
 body_none ts a b c d (body.Data w e) more k = c (w, e) more k
 body_none ts a b c d (body.Input y) more k = d y more k

@@ -12,14 +12,14 @@ use Rattle.ldscript_tokens.specs.declared.token.Mode.TheVariants.{Expression}
 use Rattle.ldscript_terms.specs.Expressions.{Expr}
 use Rattle.ldscript_terms.specs.Grammar.{Whole}
 use Rattle.ldscript.specs.Steps.{◌▸◌, mark, token, key, name, optional, expression, statements}
-use Rattle.ldscript.specs.Grammar.{ended, in_parentheses, dot_command, common, stated_address, at_address, load_in_head}
+use Rattle.ldscript.specs.Grammar.{ended, in_parentheses, dot_command, directive, stated_address, at_address, load_in_head}
 use Rattle.ldscript.specs.Grammar.{load_in_tail, alignment, section, body_statement, input_statement, discarded}
 use Rattle.ldscript.specs.Grammar.{discard, item_command, item_statement}
 use Rattle.ldscript.specs.Readings.{Takes, TakesOnly, NoneAt, NoneUntil, Reads, EndsSection, TakesTail, tail_part}
 use Rattle.ldscript.specs.Readings.{opened_part, head_part, discard_head}
-use Rattle.ldscript_statements.specs.declared.common.Common.{Common}
-use Rattle.ldscript_statements.specs.declared.common.Common.TheVariants as commons
-use Rattle.ldscript_statements.specs.declared.common.DotCommand.{DotCommand}
+use Rattle.ldscript_statements.specs.declared.directive.Directive.{Directive}
+use Rattle.ldscript_statements.specs.declared.directive.Directive.TheVariants as directives
+use Rattle.ldscript_statements.specs.declared.directive.DotCommand.{DotCommand}
 use Rattle.ldscript_statements.specs.declared.input.InputStatement.{InputStatement}
 use Rattle.ldscript.specs.declared.read_section.SectionHead.{SectionHead}
 use Rattle.ldscript.specs.declared.read_section.SectionTail.{SectionTail}
@@ -32,7 +32,7 @@ use Rattle.ldscript_statements.specs.declared.statement.ItemCommand.TheVariants 
 use Rattle.ldscript_statements.specs.declared.statement.Item.{Item}
 use Rattle.ldscript.proofs.Singles.{Fixed, Single, SingleUntil, tokens_same, words_same, mark_fixed, key_fixed}
 use Rattle.ldscript.proofs.Singles.{token_fixed, then_fixed, skip_single, behind, behind_tree, keys_differ, name_no_key}
-use Rattle.ldscript.proofs.Singles.{name_single, ended_single, in_parentheses_single, common_single, dot_command_single}
+use Rattle.ldscript.proofs.Singles.{name_single, ended_single, in_parentheses_single, directive_single, dot_command_single}
 use Rattle.ldscript.proofs.Singles.{marks_differ}
 use Rattle.ldscript.proofs.Starts.{starts}
 use Rattle.ldscript.proofs.Tails.{NoTail, tails_same, tails_single}
@@ -346,12 +346,12 @@ assert_no_name : is_free_name (codes "ASSERT") ≡ false
 unfolding is_free_name is_reserved
 assert_no_name = refl
 
-dot_no_common : (a : DotCommand) (b : Common) (ts r s : List Lexeme) → dot_command Expression a ts r
-    → common Expression b ts s → ⊥
-dot_no_common a (commons.Assign b) ts r s x y = name_no_key Expression b.name (codes ".") dot_no_name ts y.0 x.0 y.1 x.1
-dot_no_common a (commons.Provide b) ts r s x y =
+dot_no_directive : (a : DotCommand) (b : Directive) (ts r s : List Lexeme) → dot_command Expression a ts r
+    → directive Expression b ts s → ⊥
+dot_no_directive a (directives.Assign b) ts r s x y = name_no_key Expression b.name (codes ".") dot_no_name ts y.0 x.0 y.1 x.1
+dot_no_directive a (directives.Provide b) ts r s x y =
     keys_differ Expression (codes ".") (codes "PROVIDE") refl refl ts x.0 y.0 x.1 y.1
-dot_no_common a (commons.Assert b) ts r s x y =
+dot_no_directive a (directives.Assert b) ts r s x y =
     keys_differ Expression (codes ".") (codes "ASSERT") refl refl ts x.0 y.0 x.1 y.1
 
 dot_no_section : (a : DotCommand) (b : OutputSection) (ts r s : List Lexeme) → dot_command Expression a ts r
@@ -362,43 +362,43 @@ address_no_assign : (o : Option Expr) (ts r s : List Lexeme) → stated_address 
 address_no_assign None ts r s x y = marks_differ Colon Assign ts r s (λ q. cc) x y
 address_no_assign (Some e) ts r s x y = starts Assign (λ q. cc) refl Whole e ts x.0 s x.1 y
 
-common_no_section : (a : Common) (b : OutputSection) (ts r s : List Lexeme) → common Expression a ts r
+directive_no_section : (a : Directive) (b : OutputSection) (ts r s : List Lexeme) → directive Expression a ts r
     → section b ts s → ⊥
-common_no_section (commons.Assign a) b ts r s x y =
+directive_no_section (directives.Assign a) b ts r s x y =
     let e = name_single Expression ts y.1.0 x.0 b.name a.name y.1.1 x.1 in
     address_no_assign b.address x.0 y.1.2.0 x.2.0 (subst (λ l. stated_address b.address l y.1.2.0) e.1 y.1.2.1) x.2.1
-common_no_section (commons.Provide a) b ts r s x y =
+directive_no_section (directives.Provide a) b ts r s x y =
     name_no_key Expression b.name (codes "PROVIDE") provide_no_name ts y.1.0 x.0 y.1.1 x.1
-common_no_section (commons.Assert a) b ts r s x y =
+directive_no_section (directives.Assert a) b ts r s x y =
     name_no_key Expression b.name (codes "ASSERT") assert_no_name ts y.1.0 x.0 y.1.1 x.1
 
 name_no_discard : (n : List ℕ) (ts r s : List Lexeme) → token (Name n) ts r → token Discard ts s → ⊥
 name_no_discard n ts r s x y = let e = (tokens_same (Name n) Discard ts r s x y).0 in cc
 
-common_no_discard : (a : Common) (ts r s : List Lexeme) → common Expression a ts r → token Discard ts s → ⊥
-common_no_discard (commons.Assign a) ts r s x y = name_no_discard a.name ts x.0 s x.1.1 y
-common_no_discard (commons.Provide a) ts r s x y = name_no_discard (codes "PROVIDE") ts x.0 s x.1 y
-common_no_discard (commons.Assert a) ts r s x y = name_no_discard (codes "ASSERT") ts x.0 s x.1 y
+directive_no_discard : (a : Directive) (ts r s : List Lexeme) → directive Expression a ts r → token Discard ts s → ⊥
+directive_no_discard (directives.Assign a) ts r s x y = name_no_discard a.name ts x.0 s x.1.1 y
+directive_no_discard (directives.Provide a) ts r s x y = name_no_discard (codes "PROVIDE") ts x.0 s x.1 y
+directive_no_discard (directives.Assert a) ts r s x y = name_no_discard (codes "ASSERT") ts x.0 s x.1 y
 
 -- where one command stands, no other does
 dot_only : (ts r s : List Lexeme) (a : DotCommand) (b : ItemCommand) → dot_command Expression a ts r
     → item_command b ts s → (b ≡ item.Dot a) × (s ≡ r)
 dot_only ts r s a (item.Dot b) x y = let e = dot_command_single Expression ts s r b a y x in (ap item.Dot e.0, e.1)
-dot_only ts r s a (item.Common b) x y = absurd (dot_no_common a b ts r s x y)
+dot_only ts r s a (item.Directive b) x y = absurd (dot_no_directive a b ts r s x y)
 dot_only ts r s a (item.Section b) x y = absurd (dot_no_section a b ts r s x y)
 dot_only ts r s a (item.Discard b) x y = absurd (name_no_discard (codes ".") ts x.0 y.0 x.1 y.1)
 
-common_only : (ts r s : List Lexeme) (a : Common) (b : ItemCommand) → common Expression a ts r → item_command b ts s
-    → (b ≡ item.Common a) × (s ≡ r)
-common_only ts r s a (item.Dot b) x y = absurd (dot_no_common b a ts s r y x)
-common_only ts r s a (item.Common b) x y = let e = common_single Expression ts s r b a y x in (ap item.Common e.0, e.1)
-common_only ts r s a (item.Section b) x y = absurd (common_no_section a b ts r s x y)
-common_only ts r s a (item.Discard b) x y = absurd (common_no_discard a ts r y.0 x y.1)
+directive_only : (ts r s : List Lexeme) (a : Directive) (b : ItemCommand) → directive Expression a ts r → item_command b ts s
+    → (b ≡ item.Directive a) × (s ≡ r)
+directive_only ts r s a (item.Dot b) x y = absurd (dot_no_directive b a ts s r y x)
+directive_only ts r s a (item.Directive b) x y = let e = directive_single Expression ts s r b a y x in (ap item.Directive e.0, e.1)
+directive_only ts r s a (item.Section b) x y = absurd (directive_no_section a b ts r s x y)
+directive_only ts r s a (item.Discard b) x y = absurd (directive_no_discard a ts r y.0 x y.1)
 
 discard_only : (ts r s : List Lexeme) (a : List InputStatement) (b : ItemCommand) → discard a ts r → item_command b ts s
     → (b ≡ item.Discard a) × (s ≡ r)
 discard_only ts r s a (item.Dot b) x y = absurd (name_no_discard (codes ".") ts y.0 x.0 y.1 x.1)
-discard_only ts r s a (item.Common b) x y = absurd (common_no_discard b ts s x.0 y x.1)
+discard_only ts r s a (item.Directive b) x y = absurd (directive_no_discard b ts s x.0 y x.1)
 discard_only ts r s a (item.Section b) x y = absurd (name_no_discard b.name ts y.1.0 x.0 y.1.1.1 x.1)
 discard_only ts r s a (item.Discard b) x y = let e = discard_single ts s r b a y x in (ap item.Discard e.0, e.1)
 
@@ -409,13 +409,13 @@ OnlySection a ts r = (c : OutputSection) (more : List Lexeme) → section c ts m
 section_item_only : (ts r s : List Lexeme) (a : OutputSection) (b : ItemCommand) → section a ts r → OnlySection a ts r
     → item_command b ts s → EndsSection s → (b ≡ item.Section a) × (s ≡ r)
 section_item_only ts r s a (item.Dot b) x only y hs = absurd (dot_no_section b a ts s r y x)
-section_item_only ts r s a (item.Common b) x only y hs = absurd (common_no_section b a ts s r y x)
+section_item_only ts r s a (item.Directive b) x only y hs = absurd (directive_no_section b a ts s r y x)
 section_item_only ts r s a (item.Section b) x only y hs = let e = only b s y hs in (ap item.Section e.0, e.1)
 section_item_only ts r s a (item.Discard b) x only y hs = absurd (name_no_discard a.name ts x.1.0 y.0 x.1.1.1 y.1)
 
 pub item_command_until : SingleUntil EndsSection item_command
 item_command_until ts r s (item.Dot a) b x y hr hs = let e = dot_only ts r s a b x y in (sym e.0, sym e.1)
-item_command_until ts r s (item.Common a) b x y hr hs = let e = common_only ts r s a b x y in (sym e.0, sym e.1)
+item_command_until ts r s (item.Directive a) b x y hr hs = let e = directive_only ts r s a b x y in (sym e.0, sym e.1)
 item_command_until ts r s (item.Section a) b x y hr hs =
     let e = section_item_only ts r s a b x (λ c more d h. section_until ts more r c a d x h hr) y hs in
     (sym e.0, sym e.1)
@@ -429,11 +429,11 @@ takes_dot ts r a d = record {
   shorter = d.shorter;
 }
 
-pub takes_common : (ts r : List Lexeme) (a : Common) → Takes (common Expression) ts a r
-    → TakesOnly EndsSection item_command ts (item.Common a) r
-takes_common ts r a d = record {
+pub takes_directive : (ts r : List Lexeme) (a : Directive) → Takes (directive Expression) ts a r
+    → TakesOnly EndsSection item_command ts (item.Directive a) r
+takes_directive ts r a d = record {
   spells = d.spells;
-  only = λ y more k e. common_only ts r more a y d.spells k;
+  only = λ y more k e. directive_only ts r more a y d.spells k;
   shorter = d.shorter;
 }
 
@@ -489,10 +489,10 @@ word_not_at w h k e = false≢true (sym k ∙ sym (ap (λ x. bytes_eq w x) e) �
 
 item_begun : (c : ItemCommand) (ts r : List Lexeme) → item_command c ts r → Begun ts
 item_begun (item.Dot a) ts r x = inl (codes ".", x.0, x.1, word_not_at (codes ".") refl refl)
-item_begun (item.Common (commons.Assign a)) ts r x = inl (a.name, x.0, x.1.1, not_at a.name x.1.0)
-item_begun (item.Common (commons.Provide a)) ts r x =
+item_begun (item.Directive (directives.Assign a)) ts r x = inl (a.name, x.0, x.1.1, not_at a.name x.1.0)
+item_begun (item.Directive (directives.Provide a)) ts r x =
     inl (codes "PROVIDE", x.0, x.1, word_not_at (codes "PROVIDE") refl refl)
-item_begun (item.Common (commons.Assert a)) ts r x =
+item_begun (item.Directive (directives.Assert a)) ts r x =
     inl (codes "ASSERT", x.0, x.1, word_not_at (codes "ASSERT") refl refl)
 item_begun (item.Section a) ts r x = inl (a.name, x.1.0, x.1.1.1, not_at a.name x.1.1.0)
 item_begun (item.Discard a) ts r x = inr (x.0, x.1)
@@ -534,10 +534,10 @@ items_listed = record {
 pub closed_items_single : Single (λ is. statements item_statement is ▸ mark CloseBrace)
 closed_items_single ts r s a b x y = closing_single items_listed a b ts r s x y
 
-pub item_none : (ts : List Lexeme) → NoneAt (dot_command Expression) ts → NoneAt (common Expression) ts
+pub item_none : (ts : List Lexeme) → NoneAt (dot_command Expression) ts → NoneAt (directive Expression) ts
     → NoneAt discard ts → NoneUntil EndsSection section ts → NoneUntil EndsSection item_command ts
 item_none ts a b c d (item.Dot y) more k e = a y more k
-item_none ts a b c d (item.Common y) more k e = b y more k
+item_none ts a b c d (item.Directive y) more k e = b y more k
 item_none ts a b c d (item.Section y) more k e = d y more k e
 item_none ts a b c d (item.Discard y) more k e = c y more k
 

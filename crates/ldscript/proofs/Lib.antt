@@ -3,7 +3,7 @@ pub mod Singles
 pub mod Lists
 pub mod Each
 pub mod Reading
-pub mod Commons
+pub mod Directives
 pub mod Inputs
 pub mod Bodies
 pub mod Regions

@@ -16,11 +16,11 @@ use Rattle.ldscript_terms.specs.Reading.{Stops, StopsAt}
 use Rattle.ldscript.specs.Steps.{Rule, ◌▸◌, token, mark, word_in, key, is_name_spelling, is_name_in, name_in, name}
 use Rattle.ldscript.specs.Steps.{string, expression}
 use Rattle.ldscript.specs.Grammar.{ended, dot_set_to, add_to, dot_change, dot_command, assign, provided_name}
-use Rattle.ldscript.specs.Grammar.{provided_assignment, provide, asserted, assertion, common, in_parentheses}
-use Rattle.ldscript_statements.specs.declared.common.Assignment.{Assignment}
-use Rattle.ldscript_statements.specs.declared.common.Assertion.{Assertion}
-use Rattle.ldscript_statements.specs.declared.common.Common.TheVariants as commons
-use Rattle.ldscript_statements.specs.declared.common.DotCommand.TheVariants.{Set, Add}
+use Rattle.ldscript.specs.Grammar.{provided_assignment, provide, asserted, assertion, directive, in_parentheses}
+use Rattle.ldscript_statements.specs.declared.directive.Assignment.{Assignment}
+use Rattle.ldscript_statements.specs.declared.directive.Assertion.{Assertion}
+use Rattle.ldscript_statements.specs.declared.directive.Directive.TheVariants as directives
+use Rattle.ldscript_statements.specs.declared.directive.DotCommand.TheVariants.{Set, Add}
 use Rattle.ldscript.proofs.Expressions.{one_expression}
 
 -- a part without a tree leads to one place
@@ -223,22 +223,22 @@ provide_no_assert : (mode : Mode) (ts r s : List Lexeme) → key mode (codes "PR
     → key mode (codes "ASSERT") ts s → ⊥
 provide_no_assert mode = keys_differ mode (codes "PROVIDE") (codes "ASSERT") refl refl
 
-pub common_single : (mode : Mode) → Single (common mode)
-common_single mode ts r s (commons.Assign a) (commons.Assign b) x y = let e = assign_single mode ts r s a b x y in
-    (ap commons.Assign e.0, e.1)
-common_single mode ts r s (commons.Provide a) (commons.Provide b) x y = let e = provide_single mode ts r s a b x y in
-    (ap commons.Provide e.0, e.1)
-common_single mode ts r s (commons.Assert a) (commons.Assert b) x y = let e = assertion_single mode ts r s a b x y in
-    (ap commons.Assert e.0, e.1)
-common_single mode ts r s (commons.Assign a) (commons.Provide b) x y =
+pub directive_single : (mode : Mode) → Single (directive mode)
+directive_single mode ts r s (directives.Assign a) (directives.Assign b) x y = let e = assign_single mode ts r s a b x y in
+    (ap directives.Assign e.0, e.1)
+directive_single mode ts r s (directives.Provide a) (directives.Provide b) x y = let e = provide_single mode ts r s a b x y in
+    (ap directives.Provide e.0, e.1)
+directive_single mode ts r s (directives.Assert a) (directives.Assert b) x y = let e = assertion_single mode ts r s a b x y in
+    (ap directives.Assert e.0, e.1)
+directive_single mode ts r s (directives.Assign a) (directives.Provide b) x y =
     absurd (name_no_key mode a.name (codes "PROVIDE") provide_kept ts x.0 y.0 x.1 y.1)
-common_single mode ts r s (commons.Assign a) (commons.Assert b) x y =
+directive_single mode ts r s (directives.Assign a) (directives.Assert b) x y =
     absurd (name_no_key mode a.name (codes "ASSERT") assert_kept ts x.0 y.0 x.1 y.1)
-common_single mode ts r s (commons.Provide a) (commons.Assign b) x y =
+directive_single mode ts r s (directives.Provide a) (directives.Assign b) x y =
     absurd (name_no_key mode b.name (codes "PROVIDE") provide_kept ts y.0 x.0 y.1 x.1)
-common_single mode ts r s (commons.Assert a) (commons.Assign b) x y =
+directive_single mode ts r s (directives.Assert a) (directives.Assign b) x y =
     absurd (name_no_key mode b.name (codes "ASSERT") assert_kept ts y.0 x.0 y.1 x.1)
-common_single mode ts r s (commons.Provide a) (commons.Assert b) x y =
+directive_single mode ts r s (directives.Provide a) (directives.Assert b) x y =
     absurd (provide_no_assert mode ts x.0 y.0 x.1 y.1)
-common_single mode ts r s (commons.Assert a) (commons.Provide b) x y =
+directive_single mode ts r s (directives.Assert a) (directives.Provide b) x y =
     absurd (provide_no_assert mode ts y.0 x.0 y.1 x.1)

@@ -9,17 +9,17 @@ use Rattle.ldscript_tokens.specs.declared.token.Mark.TheVariants.{CloseBrace}
 use Rattle.ldscript_tokens.specs.declared.token.Mark.TheVariants.{Semicolon}
 use Rattle.ldscript_tokens.specs.declared.token.Mode.TheVariants.{Expression}
 use Rattle.ldscript.specs.Steps.{Rule, ◌▸◌, mark, token, key, name, each, statements, Semicolons, none}
-use Rattle.ldscript.specs.Grammar.{common, region, item_statement, entry, memory, sections, top_command, top_statement}
+use Rattle.ldscript.specs.Grammar.{directive, region, item_statement, entry, memory, sections, top_command, top_statement}
 use Rattle.ldscript.specs.Grammar.{script}
 use Rattle.ldscript.specs.Readings.{NoneAt}
 use Rattle.ldscript.specs.Script.{IsTree}
-use Rattle.ldscript_statements.specs.declared.common.Common.{Common}
-use Rattle.ldscript_statements.specs.declared.common.Common.TheVariants as commons
+use Rattle.ldscript_statements.specs.declared.directive.Directive.{Directive}
+use Rattle.ldscript_statements.specs.declared.directive.Directive.TheVariants as directives
 use Rattle.ldscript_statements.specs.declared.statement.Command.{Command}
 use Rattle.ldscript_statements.specs.declared.statement.Command.TheVariants as top
 use Rattle.ldscript_statements.specs.declared.statement.Statement.{Statement}
 use Rattle.ldscript.proofs.Singles.{Single, tokens_same, mark_fixed, key_fixed, skip_single, end_single, keys_differ}
-use Rattle.ldscript.proofs.Singles.{name_no_key, name_single, common_single}
+use Rattle.ldscript.proofs.Singles.{name_no_key, name_single, directive_single}
 use Rattle.ldscript.proofs.Regions.{closed_regions_single}
 use Rattle.ldscript.proofs.Items.{closed_items_single}
 use Rattle.ldscript.proofs.Lists.{Listed, SoFar, append_nil, closing_single, so_far_stuck}
@@ -56,12 +56,12 @@ sections_no_name : is_free_name (codes "SECTIONS") ≡ false
 unfolding is_free_name is_reserved
 sections_no_name = refl
 
-key_no_common : (w : List ℕ) → is_free_name w ≡ false → bytes_eq w w ≡ true → bytes_eq w (codes "PROVIDE") ≡ false
+key_no_directive : (w : List ℕ) → is_free_name w ≡ false → bytes_eq w w ≡ true → bytes_eq w (codes "PROVIDE") ≡ false
     → bytes_eq w (codes "ASSERT") ≡ false
-    → (c : Common) (ts r s : List Lexeme) → key Expression w ts r → common Expression c ts s → ⊥
-key_no_common w f e p a (commons.Assign c) ts r s x y = name_no_key Expression c.name w f ts y.0 r y.1 x
-key_no_common w f e p a (commons.Provide c) ts r s x y = keys_differ Expression w (codes "PROVIDE") e p ts r y.0 x y.1
-key_no_common w f e p a (commons.Assert c) ts r s x y = keys_differ Expression w (codes "ASSERT") e a ts r y.0 x y.1
+    → (c : Directive) (ts r s : List Lexeme) → key Expression w ts r → directive Expression c ts s → ⊥
+key_no_directive w f e p a (directives.Assign c) ts r s x y = name_no_key Expression c.name w f ts y.0 r y.1 x
+key_no_directive w f e p a (directives.Provide c) ts r s x y = keys_differ Expression w (codes "PROVIDE") e p ts r y.0 x y.1
+key_no_directive w f e p a (directives.Assert c) ts r s x y = keys_differ Expression w (codes "ASSERT") e a ts r y.0 x y.1
 
 pub top_command_single : Single top_command
 top_command_single ts r s (top.Entry a) (top.Entry b) x y = let e = entry_single ts r s a b x y in
@@ -70,32 +70,32 @@ top_command_single ts r s (top.Memory a) (top.Memory b) x y = let e = memory_sin
     (ap top.Memory e.0, e.1)
 top_command_single ts r s (top.Sections a) (top.Sections b) x y = let e = sections_single ts r s a b x y in
     (ap top.Sections e.0, e.1)
-top_command_single ts r s (top.Common a) (top.Common b) x y = let e = common_single Expression ts r s a b x y in
-    (ap top.Common e.0, e.1)
+top_command_single ts r s (top.Directive a) (top.Directive b) x y = let e = directive_single Expression ts r s a b x y in
+    (ap top.Directive e.0, e.1)
 top_command_single ts r s (top.Entry a) (top.Memory b) x y =
     absurd (keys_differ Expression (codes "ENTRY") (codes "MEMORY") refl refl ts x.0 y.0 x.1 y.1)
 top_command_single ts r s (top.Entry a) (top.Sections b) x y =
     absurd (keys_differ Expression (codes "ENTRY") (codes "SECTIONS") refl refl ts x.0 y.0 x.1 y.1)
-top_command_single ts r s (top.Entry a) (top.Common b) x y =
-    absurd (key_no_common (codes "ENTRY") entry_no_name refl refl refl b ts x.0 s x.1 y)
+top_command_single ts r s (top.Entry a) (top.Directive b) x y =
+    absurd (key_no_directive (codes "ENTRY") entry_no_name refl refl refl b ts x.0 s x.1 y)
 top_command_single ts r s (top.Memory a) (top.Entry b) x y =
     absurd (keys_differ Expression (codes "MEMORY") (codes "ENTRY") refl refl ts x.0 y.0 x.1 y.1)
 top_command_single ts r s (top.Memory a) (top.Sections b) x y =
     absurd (keys_differ Expression (codes "MEMORY") (codes "SECTIONS") refl refl ts x.0 y.0 x.1 y.1)
-top_command_single ts r s (top.Memory a) (top.Common b) x y =
-    absurd (key_no_common (codes "MEMORY") memory_no_name refl refl refl b ts x.0 s x.1 y)
+top_command_single ts r s (top.Memory a) (top.Directive b) x y =
+    absurd (key_no_directive (codes "MEMORY") memory_no_name refl refl refl b ts x.0 s x.1 y)
 top_command_single ts r s (top.Sections a) (top.Entry b) x y =
     absurd (keys_differ Expression (codes "SECTIONS") (codes "ENTRY") refl refl ts x.0 y.0 x.1 y.1)
 top_command_single ts r s (top.Sections a) (top.Memory b) x y =
     absurd (keys_differ Expression (codes "SECTIONS") (codes "MEMORY") refl refl ts x.0 y.0 x.1 y.1)
-top_command_single ts r s (top.Sections a) (top.Common b) x y =
-    absurd (key_no_common (codes "SECTIONS") sections_no_name refl refl refl b ts x.0 s x.1 y)
-top_command_single ts r s (top.Common a) (top.Entry b) x y =
-    absurd (key_no_common (codes "ENTRY") entry_no_name refl refl refl a ts y.0 r y.1 x)
-top_command_single ts r s (top.Common a) (top.Memory b) x y =
-    absurd (key_no_common (codes "MEMORY") memory_no_name refl refl refl a ts y.0 r y.1 x)
-top_command_single ts r s (top.Common a) (top.Sections b) x y =
-    absurd (key_no_common (codes "SECTIONS") sections_no_name refl refl refl a ts y.0 r y.1 x)
+top_command_single ts r s (top.Sections a) (top.Directive b) x y =
+    absurd (key_no_directive (codes "SECTIONS") sections_no_name refl refl refl b ts x.0 s x.1 y)
+top_command_single ts r s (top.Directive a) (top.Entry b) x y =
+    absurd (key_no_directive (codes "ENTRY") entry_no_name refl refl refl a ts y.0 r y.1 x)
+top_command_single ts r s (top.Directive a) (top.Memory b) x y =
+    absurd (key_no_directive (codes "MEMORY") memory_no_name refl refl refl a ts y.0 r y.1 x)
+top_command_single ts r s (top.Directive a) (top.Sections b) x y =
+    absurd (key_no_directive (codes "SECTIONS") sections_no_name refl refl refl a ts y.0 r y.1 x)
 
 tops_same : (a b : Statement) → a.line ≡ b.line → a.command ≡ b.command → a ≡ b
 tops_same a b e f =
@@ -113,9 +113,9 @@ top_named : (c : Command) (ts r : List Lexeme) → top_command c ts r
 top_named (top.Entry a) ts r x = (codes "ENTRY", x.0, x.1)
 top_named (top.Memory a) ts r x = (codes "MEMORY", x.0, x.1)
 top_named (top.Sections a) ts r x = (codes "SECTIONS", x.0, x.1)
-top_named (top.Common (commons.Assign a)) ts r x = (a.name, x.0, x.1.1)
-top_named (top.Common (commons.Provide a)) ts r x = (codes "PROVIDE", x.0, x.1)
-top_named (top.Common (commons.Assert a)) ts r x = (codes "ASSERT", x.0, x.1)
+top_named (top.Directive (directives.Assign a)) ts r x = (a.name, x.0, x.1.1)
+top_named (top.Directive (directives.Provide a)) ts r x = (codes "PROVIDE", x.0, x.1)
+top_named (top.Directive (directives.Assert a)) ts r x = (codes "ASSERT", x.0, x.1)
 
 nil_cons : (x : Lexeme) (xs : List Lexeme) → [] ≡ x ∷ xs → ⊥
 nil_cons x xs e = cc
@@ -149,11 +149,11 @@ one_tree_of cut text a b x y =
     one_script y.lexemes a b (subst (λ l. script a l) e x.spelled) y.spelled
 
 pub top_none : (ts : List Lexeme) → NoneAt sections ts → NoneAt memory ts → NoneAt entry ts
-    → NoneAt (common Expression) ts → NoneAt top_command ts
+    → NoneAt (directive Expression) ts → NoneAt top_command ts
 top_none ts a b c d (top.Sections y) more k = a y more k
 top_none ts a b c d (top.Memory y) more k = b y more k
 top_none ts a b c d (top.Entry y) more k = c y more k
-top_none ts a b c d (top.Common y) more k = d y more k
+top_none ts a b c d (top.Directive y) more k = d y more k
 
 -- the tokens end behind the statements read so far
 pub whole_script : (ts rest : List Lexeme) (xs : List Statement) → SoFar at_end top_statement ts xs rest → rest ≡ []

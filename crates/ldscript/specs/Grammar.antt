@@ -45,12 +45,12 @@ use Rattle.ldscript_statements.specs.declared.section.BodyStatement.{BodyStateme
 use Rattle.ldscript_statements.specs.declared.section.Load.{Load}
 use Rattle.ldscript_statements.specs.declared.section.Load.TheVariants.{Unstated, At, InRegion}
 use Rattle.ldscript_statements.specs.declared.section.OutputSection.{OutputSection}
-use Rattle.ldscript_statements.specs.declared.common.Assignment.{Assignment}
-use Rattle.ldscript_statements.specs.declared.common.Assertion.{Assertion}
-use Rattle.ldscript_statements.specs.declared.common.Common.{Common}
-use Rattle.ldscript_statements.specs.declared.common.Common.TheVariants as commons
-use Rattle.ldscript_statements.specs.declared.common.DotCommand.{DotCommand}
-use Rattle.ldscript_statements.specs.declared.common.DotCommand.TheVariants.{Set, Add}
+use Rattle.ldscript_statements.specs.declared.directive.Assignment.{Assignment}
+use Rattle.ldscript_statements.specs.declared.directive.Assertion.{Assertion}
+use Rattle.ldscript_statements.specs.declared.directive.Directive.{Directive}
+use Rattle.ldscript_statements.specs.declared.directive.Directive.TheVariants as directives
+use Rattle.ldscript_statements.specs.declared.directive.DotCommand.{DotCommand}
+use Rattle.ldscript_statements.specs.declared.directive.DotCommand.TheVariants.{Set, Add}
 use Rattle.ldscript_statements.specs.declared.statement.Region.{Region}
 use Rattle.ldscript_statements.specs.declared.statement.ItemCommand.{ItemCommand}
 use Rattle.ldscript_statements.specs.declared.statement.ItemCommand.TheVariants as item
@@ -144,10 +144,10 @@ abbrev pub assertion : Mode → Assertion → Rule
 assertion mode a = key mode (codes "ASSERT") ▸ asserted a
 
 -- NAME "=" e ";" | provide | assert
-abbrev pub common : Mode → Common → Rule
-common mode (commons.Assign a) = assign mode a
-common mode (commons.Provide a) = provide mode a
-common mode (commons.Assert a) = assertion mode a
+abbrev pub directive : Mode → Directive → Rule
+directive mode (directives.Assign a) = assign mode a
+directive mode (directives.Provide a) = provide mode a
+directive mode (directives.Assert a) = assertion mode a
 
 -- data = BYTE | SHORT | LONG | QUAD
 abbrev pub width_word : Width → List ℕ
@@ -163,7 +163,7 @@ in_parentheses e = mark OpenParenthesis ▸ ended CloseParenthesis e
 -- body = ";" | "." "=" e ";" | "." "+=" e ";" | NAME "=" e ";" | provide | assert | data "(" e ")" | input
 abbrev pub body_command : BodyCommand → Rule
 body_command (body.Dot c) = dot_command Pattern c
-body_command (body.Common c) = common Pattern c
+body_command (body.Directive c) = directive Pattern c
 body_command (body.Data w e) = key Pattern (width_word w) ▸ in_parentheses e
 body_command (body.Input i) = input i
 
@@ -236,7 +236,7 @@ discard inputs = token Discard ▸ discarded inputs
 -- item = ";" | "." "=" e ";" | "." "+=" e ";" | NAME "=" e ";" | provide | assert | section
 abbrev pub item_command : ItemCommand → Rule
 item_command (item.Dot c) = dot_command Expression c
-item_command (item.Common c) = common Expression c
+item_command (item.Directive c) = directive Expression c
 item_command (item.Section s) = section s
 item_command (item.Discard inputs) = discard inputs
 
@@ -273,7 +273,7 @@ abbrev pub top_command : Command → Rule
 top_command (top.Entry n) = entry n
 top_command (top.Memory regions) = memory regions
 top_command (top.Sections items) = sections items
-top_command (top.Common c) = common Expression c
+top_command (top.Directive c) = directive Expression c
 
 abbrev pub top_statement : Statement → Rule
 top_statement s = on_line s.line (top_command s.command)

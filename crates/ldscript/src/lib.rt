@@ -1,7 +1,7 @@
 //! The reader of linker scripts: the tree of a text, or why it has none. Takes a text; gives a `Script`, or the first
 //! refusal that holds. Crates above name this crate for all of the script reader (`tree`).
 //!
-//! - `script`: the whole; `read_script`, `read_region`, `read_item`, `read_section`, `read_body`, `read_common`,
+//! - `script`: the whole; `read_script`, `read_region`, `read_item`, `read_section`, `read_body`, `read_directive`,
 //!   `read_input` over `steps`: a rule or two of the grammar each; `refusal`;
 //! - `tree`: the types of the crates below; `law`: no text has two trees;
 //! - the parts `tokens`, `terms`, `statements`: the crates below. Other families name this crate alone.
@@ -9,7 +9,7 @@
 
 pub mod law;
 mod read_body;
-mod read_common;
+mod read_directive;
 mod read_input;
 mod read_item;
 mod read_region;

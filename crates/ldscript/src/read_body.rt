@@ -5,7 +5,7 @@ ghost use Rattle.ldscript.specs.Steps.{◌▸◌, mark, statements};
 ghost use Rattle.ldscript.specs.Grammar.{body_command as body_command_part, body_statement};
 ghost use Rattle.ldscript.specs.Readings.{Reads, Finds, data_part, width_part};
 
-use crate::read_common::{common, dot_command};
+use crate::read_directive::{directive, dot_command};
 use crate::read_input::input;
 use crate::steps::{after, after_key, in_parentheses};
 use ldscript_statements::formula::Formula;
@@ -54,8 +54,8 @@ fn body_command<'a>(alloc: Global, tokens: Cursor<'a>) -> Parsed<'a, BodyCommand
     if let Some((command, rest)) = dot_command(alloc, Mode::Pattern, tokens.copy())? {
         return Ok(Some((BodyCommand::Dot(command), rest)));
     }
-    if let Some((command, rest)) = common(alloc, Mode::Pattern, tokens.copy())? {
-        return Ok(Some((BodyCommand::Common(command), rest)));
+    if let Some((command, rest)) = directive(alloc, Mode::Pattern, tokens.copy())? {
+        return Ok(Some((BodyCommand::Directive(command), rest)));
     }
     if let Some(((width, value), rest)) = data(alloc, tokens.copy())? {
         return Ok(Some((BodyCommand::Data(width, value), rest)));

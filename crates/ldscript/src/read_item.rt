@@ -6,7 +6,7 @@ ghost use Rattle.ldscript_tokens.specs.Tokens.{Discard};
 ghost use Rattle.ldscript.specs.Grammar.{discard as discard_part, item_command as item_command_part, item_statement};
 ghost use Rattle.ldscript.specs.Readings.{EndsSection, Follows, Reads, ReadsOnly, discard_head as discard_head_part};
 
-use crate::read_common::{common, dot_command};
+use crate::read_directive::{directive, dot_command};
 use crate::read_input::inputs;
 use crate::read_section::section;
 use crate::steps::after;
@@ -58,8 +58,8 @@ fn item_command<'a>(alloc: Global, tokens: Cursor<'a>) -> Parsed<'a, ItemCommand
     if let Some((command, rest)) = dot_command(alloc, Mode::Expression, tokens.copy())? {
         return Ok(Some((ItemCommand::Dot(command), rest)));
     }
-    if let Some((command, rest)) = common(alloc, Mode::Expression, tokens.copy())? {
-        return Ok(Some((ItemCommand::Common(command), rest)));
+    if let Some((command, rest)) = directive(alloc, Mode::Expression, tokens.copy())? {
+        return Ok(Some((ItemCommand::Directive(command), rest)));
     }
     if let Some((inputs, rest)) = discard(alloc, tokens.copy())? {
         return Ok(Some((ItemCommand::Discard(inputs), rest)));

@@ -7,7 +7,7 @@ ghost use Rattle.ldscript.specs.Grammar.{top_command as top_command_part, script
 ghost use Rattle.ldscript.specs.Readings.{Reads, Finds};
 ghost use Rattle.ldscript_statements.specs.declared.statement.Statement.{Statement};
 
-use crate::read_common::common;
+use crate::read_directive::directive;
 use crate::read_item::items;
 use crate::read_region::regions;
 use crate::steps::{after, after_key, name_in_parentheses};
@@ -72,10 +72,10 @@ fn top_command<'a>(alloc: Global, tokens: Cursor<'a>) -> Parsed<'a, Command>
     if let Some((name, rest)) = entry(alloc, tokens.copy())? {
         return Ok(Some((Command::Entry(name), rest)));
     }
-    let Some((command, rest)) = common(alloc, Mode::Expression, tokens)? else {
+    let Some((command, rest)) = directive(alloc, Mode::Expression, tokens)? else {
         return Ok(None);
     };
-    Ok(Some((Command::Common(command), rest)))
+    Ok(Some((Command::Directive(command), rest)))
 }
 
 /// All statements of a script, or `None` where the tokens are none.

@@ -4,9 +4,9 @@ ghost use Rattle.std.specs.Prelude.{◌≡◌, [], IfErr, IfOk};
 ghost use Rattle.std.specs.Option.{option_copied};
 ghost use Rattle.ldscript.specs.Script.{IsScript, IsTree, IsRefusal, IsSound};
 ghost use Rattle.ldscript_statements.specs.Given.{given_by, region_number, section_number};
-ghost use Rattle.ldscript_statements.specs.Numbering.{common_commands, entry_of, input_statements, output_sections};
+ghost use Rattle.ldscript_statements.specs.Numbering.{all_directives, entry_of, input_statements, output_sections};
 ghost use Rattle.ldscript_statements.specs.Numbering.{regions};
-ghost use Rattle.ldscript_statements.specs.Numbered.{shown_commons, shown_inputs, shown_regions, shown_sections};
+ghost use Rattle.ldscript_statements.specs.Numbered.{shown_directives, shown_inputs, shown_regions, shown_sections};
 
 use crate::read_script::statements_of;
 use crate::refusal::ScriptRefusal;
@@ -14,7 +14,7 @@ use ldscript_statements::dots::has_misplaced_dot;
 use ldscript_statements::given::Given;
 use ldscript_statements::mentions::has_clash;
 use ldscript_statements::numbering;
-use ldscript_statements::numbering::{CommonAt, InputStatementAt, OutputSectionAt};
+use ldscript_statements::numbering::{DirectiveAt, InputStatementAt, OutputSectionAt};
 use ldscript_statements::sequence::Sequence;
 use ldscript_statements::statement::{Region, Statement};
 use ldscript_statements::tables::Tables;
@@ -87,7 +87,7 @@ impl Script {
         self.statements.as_slice()
     }
 
-    /// The command that assigns or provides a symbol, by its number among `common_commands`. The time is logarithmic in
+    /// The command that assigns or provides a symbol, by its number among `all_directives`. The time is logarithmic in
     /// the number of names.
     pub fn given(&self, name: &[u8]) -> Option<Given>
         ensures { result ≡ given_by self.now name.now }
@@ -132,10 +132,10 @@ impl Script {
 
     /// The assignments of symbols, `PROVIDE`s and `ASSERT`s in the order of the text: outside of `SECTIONS`, in it, and
     /// in output sections.
-    pub fn common_commands(&self, alloc: Global) -> Result<Vec<CommonAt<'_>>, AllocError>
-        ensures { IfOk result (λ v. shown_commons v.items ≡ common_commands self.now) }
+    pub fn all_directives(&self, alloc: Global) -> Result<Vec<DirectiveAt<'_>>, AllocError>
+        ensures { IfOk result (λ v. shown_directives v.items ≡ all_directives self.now) }
     {
-        numbering::common_commands(alloc, self.statements.as_slice())
+        numbering::all_directives(alloc, self.statements.as_slice())
     }
 
     /// The memory regions in the order of the text.

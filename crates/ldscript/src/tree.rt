@@ -1,12 +1,12 @@
 //! The parts of a script's tree: statements, expressions, patterns and names. A crate above names these alone.
 
-pub use ldscript_statements::common::{Assertion, Assignment, Common, DotCommand};
+pub use ldscript_statements::directive::{Assertion, Assignment, Directive, DotCommand};
 pub use ldscript_statements::fill::Fill;
 pub use ldscript_statements::formula::Formula;
 pub use ldscript_statements::given::Given;
 pub use ldscript_statements::held::Held;
 pub use ldscript_statements::input::{Input, InputStatement, SectionWord, Sort};
-pub use ldscript_statements::numbering::{CommonAt, InputStatementAt, OutputSectionAt};
+pub use ldscript_statements::numbering::{DirectiveAt, InputStatementAt, OutputSectionAt};
 pub use ldscript_statements::place::InputPlace;
 pub use ldscript_statements::section::{BodyCommand, BodyStatement, Load, OutputSection, Width};
 pub use ldscript_statements::sequence::Sequence;

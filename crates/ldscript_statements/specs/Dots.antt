@@ -3,10 +3,10 @@ use Rattle.std.specs.Prelude.{List, Bool, false, ◌||◌, is_none}
 use Rattle.std.specs.List.{list_any}
 use Rattle.ldscript_terms.specs.Expressions.{Expr, has_dot, has_align_dot}
 use Rattle.ldscript_terms.specs.DotForms.{dot_form}
-use Rattle.ldscript_statements.specs.declared.common.Common.{Common}
-use Rattle.ldscript_statements.specs.declared.common.Common.TheVariants as commons
-use Rattle.ldscript_statements.specs.declared.common.DotCommand.{DotCommand}
-use Rattle.ldscript_statements.specs.declared.common.DotCommand.TheVariants.{Set, Add}
+use Rattle.ldscript_statements.specs.declared.directive.Directive.{Directive}
+use Rattle.ldscript_statements.specs.declared.directive.Directive.TheVariants as directives
+use Rattle.ldscript_statements.specs.declared.directive.DotCommand.{DotCommand}
+use Rattle.ldscript_statements.specs.declared.directive.DotCommand.TheVariants.{Set, Add}
 use Rattle.ldscript_statements.specs.declared.section.BodyCommand.{BodyCommand}
 use Rattle.ldscript_statements.specs.declared.section.BodyCommand.TheVariants as body
 use Rattle.ldscript_statements.specs.declared.section.BodyStatement.{BodyStatement}
@@ -23,16 +23,16 @@ abbrev pub uses_dot : Expr → Bool
 uses_dot e = has_dot e || has_align_dot e
 
 -- a `.` or such an ALIGN in an ASSERT
-abbrev pub assert_misplaces : Common → Bool
-assert_misplaces (commons.Assign a) = false
-assert_misplaces (commons.Provide a) = false
-assert_misplaces (commons.Assert a) = uses_dot a.condition
+abbrev pub assert_misplaces : Directive → Bool
+assert_misplaces (directives.Assign a) = false
+assert_misplaces (directives.Provide a) = false
+assert_misplaces (directives.Assert a) = uses_dot a.condition
 
 -- a `.` or such an ALIGN in the expression of a command
-abbrev pub common_uses_dot : Common → Bool
-common_uses_dot (commons.Assign a) = uses_dot a.value
-common_uses_dot (commons.Provide a) = uses_dot a.value
-common_uses_dot (commons.Assert a) = uses_dot a.condition
+abbrev pub directive_uses_dot : Directive → Bool
+directive_uses_dot (directives.Assign a) = uses_dot a.value
+directive_uses_dot (directives.Provide a) = uses_dot a.value
+directive_uses_dot (directives.Assert a) = uses_dot a.condition
 
 -- `.` is set to what it may not be set to in an output section
 abbrev pub dot_misplaces : DotCommand → Bool
@@ -41,7 +41,7 @@ dot_misplaces (Add e) = false
 
 abbrev pub body_command_misplaces : BodyCommand → Bool
 body_command_misplaces (body.Dot c) = dot_misplaces c
-body_command_misplaces (body.Common c) = assert_misplaces c
+body_command_misplaces (body.Directive c) = assert_misplaces c
 body_command_misplaces (body.Data w e) = false
 body_command_misplaces (body.Input i) = false
 
@@ -50,7 +50,7 @@ body_misplaces s = body_command_misplaces s.command
 
 abbrev pub item_command_misplaces : ItemCommand → Bool
 item_command_misplaces (item.Dot c) = false
-item_command_misplaces (item.Common c) = assert_misplaces c
+item_command_misplaces (item.Directive c) = assert_misplaces c
 item_command_misplaces (item.Section o) = list_any body_misplaces o.body
 item_command_misplaces (item.Discard inputs) = false
 
@@ -65,7 +65,7 @@ abbrev pub top_command_misplaces : Command → Bool
 top_command_misplaces (top.Entry n) = false
 top_command_misplaces (top.Memory regions) = list_any region_misplaces regions
 top_command_misplaces (top.Sections items) = list_any item_misplaces items
-top_command_misplaces (top.Common c) = common_uses_dot c
+top_command_misplaces (top.Directive c) = directive_uses_dot c
 
 abbrev pub top_misplaces : Statement → Bool
 top_misplaces s = top_command_misplaces s.command

@@ -3,30 +3,30 @@ use Rattle.std.specs.Prelude.{ℕ, suc, List, [], ◌∷◌, ◌++◌, Option, S
 use Rattle.ldscript_terms.specs.Expressions.{Expr, Number, Dot, Name, Unary, Binary, Choice, OfRegion, OfSection}
 use Rattle.ldscript_terms.specs.Expressions.{AlignDot}
 use Rattle.ldscript_terms.specs.Expressions.{Align}
-use Rattle.ldscript_statements.specs.declared.common.Common.{Common}
-use Rattle.ldscript_statements.specs.declared.common.Common.TheVariants as commons
+use Rattle.ldscript_statements.specs.declared.directive.Directive.{Directive}
+use Rattle.ldscript_statements.specs.declared.directive.Directive.TheVariants as directives
 use Rattle.ldscript_statements.specs.declared.given.Given.{Given}
 use Rattle.ldscript_statements.specs.declared.given.Given.TheVariants.{Assigned, Provided}
 use Rattle.ldscript_statements.specs.declared.statement.Region.{Region}
 use Rattle.ldscript_statements.specs.declared.statement.Statement.{Statement}
-use Rattle.ldscript_statements.specs.Numbering.{OutputSectionAt, CommonAt, common_commands, output_sections, regions}
+use Rattle.ldscript_statements.specs.Numbering.{OutputSectionAt, DirectiveAt, all_directives, output_sections, regions}
 
 -- the number of a command, if it assigns the name, else what later ones give
-abbrev pub assigned_here : ℕ → Common → List ℕ → Option ℕ → Option ℕ
-assigned_here number (commons.Assign a) name later = if bytes_eq name a.name then Some number else later
-assigned_here number (commons.Provide a) name later = later
-assigned_here number (commons.Assert a) name later = later
+abbrev pub assigned_here : ℕ → Directive → List ℕ → Option ℕ → Option ℕ
+assigned_here number (directives.Assign a) name later = if bytes_eq name a.name then Some number else later
+assigned_here number (directives.Provide a) name later = later
+assigned_here number (directives.Assert a) name later = later
 
-abbrev pub assigned_from : ℕ → List CommonAt → List ℕ → Option ℕ
+abbrev pub assigned_from : ℕ → List DirectiveAt → List ℕ → Option ℕ
 assigned_from number [] name = None
 assigned_from number (c ∷ cs) name = assigned_here number c.command name (assigned_from (suc number) cs name)
 
-abbrev pub provided_here : ℕ → Common → List ℕ → Option ℕ → Option ℕ
-provided_here number (commons.Assign a) name later = later
-provided_here number (commons.Provide a) name later = if bytes_eq name a.name then Some number else later
-provided_here number (commons.Assert a) name later = later
+abbrev pub provided_here : ℕ → Directive → List ℕ → Option ℕ → Option ℕ
+provided_here number (directives.Assign a) name later = later
+provided_here number (directives.Provide a) name later = if bytes_eq name a.name then Some number else later
+provided_here number (directives.Assert a) name later = later
 
-abbrev pub provided_from : ℕ → List CommonAt → List ℕ → Option ℕ
+abbrev pub provided_from : ℕ → List DirectiveAt → List ℕ → Option ℕ
 provided_from number [] name = None
 provided_from number (c ∷ cs) name = provided_here number c.command name (provided_from (suc number) cs name)
 
@@ -35,10 +35,10 @@ given_as (Some number) provided = Some (Assigned number)
 given_as None (Some number) = Some (Provided number)
 given_as None None = None
 
--- the command that assigns or provides a name, by its number among `common_commands`; a script without a clash has one
+-- the command that assigns or provides a name, by its number among `all_directives`; a script without a clash has one
 -- at most
 abbrev pub given_by : List Statement → List ℕ → Option Given
-given_by s name = given_as (assigned_from 0 (common_commands s) name) (provided_from 0 (common_commands s) name)
+given_by s name = given_as (assigned_from 0 (all_directives s) name) (provided_from 0 (all_directives s) name)
 
 abbrev pub section_from : ℕ → List OutputSectionAt → List ℕ → Option ℕ
 section_from number [] name = None

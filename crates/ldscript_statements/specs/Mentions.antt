@@ -10,11 +10,11 @@ use Rattle.ldscript_statements.specs.declared.section.BodyStatement.{BodyStateme
 use Rattle.ldscript_statements.specs.declared.section.Load.{Load}
 use Rattle.ldscript_statements.specs.declared.section.Load.TheVariants.{Unstated, At, InRegion}
 use Rattle.ldscript_statements.specs.declared.section.OutputSection.{OutputSection}
-use Rattle.ldscript_statements.specs.declared.common.Assignment.{Assignment}
-use Rattle.ldscript_statements.specs.declared.common.Common.{Common}
-use Rattle.ldscript_statements.specs.declared.common.Common.TheVariants as commons
-use Rattle.ldscript_statements.specs.declared.common.DotCommand.{DotCommand}
-use Rattle.ldscript_statements.specs.declared.common.DotCommand.TheVariants.{Set, Add}
+use Rattle.ldscript_statements.specs.declared.directive.Assignment.{Assignment}
+use Rattle.ldscript_statements.specs.declared.directive.Directive.{Directive}
+use Rattle.ldscript_statements.specs.declared.directive.Directive.TheVariants as directives
+use Rattle.ldscript_statements.specs.declared.directive.DotCommand.{DotCommand}
+use Rattle.ldscript_statements.specs.declared.directive.DotCommand.TheVariants.{Set, Add}
 use Rattle.ldscript_statements.specs.declared.statement.Region.{Region}
 use Rattle.ldscript_statements.specs.declared.statement.ItemCommand.{ItemCommand}
 use Rattle.ldscript_statements.specs.declared.statement.ItemCommand.TheVariants as item
@@ -62,10 +62,10 @@ in_optional (Some e) = in_expression e
 abbrev pub in_assignment : Assignment → List Mention
 in_assignment a = SymbolGiven a.name ∷ in_expression a.value
 
-abbrev pub in_common : Common → List Mention
-in_common (commons.Assign a) = in_assignment a
-in_common (commons.Provide a) = in_assignment a
-in_common (commons.Assert a) = in_expression a.condition
+abbrev pub in_directive : Directive → List Mention
+in_directive (directives.Assign a) = in_assignment a
+in_directive (directives.Provide a) = in_assignment a
+in_directive (directives.Assert a) = in_expression a.condition
 
 abbrev pub in_dot_command : DotCommand → List Mention
 in_dot_command (Set e) = in_expression e
@@ -73,7 +73,7 @@ in_dot_command (Add e) = in_expression e
 
 abbrev pub in_body_command : BodyCommand → List Mention
 in_body_command (body.Dot c) = in_dot_command c
-in_body_command (body.Common c) = in_common c
+in_body_command (body.Directive c) = in_directive c
 in_body_command (body.Data w e) = in_expression e
 in_body_command (body.Input i) = []
 
@@ -102,7 +102,7 @@ in_section s =
 
 abbrev pub in_item_command : ItemCommand → List Mention
 in_item_command (item.Dot c) = in_dot_command c
-in_item_command (item.Common c) = in_common c
+in_item_command (item.Directive c) = in_directive c
 in_item_command (item.Section s) = in_section s
 in_item_command (item.Discard inputs) = []
 
@@ -119,7 +119,7 @@ abbrev pub in_top_command : Command → List Mention
 in_top_command (top.Entry n) = EntryGiven ∷ []
 in_top_command (top.Memory regions) = MemoryGiven ∷ in_regions regions
 in_top_command (top.Sections items) = SectionsGiven ∷ in_items items
-in_top_command (top.Common c) = in_common c
+in_top_command (top.Directive c) = in_directive c
 
 abbrev pub mentions : List Statement → List Mention
 mentions [] = []

@@ -5,8 +5,8 @@ use Rattle.ldscript_statements.specs.declared.statement.Item.{Item}
 use Rattle.ldscript_statements.specs.declared.statement.Region.{Region}
 use Rattle.ldscript_statements.specs.declared.numbering.OutputSectionAt as code_section
 use Rattle.ldscript_statements.specs.declared.numbering.InputStatementAt as code_input
-use Rattle.ldscript_statements.specs.declared.numbering.CommonAt as code_common
-use Rattle.ldscript_statements.specs.Numbering.{OutputSectionAt, InputStatementAt, CommonAt}
+use Rattle.ldscript_statements.specs.declared.numbering.DirectiveAt as code_directive
+use Rattle.ldscript_statements.specs.Numbering.{OutputSectionAt, InputStatementAt, DirectiveAt}
 
 abbrev pub shown_items : List (Bor Item) → List Item
 shown_items list = map (λ (i : Bor Item). i.now) list
@@ -18,8 +18,8 @@ abbrev pub shown_inputs : List code_input.InputStatementAt → List InputStateme
 shown_inputs list =
     map (λ (s : code_input.InputStatementAt). record { line = s.line; place = s.place; input = s.input.now }) list
 
-abbrev pub shown_commons : List code_common.CommonAt → List CommonAt
-shown_commons list = map (λ (c : code_common.CommonAt). record { line = c.line; command = c.command.now }) list
+abbrev pub shown_directives : List code_directive.DirectiveAt → List DirectiveAt
+shown_directives list = map (λ (c : code_directive.DirectiveAt). record { line = c.line; command = c.command.now }) list
 
 abbrev pub shown_regions : List (Bor Region) → List Region
 shown_regions list = map (λ (r : Bor Region). r.now) list
@@ -35,8 +35,8 @@ abbrev pub AddsInputs : List code_input.InputStatementAt → List code_input.Inp
     → List InputStatementAt → Type 0
 AddsInputs old new these = shown_inputs new ≡ shown_inputs old ++ these
 
-abbrev pub AddsCommons : List code_common.CommonAt → List code_common.CommonAt → List CommonAt → Type 0
-AddsCommons old new these = shown_commons new ≡ shown_commons old ++ these
+abbrev pub AddsDirectives : List code_directive.DirectiveAt → List code_directive.DirectiveAt → List DirectiveAt → Type 0
+AddsDirectives old new these = shown_directives new ≡ shown_directives old ++ these
 
 abbrev pub AddsRegions : List (Bor Region) → List (Bor Region) → List Region → Type 0
 AddsRegions old new these = shown_regions new ≡ shown_regions old ++ these

@@ -10,10 +10,10 @@ use Rattle.ldscript_statements.specs.declared.section.BodyCommand.{BodyCommand}
 use Rattle.ldscript_statements.specs.declared.section.BodyCommand.TheVariants as body
 use Rattle.ldscript_statements.specs.declared.section.BodyStatement.{BodyStatement}
 use Rattle.ldscript_statements.specs.declared.section.OutputSection.{OutputSection}
-use Rattle.ldscript_statements.specs.declared.common.Assignment.{Assignment}
-use Rattle.ldscript_statements.specs.declared.common.Assertion.{Assertion}
-use Rattle.ldscript_statements.specs.declared.common.Common.{Common}
-use Rattle.ldscript_statements.specs.declared.common.Common.TheVariants as commons
+use Rattle.ldscript_statements.specs.declared.directive.Assignment.{Assignment}
+use Rattle.ldscript_statements.specs.declared.directive.Assertion.{Assertion}
+use Rattle.ldscript_statements.specs.declared.directive.Directive.{Directive}
+use Rattle.ldscript_statements.specs.declared.directive.Directive.TheVariants as directives
 use Rattle.ldscript_statements.specs.declared.statement.Region.{Region}
 use Rattle.ldscript_statements.specs.declared.statement.ItemCommand.{ItemCommand}
 use Rattle.ldscript_statements.specs.declared.statement.ItemCommand.TheVariants as item
@@ -83,82 +83,82 @@ abbrev pub input_statements : List Statement → List InputStatementAt
 input_statements s = inputs_from 0 (items s)
 
 -- an assignment of a symbol, a PROVIDE or an ASSERT, and its line
-pub record CommonAt : Type 0 where
+pub record DirectiveAt : Type 0 where
   pub line : ℕ
-  pub command : Common
+  pub command : Directive
 
-abbrev pub commons_of : ℕ → BodyCommand → List CommonAt
-commons_of line (body.Common c) = (record { line = line; command = c }) ∷ []
-commons_of line _ = []
+abbrev pub directives_of : ℕ → BodyCommand → List DirectiveAt
+directives_of line (body.Directive c) = (record { line = line; command = c }) ∷ []
+directives_of line _ = []
 
-abbrev pub commons_in : List BodyStatement → List CommonAt
-commons_in [] = []
-commons_in (s ∷ ss) = commons_of s.line s.command ++ commons_in ss
+abbrev pub directives_in : List BodyStatement → List DirectiveAt
+directives_in [] = []
+directives_in (s ∷ ss) = directives_of s.line s.command ++ directives_in ss
 
-abbrev pub item_commons : ℕ → ItemCommand → List CommonAt
-item_commons line (item.Common c) = (record { line = line; command = c }) ∷ []
-item_commons line (item.Section s) = commons_in s.body
-item_commons line _ = []
+abbrev pub item_directives : ℕ → ItemCommand → List DirectiveAt
+item_directives line (item.Directive c) = (record { line = line; command = c }) ∷ []
+item_directives line (item.Section s) = directives_in s.body
+item_directives line _ = []
 
-abbrev pub items_commons : List Item → List CommonAt
-items_commons [] = []
-items_commons (i ∷ is) = item_commons i.line i.command ++ items_commons is
+abbrev pub items_directives : List Item → List DirectiveAt
+items_directives [] = []
+items_directives (i ∷ is) = item_directives i.line i.command ++ items_directives is
 
-abbrev pub top_commons : ℕ → Command → List CommonAt
-top_commons line (top.Common c) = (record { line = line; command = c }) ∷ []
-top_commons line (top.Sections items) = items_commons items
-top_commons line _ = []
+abbrev pub top_directives : ℕ → Command → List DirectiveAt
+top_directives line (top.Directive c) = (record { line = line; command = c }) ∷ []
+top_directives line (top.Sections items) = items_directives items
+top_directives line _ = []
 
 -- all assignments of symbols, PROVIDEs and ASSERTs: outside of SECTIONS, in it, and in output sections
-abbrev pub common_commands : List Statement → List CommonAt
-common_commands [] = []
-common_commands (s ∷ ss) = top_commons s.line s.command ++ common_commands ss
+abbrev pub all_directives : List Statement → List DirectiveAt
+all_directives [] = []
+all_directives (s ∷ ss) = top_directives s.line s.command ++ all_directives ss
 
 -- NAME = e or PROVIDE(NAME = e), and its line
 pub record AssignmentAt : Type 0 where
   pub line : ℕ
   pub assignment : Assignment
 
-abbrev pub assigned_by : ℕ → Common → List AssignmentAt
-assigned_by line (commons.Assign a) = (record { line = line; assignment = a }) ∷ []
+abbrev pub assigned_by : ℕ → Directive → List AssignmentAt
+assigned_by line (directives.Assign a) = (record { line = line; assignment = a }) ∷ []
 assigned_by line _ = []
 
-abbrev pub assigned_in : List CommonAt → List AssignmentAt
+abbrev pub assigned_in : List DirectiveAt → List AssignmentAt
 assigned_in [] = []
 assigned_in (c ∷ cs) = assigned_by c.line c.command ++ assigned_in cs
 
 -- the assignments of symbols
 abbrev pub assignments : List Statement → List AssignmentAt
-assignments s = assigned_in (common_commands s)
+assignments s = assigned_in (all_directives s)
 
-abbrev pub provided_by : ℕ → Common → List AssignmentAt
-provided_by line (commons.Provide a) = (record { line = line; assignment = a }) ∷ []
+abbrev pub provided_by : ℕ → Directive → List AssignmentAt
+provided_by line (directives.Provide a) = (record { line = line; assignment = a }) ∷ []
 provided_by line _ = []
 
-abbrev pub provided_in : List CommonAt → List AssignmentAt
+abbrev pub provided_in : List DirectiveAt → List AssignmentAt
 provided_in [] = []
 provided_in (c ∷ cs) = provided_by c.line c.command ++ provided_in cs
 
 -- the PROVIDEs
 abbrev pub provides : List Statement → List AssignmentAt
-provides s = provided_in (common_commands s)
+provides s = provided_in (all_directives s)
 
 -- ASSERT(e, "message"), and its line
 pub record AssertionAt : Type 0 where
   pub line : ℕ
   pub assertion : Assertion
 
-abbrev pub asserted_by : ℕ → Common → List AssertionAt
-asserted_by line (commons.Assert a) = (record { line = line; assertion = a }) ∷ []
+abbrev pub asserted_by : ℕ → Directive → List AssertionAt
+asserted_by line (directives.Assert a) = (record { line = line; assertion = a }) ∷ []
 asserted_by line _ = []
 
-abbrev pub asserted_in : List CommonAt → List AssertionAt
+abbrev pub asserted_in : List DirectiveAt → List AssertionAt
 asserted_in [] = []
 asserted_in (c ∷ cs) = asserted_by c.line c.command ++ asserted_in cs
 
 -- the ASSERTs
 abbrev pub asserts : List Statement → List AssertionAt
-asserts s = asserted_in (common_commands s)
+asserts s = asserted_in (all_directives s)
 
 -- the memory regions
 abbrev pub regions_in : Command → List Region

@@ -1,7 +1,7 @@
 -- The tables of a script's names.
 use Rattle.std.specs.Prelude.{◌≡◌, ℕ, List, ◌++◌, Option, map}
 use Rattle.std.specs.Borrow.{Bor}
-use Rattle.ldscript_statements.specs.declared.common.Common.{Common}
+use Rattle.ldscript_statements.specs.declared.directive.Directive.{Directive}
 use Rattle.ldscript_statements.specs.declared.given.Given.{Given}
 use Rattle.ldscript_statements.specs.declared.number_table.NumberTable.{NumberTable}
 use Rattle.ldscript_statements.specs.declared.tables.Tables.{Tables}
@@ -10,7 +10,7 @@ use Rattle.ldscript_statements.specs.declared.statement.Statement.{Statement}
 use Rattle.ldscript_statements.specs.Given.{assigned_here, assigned_from, provided_here, provided_from, given_as}
 use Rattle.ldscript_statements.specs.Given.{given_by}
 use Rattle.ldscript_statements.specs.Given.{section_from, section_number, region_from, region_number}
-use Rattle.ldscript_statements.specs.Numbering.{OutputSectionAt, CommonAt}
+use Rattle.ldscript_statements.specs.Numbering.{OutputSectionAt, DirectiveAt}
 use Rattle.ldscript_statements.specs.NumberTables.{number_at}
 
 -- names as the code lends them
@@ -20,17 +20,17 @@ shown_names list = map (λ (n : Bor (List ℕ)). n.now) list
 abbrev pub AddsNames : List (Bor (List ℕ)) → List (Bor (List ℕ)) → List (List ℕ) → Type 0
 AddsNames old new these = shown_names new ≡ shown_names old ++ these
 
-abbrev pub AssignsOver : NumberTable → NumberTable → ℕ → Common → Type 0
+abbrev pub AssignsOver : NumberTable → NumberTable → ℕ → Directive → Type 0
 AssignsOver old new number c = (name : List ℕ) → number_at new name ≡ assigned_here number c name (number_at old name)
 
-abbrev pub ProvidesOver : NumberTable → NumberTable → ℕ → Common → Type 0
+abbrev pub ProvidesOver : NumberTable → NumberTable → ℕ → Directive → Type 0
 ProvidesOver old new number c = (name : List ℕ) → number_at new name ≡ provided_here number c name (number_at old name)
 
-abbrev pub HasAssigned : NumberTable → List CommonAt → Type 0
-HasAssigned t commons = (name : List ℕ) → number_at t name ≡ assigned_from 0 commons name
+abbrev pub HasAssigned : NumberTable → List DirectiveAt → Type 0
+HasAssigned t directives = (name : List ℕ) → number_at t name ≡ assigned_from 0 directives name
 
-abbrev pub HasProvided : NumberTable → List CommonAt → Type 0
-HasProvided t commons = (name : List ℕ) → number_at t name ≡ provided_from 0 commons name
+abbrev pub HasProvided : NumberTable → List DirectiveAt → Type 0
+HasProvided t directives = (name : List ℕ) → number_at t name ≡ provided_from 0 directives name
 
 abbrev pub HasSections : NumberTable → List OutputSectionAt → Type 0
 HasSections t sections = (name : List ℕ) → number_at t name ≡ section_from 0 sections name

@@ -3,12 +3,12 @@
 ghost use Rattle.std.specs.Prelude.{◌≡◌};
 ghost use Rattle.std.specs.List.{list_any};
 ghost use Rattle.ldscript_statements.specs.Dots.{assert_misplaces, body_command_misplaces, body_misplaces};
-ghost use Rattle.ldscript_statements.specs.Dots.{common_uses_dot};
+ghost use Rattle.ldscript_statements.specs.Dots.{directive_uses_dot};
 ghost use Rattle.ldscript_statements.specs.Dots.{dot_misplaces, has_misplaced_dot, item_command_misplaces};
 ghost use Rattle.ldscript_statements.specs.Dots.{item_misplaces};
 ghost use Rattle.ldscript_statements.specs.Dots.{region_misplaces, top_command_misplaces, top_misplaces, uses_dot};
 
-use crate::common::{Common, DotCommand};
+use crate::directive::{Directive, DotCommand};
 use crate::formula::Formula;
 use crate::section::{BodyCommand, BodyStatement};
 use crate::statement::{Command, Item, ItemCommand, Region, Statement};
@@ -24,22 +24,24 @@ impl Formula {
 }
 
 /// Whether a command is an `ASSERT` with `.`.
-fn assert_misplaces(command: &Common) -> bool
+fn assert_misplaces(command: &Directive) -> bool
     ensures { result ≡ assert_misplaces command.now }
 {
     match command {
-        Common::Assert(assertion) => assertion.condition.uses_dot(),
-        Common::Assign(_) | Common::Provide(_) => false,
+        Directive::Assert(assertion) => assertion.condition.uses_dot(),
+        Directive::Assign(_) | Directive::Provide(_) => false,
     }
 }
 
 /// Whether an expression of a command has `.`.
-fn common_uses_dot(command: &Common) -> bool
-    ensures { result ≡ common_uses_dot command.now }
+fn directive_uses_dot(command: &Directive) -> bool
+    ensures { result ≡ directive_uses_dot command.now }
 {
     match command {
-        Common::Assign(assignment) | Common::Provide(assignment) => assignment.value.uses_dot(),
-        Common::Assert(assertion) => assertion.condition.uses_dot(),
+        Directive::Assign(assignment) | Directive::Provide(assignment) => assignment
+            .value
+            .uses_dot(),
+        Directive::Assert(assertion) => assertion.condition.uses_dot(),
     }
 }
 
@@ -58,7 +60,7 @@ fn body_misplaces(statement: &BodyStatement) -> bool
 {
     match &statement.command {
         BodyCommand::Dot(command) => dot_misplaces(command),
-        BodyCommand::Common(command) => assert_misplaces(command),
+        BodyCommand::Directive(command) => assert_misplaces(command),
         BodyCommand::Data(_, _) | BodyCommand::Input(_) => false,
     }
 }
@@ -74,7 +76,7 @@ fn item_misplaces(item: &Item) -> bool
     ensures { result ≡ item_misplaces item.now }
 {
     match &item.command {
-        ItemCommand::Common(command) => assert_misplaces(command),
+        ItemCommand::Directive(command) => assert_misplaces(command),
         ItemCommand::Section(section) => any_body_misplaces(section.get().body.as_slice()),
         ItemCommand::Dot(_) | ItemCommand::Discard(_) => false,
     }
@@ -107,7 +109,7 @@ fn top_misplaces(statement: &Statement) -> bool
         Command::Entry(_) => false,
         Command::Memory(regions) => any_region_misplaces(regions.as_slice()),
         Command::Sections(items) => any_item_misplaces(items.as_slice()),
-        Command::Common(command) => common_uses_dot(command),
+        Command::Directive(command) => directive_uses_dot(command),
     }
 }
 

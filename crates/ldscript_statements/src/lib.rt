@@ -1,14 +1,14 @@
 //! The tree of a linker script, and what may not be in one. Takes statements as they are read; gives their tree, their
 //! numbers, and tables of the names that a script gives.
 //!
-//! - `statement`, `section`, `input`, `common`, over `formula`, `sequence`, `held`, `fill`: the tree, from the top
+//! - `statement`, `section`, `input`, `directive`, over `formula`, `sequence`, `held`, `fill`: the tree, from the top
 //!   down;
 //! - `mention`, `mentions`: what is given twice or named too early; `dots`: where `.` may be used; `symbols`: what an
 //!   expression names;
 //! - `numbering`, `place`, `given`, `tables`, `number_table`: statements under numbers, names in tables.
 #![tactic(auto)]
 
-pub mod common;
+pub mod directive;
 pub mod dots;
 pub mod fill;
 pub mod formula;

@@ -2,7 +2,7 @@
 
 ghost use Rattle.std.specs.Prelude.{[], ◌∷◌, OnOk};
 ghost use Rattle.ldscript_terms.specs.CodeTerms.{expr_of};
-ghost use Rattle.ldscript_statements.specs.Mentions.{in_assignment, in_body, in_body_command, in_common};
+ghost use Rattle.ldscript_statements.specs.Mentions.{in_assignment, in_body, in_body_command, in_directive};
 ghost use Rattle.ldscript_statements.specs.Mentions.{in_dot_command};
 ghost use Rattle.ldscript_statements.specs.Mentions.{in_expression, in_item_command, in_items, in_load_head};
 ghost use Rattle.ldscript_statements.specs.Mentions.{in_load_tail};
@@ -10,7 +10,7 @@ ghost use Rattle.ldscript_statements.specs.Mentions.{in_optional, in_region_name
 ghost use Rattle.ldscript_statements.specs.Mentions.{in_top_command, mentions};
 ghost use Rattle.ldscript_statements.specs.Listed.{Adds, mention_of};
 
-use crate::common::{Assignment, Common, DotCommand};
+use crate::directive::{Assignment, Directive, DotCommand};
 use crate::formula::Formula;
 use crate::section::{BodyCommand, BodyStatement, Load, OutputSection};
 use crate::statement::{Command, Item, ItemCommand, Region, Statement};
@@ -102,14 +102,14 @@ fn note_assignment<'a>(
     Ok(())
 }
 
-fn note_common<'a>(list: &mut Vec<Mention<'a>>, command: &'a Common) -> Result<(), NoRoom>
-    ensures { OnOk result (Adds list.old.items list.new.items (in_common command.now)) }
+fn note_directive<'a>(list: &mut Vec<Mention<'a>>, command: &'a Directive) -> Result<(), NoRoom>
+    ensures { OnOk result (Adds list.old.items list.new.items (in_directive command.now)) }
 {
     match command {
-        Common::Assign(assignment) | Common::Provide(assignment) => {
+        Directive::Assign(assignment) | Directive::Provide(assignment) => {
             note_assignment(list, assignment)
         }
-        Common::Assert(assertion) => note_formula(list, &assertion.condition),
+        Directive::Assert(assertion) => note_formula(list, &assertion.condition),
     }
 }
 
@@ -129,7 +129,7 @@ fn note_body_command<'a>(
 {
     match command {
         BodyCommand::Dot(command) => note_dot_command(list, command),
-        BodyCommand::Common(command) => note_common(list, command),
+        BodyCommand::Directive(command) => note_directive(list, command),
         BodyCommand::Data(_, value) => note_formula(list, value),
         BodyCommand::Input(_) => Ok(()),
     }
@@ -197,7 +197,7 @@ fn note_item_command<'a>(
 {
     match command {
         ItemCommand::Dot(command) => note_dot_command(list, command),
-        ItemCommand::Common(command) => note_common(list, command),
+        ItemCommand::Directive(command) => note_directive(list, command),
         ItemCommand::Section(section) => note_section(list, section.get()),
         ItemCommand::Discard(_) => Ok(()),
     }
@@ -238,7 +238,7 @@ fn note_command<'a>(list: &mut Vec<Mention<'a>>, command: &'a Command) -> Result
             note_items(list, items.as_slice())?;
             Ok(())
         }
-        Command::Common(command) => note_common(list, command),
+        Command::Directive(command) => note_directive(list, command),
     }
 }
 

@@ -4,14 +4,14 @@ ghost use Rattle.std.specs.Prelude.{◌≡◌, ◌≤◌, [], ◌∷◌, OnOk, I
 ghost use Rattle.std.specs.Option.{option_copied};
 ghost use Rattle.ldscript_statements.specs.Numbering.{items, items_of, item_sections, sections_in, output_sections};
 ghost use Rattle.ldscript_statements.specs.Numbering.{inputs_of, inputs_in, discarded_inputs, item_inputs, inputs_from};
-ghost use Rattle.ldscript_statements.specs.Numbering.{input_statements, commons_of, commons_in, item_commons};
-ghost use Rattle.ldscript_statements.specs.Numbering.{items_commons, top_commons, common_commands, regions, regions_in};
+ghost use Rattle.ldscript_statements.specs.Numbering.{input_statements, directives_of, directives_in, item_directives};
+ghost use Rattle.ldscript_statements.specs.Numbering.{items_directives, top_directives, all_directives, regions, regions_in};
 ghost use Rattle.ldscript_statements.specs.Numbering.{entry_of};
-ghost use Rattle.ldscript_statements.specs.Numbered.{AddsItems, AddsSections, AddsInputs, AddsCommons, AddsRegions};
+ghost use Rattle.ldscript_statements.specs.Numbered.{AddsItems, AddsSections, AddsInputs, AddsDirectives, AddsRegions};
 ghost use Rattle.ldscript_statements.specs.Numbered.{shown_items};
-ghost use Rattle.ldscript_statements.specs.Numbered.{shown_sections, shown_inputs, shown_commons, shown_regions};
+ghost use Rattle.ldscript_statements.specs.Numbered.{shown_sections, shown_inputs, shown_directives, shown_regions};
 
-use crate::common::Common;
+use crate::directive::Directive;
 use crate::input::{Input, InputStatement};
 use crate::place::InputPlace;
 use crate::section::{BodyCommand, BodyStatement, OutputSection};
@@ -40,11 +40,11 @@ pub struct InputStatementAt<'a> {
 
 /// An assignment of a symbol, a `PROVIDE` or an `ASSERT`.
 #[derive(Clone, Copy)]
-pub struct CommonAt<'a> {
+pub struct DirectiveAt<'a> {
     /// The line of its first token.
     pub line: u32,
     /// What it says.
-    pub command: &'a Common,
+    pub command: &'a Directive,
 }
 
 fn add_items<'a>(list: &mut Vec<&'a Item>, these: &'a [Item]) -> Result<(), AllocError>
@@ -61,7 +61,7 @@ fn add_command_items<'a>(list: &mut Vec<&'a Item>, command: &'a Command) -> Resu
 {
     match command {
         Command::Sections(items) => add_items(list, items.as_slice()),
-        Command::Entry(_) | Command::Memory(_) | Command::Common(_) => Ok(()),
+        Command::Entry(_) | Command::Memory(_) | Command::Directive(_) => Ok(()),
     }
 }
 
@@ -86,7 +86,7 @@ fn add_section<'a>(list: &mut Vec<OutputSectionAt<'a>>, item: &'a Item) -> Resul
             list.push(OutputSectionAt { line, section })?;
             Ok(())
         }
-        ItemCommand::Dot(_) | ItemCommand::Common(_) | ItemCommand::Discard(_) => Ok(()),
+        ItemCommand::Dot(_) | ItemCommand::Directive(_) | ItemCommand::Discard(_) => Ok(()),
     }
 }
 
@@ -128,7 +128,7 @@ fn add_input<'a>(
             list.push(InputStatementAt { line, place, input })?;
             Ok(())
         }
-        BodyCommand::Dot(_) | BodyCommand::Common(_) | BodyCommand::Data(_, _) => Ok(()),
+        BodyCommand::Dot(_) | BodyCommand::Directive(_) | BodyCommand::Data(_, _) => Ok(()),
     }
 }
 
@@ -175,7 +175,7 @@ fn add_item_inputs<'a>(
             add_body_inputs(list, InputPlace::InSection(number), body)
         }
         ItemCommand::Discard(inputs) => add_discarded(list, inputs.as_slice()),
-        ItemCommand::Dot(_) | ItemCommand::Common(_) => Ok(()),
+        ItemCommand::Dot(_) | ItemCommand::Directive(_) => Ok(()),
     }
 }
 
@@ -186,7 +186,7 @@ fn section_count(item: &Item) -> usize
 {
     match &item.command {
         ItemCommand::Section(_) => 1,
-        ItemCommand::Dot(_) | ItemCommand::Common(_) | ItemCommand::Discard(_) => 0,
+        ItemCommand::Dot(_) | ItemCommand::Directive(_) | ItemCommand::Discard(_) => 0,
     }
 }
 
@@ -217,87 +217,93 @@ pub fn input_statements<'a>(
     inputs_of_items(alloc, &items)
 }
 
-fn add_common<'a>(
-    list: &mut Vec<CommonAt<'a>>,
+fn add_directive<'a>(
+    list: &mut Vec<DirectiveAt<'a>>,
     line: u32,
-    command: &'a Common,
+    command: &'a Directive,
 ) -> Result<(), AllocError>
-    ensures { OnOk result (AddsCommons list.old.items list.new.items
+    ensures { OnOk result (AddsDirectives list.old.items list.new.items
         (record { line = line; command = command.now } ∷ [])) }
 {
-    list.push(CommonAt { line, command })?;
+    list.push(DirectiveAt { line, command })?;
     Ok(())
 }
 
-fn add_body_common<'a>(
-    list: &mut Vec<CommonAt<'a>>,
+fn add_body_directive<'a>(
+    list: &mut Vec<DirectiveAt<'a>>,
     statement: &'a BodyStatement,
 ) -> Result<(), AllocError>
-    ensures { OnOk result (AddsCommons list.old.items list.new.items
-        (commons_of statement.now.line statement.now.command)) }
+    ensures { OnOk result (AddsDirectives list.old.items list.new.items
+        (directives_of statement.now.line statement.now.command)) }
 {
     match &statement.command {
-        BodyCommand::Common(command) => add_common(list, statement.line, command),
+        BodyCommand::Directive(command) => add_directive(list, statement.line, command),
         BodyCommand::Dot(_) | BodyCommand::Data(_, _) | BodyCommand::Input(_) => Ok(()),
     }
 }
 
-fn add_body_commons<'a>(
-    list: &mut Vec<CommonAt<'a>>,
+fn add_body_directives<'a>(
+    list: &mut Vec<DirectiveAt<'a>>,
     body: &'a [BodyStatement],
 ) -> Result<(), AllocError>
-    ensures { OnOk result (AddsCommons list.old.items list.new.items (commons_in body.now)) }
+    ensures { OnOk result (AddsDirectives list.old.items list.new.items (directives_in body.now)) }
 {
     for statement in body {
-        add_body_common(list, statement)?;
+        add_body_directive(list, statement)?;
     }
     Ok(())
 }
 
-fn add_item_commons<'a>(list: &mut Vec<CommonAt<'a>>, item: &'a Item) -> Result<(), AllocError>
-    ensures { OnOk result (AddsCommons list.old.items list.new.items (item_commons item.now.line item.now.command)) }
+fn add_item_directives<'a>(
+    list: &mut Vec<DirectiveAt<'a>>,
+    item: &'a Item,
+) -> Result<(), AllocError>
+    ensures { OnOk result (AddsDirectives list.old.items list.new.items (item_directives item.now.line item.now.command)) }
 {
     match &item.command {
-        ItemCommand::Common(command) => add_common(list, item.line, command),
-        ItemCommand::Section(section) => add_body_commons(list, section.get().body.as_slice()),
+        ItemCommand::Directive(command) => add_directive(list, item.line, command),
+        ItemCommand::Section(section) => add_body_directives(list, section.get().body.as_slice()),
         ItemCommand::Dot(_) | ItemCommand::Discard(_) => Ok(()),
     }
 }
 
-fn add_items_commons<'a>(list: &mut Vec<CommonAt<'a>>, items: &'a [Item]) -> Result<(), AllocError>
-    ensures { OnOk result (AddsCommons list.old.items list.new.items (items_commons items.now)) }
+fn add_items_directives<'a>(
+    list: &mut Vec<DirectiveAt<'a>>,
+    items: &'a [Item],
+) -> Result<(), AllocError>
+    ensures { OnOk result (AddsDirectives list.old.items list.new.items (items_directives items.now)) }
 {
     for item in items {
-        add_item_commons(list, item)?;
+        add_item_directives(list, item)?;
     }
     Ok(())
 }
 
-fn add_top_commons<'a>(
-    list: &mut Vec<CommonAt<'a>>,
+fn add_top_directives<'a>(
+    list: &mut Vec<DirectiveAt<'a>>,
     statement: &'a Statement,
 ) -> Result<(), AllocError>
-    ensures { OnOk result (AddsCommons list.old.items list.new.items
-        (top_commons statement.now.line statement.now.command)) }
+    ensures { OnOk result (AddsDirectives list.old.items list.new.items
+        (top_directives statement.now.line statement.now.command)) }
 {
     match &statement.command {
-        Command::Common(command) => add_common(list, statement.line, command),
-        Command::Sections(items) => add_items_commons(list, items.as_slice()),
+        Command::Directive(command) => add_directive(list, statement.line, command),
+        Command::Sections(items) => add_items_directives(list, items.as_slice()),
         Command::Entry(_) | Command::Memory(_) => Ok(()),
     }
 }
 
 /// The assignments of symbols, `PROVIDE`s and `ASSERT`s of a script: outside of `SECTIONS`, in it, and in output
 /// sections.
-pub fn common_commands<'a>(
+pub fn all_directives<'a>(
     alloc: Global,
     statements: &'a [Statement],
-) -> Result<Vec<CommonAt<'a>>, AllocError>
-    ensures { IfOk result (λ v. shown_commons v.items ≡ common_commands statements.now) }
+) -> Result<Vec<DirectiveAt<'a>>, AllocError>
+    ensures { IfOk result (λ v. shown_directives v.items ≡ all_directives statements.now) }
 {
     let mut list = Vec::new(alloc);
     for statement in statements {
-        add_top_commons(&mut list, statement)?;
+        add_top_directives(&mut list, statement)?;
     }
     Ok(list)
 }
@@ -319,7 +325,7 @@ fn add_command_regions<'a>(
 {
     match command {
         Command::Memory(regions) => add_regions(list, regions.as_slice()),
-        Command::Entry(_) | Command::Sections(_) | Command::Common(_) => Ok(()),
+        Command::Entry(_) | Command::Sections(_) | Command::Directive(_) => Ok(()),
     }
 }
 
@@ -344,7 +350,7 @@ pub fn entry(statements: &[Statement]) -> Option<&[u8]>
     for statement in statements {
         match &statement.command {
             Command::Entry(name) => return Some(name.as_bytes()),
-            Command::Memory(_) | Command::Sections(_) | Command::Common(_) => {}
+            Command::Memory(_) | Command::Sections(_) | Command::Directive(_) => {}
         }
     }
     None

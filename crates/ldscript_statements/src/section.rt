@@ -1,6 +1,6 @@
 //! Output sections and what stands in them.
 
-use crate::common::{Common, DotCommand};
+use crate::directive::{Directive, DotCommand};
 use crate::fill::Fill;
 use crate::formula::Formula;
 use crate::input::Input;
@@ -43,7 +43,7 @@ pub enum BodyCommand {
     /// `. = e` or `. += e`.
     Dot(DotCommand),
     /// `NAME = e`, `PROVIDE` or `ASSERT`.
-    Common(Common),
+    Directive(Directive),
     /// `BYTE(e)` and its like.
     Data(Width, Formula),
     /// The input sections that go here.

@@ -1,6 +1,6 @@
 //! The statements of a script.
 
-use crate::common::{Common, DotCommand};
+use crate::directive::{Directive, DotCommand};
 use crate::formula::Formula;
 use crate::held::Held;
 use crate::input::InputStatement;
@@ -27,7 +27,7 @@ pub enum ItemCommand {
     /// `. = e` or `. += e`.
     Dot(DotCommand),
     /// `NAME = e`, `PROVIDE` or `ASSERT`.
-    Common(Common),
+    Directive(Directive),
     /// An output section.
     Section(Held<OutputSection>),
     /// `/DISCARD/`: the input sections that are left out.
@@ -53,7 +53,7 @@ pub enum Command {
     /// `SECTIONS`: the layout.
     Sections(Sequence<Item>),
     /// `NAME = e`, `PROVIDE` or `ASSERT`.
-    Common(Common),
+    Directive(Directive),
 }
 
 /// A statement of a script.

@@ -1,15 +1,15 @@
 //! The tables of a script's names.
 
 ghost use Rattle.std.specs.Prelude.{◌≡◌, [], IfOk, OnOk};
-ghost use Rattle.ldscript_statements.specs.Numbered.{shown_commons, shown_sections, shown_regions};
+ghost use Rattle.ldscript_statements.specs.Numbered.{shown_directives, shown_sections, shown_regions};
 ghost use Rattle.ldscript_statements.specs.Tables.{HasAssigned, HasProvided, HasSections, HasRegions, AssignsOver};
 ghost use Rattle.ldscript_statements.specs.Tables.{ProvidesOver};
 ghost use Rattle.ldscript_statements.specs.Tables.{IsTablesOf, given_in, section_in, region_in};
 
-use crate::common::Common;
+use crate::directive::Directive;
 use crate::given::Given;
 use crate::number_table::NumberTable;
-use crate::numbering::{CommonAt, OutputSectionAt, common_commands, output_sections, regions};
+use crate::numbering::{DirectiveAt, OutputSectionAt, all_directives, output_sections, regions};
 use crate::statement::{Region, Statement};
 use std::alloc::{AllocError, Global};
 
@@ -26,25 +26,25 @@ fn enter_assigned(
     alloc: Global,
     table: &mut NumberTable,
     number: usize,
-    command: &Common,
+    command: &Directive,
 ) -> Result<(), AllocError>
     ensures { OnOk result (AssignsOver table.old table.new number command.now) }
 {
     match command {
-        Common::Assign(assignment) => table.put(alloc, assignment.name.as_bytes(), number),
-        Common::Provide(_) | Common::Assert(_) => Ok(()),
+        Directive::Assign(assignment) => table.put(alloc, assignment.name.as_bytes(), number),
+        Directive::Provide(_) | Directive::Assert(_) => Ok(()),
     }
 }
 
 /// The names that are assigned. The last command is entered first, so that the first one stays.
-fn assigned_names(alloc: Global, commons: &[CommonAt]) -> Result<NumberTable, AllocError>
-    ensures { IfOk result (λ t. HasAssigned t (shown_commons commons.now)) }
+fn assigned_names(alloc: Global, directives: &[DirectiveAt]) -> Result<NumberTable, AllocError>
+    ensures { IfOk result (λ t. HasAssigned t (shown_directives directives.now)) }
 {
     let mut table = NumberTable::new(alloc);
-    let mut left = commons.len();
+    let mut left = directives.len();
     while left > 0 {
         left -= 1;
-        enter_assigned(alloc, &mut table, left, commons[left].command)?;
+        enter_assigned(alloc, &mut table, left, directives[left].command)?;
     }
     Ok(table)
 }
@@ -53,25 +53,25 @@ fn enter_provided(
     alloc: Global,
     table: &mut NumberTable,
     number: usize,
-    command: &Common,
+    command: &Directive,
 ) -> Result<(), AllocError>
     ensures { OnOk result (ProvidesOver table.old table.new number command.now) }
 {
     match command {
-        Common::Provide(assignment) => table.put(alloc, assignment.name.as_bytes(), number),
-        Common::Assign(_) | Common::Assert(_) => Ok(()),
+        Directive::Provide(assignment) => table.put(alloc, assignment.name.as_bytes(), number),
+        Directive::Assign(_) | Directive::Assert(_) => Ok(()),
     }
 }
 
 /// The names that are provided.
-fn provided_names(alloc: Global, commons: &[CommonAt]) -> Result<NumberTable, AllocError>
-    ensures { IfOk result (λ t. HasProvided t (shown_commons commons.now)) }
+fn provided_names(alloc: Global, directives: &[DirectiveAt]) -> Result<NumberTable, AllocError>
+    ensures { IfOk result (λ t. HasProvided t (shown_directives directives.now)) }
 {
     let mut table = NumberTable::new(alloc);
-    let mut left = commons.len();
+    let mut left = directives.len();
     while left > 0 {
         left -= 1;
-        enter_provided(alloc, &mut table, left, commons[left].command)?;
+        enter_provided(alloc, &mut table, left, directives[left].command)?;
     }
     Ok(table)
 }
@@ -121,9 +121,9 @@ impl Tables {
     pub fn of(alloc: Global, statements: &[Statement]) -> Result<Tables, AllocError>
         ensures { IfOk result (λ t. IsTablesOf statements.now t) }
     {
-        let commons = common_commands(alloc, statements)?;
-        let assigned = assigned_names(alloc, &commons)?;
-        let provided = provided_names(alloc, &commons)?;
+        let directives = all_directives(alloc, statements)?;
+        let assigned = assigned_names(alloc, &directives)?;
+        let provided = provided_names(alloc, &directives)?;
         let sections = output_sections(alloc, statements)?;
         let sections = section_names(alloc, &sections)?;
         let regions = regions(alloc, statements)?;

@@ -12,15 +12,15 @@ use Rattle.ldmodel.specs.Project.{Project}
 use Rattle.ldmodel.specs.Rows.{Piece, rows}
 use Rattle.ldmodel.specs.SectionHeaders.{image_length}
 use Rattle.ldmodel.specs.Segments.{segments}
-use Rattle.ldmodel.specs.declared.laid.Placed.{Placed}
+use Rattle.ldmodel.specs.declared.placed.Placed.{Placed}
 use Rattle.place.specs.Offsets.{IsOffset}
 use Rattle.place.specs.Placing.{AreAllSegments}
 use Rattle.ldscript.specs.statements.declared.statement.Statement.{Statement}
 use Rattle.place_sections.specs.Outcomes as outcomes
 use Rattle.place_sections.specs.Places.{IsPlacement, Places}
 use Rattle.place_sections.specs.declared.fault.PlaceFault.{PlaceFault}
-use Rattle.place.specs.Laying.{HasLayout, HasPlaces}
-use Rattle.place.specs.declared.laying.Laying.{Laying}
+use Rattle.place.specs.LinkLayout.{HasLayout, HasPlaces}
+use Rattle.place.specs.declared.link_layout.LinkLayout.{LinkLayout}
 
 -- why a script with these rows and PROVIDEs has no layout is why the project has none whose they are
 pub why_of_project : (p : Project) (script : List Statement) (pieces : List (List Piece)) (names : List (List ℕ))
@@ -56,7 +56,7 @@ unfolding layout
 layout_is p s a b = rw (a, b) refl
 
 -- places and all segments that are made of them
-pub has_layout : (p : Project) (l : Laying) (h : HasPlaces p l.placement) (placed : List Placed)
+pub has_layout : (p : Project) (l : LinkLayout) (h : HasPlaces p l.placement) (placed : List Placed)
     → placed ≡ l.placement.sections → AreAllSegments placed l.segments.items → AreNamed h.layout.sections
     → (map placed_of h.layout.sections ≡ placed
     → AreSegments h.layout.sections (segments h.layout.sections) l.segments.items

@@ -44,7 +44,7 @@ names_of os = map (λ (o : OutputSectionAt). o.section.name) os
 in_command : (line : ℕ) (c : ItemCommand) → Among (names_of (item_sections line c)) (in_item_command c)
 in_command line (item.Section o) = mentioned no_more
 in_command line (item.Dot c) = no_more
-in_command line (item.Common c) = no_more
+in_command line (item.Directive c) = no_more
 in_command line (item.Discard is) = no_more
 
 in_all : (is : List Item) → Among (names_of (sections_in is)) (in_items is)
@@ -57,7 +57,7 @@ in_all (i ∷ is) =
 in_top : (c : Command) → Among (names_of (sections_in (items_of c))) (in_top_command c)
 in_top (top.Entry n) = no_more
 in_top (top.Memory rs) = no_more
-in_top (top.Common c) = no_more
+in_top (top.Directive c) = no_more
 in_top (top.Sections is) = passed (in_all is)
 
 sections_append : (xs ys : List Item) → sections_in (xs ++ ys) ≡ sections_in xs ++ sections_in ys

@@ -24,7 +24,7 @@ use Rattle.ldmodel_laws.specs.Spread.{entries_in}
 use Rattle.ldmodel_project.specs.ByPlace.{piece_in, rows_in}
 use Rattle.place.specs.Columns.{AreOwners, HaveNumbers}
 use Rattle.place.specs.Entries.{all_entries, entry_of, is_part_of, row_entries}
-use Rattle.place.specs.Laying.{IsLaying}
+use Rattle.place.specs.LinkLayout.{IsLinkLayout}
 use Rattle.place.specs.InPlace.{AreInPlace, IsOwned, entries_of}
 use Rattle.gather.specs.sections.SectionTable.{IsTableOf}
 use Rattle.place.specs.Arranged.{IsArranged, IsPartPlace, place_in}
@@ -191,13 +191,13 @@ module _ (p : Project) (distinct : AreNamesDistinct p.objects) (k : SectionKey) 
 pub all_places : (p : Project) (s : Layout) (starts : List ℕ) (x : Arranged) → AreNamesDistinct p.objects
     → AreInPlace p s → map entries_in s.sections ≡ rows_in p x.rows.items → starts ≡ flat_map starts_of s.sections
     → x.entries.items ≡ all_entries 0 x.rows.items starts → IsTableOf p x.table → rows_in p x.rows.items ≡ model.rows p
-    → IsLaying p s x.laying → HaveNumbers x.table x.entries.items
+    → IsLinkLayout p s x.link_layout → HaveNumbers x.table x.entries.items
     → AreOwners x.table x.entries.items x.owners.items → IsArranged p s x
-all_places p s starts x distinct apart placed begin all table rows laying numbers owned =
+all_places p s starts x distinct apart placed begin all table rows link_layout numbers owned =
     record {
       table = table;
       rows = rows;
-      laying = laying;
+      link_layout = link_layout;
       places = λ k. subst (IsPartPlace p s k) (sym (same k)) (is_place p distinct k s x.rows.items placed apart.owned);
       apart = apart;
     }

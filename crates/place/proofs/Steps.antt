@@ -11,8 +11,8 @@ use Rattle.std.specs.List.{AllZip, last_or}
 use Rattle.ldmodel.specs.Layout.{PlacedSection}
 use Rattle.ldmodel.specs.Lent.{placed_of}
 use Rattle.ldmodel.specs.Segments.{Group, file_size, groups, nonempty, reach, shares_segment}
-use Rattle.ldmodel.specs.declared.laid.OutputIndex.{OutputIndex}
-use Rattle.ldmodel.specs.declared.laid.Placed.{Placed}
+use Rattle.ldmodel.specs.declared.placed.OutputIndex.{OutputIndex}
+use Rattle.ldmodel.specs.declared.placed.Placed.{Placed}
 use Rattle.place.specs.declared.group.Group as code
 use Rattle.place.specs.declared.group.Running.{Running}
 use Rattle.place.specs.Grouping.{IsGroup, Current, IsRunning, Grouped, Takes, bare, begun, joined, single}

@@ -18,7 +18,7 @@ use Rattle.ldmodel.specs.Lent.{AreSegments, IsSegment, placed_of}
 use Rattle.ldmodel.specs.Placement.{difference_of}
 use Rattle.ldmodel.specs.Segments.{Group, SectionInFile, Segment, end_of, file_offset, in_file}
 use Rattle.ldmodel.specs.Segments.{in_segment, nonempty, page_size, reach, group_sections, segments, segment_start}
-use Rattle.ldmodel.specs.declared.laid.Placed.{Placed}
+use Rattle.ldmodel.specs.declared.placed.Placed.{Placed}
 use Rattle.ldmodel.specs.declared.segment.Segment as code
 use Rattle.place.proofs.Lists.{each_append, each_at, each_filter, each_of_map, find_at, find_none}
 use Rattle.place.proofs.Lists.{later_filter, later_of_map}

@@ -9,7 +9,7 @@ use Rattle.ldmodel.specs.SymbolValues.{is_part, placed_part}
 use Rattle.ldmodel.specs.declared.sections.Part.{Part}
 use Rattle.ldmodel.specs.declared.sections.SectionKey.{SectionKey}
 use Rattle.place.specs.InPlace.{AreInPlace}
-use Rattle.place.specs.Laying.{IsLaying}
+use Rattle.place.specs.LinkLayout.{IsLinkLayout}
 pub use Rattle.gather.specs.sections.Slots.{linked_in}
 pub use Rattle.gather.specs.sections.SectionTable.{linked_of}
 use Rattle.gather.specs.sections.SectionTable.{IsTableOf, number_of}
@@ -47,6 +47,6 @@ place_in x k = part_in x k.object.0 k.part
 pub record IsArranged (p : Project) (s : Layout) (x : Arranged) : Type 0 where
   pub table : IsTableOf p x.table
   pub rows : rows_in p x.rows.items ≡ model.rows p
-  pub laying : IsLaying p s x.laying
+  pub link_layout : IsLinkLayout p s x.link_layout
   pub places : (k : SectionKey) → IsPartPlace p s k (place_in x k)
   pub apart : AreInPlace p s

@@ -5,8 +5,8 @@ use Rattle.std.specs.List.{All, AllZip, last_or}
 use Rattle.ldmodel.specs.Layout.{PlacedSection}
 use Rattle.ldmodel.specs.Lent.{placed_of}
 use Rattle.ldmodel.specs.Segments.{Group, file_size, groups, memory_size, nonempty, shares_segment}
-use Rattle.ldmodel.specs.declared.laid.OutputIndex.{OutputIndex}
-use Rattle.ldmodel.specs.declared.laid.Placed.{Placed}
+use Rattle.ldmodel.specs.declared.placed.OutputIndex.{OutputIndex}
+use Rattle.ldmodel.specs.declared.placed.Placed.{Placed}
 use Rattle.place.specs.declared.group.Group as code
 use Rattle.place.specs.declared.group.Running.{Running}
 

@@ -3,7 +3,7 @@ pub use Rattle.place_terms.specs as terms
 pub mod Grouping
 pub mod Placing
 pub mod Length
-pub mod Laying
+pub mod LinkLayout
 pub mod Offsets
 pub mod Entries
 pub mod InPlace

@@ -3,7 +3,7 @@ use Rattle.std.specs.Prelude.{◌≡◌, ⊤, ℕ, ◌+◌, ◌≤◌, List, [],
 use Rattle.ldmodel.specs.Layout.{PlacedSection}
 use Rattle.ldmodel.specs.Lent.{AreSegments, placed_of}
 use Rattle.ldmodel.specs.Segments.{congruent, segments}
-use Rattle.ldmodel.specs.declared.laid.Placed.{Placed}
+use Rattle.ldmodel.specs.declared.placed.Placed.{Placed}
 use Rattle.ldmodel.specs.declared.segment.Segment.{Segment}
 use Rattle.place.specs.declared.group.Group.{Group}
 

@@ -4,7 +4,7 @@ ghost use Rattle.std.specs.Prelude.{◌≡◌, IfOk, IfSome, take};
 ghost use Rattle.std.specs.List.{list_any};
 ghost use Rattle.ldmodel.specs.Layout.{Layout};
 ghost use Rattle.ldmodel.specs.Project.{Project};
-ghost use Rattle.place.specs.Laying.{IsLaying};
+ghost use Rattle.place.specs.LinkLayout.{IsLinkLayout};
 ghost use Rattle.ldmodel.specs.Rows as model;
 ghost use Rattle.ldmodel_project.specs.ByPlace.{rows_in};
 ghost use Rattle.place.specs.InPlace.{has_no_name};
@@ -13,14 +13,14 @@ ghost use Rattle.gather.specs.sections.SectionTable.{IsTableOf};
 
 use crate::collected::collect;
 use crate::entry::Entry;
-use crate::laying::Laying;
+use crate::link_layout::LinkLayout;
 use crate::numbered::are_numbered;
 use gather::sections::law::sections_of_objects;
 use gather::sections::section_table::{SectionId, SectionTable};
 use ldmodel::impossible::impossible;
-use ldmodel::laid::OutputIndex;
 use ldmodel::memory::NoMemory;
 use ldmodel::names::ObjectPlace;
+use ldmodel::placed::OutputIndex;
 use ldmodel::rows::Piece;
 use ldmodel::sections::{Part, SectionKey};
 use ldmodel_laws::gathering::{live_by_path, once_in_rows};
@@ -48,7 +48,7 @@ pub struct Arranged {
     /// The row of each output section.
     pub rows: Vec<Vec<Piece>>,
     /// Where they stand, in memory and in the file.
-    pub laying: Laying,
+    pub link_layout: LinkLayout,
     /// All input sections in the output with their places, in the order of the rows.
     entries: Vec<Entry>,
     /// For each number of the table which of the entries is its own; the number of entries where none is.
@@ -98,12 +98,12 @@ impl Arranged {
         project: &ProjectView<'_>,
         table: SectionTable,
         rows: Vec<Vec<Piece>>,
-        laying: Laying,
+        link_layout: LinkLayout,
     ) -> Result<Arranged, NoMemory>
         requires table { IsTableOf project.now table }
         requires rows { rows_in project.now rows.items ≡ model.rows project.now }
-        ensures laying { IfOk result (λ x. x.laying ≡ laying) }
-        ensures arranged { IfOk result (λ x. (s : Layout) → IsLaying project.now s x.laying
+        ensures link_layout { IfOk result (λ x. x.link_layout ≡ link_layout) }
+        ensures arranged { IfOk result (λ x. (s : Layout) → IsLinkLayout project.now s x.link_layout
             → IsArranged project.now s x) }
     {
         nothing_meets();
@@ -116,12 +116,12 @@ impl Arranged {
             // The name of an object has 1 to 255 bytes, but the contract of a project does not say so
             return Err(impossible());
         }
-        let entries = collect(alloc, &rows, laying.placement.pieces())?;
+        let entries = collect(alloc, &rows, link_layout.placement.pieces())?;
         let owners = owners(alloc, &table, &entries)?;
         Ok(Arranged {
             table,
             rows,
-            laying,
+            link_layout,
             entries,
             owners,
         })

@@ -6,8 +6,8 @@ ghost use Rattle.place.specs.Entries.{all_entries, row_entries};
 use crate::arranged::PartPlace;
 use crate::entry::Entry;
 use ldmodel::impossible::impossible;
-use ldmodel::laid::OutputIndex;
 use ldmodel::memory::NoMemory;
+use ldmodel::placed::OutputIndex;
 use ldmodel::rows::Piece;
 use std::alloc::Global;
 

@@ -6,8 +6,8 @@ ghost use Rattle.ldmodel.specs.Segments.{shares_segment};
 ghost use Rattle.place.specs.Grouping.{Ends, AreGroups, Takes, bare, begun, joined};
 
 use ldmodel::impossible::impossible;
-use ldmodel::laid::{OutputIndex, Placed};
 use ldmodel::memory::NoMemory;
+use ldmodel::placed::{OutputIndex, Placed};
 use std::alloc::Global;
 
 /// The size of a page.

@@ -2,7 +2,7 @@
 //! the numbers of its input sections, and perhaps an earlier layout; gives the layout or its faults, and where an input
 //! section stands, by its key.
 //!
-//! - `laying`: the phase, over `place_sections`;
+//! - `link_layout`: the phase, over `place_sections`;
 //! - `segments` over `group`: what is loaded as one, and its offset in the file; `offsets`: where output sections begin
 //!   in the file; `length`: how long the image is;
 //! - `arranged` over `collected` and `entry`: all of that, and where each input section stands; `numbered`: the
@@ -15,14 +15,14 @@ pub mod arranged;
 mod collected;
 mod entry;
 mod group;
-pub mod laying;
 pub mod length;
+pub mod link_layout;
 pub mod numbered;
 mod offsets;
 pub mod segments;
 
-pub use crate::laying::Laying;
-pub use ldmodel::laid::Placed;
+pub use crate::link_layout::LinkLayout;
+pub use ldmodel::placed::Placed;
 pub use place_sections as sections;
 pub use place_sections::fault::PlaceFault;
 pub use place_sections::place::place;

@@ -10,8 +10,8 @@ ghost use Rattle.place.specs.Offsets.{is_last, offset_at, offsets_in};
 ghost use Rattle.place.specs.Offsets.{IsOffset};
 
 use ldmodel::impossible::impossible;
-use ldmodel::laid::Placed;
 use ldmodel::memory::NoMemory;
+use ldmodel::placed::Placed;
 use ldmodel::segment::Segment;
 use ldmodel_laws::segments::segments_by_neighbours;
 use std::alloc::{AllocError, Global};

@@ -6,8 +6,8 @@ ghost use Rattle.place.specs.Grouping.{Ends};
 ghost use Rattle.place.specs.Placing.{AreAllSegments, segment_at, past};
 
 use crate::group::{Group, PAGE_SIZE, groups};
-use ldmodel::laid::Laid;
 use ldmodel::memory::NoMemory;
+use ldmodel::placed::PlacementView;
 use ldmodel::segment::Segment;
 use std::alloc::Global;
 
@@ -64,11 +64,11 @@ pub(crate) fn end_after(end: u128, segment: Segment) -> u128
 /// # Errors
 ///
 /// Where memory runs out.
-pub fn segments(alloc: Global, laid: Laid<'_>) -> Result<Vec<Segment>, NoMemory>
-    requires ends { Ends laid.sections.now }
-    ensures { IfOk result (λ v. AreAllSegments laid.entry.sections.now v.items) }
+pub fn segments(alloc: Global, placement: PlacementView<'_>) -> Result<Vec<Segment>, NoMemory>
+    requires ends { Ends placement.sections.now }
+    ensures { IfOk result (λ v. AreAllSegments placement.entry.sections.now v.items) }
 {
-    let groups = groups(alloc, laid.sections)?;
+    let groups = groups(alloc, placement.sections)?;
     let mut end = header_length(groups.len());
     let mut segments = Vec::with_capacity(alloc, groups.len())?;
     for group in &groups {

@@ -4,7 +4,7 @@ use Rattle.std.proofs.Common.{append_assoc, drop, length, map, ◌<◌, suc, ari
 use Rattle.std.proofs.Common.{Option, Some, None, IfSome, Result}
 use Rattle.std.specs.Prelude.{⊤, slice_get}
 use Rattle.std.proofs.lemmas.List.{drop_more, length-map}
-use Rattle.ldscript.specs.statements.Numbering.{CommonAt, commons_in, commons_of}
+use Rattle.ldscript.specs.statements.Numbering.{DirectiveAt, directives_in, directives_of}
 use Rattle.ldscript.specs.statements.declared.section.BodyCommand.{BodyCommand}
 use Rattle.ldscript.specs.statements.declared.section.BodyCommand.TheVariants as body
 use Rattle.ldscript.specs.statements.declared.section.BodyStatement.{BodyStatement}
@@ -44,7 +44,7 @@ pub from_here : {X : Type 0} (xs : List X) (k : ℕ) (x : X) → k < length xs �
 from_here xs k x l at = drop_more xs k x l ∙ ap (λ y. y ∷ drop (k + 1) xs) (sym at)
 
 -- names that are given in one part and in another
-pub names_on : (cs ds : List CommonAt) (names : List (List ℕ))
+pub names_on : (cs ds : List DirectiveAt) (names : List (List ℕ))
     → names_given (cs ++ ds) ++ names ≡ names_given cs ++ (names_given ds ++ names)
 names_on [] ds names = refl
 names_on (c ∷ cs) ds names =
@@ -156,9 +156,9 @@ module _ (all : List ℕ) (b : Body) (x : BodyStatement) (xs : List BodyStatemen
       provided = a.provided;
       names = a.names;
       body = first.value;
-      alike = law a.provided provided (names_given (commons_in xs) ++ a.names) x a.body b first.value c
+      alike = law a.provided provided (names_given (directives_in xs) ++ a.names) x a.body b first.value c
           (subst (λ z. AreBodiesAlike z a.body b)
-          (names_on (commons_of x.line x.command) (commons_in xs) a.names) a.alike)
+          (names_on (directives_of x.line x.command) (directives_in xs) a.names) a.alike)
           first.first e;
       last = a.last;
       comes = first.second;
@@ -173,7 +173,7 @@ module _ (all : List ℕ) (b : Body) (x : BodyStatement) (xs : List BodyStatemen
         by_command : (y : BodyCommand) → x.command ≡ y
             → IfInput y (StartAt b.layout.inputs b.layout.dot b.rest (drop (length b.pieces) all))
         by_command (body.Dot c) e = tt
-        by_command (body.Common c) e = tt
+        by_command (body.Directive c) e = tt
         by_command (body.Data w f) e = tt
         by_command (body.Input i) e =
             let begun : Body = record a.body { layout = noted a.body.layout } in
@@ -195,7 +195,7 @@ input_stays n h f xs k x l at alongside = by_starts f.starts alongside
     nothing : (c : BodyCommand) → IfInput c ⊤
     nothing (body.Input i) = tt
     nothing (body.Dot c) = tt
-    nothing (body.Common c) = tt
+    nothing (body.Directive c) = tt
     nothing (body.Data w e) = tt
 
     by_starts : (o : Option (Bor (List ℕ))) → IfSome o (λ s. BodyAlongside s.now (body_of n h f) (drop k xs))
@@ -255,7 +255,7 @@ section_opened law row s line o all a h e =
     let k = chained (head_of a.state row line o) (λ g.
     and_then (run (body_step a.provided) (opened a.state row g) o.body) (λ b. section_end line o g b))
     a.after a.comes in
-    let same : k.value ≡ h = law (names_given (commons_in o.body) ++ a.names) row a.state s line o k.value h a.alike
+    let same : k.value ≡ h = law (names_given (directives_in o.body) ++ a.names) row a.state s line o k.value h a.alike
     k.first e in
     let b = chained (run (body_step a.provided) (opened a.state row k.value) o.body) (λ b.
     section_end line o k.value b) a.after k.second in

@@ -3,8 +3,8 @@ use Rattle.std.proofs.Common.{◌≡◌, ℕ, ◌+◌, ◌≤◌, ◌<◌, List,
 use Rattle.std.proofs.Common.{false, get_or, length, map}
 use Rattle.std.proofs.Math.ListN.{get_or-map}
 use Rattle.std.proofs.lemmas.List.{append-nil, length-map}
-use Rattle.ldscript.specs.statements.Numbering.{CommonAt, common_commands, commons_in, item_commons, items_commons}
-use Rattle.ldscript.specs.statements.Numbering.{top_commons}
+use Rattle.ldscript.specs.statements.Numbering.{DirectiveAt, all_directives, directives_in, item_directives, items_directives}
+use Rattle.ldscript.specs.statements.Numbering.{top_directives}
 use Rattle.ldscript.specs.statements.declared.section.OutputSection.{OutputSection}
 use Rattle.ldscript.specs.statements.declared.statement.Command.{Command}
 use Rattle.ldscript.specs.statements.declared.statement.Command.TheVariants as top
@@ -42,10 +42,10 @@ module _ (n : Naming) (i : Input) (script : List Statement) (s : Layout) (x : It
       chained (item_step a.rows a.provided a.state x) (λ d. run (item_step a.rows a.provided) d xs) a.leads.layout
       a.leads.comes
 
-  alike : AreAlike (names_given (item_commons x.line x.command) ++ (names_given (items_commons xs) ++ a.names)) a.state
+  alike : AreAlike (names_given (item_directives x.line x.command) ++ (names_given (items_directives xs) ++ a.names)) a.state
       s
   alike =
-      subst (λ z. AreAlike z a.state s) (names_on (item_commons x.line x.command) (items_commons xs) a.names) a.alike
+      subst (λ z. AreAlike z a.state s) (names_on (item_directives x.line x.command) (items_directives xs) a.names) a.alike
 
   -- the layouts stay alongside
   pub items_go_on : ItemsStayAlike → (provided : List (List ℕ)) (t : Layout)
@@ -57,7 +57,7 @@ module _ (n : Naming) (i : Input) (script : List Statement) (s : Layout) (x : It
     provided = a.provided;
     names = a.names;
     state = first.value;
-    alike = law i.kept.first a.rows (rows_of n i) a.provided provided (names_given (items_commons xs) ++ a.names) x
+    alike = law i.kept.first a.rows (rows_of n i) a.provided provided (names_given (items_directives xs) ++ a.names) x
         a.state s first.value t a.same alike first.first e l;
     leads = record {
       layout = a.leads.layout;
@@ -85,7 +85,7 @@ module _ (n : Naming) (i : Input) (script : List Statement) (s : Layout) (x : It
 
       by_command : (c : ItemCommand) → x.command ≡ c → IsAlongside n i (noted s) sections x.line c
       by_command (item.Dot c) e = tt
-      by_command (item.Common c) e = tt
+      by_command (item.Directive c) e = tt
       by_command (item.Discard inputs) e = tt
       by_command (item.Section o) e = λ starts other below at.
           let k : ℕ = length sections in
@@ -109,12 +109,12 @@ module _ (n : Naming) (i : Input) (script : List Statement) (s : Layout) (x : It
           subst (λ z. SectionAlongside z (noted s) x.line o starts)
           (sym (get_or-map (row_named n) (map (λ v. v.items) i.rows.now) k [])) (record {
             provided = a.provided;
-            names = names_given (items_commons xs) ++ a.names;
+            names = names_given (items_directives xs) ++ a.names;
             state = noted a.state;
             alike = record {
               same = ap noted alike.same;
-              symbols = (subst (λ z. AreAlike (names_given (item_commons x.line z)
-                  ++ (names_given (items_commons xs) ++ a.names)) a.state s) e alike).symbols;
+              symbols = (subst (λ z. AreAlike (names_given (item_directives x.line z)
+                  ++ (names_given (items_directives xs) ++ a.names)) a.state s) e alike).symbols;
             };
             after = l.layout;
             comes = l.comes;
@@ -124,25 +124,25 @@ module _ (n : Naming) (i : Input) (script : List Statement) (s : Layout) (x : It
           })
 
 -- the commands before SECTIONS, in it and after it
-commons_first : (line : ℕ) (c : Command) (xs : List Statement)
-    → common_commands xs ≡ common_commands (before_sections xs)
-    ++ (items_commons (items_within xs) ++ common_commands (after_sections xs))
-    → common_commands (record { line = line; command = c } ∷ xs)
-    ≡ common_commands (if_sections c (λ items. []) (record { line = line; command = c } ∷ before_sections xs))
-    ++ (items_commons (if_sections c (λ items. items) (items_within xs))
-    ++ common_commands (if_sections c (λ items. xs) (after_sections xs)))
-commons_first line (top.Sections items) xs later = refl
-commons_first line (top.Entry name) xs later = later
-commons_first line (top.Memory regions) xs later = later
-commons_first line (top.Common c) xs later = ap (λ l. record { line = line; command = c } ∷ l) later
+directives_first : (line : ℕ) (c : Command) (xs : List Statement)
+    → all_directives xs ≡ all_directives (before_sections xs)
+    ++ (items_directives (items_within xs) ++ all_directives (after_sections xs))
+    → all_directives (record { line = line; command = c } ∷ xs)
+    ≡ all_directives (if_sections c (λ items. []) (record { line = line; command = c } ∷ before_sections xs))
+    ++ (items_directives (if_sections c (λ items. items) (items_within xs))
+    ++ all_directives (if_sections c (λ items. xs) (after_sections xs)))
+directives_first line (top.Sections items) xs later = refl
+directives_first line (top.Entry name) xs later = later
+directives_first line (top.Memory regions) xs later = later
+directives_first line (top.Directive c) xs later = ap (λ l. record { line = line; command = c } ∷ l) later
 
-commons_in_parts : (script : List Statement) → common_commands script
-    ≡ common_commands (before_sections script)
-    ++ (items_commons (items_within script) ++ common_commands (after_sections script))
-commons_in_parts [] = refl
-commons_in_parts (x ∷ xs) = commons_first x.line x.command xs (commons_in_parts xs)
+directives_in_parts : (script : List Statement) → all_directives script
+    ≡ all_directives (before_sections script)
+    ++ (items_directives (items_within script) ++ all_directives (after_sections script))
+directives_in_parts [] = refl
+directives_in_parts (x ∷ xs) = directives_first x.line x.command xs (directives_in_parts xs)
 
-names_both : (cs ds : List CommonAt) → names_given (cs ++ ds) ≡ names_given cs ++ names_given ds
+names_both : (cs ds : List DirectiveAt) → names_given (cs ++ ds) ≡ names_given cs ++ names_given ds
 names_both cs ds =
     sym (append-nil (names_given (cs ++ ds)))
     ∙ (names_on cs ds [] ∙ ap (λ l. names_given cs ++ l) (append-nil (names_given ds)))
@@ -158,7 +158,7 @@ items_alongside n i script script' s t statements items law same_script same_ite
     let before : List Statement = before_sections statements in
     let within : List Item = items_within statements in
     let after : List Statement = after_sections statements in
-    let left : List (List ℕ) = names_given (common_commands after) in
+    let left : List (List ℕ) = names_given (all_directives after) in
     let goes : whole a.rows a.provided a.state before within after ≡ Ok a.leads.layout =
     sym (in_parts a.rows a.provided statements a.state) ∙ a.leads.comes in
     let h = chained (run (statement_step a.rows a.provided) a.state before) (λ u.
@@ -166,12 +166,12 @@ items_alongside n i script script' s t statements items law same_script same_ite
     a.leads.layout goes in
     let k = chained (run (item_step a.rows a.provided) h.value within) (λ v.
     run (statement_step a.rows a.provided) v after) a.leads.layout h.second in
-    let names : names_given (common_commands statements)
-    ≡ names_given (common_commands before) ++ (names_given (items_commons within) ++ left) =
-    ap names_given (commons_in_parts statements)
-    ∙ (names_both (common_commands before) (items_commons within ++ common_commands after)
-    ∙ ap (λ l. names_given (common_commands before) ++ l)
-    (names_both (items_commons within) (common_commands after))) in
+    let names : names_given (all_directives statements)
+    ≡ names_given (all_directives before) ++ (names_given (items_directives within) ++ left) =
+    ap names_given (directives_in_parts statements)
+    ∙ (names_both (all_directives before) (items_directives within ++ all_directives after)
+    ∙ ap (λ l. names_given (all_directives before) ++ l)
+    (names_both (items_directives within) (all_directives after))) in
     subst (λ z. ItemsAlongside n i z t items) (sym same_script)
     (subst (ItemsAlongside n i script t) (sym same_items) (record {
       rows = a.rows;
@@ -180,7 +180,7 @@ items_alongside n i script script' s t statements items law same_script same_ite
       names = left;
       state = h.value;
       alike = law i.kept.first a.rows (rows_of n i) a.provided i.provided.now
-          (names_given (items_commons within) ++ left)
+          (names_given (items_directives within) ++ left)
           before a.state s h.value t a.same (subst (λ z. AreAlike z a.state s) names a.alike) h.first comes few;
       leads = leads_before script i.kept k.value a.leads.layout (run (item_step a.rows a.provided) h.value within)
           (run (statement_step a.rows a.provided) a.state statements)
@@ -196,7 +196,7 @@ next_alongside n i script s x xs sections is given = by_command x.command refl
   where
     by_command : (c : ItemCommand) → x.command ≡ c → IsAlongside n i (noted s) sections x.line c
     by_command (item.Dot c) e = tt
-    by_command (item.Common c) e = tt
+    by_command (item.Directive c) e = tt
     by_command (item.Discard inputs) e = tt
     by_command (item.Section o) e =
         λ starts other below at.

@@ -29,7 +29,7 @@ first_of : (c : Command) (ss : List Statement) (within : List Item) → (later :
 first_of (top.Sections is) ss within later e = (output_sections ss, sections_of_both is (items ss))
 first_of (top.Entry name) ss within later e = (later, e)
 first_of (top.Memory regions) ss within later e = (later, e)
-first_of (top.Common c) ss within later e = (later, e)
+first_of (top.Directive c) ss within later e = (later, e)
 
 pub are_first : (script : List Statement) → AreFirst script (items_within script)
 are_first [] = record { later = []; all = refl }
@@ -47,7 +47,7 @@ is_next script k line (item.Section o) before more e l = record {
       ∙ after_first before (record { line = line; section = o }) more);
 }
 is_next script k line (item.Dot c) before more e l = tt
-is_next script k line (item.Common c) before more e l = tt
+is_next script k line (item.Directive c) before more e l = tt
 is_next script k line (item.Discard inputs) before more e l = tt
 
 -- as many output sections are placed by a statement as it is

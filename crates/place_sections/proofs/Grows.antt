@@ -10,14 +10,14 @@ use Rattle.ldscript.specs.terms.Expressions as expression
 use Rattle.ldscript.specs.terms.Expressions.{Expr}
 use Rattle.ldscript.specs.terms.DotForms.{DotForm, Advance, Align, Offset, dot_form}
 use Rattle.ldscript.specs.statements.Widths.{byte_count}
-use Rattle.ldscript.specs.statements.declared.common.Assignment.{Assignment}
-use Rattle.ldscript.specs.statements.declared.common.Common.{Common}
-use Rattle.ldscript.specs.statements.declared.common.Common.TheVariants as common
-use Rattle.ldscript.specs.statements.declared.common.DotCommand.TheVariants.{Set, Add}
+use Rattle.ldscript.specs.statements.declared.directive.Assignment.{Assignment}
+use Rattle.ldscript.specs.statements.declared.directive.Directive.{Directive}
+use Rattle.ldscript.specs.statements.declared.directive.Directive.TheVariants as directive
+use Rattle.ldscript.specs.statements.declared.directive.DotCommand.TheVariants.{Set, Add}
 use Rattle.ldscript.specs.statements.declared.section.BodyCommand.{BodyCommand}
 use Rattle.ldscript.specs.statements.declared.section.BodyCommand.TheVariants as body
 use Rattle.ldscript.specs.statements.declared.section.BodyStatement.{BodyStatement}
-use Rattle.ldmodel.specs.Placement.{assigned, common_step, Body, advanced, body_command_step, body_step, input_step}
+use Rattle.ldmodel.specs.Placement.{assigned, directive_step, Body, advanced, body_command_step, body_step, input_step}
 use Rattle.ldmodel.specs.Placement.{moved_on, piece_placed, piece_start, pieces_placed, set_to, with_data, with_dot}
 use Rattle.ldmodel.specs.Chain.{and_then, run}
 use Rattle.ldmodel.specs.Fault.{Fault, MovedBack}
@@ -40,22 +40,22 @@ assigned_leaves f same s line a t e =
     let d = given_is (with_symbol s a.name h.value) t h.second in
     ap f (sym d) ∙ same s a.name h.value
 
-pub common_leaves : {X : Type 0} (f : Layout → X) → ((s : Layout) (name : List ℕ) (x : ℕ) → f
+pub directive_leaves : {X : Type 0} (f : Layout → X) → ((s : Layout) (name : List ℕ) (x : ℕ) → f
     (with_symbol s name x) ≡ f s)
-    → (provided : List (List ℕ)) (s : Layout) (line : ℕ) (c : Common) (t : Layout)
-    → common_step provided s line c ≡ Ok t → f t ≡ f s
-unfolding common_step
-common_leaves f same provided s line (common.Assign a) t e = assigned_leaves f same s line a t e
-common_leaves f same provided s line (common.Provide a) t e = go (list_any (bytes_eq a.name) provided) e
+    → (provided : List (List ℕ)) (s : Layout) (line : ℕ) (c : Directive) (t : Layout)
+    → directive_step provided s line c ≡ Ok t → f t ≡ f s
+unfolding directive_step
+directive_leaves f same provided s line (directive.Assign a) t e = assigned_leaves f same s line a t e
+directive_leaves f same provided s line (directive.Provide a) t e = go (list_any (bytes_eq a.name) provided) e
   where
     go : (b : Bool) → cond b (assigned s line a) (Ok s) ≡ Ok t → f t ≡ f s
     go true h = assigned_leaves f same s line a t h
     go false h = ap f (sym (given_is s t h))
-common_leaves f same provided s line (common.Assert a) t e = ap f (sym (given_is s t e))
+directive_leaves f same provided s line (directive.Assert a) t e = ap f (sym (given_is s t e))
 
-pub common_keeps : (provided : List (List ℕ)) (s : Layout) (line : ℕ) (c : Common) (t : Layout)
-    → common_step provided s line c ≡ Ok t → t.sections ≡ s.sections
-common_keeps provided s line c t e = common_leaves (λ (u : Layout). u.sections) (λ u n x. refl) provided s line c t e
+pub directive_keeps : (provided : List (List ℕ)) (s : Layout) (line : ℕ) (c : Directive) (t : Layout)
+    → directive_step provided s line c ≡ Ok t → t.sections ≡ s.sections
+directive_keeps provided s line c t e = directive_leaves (λ (u : Layout). u.sections) (λ u n x. refl) provided s line c t e
 
 -- an assignment adds a symbol
 assigned_adds : (s : Layout) (line : ℕ) (a : Assignment) (t : Layout) → assigned s line a ≡ Ok t
@@ -65,16 +65,16 @@ assigned_adds s line a t e =
     let d = given_is (with_symbol s a.name h.value) t h.second in
     begins_one s.symbols (record { name = a.name; value = h.value }) t.symbols (ap (λ (u : Layout). u.symbols) (sym d))
 
-pub common_adds : (provided : List (List ℕ)) (s : Layout) (line : ℕ) (c : Common) (t : Layout)
-    → common_step provided s line c ≡ Ok t → Begins s.symbols t.symbols
-unfolding common_step
-common_adds provided s line (common.Assign a) t e = assigned_adds s line a t e
-common_adds provided s line (common.Provide a) t e = go (list_any (bytes_eq a.name) provided) e
+pub directive_adds : (provided : List (List ℕ)) (s : Layout) (line : ℕ) (c : Directive) (t : Layout)
+    → directive_step provided s line c ≡ Ok t → Begins s.symbols t.symbols
+unfolding directive_step
+directive_adds provided s line (directive.Assign a) t e = assigned_adds s line a t e
+directive_adds provided s line (directive.Provide a) t e = go (list_any (bytes_eq a.name) provided) e
   where
     go : (b : Bool) → cond b (assigned s line a) (Ok s) ≡ Ok t → Begins s.symbols t.symbols
     go true h = assigned_adds s line a t h
     go false h = begins_same s.symbols t.symbols (ap (λ (u : Layout). u.symbols) (sym (given_is s t h)))
-common_adds provided s line (common.Assert a) t e =
+directive_adds provided s line (directive.Assert a) t e =
     begins_same s.symbols t.symbols (ap (λ (u : Layout). u.symbols) (sym (given_is s t e)))
 
 abbrev pub the_piece : PlacedPiece → Piece
@@ -223,18 +223,18 @@ data_grows line w bytes b c e =
       symbols_are = begins_same b.layout.symbols b.layout.symbols refl;
     })
 
-common_grows : (provided : List (List ℕ)) (line : ℕ) (x : Common) (b : Body) (s : Layout)
-    → common_step provided b.layout line x ≡ Ok s
+directive_grows : (provided : List (List ℕ)) (line : ℕ) (x : Directive) (b : Body) (s : Layout)
+    → directive_step provided b.layout line x ≡ Ok s
     → Grown b (record b { layout = s })
-common_grows provided line x b s e = record {
+directive_grows provided line x b s e = record {
   row = refl;
   pieces = begins_same b.pieces b.pieces refl;
-  dot = let h = common_leaves (λ (u : Layout). u.dot) (λ u n v. refl) provided b.layout line x s e in omega (arith, h);
-  sections = common_keeps provided b.layout line x s e;
-  regions = common_leaves (λ (u : Layout). u.regions) (λ u n v. refl) provided b.layout line x s e;
+  dot = let h = directive_leaves (λ (u : Layout). u.dot) (λ u n v. refl) provided b.layout line x s e in omega (arith, h);
+  sections = directive_keeps provided b.layout line x s e;
+  regions = directive_leaves (λ (u : Layout). u.regions) (λ u n v. refl) provided b.layout line x s e;
   dots_are = begins_same b.layout.dots s.dots
-      (common_leaves (λ (u : Layout). u.dots) (λ u n v. refl) provided b.layout line x s e);
-  symbols_are = common_adds provided b.layout line x s e;
+      (directive_leaves (λ (u : Layout). u.dots) (λ u n v. refl) provided b.layout line x s e);
+  symbols_are = directive_adds provided b.layout line x s e;
 }
 
 command_grows : (provided : List (List ℕ)) (line : ℕ) (x : BodyCommand) (b c : Body)
@@ -242,10 +242,10 @@ command_grows : (provided : List (List ℕ)) (line : ℕ) (x : BodyCommand) (b c
 unfolding body_command_step
 command_grows provided line (body.Dot (Set x)) b c e = set_grows line (dot_form x) b c e
 command_grows provided line (body.Dot (Add x)) b c e = advanced_grows line x b c e
-command_grows provided line (body.Common x) b c e =
-    let h = chained (common_step provided b.layout line x) (λ s. Ok (record b { layout = s })) c e in
+command_grows provided line (body.Directive x) b c e =
+    let h = chained (directive_step provided b.layout line x) (λ s. Ok (record b { layout = s })) c e in
     subst (Grown b) (given_is (record b { layout = h.value }) c h.second)
-    (common_grows provided line x b h.value h.first)
+    (directive_grows provided line x b h.value h.first)
 command_grows provided line (body.Data w x) b c e =
     let h = chained (number b.layout line x) _ c e in
     data_grows line (byte_count w) (little_bytes (byte_count w) h.value) b c h.second

@@ -61,7 +61,7 @@ module _ (rows : List (List Piece)) (provided : List (List ℕ)) where
       outside (record { line = line; command = top.Entry name }) xs s later
   first_in_parts line (top.Memory regions) xs s later =
       outside (record { line = line; command = top.Memory regions }) xs s later
-  first_in_parts line (top.Common c) xs s later = outside (record { line = line; command = top.Common c }) xs s later
+  first_in_parts line (top.Directive c) xs s later = outside (record { line = line; command = top.Directive c }) xs s later
 
   pub in_parts : (script : List Statement) (s : Layout) → run (statement_step rows provided) s script
       ≡ whole s (before_sections script) (items_within script) (after_sections script)
@@ -96,8 +96,8 @@ module _ (rows earlier : List (List Piece)) (provided : List (List ℕ)) where
       first_same (record { line = line; command = top.Entry name }) xs s refl later
   command_same line (top.Memory regions) xs s later =
       first_same (record { line = line; command = top.Memory regions }) xs s refl later
-  command_same line (top.Common c) xs s later =
-      first_same (record { line = line; command = top.Common c }) xs s refl later
+  command_same line (top.Directive c) xs s later =
+      first_same (record { line = line; command = top.Directive c }) xs s refl later
 
   pub before_same : (script : List Statement) (s : Layout)
       → run (statement_step rows provided) s (before_sections script)

@@ -2,18 +2,18 @@
 use Rattle.std.proofs.Common.{◌≡◌, ℕ, ◌<◌, List, map, refl, sym, ap, subst, true}
 use Rattle.std.proofs.Common.{◌∙◌}
 use Rattle.std.specs.Prelude.{flat_map}
-use Rattle.ldscript.specs.statements.Numbering.{common_commands}
+use Rattle.ldscript.specs.statements.Numbering.{all_directives}
 use Rattle.ldscript.specs.statements.declared.statement.Statement.{Statement}
 use Rattle.ldmodel.specs.Chain.{run}
 use Rattle.ldmodel.specs.Layout.{Layout, nothing_placed}
 use Rattle.ldmodel.specs.Lent.{data_of, placed_of, starts_of, symbol_of}
 use Rattle.ldmodel.specs.Placement.{placement, statement_step}
 use Rattle.ldmodel.specs.Rows.{Piece}
-use Rattle.ldmodel.specs.declared.script_symbol.CommonIndex.{CommonIndex}
+use Rattle.ldmodel.specs.declared.script_symbol.DirectiveIndex.{DirectiveIndex}
 use Rattle.ldmodel_laws.specs.Alike.{AreAlike, names_given}
 use Rattle.place_terms.specs.Naming.{Naming}
 use Rattle.place_terms.specs.ProvidedTable.{provided_names}
-use Rattle.place_terms.specs.SymbolTable.{AreFound, Rises}
+use Rattle.place_terms.specs.LayoutSymbols.{AreFound, Rises}
 use Rattle.place_sections.proofs.Beginning.{begins_same}
 use Rattle.place_sections.specs.Boundaries.{data_in, AreBoundariesOf}
 use Rattle.place_sections.specs.Alongside.{ScriptAlongside}
@@ -30,7 +30,7 @@ unfolding placement
 whole_run rows provided script = refl
 
 -- with a placement that is kept there is an earlier layout, with the PROVIDEs that were in force
-module _ (n : Naming) (i : Input) (script : List Statement) (p : Places) (first : ℕ) (numbers : List CommonIndex)
+module _ (n : Naming) (i : Input) (script : List Statement) (p : Places) (first : ℕ) (numbers : List DirectiveIndex)
     (k : IsKept script (rows_of n i) p first) (a : Keeps p first numbers i.kept) where
   same_rows : Same i.kept.first k.earlier (rows_of n i)
   same_rows j h = k.same j (subst (λ m. j < m) a.first_is h)
@@ -75,7 +75,7 @@ module _ (n : Naming) (i : Input) (script : List Statement) (p : Places) (first 
         were = sym k.placed.in_force ∙ (ap (provided_names script) (a.provided_is equal) ∙ sym now)
 
     -- whichever are
-    pub kept_alongside : AreAlike (names_given (common_commands script)) nothing_placed nothing_placed
+    pub kept_alongside : AreAlike (names_given (all_directives script)) nothing_placed nothing_placed
         → ScriptAlongside n i script' s statements
     kept_alongside begun =
         subst (λ z. ScriptAlongside n i z s statements) (sym same)

@@ -18,7 +18,7 @@ use Rattle.ldmodel.specs.Lent.{placed_of}
 use Rattle.ldmodel.specs.Overlaps.{addresses_meet, load_addresses_meet, meetings, met, overlaps}
 use Rattle.ldmodel.specs.Project.{Project}
 use Rattle.ldmodel.specs.declared.fault.Fault as code
-use Rattle.ldmodel.specs.declared.laid.Placed.{Placed}
+use Rattle.ldmodel.specs.declared.placed.Placed.{Placed}
 use Rattle.place_sections.specs.Extents.{meet}
 use Rattle.place_sections.specs.Found.{extent_in, extents_in, fault_in, fault_with, first_met, met_after, met_before}
 use Rattle.place_sections.specs.Meetings.{AreOutputs, AreOverlaps}

@@ -6,7 +6,7 @@ use Rattle.std.specs.Option.{option_map}
 use mathlib.Core.Path.{fun_ext}
 use Rattle.ldmodel.specs.Layout.{PlacedSection, scope_of, section_named}
 use Rattle.ldmodel.specs.Value.{SectionNumbers}
-use Rattle.ldmodel.specs.declared.laid.Placed.{Placed}
+use Rattle.ldmodel.specs.declared.placed.Placed.{Placed}
 use Rattle.place_terms.specs.Keyed.{KeyedSection, section_of}
 use Rattle.place_terms.specs.Naming.{Naming}
 use Rattle.place_sections.specs.State.{layout_of}

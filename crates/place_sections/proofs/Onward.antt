@@ -4,9 +4,9 @@ use Rattle.std.proofs.Common.{subst}
 use Rattle.std.specs.List.{enumerate_from}
 use Rattle.std.specs.Prelude.{flat_map}
 use Rattle.std.proofs.lemmas.Grind.{flat_map-append}
-use Rattle.ldscript.specs.statements.declared.common.Common.{Common}
-use Rattle.ldscript.specs.statements.declared.common.DotCommand.{DotCommand}
-use Rattle.ldscript.specs.statements.declared.common.DotCommand.TheVariants.{Set, Add}
+use Rattle.ldscript.specs.statements.declared.directive.Directive.{Directive}
+use Rattle.ldscript.specs.statements.declared.directive.DotCommand.{DotCommand}
+use Rattle.ldscript.specs.statements.declared.directive.DotCommand.TheVariants.{Set, Add}
 use Rattle.ldscript.specs.statements.declared.section.OutputSection.{OutputSection}
 use Rattle.ldscript.specs.statements.declared.statement.Command.{Command}
 use Rattle.ldscript.specs.statements.declared.statement.Command.TheVariants as top
@@ -16,7 +16,7 @@ use Rattle.ldscript.specs.statements.declared.statement.ItemCommand.TheVariants 
 use Rattle.ldscript.specs.statements.declared.statement.Region.{Region}
 use Rattle.ldscript.specs.statements.declared.statement.Statement.{Statement}
 use Rattle.ldmodel.specs.Arithmetic.{plus_modulo}
-use Rattle.ldmodel.specs.Placement.{common_step}
+use Rattle.ldmodel.specs.Placement.{directive_step}
 use Rattle.ldmodel.specs.Chain.{run}
 use Rattle.ldmodel.specs.Fault.{Fault}
 use Rattle.ldmodel.specs.Layout.{Layout, PlacedSection, noted, number}
@@ -27,7 +27,7 @@ use Rattle.ldmodel.specs.Rows.{Piece}
 use Rattle.place_sections.proofs.Adding.{enumerate_more, section_grows}
 use Rattle.place_sections.proofs.Beginning.{begins_flat, begins_mapped, begins_on, begins_same, fewer_begin}
 use Rattle.place_sections.proofs.Ending.{chained}
-use Rattle.place_sections.proofs.Grows.{common_adds, common_keeps, common_leaves, given_is}
+use Rattle.place_sections.proofs.Grows.{directive_adds, directive_keeps, directive_leaves, given_is}
 use Rattle.place_sections.specs.Boundaries.{data_in}
 use Rattle.place_sections.specs.Leads.{Begins, Leads, counts_of}
 use Rattle.place_sections.specs.declared.kept.Kept.{Kept}
@@ -56,12 +56,12 @@ on_given : (s t : Layout) → ◌≡◌ {A = Result Layout Fault} (Ok s) (Ok t) 
 on_given s t e = let d = sym (given_is s t e) in
     on_same s t (ap (λ (u : Layout). u.sections) d) (ap (λ (u : Layout). u.symbols) d) (ap (λ (u : Layout). u.dots) d)
 
-common_on : (provided : List (List ℕ)) (s : Layout) (line : ℕ) (c : Common) (t : Layout)
-    → common_step provided s line c ≡ Ok t → On s t
-common_on provided s line c t e = record {
-  sections = begins_same s.sections t.sections (common_keeps provided s line c t e);
-  symbols = common_adds provided s line c t e;
-  dots = begins_same s.dots t.dots (common_leaves (λ (u : Layout). u.dots) (λ u n x. refl) provided s line c t e);
+directive_on : (provided : List (List ℕ)) (s : Layout) (line : ℕ) (c : Directive) (t : Layout)
+    → directive_step provided s line c ≡ Ok t → On s t
+directive_on provided s line c t e = record {
+  sections = begins_same s.sections t.sections (directive_keeps provided s line c t e);
+  symbols = directive_adds provided s line c t e;
+  dots = begins_same s.dots t.dots (directive_leaves (λ (u : Layout). u.dots) (λ u n x. refl) provided s line c t e);
 }
 
 free_dot_on : (s : Layout) (line : ℕ) (c : DotCommand) (t : Layout) → free_dot_step s line c ≡ Ok t → On s t
@@ -86,7 +86,7 @@ item_command_on : (rows : List (List Piece)) (provided : List (List ℕ)) (line 
     (t : Layout) → item_command_step rows provided line s c ≡ Ok t → On s t
 unfolding item_command_step
 item_command_on rows provided line s (item.Dot c) t e = free_dot_on s line c t e
-item_command_on rows provided line s (item.Common c) t e = common_on provided s line c t e
+item_command_on rows provided line s (item.Directive c) t e = directive_on provided s line c t e
 item_command_on rows provided line s (item.Section o) t e = section_on provided (next_row rows s) s line o t e
 item_command_on rows provided line s (item.Discard inputs) t e = let d = sym (given_is _ t e) in
     on_same s t (ap (λ (u : Layout). u.sections) d) (ap (λ (u : Layout). u.symbols) d) (ap (λ (u : Layout). u.dots) d)
@@ -133,7 +133,7 @@ unfolding command_step
 command_on rows provided line s (top.Entry name) t e = on_given s t e
 command_on rows provided line s (top.Memory regions) t e = run_on region_step region_on regions s t e
 command_on rows provided line s (top.Sections xs) t e = items_on rows provided xs s t e
-command_on rows provided line s (top.Common c) t e = common_on provided s line c t e
+command_on rows provided line s (top.Directive c) t e = directive_on provided s line c t e
 
 pub statements_on : (rows : List (List Piece)) (provided : List (List ℕ)) (xs : List Statement) (s t : Layout)
     → run (statement_step rows provided) s xs ≡ Ok t → On s t

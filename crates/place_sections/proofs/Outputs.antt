@@ -3,8 +3,8 @@ use Rattle.std.proofs.Common.{◌≡◌, ℕ, ◌+◌, List, [], ◌∷◌, ◌+
 use Rattle.std.proofs.lemmas.List.{append-nil, map-append}
 use Rattle.ldscript.specs.statements.Numbering.{OutputSectionAt, items, items_of, sections_in, item_sections}
 use Rattle.ldscript.specs.statements.Numbering.{output_sections}
-use Rattle.ldscript.specs.statements.declared.common.DotCommand.{DotCommand}
-use Rattle.ldscript.specs.statements.declared.common.DotCommand.TheVariants.{Set, Add}
+use Rattle.ldscript.specs.statements.declared.directive.DotCommand.{DotCommand}
+use Rattle.ldscript.specs.statements.declared.directive.DotCommand.TheVariants.{Set, Add}
 use Rattle.ldscript.specs.statements.declared.section.OutputSection.{OutputSection}
 use Rattle.ldscript.specs.statements.declared.statement.Command.{Command}
 use Rattle.ldscript.specs.statements.declared.statement.Command.TheVariants as top
@@ -23,7 +23,7 @@ use Rattle.ldmodel.specs.Rows.{Piece}
 use Rattle.ldmodel.specs.Placement.{find_region, load_region, placed_section, section_end, with_room, with_section}
 use Rattle.ldmodel.specs.Placement.{Head, head_of}
 use Rattle.place_sections.proofs.Ending.{chained}
-use Rattle.place_sections.proofs.Grows.{body_grows, common_keeps, given_is}
+use Rattle.place_sections.proofs.Grows.{body_grows, directive_keeps, given_is}
 use Rattle.ldmodel.specs.Placement.{Body}
 
 abbrev names_of : List PlacedSection → List (List ℕ)
@@ -76,7 +76,7 @@ pub item_names : (rows : List (List Piece)) (provided : List (List ℕ)) (line :
     ++ names_in (item_sections line c)
 unfolding item_command_step
 item_names rows provided line s (item.Dot c) t e = unnamed t.sections s.sections (free_dot_keeps s line c t e)
-item_names rows provided line s (item.Common c) t e = unnamed t.sections s.sections (common_keeps provided s line c t e)
+item_names rows provided line s (item.Directive c) t e = unnamed t.sections s.sections (directive_keeps provided s line c t e)
 item_names rows provided line s (item.Section o) t e = section_names_it provided (next_row rows s) s line o t e
 item_names rows provided line s (item.Discard inputs) t e =
     unnamed t.sections s.sections (ap (λ (u : Layout). u.sections) (sym (given_is _ t e)))
@@ -117,8 +117,8 @@ command_names rows provided line s (top.Entry name) t e =
     unnamed t.sections s.sections (ap (λ (u : Layout). u.sections) (sym (given_is s t e)))
 command_names rows provided line s (top.Memory regions) t e = unnamed t.sections s.sections (regions_keep regions s t e)
 command_names rows provided line s (top.Sections xs) t e = items_names rows provided xs s t e
-command_names rows provided line s (top.Common c) t e =
-    unnamed t.sections s.sections (common_keeps provided s line c t e)
+command_names rows provided line s (top.Directive c) t e =
+    unnamed t.sections s.sections (directive_keeps provided s line c t e)
 
 pub sections_of_both : (xs ys : List Item) → sections_in (xs ++ ys) ≡ sections_in xs ++ sections_in ys
 sections_of_both [] ys = refl

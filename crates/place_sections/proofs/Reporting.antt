@@ -10,8 +10,8 @@ use Rattle.ldmodel.specs.FaultCode.{fault_of}
 use Rattle.ldmodel.specs.Mentioned.{mentioned_names}
 use Rattle.ldmodel.specs.declared.fault.Fault.TheVariants as variant
 use Rattle.ldmodel.specs.declared.fault.MentionIndex.{MentionIndex}
-use Rattle.ldmodel.specs.declared.laid.OutputIndex.{OutputIndex}
-use Rattle.ldmodel.specs.declared.laid.RegionIndex.{RegionIndex}
+use Rattle.ldmodel.specs.declared.placed.OutputIndex.{OutputIndex}
+use Rattle.ldmodel.specs.declared.placed.RegionIndex.{RegionIndex}
 use Rattle.place_sections.specs.Places.{StandsFor}
 
 pub stands_no_value : (script : List Statement) (line : ℕ)

@@ -16,7 +16,7 @@ use Rattle.ldmodel.specs.Lent.{symbol_of}
 use Rattle.ldmodel.specs.Placement.{item_command_step, item_step, next_row, section_step}
 use Rattle.ldmodel.specs.Rows.{Piece}
 use Rattle.ldmodel.specs.Placement.{freed_from, load_region}
-use Rattle.ldmodel.specs.declared.laid.Placed.{Placed}
+use Rattle.ldmodel.specs.declared.placed.Placed.{Placed}
 use Rattle.ldmodel.specs.declared.rows.Piece as rows
 use Rattle.place_terms.specs.Keyed.{section_of}
 use Rattle.place_terms.specs.Naming.{Naming, row_named}
@@ -47,7 +47,7 @@ command_same : (provided : List (List ℕ)) (first : ℕ) (earlier rows : List (
     → length t.sections ≤ first → item_command_step rows provided line s c ≡ Ok t
 unfolding item_command_step
 command_same provided first earlier rows line s (item.Dot c) t a e l = e
-command_same provided first earlier rows line s (item.Common c) t a e l = e
+command_same provided first earlier rows line s (item.Directive c) t a e l = e
 command_same provided first earlier rows line s (item.Section o) t a e l =
     let g = section_grows provided (next_row earlier s) s line o t e in
     let m = ap length g.added ∙ length-append s.sections (g.section ∷ []) in

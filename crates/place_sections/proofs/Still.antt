@@ -2,8 +2,8 @@
 use Rattle.std.proofs.Common.{◌≡◌, ℕ, zero, suc, ◌≤◌, List, [], ◌∷◌, length, take, drop, inl, inr}
 use Rattle.std.proofs.Common.{Ok, refl, sym, ap, ◌∙◌, arith, length-append}
 use Rattle.std.proofs.lemmas.Bool.{cases_lt}
-use Rattle.ldscript.specs.statements.declared.common.DotCommand.{DotCommand}
-use Rattle.ldscript.specs.statements.declared.common.DotCommand.TheVariants.{Set, Add}
+use Rattle.ldscript.specs.statements.declared.directive.DotCommand.{DotCommand}
+use Rattle.ldscript.specs.statements.declared.directive.DotCommand.TheVariants.{Set, Add}
 use Rattle.ldscript.specs.statements.declared.statement.Item.{Item}
 use Rattle.ldscript.specs.statements.declared.statement.ItemCommand.{ItemCommand}
 use Rattle.ldscript.specs.statements.declared.statement.ItemCommand.TheVariants as item
@@ -14,7 +14,7 @@ use Rattle.ldmodel.specs.Placement.{free_dot_step, item_command_step, item_step,
 use Rattle.ldmodel.specs.Rows.{Piece}
 use Rattle.place_sections.proofs.Adding.{section_grows}
 use Rattle.place_sections.proofs.Ending.{chained}
-use Rattle.place_sections.proofs.Grows.{common_keeps, common_leaves, given_is}
+use Rattle.place_sections.proofs.Grows.{directive_keeps, directive_leaves, given_is}
 use Rattle.place_sections.proofs.Onward.{fewer, item_on, items_on}
 use Rattle.place_sections.proofs.Outputs.{free_dot_keeps}
 use Rattle.place_sections.proofs.Runs.{run_rest}
@@ -36,9 +36,9 @@ command_still : (rows : List (List Piece)) (provided : List (List ℕ)) (line : 
 unfolding item_command_step
 command_still rows provided line s (item.Dot c) t e l =
     record { sections = free_dot_keeps s line c t e; regions = free_dot_regions s line c t e }
-command_still rows provided line s (item.Common c) t e l = record {
-  sections = common_keeps provided s line c t e;
-  regions = common_leaves (λ (u : Layout). u.regions) (λ u n x. refl) provided s line c t e;
+command_still rows provided line s (item.Directive c) t e l = record {
+  sections = directive_keeps provided s line c t e;
+  regions = directive_leaves (λ (u : Layout). u.regions) (λ u n x. refl) provided s line c t e;
 }
 command_still rows provided line s (item.Section o) t e l =
     let g = section_grows provided (next_row rows s) s line o t e in

@@ -12,8 +12,8 @@ use Rattle.ldmodel.specs.Layout.{Layout, PlacedData, PlacedPiece, PlacedSection}
 use Rattle.ldmodel.specs.Lent.{NumberedData, data_of, numbered, placed_of, starts_of}
 use Rattle.ldmodel.specs.Placement.{section_step}
 use Rattle.ldmodel.specs.Rows.{Piece}
-use Rattle.ldmodel.specs.declared.laid.Placed.{Placed}
-use Rattle.ldmodel.specs.declared.laid.PlacedData as code_data
+use Rattle.ldmodel.specs.declared.placed.Placed.{Placed}
+use Rattle.ldmodel.specs.declared.placed.PlacedData as code_data
 use Rattle.ldmodel.specs.declared.rows.Piece as rows
 use Rattle.place_terms.specs.Keyed.{KeyedSection, data_at, data_at_of, piece_at, section_of}
 use Rattle.place_terms.specs.Naming.{Naming, piece_named, row_named}

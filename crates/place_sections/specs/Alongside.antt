@@ -2,7 +2,7 @@
 -- force in it: so it differs in symbols alone.
 use Rattle.std.specs.Prelude.{◌≡◌, ℕ, ◌+◌, ◌<◌, ◌≤◌, List, [], ◌∷◌, ◌++◌, ⊤, true, false, ◌==◌, drop, length, map, Ok}
 use Rattle.std.specs.Prelude.{IfSome, slice_index_or}
-use Rattle.ldscript.specs.statements.Numbering.{common_commands, commons_in, items_commons}
+use Rattle.ldscript.specs.statements.Numbering.{all_directives, directives_in, items_directives}
 use Rattle.ldscript.specs.statements.declared.section.BodyCommand.{BodyCommand}
 use Rattle.ldscript.specs.statements.declared.section.BodyCommand.TheVariants as body
 use Rattle.ldscript.specs.statements.declared.section.BodyStatement.{BodyStatement}
@@ -45,7 +45,7 @@ StartsThere n h f =
 abbrev pub IfInput : BodyCommand → Type 0 → Type 0
 IfInput (body.Input i) fact = fact
 IfInput (body.Dot c) fact = ⊤
-IfInput (body.Common c) fact = ⊤
+IfInput (body.Directive c) fact = ⊤
 IfInput (body.Data w e) fact = ⊤
 
 -- an earlier body, which differs in symbols alone, goes on with these statements to its end, where its input sections
@@ -54,7 +54,7 @@ pub record BodyAlongside (starts : List ℕ) (b : Body) (xs : List BodyStatement
   pub provided : List (List ℕ)
   pub names : List (List ℕ)
   pub body : Body
-  pub alike : AreBodiesAlike (names_given (commons_in xs) ++ names) body b
+  pub alike : AreBodiesAlike (names_given (directives_in xs) ++ names) body b
   pub last : Body
   pub comes : run (body_step provided) body xs ≡ Ok last
   pub starts_are : map (λ (x : PlacedPiece). x.start) last.pieces ≡ starts
@@ -66,7 +66,7 @@ pub record SectionAlongside (row : List Piece) (s : Layout) (line : ℕ) (o : Ou
   pub provided : List (List ℕ)
   pub names : List (List ℕ)
   pub state : Layout
-  pub alike : AreAlike (names_given (commons_in o.body) ++ names) state s
+  pub alike : AreAlike (names_given (directives_in o.body) ++ names) state s
   pub after : Layout
   pub comes : section_step provided row state line o ≡ Ok after
   pub section : PlacedSection
@@ -80,7 +80,7 @@ IsAlongside n i s sections line (item.Section o) =
     → AreStartsOf i.kept.earlier (length sections) (length (starts_in sections)) starts
     → SectionAlongside (slice_index_or (rows_of n i) (length sections) []) s line o starts
 IsAlongside n i s sections line (item.Dot c) = ⊤
-IsAlongside n i s sections line (item.Common c) = ⊤
+IsAlongside n i s sections line (item.Directive c) = ⊤
 IsAlongside n i s sections line (item.Discard inputs) = ⊤
 
 -- an earlier layout, which differs in symbols alone, goes on with these statements of SECTIONS to one with which the
@@ -92,7 +92,7 @@ pub record ItemsAlongside (n : Naming) (i : Input) (script : List Statement) (s 
   pub provided : List (List ℕ)
   pub names : List (List ℕ)
   pub state : Layout
-  pub alike : AreAlike (names_given (items_commons xs) ++ names) state s
+  pub alike : AreAlike (names_given (items_directives xs) ++ names) state s
   pub leads : Leads script i.kept (run (item_step rows provided) state xs)
 
 -- the same of all statements of a script
@@ -102,5 +102,5 @@ pub record ScriptAlongside (n : Naming) (i : Input) (script : List Statement) (s
   pub same : Same i.kept.first rows (rows_of n i)
   pub provided : List (List ℕ)
   pub state : Layout
-  pub alike : AreAlike (names_given (common_commands statements)) state s
+  pub alike : AreAlike (names_given (all_directives statements)) state s
   pub leads : Leads script i.kept (run (statement_step rows provided) state statements)

@@ -2,8 +2,8 @@
 use Rattle.std.specs.Prelude.{ℕ, List, [], ◌∷◌, ◌++◌, length, map, position, Option, Some, None}
 use Rattle.ldmodel.specs.declared.fault.Fault as code
 use Rattle.ldmodel.specs.declared.fault.Fault.TheVariants.{AddressesMeet, LoadAddressesMeet}
-use Rattle.ldmodel.specs.declared.laid.OutputIndex.{OutputIndex}
-use Rattle.ldmodel.specs.declared.laid.Placed.{Placed}
+use Rattle.ldmodel.specs.declared.placed.OutputIndex.{OutputIndex}
+use Rattle.ldmodel.specs.declared.placed.Placed.{Placed}
 use Rattle.place_sections.specs.Extents.{meet}
 use Rattle.place_sections.specs.declared.extent.Extent.{Extent}
 use Rattle.place_sections.specs.declared.overlaps.Space.{Space}

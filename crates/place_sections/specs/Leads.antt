@@ -4,14 +4,14 @@ use Rattle.ldscript.specs.statements.declared.statement.Statement.{Statement}
 use Rattle.ldmodel.specs.Fault.{Fault}
 use Rattle.ldmodel.specs.Layout.{Layout, PlacedSection}
 use Rattle.ldmodel.specs.Lent.{data_of, placed_of, starts_of, symbol_of}
-use Rattle.ldmodel.specs.declared.script_symbol.CommonIndex.{CommonIndex}
-use Rattle.place_terms.specs.SymbolTable.{AreFound, Rises}
+use Rattle.ldmodel.specs.declared.script_symbol.DirectiveIndex.{DirectiveIndex}
+use Rattle.place_terms.specs.LayoutSymbols.{AreFound, Rises}
 use Rattle.place_sections.specs.Boundaries.{data_in}
 use Rattle.place_sections.specs.Places.{Places}
 use Rattle.place_sections.specs.declared.kept.Kept.{Kept}
 
 -- all of a placement, before the row of a number, where these PROVIDEs are in force now
-pub record Keeps (p : Places) (first : ℕ) (provided : List CommonIndex) (k : Kept) : Type 0 where
+pub record Keeps (p : Places) (first : ℕ) (provided : List DirectiveIndex) (k : Kept) : Type 0 where
   pub sections : k.earlier.sections.now ≡ p.sections
   pub counts : k.earlier.counts.now ≡ p.counts
   pub starts : k.earlier.starts.now ≡ p.starts

@@ -7,7 +7,7 @@ use Rattle.ldmodel.specs.Lent.{placed_of}
 use Rattle.ldmodel.specs.Overlaps.{overlaps}
 use Rattle.ldmodel.specs.Project.{Project}
 use Rattle.ldmodel.specs.declared.fault.Fault as code
-use Rattle.ldmodel.specs.declared.laid.Placed.{Placed}
+use Rattle.ldmodel.specs.declared.placed.Placed.{Placed}
 
 -- output sections with the names of those of a script, in its order
 abbrev pub AreOutputs : Project → List PlacedSection → Type 0

@@ -16,7 +16,7 @@ pub record AreFirst (script : List Statement) (items : List Item) : Type 0 where
 abbrev pub IsNext : List Statement → ℕ → ItemCommand → Type 0
 IsNext script number (item.Section o) = IsOutput script number o
 IsNext script number (item.Dot c) = ⊤
-IsNext script number (item.Common c) = ⊤
+IsNext script number (item.Directive c) = ⊤
 IsNext script number (item.Discard inputs) = ⊤
 
 -- the same of the statement at a place

@@ -10,7 +10,7 @@ abbrev pub if_sections : {X : Type 0} → Command → (List Item → X) → X �
 if_sections (top.Sections items) found other = found items
 if_sections (top.Entry name) found other = other
 if_sections (top.Memory regions) found other = other
-if_sections (top.Common c) found other = other
+if_sections (top.Directive c) found other = other
 
 abbrev pub before_sections : List Statement → List Statement
 before_sections [] = []

@@ -10,13 +10,13 @@ use Rattle.ldmodel.specs.Placement.{placement}
 use Rattle.ldmodel.specs.Project.{Project}
 use Rattle.ldmodel.specs.Rows.{Piece}
 use Rattle.ldmodel.specs.declared.fault.Fault as code_fault
-use Rattle.ldmodel.specs.declared.laid.Placed.{Placed}
-use Rattle.ldmodel.specs.declared.laid.PlacedData.{PlacedData}
-use Rattle.ldmodel.specs.declared.laid.PlacedRegion.{PlacedRegion}
-use Rattle.ldmodel.specs.declared.script_symbol.CommonIndex.{CommonIndex}
+use Rattle.ldmodel.specs.declared.placed.Placed.{Placed}
+use Rattle.ldmodel.specs.declared.placed.PlacedData.{PlacedData}
+use Rattle.ldmodel.specs.declared.placed.PlacedRegion.{PlacedRegion}
+use Rattle.ldmodel.specs.declared.script_symbol.DirectiveIndex.{DirectiveIndex}
 use Rattle.ldmodel.specs.declared.script_symbol.ScriptSymbol.{ScriptSymbol}
 use Rattle.place_terms.specs.ProvidedTable.{provided_names}
-use Rattle.place_terms.specs.SymbolTable.{AreFound, Rises}
+use Rattle.place_terms.specs.LayoutSymbols.{AreFound, Rises}
 use Rattle.place_sections.specs.Boundaries.{AreBoundariesOf}
 use Rattle.place_sections.specs.declared.boundary.Boundary.{Boundary}
 
@@ -30,7 +30,7 @@ pub record Places : Type 0 where
   pub symbols : List ScriptSymbol
   pub regions : List PlacedRegion
   pub boundaries : List Boundary
-  pub provided : List CommonIndex
+  pub provided : List DirectiveIndex
 
 -- the end of each output section is an address
 abbrev pub Ends : List Placed → Type 0

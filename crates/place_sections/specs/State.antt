@@ -8,7 +8,7 @@ use Rattle.ldmodel.specs.declared.rows.Piece as rows
 use Rattle.place_terms.specs.Keyed.{piece_at, data_at, section_of}
 use Rattle.place_terms.specs.Naming.{Naming, row_named}
 use Rattle.place_terms.specs.SectionTable.{keyed_piece}
-use Rattle.place_terms.specs.SymbolTable.{named}
+use Rattle.place_terms.specs.LayoutSymbols.{named}
 use Rattle.place_sections.specs.declared.state.Here.{Here}
 use Rattle.place_sections.specs.declared.state.Done.{Done}
 use Rattle.place_sections.specs.declared.state.Frame.{Frame}

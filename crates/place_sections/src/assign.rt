@@ -1,13 +1,13 @@
 //! Assignments of symbols.
 
 ghost use Rattle.std.specs.Prelude.{◌≡◌};
-ghost use Rattle.ldmodel.specs.Placement.{assigned, common_step};
+ghost use Rattle.ldmodel.specs.Placement.{assigned, directive_step};
 ghost use Rattle.place_terms.specs.Naming.{Naming};
 ghost use Rattle.place_sections.specs.State.{layout_of, Gives};
 
 use crate::state::{Done, Here};
 use crate::stop::Stop;
-use ldscript::tree::{Assignment, Common};
+use ldscript::tree::{Assignment, Directive};
 use place_terms::provided::Provided;
 
 impl<'a> Here<'a> {
@@ -27,16 +27,16 @@ impl<'a> Here<'a> {
     }
 
     /// An assignment of a symbol, a PROVIDE or an ASSERT.
-    #[tactic(auto, unfolding(ldmodel::specs::Placement::common_step))]
-    pub fn common(
+    #[tactic(auto, unfolding(ldmodel::specs::Placement::directive_step))]
+    pub fn directive(
         &mut self,
         done: &Done<'a>,
         provided: &Provided<'a>,
         line: u32,
-        command: &'a Common,
+        command: &'a Directive,
     ) -> Result<(), Stop<'a>>
         ghost naming: { Naming }
-        ensures gives { Gives (common_step provided.now (layout_of naming self.old done.now) line command.now)
+        ensures gives { Gives (directive_step provided.now (layout_of naming self.old done.now) line command.now)
             (layout_of naming self.new done.now) result }
         ensures script { self.new.symbols.script ≡ self.old.symbols.script }
         ensures pieces { self.new.pieces.items ≡ self.old.pieces.items }
@@ -44,14 +44,14 @@ impl<'a> Here<'a> {
         ensures anew { self.new.anew ≡ self.old.anew }
     {
         match command {
-            Common::Assign(a) => self.assign(done, line, a),
-            Common::Provide(a) => match provided.is_in_force(a.name.as_bytes()) {
+            Directive::Assign(a) => self.assign(done, line, a),
+            Directive::Provide(a) => match provided.is_in_force(a.name.as_bytes()) {
                 Some(true) => self.assign(done, line, a),
                 Some(false) => Ok(()),
                 // Unreachable: the name is one that the script gives a value
                 None => Err(Stop::NoMemory),
             },
-            Common::Assert(_) => Ok(()),
+            Directive::Assert(_) => Ok(()),
         }
     }
 }

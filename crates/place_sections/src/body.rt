@@ -245,7 +245,12 @@ impl<'d, 'a> Frame<'d, 'a> {
         match command {
             BodyCommand::Dot(DotCommand::Add(by)) => self.advance(here, line, by.expr()),
             BodyCommand::Dot(DotCommand::Set(to)) => self.set_dot(here, line, to.expr()),
-            BodyCommand::Common(command) => here.common(self.done, self.provided, line, command),
+            BodyCommand::Directive(command) => here.directive(
+                self.done,
+                self.provided,
+                line,
+                command,
+            ),
             BodyCommand::Data(width, formula) => self.place_data(here, line, *width, formula),
             BodyCommand::Input(_) => self.place_input(here, line),
         }

@@ -18,7 +18,7 @@ use crate::head::{Head, region_name};
 use crate::state::{Done, Here};
 use crate::stop::Stop;
 use elfobj::file::constants::{SHF_EXECINSTR, SHF_WRITE};
-use ldmodel::laid::Placed;
+use ldmodel::placed::Placed;
 use ldscript::tree::{Load, OutputSection};
 use place_terms::pieces::{any_in_file, any_with_flag};
 use place_terms::regions::{RegionState, Regions};

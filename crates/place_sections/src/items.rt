@@ -144,7 +144,7 @@ impl<'i, 'a> Input<'i, 'a> {
     {
         match command {
             ItemCommand::Dot(command) => here.move_freely(done, line, command),
-            ItemCommand::Common(command) => here.common(done, self.provided, line, command),
+            ItemCommand::Directive(command) => here.directive(done, self.provided, line, command),
             ItemCommand::Section(output) => {
                 let starts = self.kept_starts(done)?;
                 let row = row_at(self.rows, done.sections.len());

@@ -5,7 +5,7 @@ ghost use Rattle.place_sections.specs.Leads.{Keeps};
 
 use crate::boundary::Boundary;
 use crate::placement::Placement;
-use ldmodel::script_symbol::{CommonIndex, ScriptSymbol};
+use ldmodel::script_symbol::{DirectiveIndex, ScriptSymbol};
 use place_terms::earlier::EarlierLayout;
 
 /// What is kept of an earlier layout, and how far it holds.
@@ -27,7 +27,7 @@ pub(crate) struct Kept<'k> {
 
 impl<'k> Kept<'k> {
     /// All of an earlier placement, before the row of this number, where these PROVIDEs are in force; or nothing.
-    pub fn new(kept: Option<(&'k Placement, usize)>, provided: &[CommonIndex]) -> Kept<'k>
+    pub fn new(kept: Option<(&'k Placement, usize)>, provided: &[DirectiveIndex]) -> Kept<'k>
         ensures some { IfSome kept.entry (λ k. Keeps k.0.now k.1 provided.now result) }
         ensures none { IfNone kept.entry (result.first ≡ 0) }
     {

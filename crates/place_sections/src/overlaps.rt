@@ -10,8 +10,8 @@ use crate::extent::{Extent, are_ascending};
 use crate::firsts::firsts;
 use ldmodel::fault::Fault;
 use ldmodel::impossible::impossible;
-use ldmodel::laid::{OutputIndex, Placed};
 use ldmodel::memory::NoMemory;
+use ldmodel::placed::{OutputIndex, Placed};
 use std::alloc::Global;
 
 /// Where output sections may share addresses.

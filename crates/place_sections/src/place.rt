@@ -18,7 +18,7 @@ use crate::state::{Done, Here};
 use crate::whole::whole;
 use ldmodel::meter::{Count, Meter};
 use ldmodel::rows::Piece;
-use ldmodel::script_symbol::CommonIndex;
+use ldmodel::script_symbol::DirectiveIndex;
 use ldmodel_laws::layout::steps_stay_alike;
 use ldscript::Script;
 use place_terms::provided::Provided;
@@ -78,7 +78,7 @@ fn lay_out(
     alloc: Global,
     script: &Script,
     rows: &[Vec<Piece>],
-    provided: &[CommonIndex],
+    provided: &[DirectiveIndex],
     kept: Option<(&Placement, usize)>,
     meter: &mut Meter,
 ) -> Result<Placement, PlaceFault>
@@ -139,7 +139,7 @@ pub fn place(
     alloc: Global,
     script: &Script,
     rows: &[Vec<Piece>],
-    provided: &[CommonIndex],
+    provided: &[DirectiveIndex],
     kept: Option<(&Placement, usize)>,
     meter: &mut Meter,
 ) -> Result<Placement, PlaceFault>

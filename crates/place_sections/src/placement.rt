@@ -3,14 +3,14 @@
 ghost use Rattle.std.specs.Prelude.{◌≡◌, List, slice_get};
 ghost use Rattle.ldscript.specs.statements.declared.statement.Statement.{Statement};
 ghost use Rattle.ldmodel.specs.Layout.{Layout};
-ghost use Rattle.ldmodel.specs.Lent.{IsLaid};
+ghost use Rattle.ldmodel.specs.Lent.{IsPlacementView};
 ghost use Rattle.place_sections.specs.Leads.{Keeps};
 ghost use Rattle.place_sections.specs.Places.{AreOf, Ends};
 
 use crate::boundary::Boundary;
 use crate::kept::Kept;
-use ldmodel::laid::{Laid, Placed, PlacedData, PlacedRegion};
-use ldmodel::script_symbol::{CommonIndex, ScriptSymbol};
+use ldmodel::placed::{Placed, PlacedData, PlacedRegion, PlacementView};
+use ldmodel::script_symbol::{DirectiveIndex, ScriptSymbol};
 use place_terms::earlier::EarlierLayout;
 use std::marker::Model;
 
@@ -26,7 +26,7 @@ pub struct Placement {
     pub(crate) symbols: Vec<ScriptSymbol>,
     pub(crate) regions: Vec<PlacedRegion>,
     pub(crate) boundaries: Vec<Boundary>,
-    pub(crate) provided: Vec<CommonIndex>,
+    pub(crate) provided: Vec<DirectiveIndex>,
 }
 
 impl Model for Placement {
@@ -54,7 +54,7 @@ impl Model for Placement {
 
 impl Placement {
     /// All of the placement, lent.
-    pub fn laid(&self) -> Laid<'_>
+    pub fn view(&self) -> PlacementView<'_>
         ensures sections { result.sections.now ≡ self.now.sections }
         ensures starts { result.starts.now ≡ self.now.starts }
         ensures data_commands { result.data_commands.now ≡ self.now.data_commands }
@@ -62,9 +62,9 @@ impl Placement {
         ensures symbols { result.symbols.now ≡ self.now.symbols }
         ensures regions { result.regions.now ≡ self.now.regions }
         ensures ends { Ends result.sections.now }
-        ensures laid { (script : List Statement) (s : Layout) → AreOf script s self.now → IsLaid script s result }
+        ensures placement { (script : List Statement) (s : Layout) → AreOf script s self.now → IsPlacementView script s result }
     {
-        Laid {
+        PlacementView {
             sections: &self.sections,
             starts: &self.starts,
             data_commands: &self.data_commands,
@@ -82,7 +82,7 @@ impl Placement {
     }
 
     /// What is kept of the placement where rows are as they were before a number, and these PROVIDEs are in force now.
-    pub(crate) fn kept(&self, first: usize, provided: &[CommonIndex]) -> Kept<'_>
+    pub(crate) fn kept(&self, first: usize, provided: &[DirectiveIndex]) -> Kept<'_>
         ensures { Keeps self.now first provided.now result }
     {
         Kept {

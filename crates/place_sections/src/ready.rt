@@ -8,7 +8,7 @@ ghost use Rattle.place_sections.specs.State.{layout_of, outcome};
 
 use crate::state::{Done, Here};
 use crate::stop::Stop;
-use ldmodel::laid::{Placed, PlacedRegion};
+use ldmodel::placed::{Placed, PlacedRegion};
 use ldscript::tree::{Expr, Formula};
 use place_terms::scope::Scope;
 use place_terms::value::{ValueFault, value};

@@ -59,8 +59,8 @@ impl<'i, 'a> Input<'i, 'a> {
             Command::Memory(regions) => here.declare_all(done, regions.as_slice()),
             // Unreachable: a script has one SECTIONS
             Command::Sections(_) => Err(Stop::NoMemory),
-            Command::Common(command) => {
-                here.common(done, self.provided, statement.line, command)
+            Command::Directive(command) => {
+                here.directive(done, self.provided, statement.line, command)
             }
         }
     }

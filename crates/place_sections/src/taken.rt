@@ -5,7 +5,7 @@ ghost use Rattle.ldmodel.specs.Chain.{run};
 ghost use Rattle.ldmodel.specs.Placement.{item_step};
 ghost use Rattle.place_terms.specs.Earlier.{earlier_of};
 ghost use Rattle.place_terms.specs.Naming.{Naming};
-ghost use Rattle.place_terms.specs.SymbolTable.{AreFound, Rises};
+ghost use Rattle.place_terms.specs.LayoutSymbols.{AreFound, Rises};
 ghost use Rattle.place_sections.specs.Boundaries.{AreNoted};
 ghost use Rattle.place_sections.specs.Earlier.{Earlier};
 ghost use Rattle.place_sections.specs.Inputs.{rows_of};
@@ -67,7 +67,7 @@ fn output_at(items: &[Item], place: usize) -> Option<&OutputSection>
 {
     match &items.get(place)?.command {
         ItemCommand::Section(output) => Some(output.get()),
-        ItemCommand::Dot(_) | ItemCommand::Common(_) | ItemCommand::Discard(_) => None,
+        ItemCommand::Dot(_) | ItemCommand::Directive(_) | ItemCommand::Discard(_) => None,
     }
 }
 

@@ -8,7 +8,7 @@ ghost use Rattle.place_sections.specs.State.{layout_of};
 use crate::boundary::Boundary;
 use crate::placement::Placement;
 use crate::state::{Done, Here};
-use ldmodel::script_symbol::CommonIndex;
+use ldmodel::script_symbol::DirectiveIndex;
 use place_terms::wholes::{counts_of, data_commands_of, numbers_of, regions_of, starts_of};
 use std::alloc::{AllocError, Global};
 
@@ -20,7 +20,7 @@ pub(crate) fn whole(
     here: Here<'_>,
     done: &Done<'_>,
     boundaries: Vec<Boundary>,
-    provided: &[CommonIndex],
+    provided: &[DirectiveIndex],
 ) -> Result<Placement, AllocError>
     ghost naming: { Naming }
     ensures places { IfOk result (λ p. AreOf here.entry.symbols.script (layout_of naming here.entry done.now) p) }

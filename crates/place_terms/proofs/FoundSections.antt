@@ -18,7 +18,7 @@ use Rattle.ldscript.specs.statements.declared.section.OutputSection.{OutputSecti
 use Rattle.ldscript.specs.statements.declared.statement.Statement.{Statement}
 use Rattle.ldmodel.specs.Layout.{PlacedSection}
 use Rattle.ldmodel.specs.Placement.{difference_in, difference_of, same_region}
-use Rattle.ldmodel.specs.declared.laid.Placed.{Placed}
+use Rattle.ldmodel.specs.declared.placed.Placed.{Placed}
 use Rattle.place_terms.proofs.Lists.{same_name, is_same_name}
 use Rattle.place_terms.proofs.Numbers.{sections_told, regions_told}
 use Rattle.place_terms.proofs.Ordered.{output_number}

@@ -19,7 +19,7 @@ use Rattle.ldmodel.specs.Lent.{name_given_by, symbol_of}
 use Rattle.ldmodel.specs.declared.script_symbol.ScriptSymbol as code
 use Rattle.place_terms.proofs.Lists.{same_name, is_same_name}
 use Rattle.place_terms.proofs.Numbers.{symbols_told}
-use Rattle.place_terms.specs.SymbolTable.{risen, value_of, value_under, AreFound, AreInTurn, IsFound, Numbered, Rises}
+use Rattle.place_terms.specs.LayoutSymbols.{risen, value_of, value_under, AreFound, AreInTurn, IsFound, Numbered, Rises}
 use Rattle.place_terms.specs.Tables.{symbol_number}
 
 -- one list after another

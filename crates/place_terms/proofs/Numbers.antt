@@ -7,15 +7,15 @@ use Rattle.std.proofs.lemmas.List.{map-append}
 use Rattle.std.specs.Option.{option_map, option_map_or}
 use Rattle.ldscript.specs.statements.Given.{assigned_from, provided_from, assigned_here, provided_here, given_as}
 use Rattle.ldscript.specs.statements.Given.{section_from, section_number, region_from, region_number}
-use Rattle.ldscript.specs.statements.Numbering.{CommonAt, OutputSectionAt, common_commands, output_sections, regions}
-use Rattle.ldscript.specs.statements.declared.common.Common.{Common}
-use Rattle.ldscript.specs.statements.declared.common.Common.TheVariants as common
+use Rattle.ldscript.specs.statements.Numbering.{DirectiveAt, OutputSectionAt, all_directives, output_sections, regions}
+use Rattle.ldscript.specs.statements.declared.directive.Directive.{Directive}
+use Rattle.ldscript.specs.statements.declared.directive.Directive.TheVariants as directive
 use Rattle.ldscript.specs.statements.declared.statement.Region.{Region}
 use Rattle.ldscript.specs.statements.declared.statement.Statement.{Statement}
 use Rattle.ldmodel.specs.Lent.{given_name, name_given_by, symbol_of}
 use Rattle.ldmodel.specs.declared.script_symbol.ScriptSymbol as code
 use Rattle.place_terms.proofs.Lists.{same_name}
-use Rattle.place_terms.specs.SymbolTable.{named, IsFound, Numbered}
+use Rattle.place_terms.specs.LayoutSymbols.{named, IsFound, Numbered}
 use Rattle.place_terms.specs.Tables.{number_of, symbol_number}
 
 -- what a number that was found says, counted from where the search began
@@ -48,7 +48,7 @@ by_name name_of from x xs name k rest e go = split (bytes_eq name (name_of x)) r
         }
     split false h s = later name_of from x xs name k (go s)
 
-abbrev name_of_command : CommonAt → List ℕ
+abbrev name_of_command : DirectiveAt → List ℕ
 name_of_command c = given_name c.command
 
 abbrev name_of_section : OutputSectionAt → List ℕ
@@ -58,46 +58,46 @@ abbrev name_of_region : Region → List ℕ
 name_of_region r = r.name
 
 -- one more command, which assigns the name or does not
-assigned_by : (from : ℕ) (c : CommonAt) (cs : List CommonAt) (name : List ℕ) (k : ℕ) (rest : Option ℕ) (d : Common)
+assigned_by : (from : ℕ) (c : DirectiveAt) (cs : List DirectiveAt) (name : List ℕ) (k : ℕ) (rest : Option ℕ) (d : Directive)
     → c.command ≡ d → assigned_here from d name rest ≡ Some k
     → (rest ≡ Some k → FoundAt name_of_command (suc from) cs name k) → FoundAt name_of_command from (c ∷ cs) name k
-assigned_by from c cs name k rest (common.Assign a) h e go =
+assigned_by from c cs name k rest (directive.Assign a) h e go =
     by_name name_of_command from c cs name k rest (ap (λ d. cond (bytes_eq name (given_name d)) (Some from) rest) h
     ∙ e) go
-assigned_by from c cs name k rest (common.Provide a) h e go = later name_of_command from c cs name k (go e)
-assigned_by from c cs name k rest (common.Assert a) h e go = later name_of_command from c cs name k (go e)
+assigned_by from c cs name k rest (directive.Provide a) h e go = later name_of_command from c cs name k (go e)
+assigned_by from c cs name k rest (directive.Assert a) h e go = later name_of_command from c cs name k (go e)
 
-pub assigned_at : (from : ℕ) (cs : List CommonAt) (name : List ℕ) (k : ℕ) → assigned_from from cs name ≡ Some k
+pub assigned_at : (from : ℕ) (cs : List DirectiveAt) (name : List ℕ) (k : ℕ) → assigned_from from cs name ≡ Some k
     → FoundAt name_of_command from cs name k
 assigned_at from [] name k e = absurd (let no : ⊥ = cc in no)
 assigned_at from (c ∷ cs) name k e =
     assigned_by from c cs name k (assigned_from (suc from) cs name) c.command refl e (assigned_at (suc from) cs name k)
 
-provided_by : (from : ℕ) (c : CommonAt) (cs : List CommonAt) (name : List ℕ) (k : ℕ) (rest : Option ℕ) (d : Common)
+provided_by : (from : ℕ) (c : DirectiveAt) (cs : List DirectiveAt) (name : List ℕ) (k : ℕ) (rest : Option ℕ) (d : Directive)
     → c.command ≡ d → provided_here from d name rest ≡ Some k
     → (rest ≡ Some k → FoundAt name_of_command (suc from) cs name k) → FoundAt name_of_command from (c ∷ cs) name k
-provided_by from c cs name k rest (common.Provide a) h e go =
+provided_by from c cs name k rest (directive.Provide a) h e go =
     by_name name_of_command from c cs name k rest (ap (λ d. cond (bytes_eq name (given_name d)) (Some from) rest) h
     ∙ e) go
-provided_by from c cs name k rest (common.Assign a) h e go = later name_of_command from c cs name k (go e)
-provided_by from c cs name k rest (common.Assert a) h e go = later name_of_command from c cs name k (go e)
+provided_by from c cs name k rest (directive.Assign a) h e go = later name_of_command from c cs name k (go e)
+provided_by from c cs name k rest (directive.Assert a) h e go = later name_of_command from c cs name k (go e)
 
-pub provided_at : (from : ℕ) (cs : List CommonAt) (name : List ℕ) (k : ℕ) → provided_from from cs name ≡ Some k
+pub provided_at : (from : ℕ) (cs : List DirectiveAt) (name : List ℕ) (k : ℕ) → provided_from from cs name ≡ Some k
     → FoundAt name_of_command from cs name k
 provided_at from [] name k e = absurd (let no : ⊥ = cc in no)
 provided_at from (c ∷ cs) name k e =
     provided_by from c cs name k (provided_from (suc from) cs name) c.command refl e (provided_at (suc from) cs name k)
 
 pub symbol_at : (script : List Statement) (name : List ℕ) (k : ℕ) → symbol_number script name ≡ Some k
-    → FoundAt name_of_command 0 (common_commands script) name k
+    → FoundAt name_of_command 0 (all_directives script) name k
 symbol_at script name k e =
-    go (assigned_from 0 (common_commands script) name) refl (provided_from 0 (common_commands script) name) refl e
+    go (assigned_from 0 (all_directives script) name) refl (provided_from 0 (all_directives script) name) refl e
   where
-    go : (a : Option ℕ) → assigned_from 0 (common_commands script) name ≡ a → (p : Option ℕ)
-        → provided_from 0 (common_commands script) name ≡ p → option_map number_of (given_as a p) ≡ Some k
-        → FoundAt name_of_command 0 (common_commands script) name k
-    go (Some j) h p i s = assigned_at 0 (common_commands script) name k (h ∙ s)
-    go None h (Some j) i s = provided_at 0 (common_commands script) name k (i ∙ s)
+    go : (a : Option ℕ) → assigned_from 0 (all_directives script) name ≡ a → (p : Option ℕ)
+        → provided_from 0 (all_directives script) name ≡ p → option_map number_of (given_as a p) ≡ Some k
+        → FoundAt name_of_command 0 (all_directives script) name k
+    go (Some j) h p i s = assigned_at 0 (all_directives script) name k (h ∙ s)
+    go None h (Some j) i s = provided_at 0 (all_directives script) name k (i ∙ s)
     go None h None i s = absurd (let no : ⊥ = cc in no)
 
 pub section_at : (from : ℕ) (ss : List OutputSectionAt) (name : List ℕ) (k : ℕ) → section_from from ss name ≡ Some k
@@ -126,7 +126,7 @@ pub symbols_told : (script : List Statement) → Tells (symbol_number script)
 symbols_told script =
     record {
       apart = λ a b k f g.
-          same_place name_of_command (common_commands script) a b k (symbol_at script a k f) (symbol_at script b k g);
+          same_place name_of_command (all_directives script) a b k (symbol_at script a k f) (symbol_at script b k g);
     }
 
 pub sections_told : (script : List Statement) → Tells (section_number script)

@@ -38,7 +38,7 @@ both (named h) k = named (both h k)
 
 in_item : (line : ℕ) (c : ItemCommand) → Named (item_sections line c) (in_item_command c)
 in_item line (item.Section s) = named no_more
-in_item line (item.Common c) = no_more
+in_item line (item.Directive c) = no_more
 in_item line (item.Dot c) = no_more
 in_item line (item.Discard is) = no_more
 
@@ -48,7 +48,7 @@ in_all (i ∷ is) = both (in_item i.line i.command) (in_all is)
 
 in_top : (c : Command) → Named (sections_in (items_of c)) (in_top_command c)
 in_top (top.Sections is) = passed (in_all is)
-in_top (top.Common c) = no_more
+in_top (top.Directive c) = no_more
 in_top (top.Entry n) = no_more
 in_top (top.Memory rs) = no_more
 

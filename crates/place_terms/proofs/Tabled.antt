@@ -12,7 +12,7 @@ use Rattle.ldmodel.specs.Placement.{freed_from}
 use Rattle.place_terms.proofs.Lists.{find-append, or_else, same_name, is_same_name, other_name}
 use Rattle.place_terms.proofs.Numbers.{Tells, symbols_told}
 use Rattle.place_terms.specs.RegionTable.{region_names}
-use Rattle.place_terms.specs.SymbolTable.{value_of, AreValuesOf}
+use Rattle.place_terms.specs.LayoutSymbols.{value_of, AreValuesOf}
 use Rattle.place_terms.specs.Tables.{symbol_number, entry_under, AreInOrder}
 
 -- names whose numbers follow one another from one on

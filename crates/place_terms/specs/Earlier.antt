@@ -1,8 +1,8 @@
 -- Output sections that are taken over from an earlier layout.
 use Rattle.std.specs.Prelude.{◌≡◌, ℕ, ◌+◌, ◌^◌, ◌<◌, ◌≤◌, List, [], ◌∷◌, ◌++◌, length, map, take, drop, Some, slice_get}
 use Rattle.ldscript.specs.statements.declared.section.OutputSection.{OutputSection}
-use Rattle.ldmodel.specs.declared.laid.Placed.{Placed}
-use Rattle.ldmodel.specs.declared.laid.PlacedData.{PlacedData}
+use Rattle.ldmodel.specs.declared.placed.Placed.{Placed}
+use Rattle.ldmodel.specs.declared.placed.PlacedData.{PlacedData}
 use Rattle.ldmodel.specs.declared.rows.Piece.{Piece}
 use Rattle.place_terms.specs.Keyed.{KeyedSection, data_at_of}
 use Rattle.place_terms.specs.SectionTable.{keyed_taken, taken_pieces}

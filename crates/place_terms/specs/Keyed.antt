@@ -3,8 +3,8 @@ use Rattle.std.specs.Prelude.{ℕ, List, map, Option}
 use Rattle.byteorder.specs.Endian.{little_bytes}
 use Rattle.ldscript.specs.statements.Widths.{byte_count}
 use Rattle.ldmodel.specs.Layout.{PlacedPiece, PlacedSection, PlacedData}
-use Rattle.ldmodel.specs.declared.laid.Placed.{Placed}
-use Rattle.ldmodel.specs.declared.laid.PlacedData as laid
+use Rattle.ldmodel.specs.declared.placed.Placed.{Placed}
+use Rattle.ldmodel.specs.declared.placed.PlacedData as laid
 use Rattle.ldmodel.specs.declared.rows.Piece as rows
 use Rattle.place_terms.specs.Naming.{Naming, piece_named}
 use Rattle.place_terms.specs.declared.sections.DataAt.{DataAt}

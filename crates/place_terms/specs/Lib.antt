@@ -6,7 +6,7 @@ pub mod Numbers
 pub mod Naming
 pub mod Keyed
 pub mod Tables
-pub mod SymbolTable
+pub mod LayoutSymbols
 pub mod RegionTable
 pub mod ProvidedTable
 pub mod Wholes

@@ -1,22 +1,22 @@
 //! The commands of a script that give symbols values.
 
 ghost use Rattle.std.specs.Prelude.{◌≡◌, IfOk};
-ghost use Rattle.ldscript.specs.statements.Numbered.{shown_commons};
+ghost use Rattle.ldscript.specs.statements.Numbered.{shown_directives};
 ghost use Rattle.place_terms.specs.Numbers.{gives_at, symbol_number};
 
 use crate::guesses::Guesses;
 use ldscript::Script;
-use ldscript::tree::{Common, CommonAt, Given};
+use ldscript::tree::{Directive, DirectiveAt, Given};
 use std::alloc::{AllocError, Global};
 use std::marker::Model;
 
-/// The common commands of a script, found by the names of the symbols that they give values. A look-up compares the
+/// The directive commands of a script, found by the names of the symbols that they give values. A look-up compares the
 /// name with that of the command that is guessed for it; where the guess is wrong it takes the time of a look-up in the
 /// script's table.
 #[derive(Drop)]
 pub struct Commands<'a> {
     script: &'a Script,
-    list: Vec<CommonAt<'a>>,
+    list: Vec<DirectiveAt<'a>>,
     guesses: Guesses,
 }
 
@@ -31,21 +31,21 @@ impl<'a> Model for Commands<'a> {
     ghost coded = { Prim.hlevel (codes, formula.the_row.coded) };
 
     ghost use Rattle.place_terms.specs.Numbers.{AreNumbered};
-    ghost use Rattle.ldscript.specs.statements.Numbered.{shown_commons};
+    ghost use Rattle.ldscript.specs.statements.Numbered.{shown_directives};
 
     ghost view = { λ c. c.script.now };
 
-    ghost invariant = { λ c. AreNumbered c.script.now (shown_commons c.list.items) };
+    ghost invariant = { λ c. AreNumbered c.script.now (shown_directives c.list.items) };
 }
 
 /// Whether the command of this number gives the symbol of this name its value.
-fn gives(commands: &[CommonAt<'_>], number: usize, name: &[u8]) -> bool
-    ensures { result ≡ gives_at (shown_commons commands.now) number name.now }
+fn gives(commands: &[DirectiveAt<'_>], number: usize, name: &[u8]) -> bool
+    ensures { result ≡ gives_at (shown_directives commands.now) number name.now }
 {
     match commands.get(number) {
         Some(at) => match at.command {
-            Common::Assign(a) | Common::Provide(a) => name == a.name.as_bytes(),
-            Common::Assert(_) => false,
+            Directive::Assign(a) | Directive::Provide(a) => name == a.name.as_bytes(),
+            Directive::Assert(_) => false,
         },
         None => false,
     }
@@ -62,15 +62,15 @@ pub fn number_in(script: &Script, name: &[u8]) -> Option<usize>
 }
 
 /// The name that a command gives a value, if it gives one.
-fn symbol_of(command: &Common) -> Option<&[u8]> {
+fn symbol_of(command: &Directive) -> Option<&[u8]> {
     match command {
-        Common::Assign(a) | Common::Provide(a) => Some(a.name.as_bytes()),
-        Common::Assert(_) => None,
+        Directive::Assign(a) | Directive::Provide(a) => Some(a.name.as_bytes()),
+        Directive::Assert(_) => None,
     }
 }
 
 /// Guesses at the numbers of the names that these commands give values.
-fn guesses_of(alloc: Global, commands: &[CommonAt<'_>]) -> Result<Guesses, AllocError> {
+fn guesses_of(alloc: Global, commands: &[DirectiveAt<'_>]) -> Result<Guesses, AllocError> {
     let mut guesses = Guesses::new(alloc, commands.len())?;
     for number in 0..commands.len() {
         if let Some(name) = symbol_of(commands[number].command) {
@@ -88,7 +88,7 @@ impl<'a> Commands<'a> {
     {
         // what the invariant says of the script is known of its statements
         let _statements = script.statements();
-        let list = script.common_commands(alloc)?;
+        let list = script.all_directives(alloc)?;
         let guesses = guesses_of(alloc, &list)?;
         Ok(Commands {
             script,

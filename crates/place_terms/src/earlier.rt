@@ -3,7 +3,7 @@
 ghost use Rattle.std.specs.Prelude.{◌≡◌, ◌+◌, ◌-◌, length, take, IfSome};
 ghost use Rattle.place_terms.specs.Earlier.{part_of, AreStartsOf, IsSectionOf};
 
-use ldmodel::laid::{Placed, PlacedData};
+use ldmodel::placed::{Placed, PlacedData};
 use ldmodel::rows::Piece;
 use ldscript::tree::OutputSection;
 

@@ -2,14 +2,14 @@
 
 ghost use Rattle.std.specs.Prelude.{◌≡◌, [], ◌∷◌, ◌++◌, OnOk, IfOk, IfSome, IfNone, ℕ, ◌≤◌, ◌^◌, Some, slice_get};
 ghost use Rattle.ldscript.specs.terms.CodeTerms.{expr_of};
-ghost use Rattle.ldmodel.specs.Mentioned.{in_expression, in_optional, in_common, in_dot_command, in_body_command};
+ghost use Rattle.ldmodel.specs.Mentioned.{in_expression, in_optional, in_directive, in_dot_command, in_body_command};
 ghost use Rattle.ldmodel.specs.Mentioned.{in_section, in_item, in_command, mentioned_names};
 ghost use Rattle.place_terms.specs.Mentions.{Adds, in_load, in_body, in_items, in_regions, shown_names};
 
 use ldmodel::fault::MentionIndex;
 use ldmodel::memory::NoMemory;
 use ldscript::tree::{
-    BodyCommand, BodyStatement, Command, Common, DotCommand, Expr, Formula, Item, ItemCommand,
+    BodyCommand, BodyStatement, Command, Directive, DotCommand, Expr, Formula, Item, ItemCommand,
     Load, OutputSection, Region, Statement,
 };
 use std::alloc::Global;
@@ -56,14 +56,14 @@ fn note_optional<'a>(
     }
 }
 
-fn note_common<'a>(names: &mut Vec<&'a [u8]>, command: &'a Common) -> Result<(), NoMemory>
-    ensures { OnOk result (Adds names.old.items names.new.items (in_common command.now)) }
+fn note_directive<'a>(names: &mut Vec<&'a [u8]>, command: &'a Directive) -> Result<(), NoMemory>
+    ensures { OnOk result (Adds names.old.items names.new.items (in_directive command.now)) }
 {
     match command {
-        Common::Assign(assignment) | Common::Provide(assignment) => {
+        Directive::Assign(assignment) | Directive::Provide(assignment) => {
             note_formula(names, &assignment.value)
         }
-        Common::Assert(assertion) => note_formula(names, &assertion.condition),
+        Directive::Assert(assertion) => note_formula(names, &assertion.condition),
     }
 }
 
@@ -83,7 +83,7 @@ fn note_body_command<'a>(
 {
     match command {
         BodyCommand::Dot(command) => note_dot_command(names, command),
-        BodyCommand::Common(command) => note_common(names, command),
+        BodyCommand::Directive(command) => note_directive(names, command),
         BodyCommand::Data(_, formula) => note_formula(names, formula),
         BodyCommand::Input(_) => Ok(()),
     }
@@ -125,7 +125,7 @@ fn note_item_command<'a>(
 {
     match command {
         ItemCommand::Dot(command) => note_dot_command(names, command),
-        ItemCommand::Common(command) => note_common(names, command),
+        ItemCommand::Directive(command) => note_directive(names, command),
         ItemCommand::Section(section) => note_section(names, section.get()),
         ItemCommand::Discard(_) => Ok(()),
     }
@@ -157,7 +157,7 @@ fn note_command<'a>(names: &mut Vec<&'a [u8]>, command: &'a Command) -> Result<(
         Command::Entry(_) => Ok(()),
         Command::Memory(regions) => note_regions(names, regions.as_slice()),
         Command::Sections(items) => note_items(names, items.as_slice()),
-        Command::Common(command) => note_common(names, command),
+        Command::Directive(command) => note_directive(names, command),
     }
 }
 

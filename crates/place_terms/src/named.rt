@@ -5,7 +5,7 @@ ghost use Rattle.std.specs.Option.{option_map_or};
 ghost use Rattle.ldscript.specs.statements.Numbering.{OutputSectionAt, output_sections, regions};
 ghost use Rattle.ldscript.specs.statements.declared.statement.Region.{Region};
 
-use ldmodel::laid::{OutputIndex, RegionIndex};
+use ldmodel::placed::{OutputIndex, RegionIndex};
 use ldscript::Script;
 
 /// The number of the output section of a name.

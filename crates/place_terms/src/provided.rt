@@ -3,13 +3,13 @@
 ghost use Rattle.std.specs.Prelude.{◌≡◌, [], IfOk, IfSome, slice_get, bytes_eq};
 ghost use Rattle.std.specs.List.{list_any};
 ghost use Rattle.std.specs.Option.{option_map_or};
-ghost use Rattle.ldscript.specs.statements.Numbered.{shown_commons};
+ghost use Rattle.ldscript.specs.statements.Numbered.{shown_directives};
 ghost use Rattle.place_terms.specs.ProvidedTable.{name_in, provided_names, Marks};
 
 use crate::commands::number_in;
-use ldmodel::script_symbol::CommonIndex;
+use ldmodel::script_symbol::DirectiveIndex;
 use ldscript::Script;
-use ldscript::tree::{Common, CommonAt};
+use ldscript::tree::{Directive, DirectiveAt};
 use std::alloc::{AllocError, Global};
 use std::marker::Model;
 
@@ -17,7 +17,7 @@ use std::marker::Model;
 #[derive(Drop)]
 pub struct Provided<'a> {
     script: &'a Script,
-    numbers: &'a [CommonIndex],
+    numbers: &'a [DirectiveIndex],
     in_force: Vec<bool>,
 }
 
@@ -34,13 +34,15 @@ impl<'a> Model for Provided<'a> {
 }
 
 /// The name that a command of these gives a value; no bytes where it gives none.
-pub fn name_of<'a>(commands: &[CommonAt<'a>], number: CommonIndex) -> &'a [u8]
-    ensures { result.now ≡ name_in (shown_commons commands.now) number.0 }
+pub fn name_of<'a>(commands: &[DirectiveAt<'a>], number: DirectiveIndex) -> &'a [u8]
+    ensures { result.now ≡ name_in (shown_directives commands.now) number.0 }
 {
     match commands.get(number.0 as usize) {
         Some(at) => match at.command {
-            Common::Assign(assignment) | Common::Provide(assignment) => assignment.name.as_bytes(),
-            Common::Assert(_) => b"",
+            Directive::Assign(assignment) | Directive::Provide(assignment) => assignment
+                .name
+                .as_bytes(),
+            Directive::Assert(_) => b"",
         },
         None => b"",
     }
@@ -62,7 +64,7 @@ impl<'a> Provided<'a> {
     pub fn new(
         alloc: Global,
         script: &'a Script,
-        numbers: &'a [CommonIndex],
+        numbers: &'a [DirectiveIndex],
     ) -> Result<Provided<'a>, AllocError>
         ensures { IfOk result (λ p. p ≡ provided_names script.now numbers.now) }
     {
@@ -73,7 +75,7 @@ impl<'a> Provided<'a> {
                 in_force: Vec::new(alloc),
             });
         }
-        let list = script.common_commands(alloc)?;
+        let list = script.all_directives(alloc)?;
         let mut in_force = vec![in alloc; false; list.len()]?;
         for number in numbers {
             let name = name_of(&list, *number);

@@ -5,7 +5,7 @@ ghost use Rattle.std.specs.Option.{option_map};
 ghost use Rattle.ldmodel.specs.Value as definition;
 ghost use Rattle.place_terms.specs.Scopes.{section_numbers, region_numbers};
 
-use ldmodel::laid::{Placed, PlacedRegion};
+use ldmodel::placed::{Placed, PlacedRegion};
 
 /// What an expression may name where it stands: symbols, output sections and memory regions, each by its name. A
 /// look-up answers `None` for a name that stands for nothing there.

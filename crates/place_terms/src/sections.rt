@@ -15,7 +15,7 @@ ghost use Rattle.place_terms.specs.Wholes.{all_data_in, counts_in, placed_in, st
 use crate::earlier::{EarlierLayout, Taken, first};
 use crate::guesses::Guesses;
 use ldmodel::impossible::impossible;
-use ldmodel::laid::Placed;
+use ldmodel::placed::Placed;
 use ldmodel::rows::Piece;
 use ldscript::Script;
 use ldscript::tree::{OutputSection, Width};

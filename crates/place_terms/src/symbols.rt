@@ -1,11 +1,11 @@
 //! The symbols that a script has given values so far.
 
 ghost use Rattle.std.specs.Prelude.{◌≡◌, [], ◌∷◌, ◌++◌, length, take, IfOk, OnOk, Some};
-ghost use Rattle.place_terms.specs.SymbolTable.{named, risen, value_of, value_under, AreFound, IsFound, Rises};
+ghost use Rattle.place_terms.specs.LayoutSymbols.{named, risen, value_of, value_under, AreFound, IsFound, Rises};
 
 use crate::commands::Commands;
 use ldmodel::impossible::impossible;
-use ldmodel::script_symbol::{CommonIndex, ScriptSymbol};
+use ldmodel::script_symbol::{DirectiveIndex, ScriptSymbol};
 use ldscript::Script;
 use std::alloc::{AllocError, Global};
 use std::marker::Model;
@@ -21,7 +21,7 @@ pub struct AssignedSymbols<'a> {
 }
 
 impl<'a> Model for AssignedSymbols<'a> {
-    ghost use Rattle.place_terms.specs.SymbolTable.{Numbered};
+    ghost use Rattle.place_terms.specs.LayoutSymbols.{Numbered};
     ghost use Rattle.std.specs.Coded.{codes};
     ghost use Rattle.ldscript.specs.statements.contracts.formula.Formula as formula;
 
@@ -29,7 +29,7 @@ impl<'a> Model for AssignedSymbols<'a> {
 
     ghost coded = { Prim.hlevel (codes, formula.the_row.coded) };
 
-    ghost use Rattle.place_terms.specs.SymbolTable.{AreInTurn};
+    ghost use Rattle.place_terms.specs.LayoutSymbols.{AreInTurn};
 
     ghost view = { λ s. record { script = s.commands; list = s.list.items } };
 
@@ -178,7 +178,7 @@ impl<'a> AssignedSymbols<'a> {
             return Err(impossible());
         };
         self.push(ScriptSymbol {
-            command: CommonIndex(number),
+            command: DirectiveIndex(number),
             value,
         })
     }

@@ -9,7 +9,7 @@ ghost use Rattle.place_terms.specs.Scopes.{section_numbers, region_numbers};
 
 use crate::operator::{align, apply_binary, apply_unary, is_decided};
 use crate::scope::Scope;
-use ldmodel::laid::{Placed, PlacedRegion};
+use ldmodel::placed::{Placed, PlacedRegion};
 use ldscript::tree::{Expr, RegionQuery, SectionQuery};
 
 /// Why an expression has no value.

@@ -10,7 +10,7 @@ ghost use Rattle.place_terms.specs.Wholes.{all_data_in, counts_in, data_in, plac
 use crate::regions::RegionState;
 use crate::sections::{DataAt, PieceAt, SectionParts};
 use ldmodel::impossible::impossible;
-use ldmodel::laid::{OutputIndex, Placed, PlacedData, PlacedRegion};
+use ldmodel::placed::{OutputIndex, Placed, PlacedData, PlacedRegion};
 use std::alloc::{AllocError, Global};
 
 /// The numbers of the output sections.

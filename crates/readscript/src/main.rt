@@ -65,7 +65,7 @@
 //! status 3 where a device failed or there is no memory.
 #![tactic(auto)]
 
-mod common;
+mod directive;
 mod file;
 mod frame;
 mod input;

@@ -1,10 +1,10 @@
 //! The numbers of statements, and what the tables of a script say of names.
 
-use crate::common::push_common;
+use crate::directive::push_directive;
 use crate::input::push_input;
 use crate::text::{is_shown, push_bytes, push_text};
 use ldscript::Script;
-use ldscript::tree::{Common, Given, InputPlace};
+use ldscript::tree::{Directive, Given, InputPlace};
 use std::alloc::{AllocError, Global};
 use std::fmt::Write;
 
@@ -75,11 +75,11 @@ fn push_given(out: &mut String, name: &[u8], given: Option<Given>) -> Result<(),
 }
 
 fn push_commands(alloc: Global, out: &mut String, script: &Script) -> Result<(), AllocError> {
-    for (number, found) in script.common_commands(alloc)?.iter().enumerate() {
+    for (number, found) in script.all_directives(alloc)?.iter().enumerate() {
         let line = found.line;
         write!(out, "command {number}: {line} ")?;
-        push_common(out, found.command)?;
-        if let Common::Assign(assignment) | Common::Provide(assignment) = found.command {
+        push_directive(out, found.command)?;
+        if let Directive::Assign(assignment) | Directive::Provide(assignment) = found.command {
             let name = assignment.name.as_bytes();
             out.push_str("; ")?;
             push_given(out, name, script.given(name))?;

@@ -1,6 +1,6 @@
 //! Output sections.
 
-use crate::common::{push_common, push_dot};
+use crate::directive::{push_directive, push_dot};
 use crate::input::push_input;
 use crate::text::push_bytes;
 use ldscript::tree::{BodyCommand, BodyStatement, Load, OutputSection, Width};
@@ -21,7 +21,7 @@ fn push_body(out: &mut String, statement: &BodyStatement) -> Result<(), AllocErr
     write!(out, "{line}     ")?;
     match &statement.command {
         BodyCommand::Dot(command) => push_dot(out, command)?,
-        BodyCommand::Common(command) => push_common(out, command)?,
+        BodyCommand::Directive(command) => push_directive(out, command)?,
         BodyCommand::Data(width, value) => write!(out, "{} {value}", width_word(*width))?,
         BodyCommand::Input(input) => push_input(out, input)?,
     }

@@ -1,6 +1,6 @@
 //! Statements of a script.
 
-use crate::common::{push_common, push_dot};
+use crate::directive::{push_directive, push_dot};
 use crate::input::push_input;
 use crate::section::push_section;
 use crate::text::push_bytes;
@@ -25,7 +25,7 @@ fn push_item(out: &mut String, item: &Item) -> Result<(), AllocError> {
     write!(out, "{line}   ")?;
     match &item.command {
         ItemCommand::Dot(command) => push_dot(out, command)?,
-        ItemCommand::Common(command) => push_common(out, command)?,
+        ItemCommand::Directive(command) => push_directive(out, command)?,
         ItemCommand::Section(section) => return push_section(out, section.get()),
         ItemCommand::Discard(inputs) => return push_discard(out, inputs.as_slice()),
     }
@@ -64,7 +64,7 @@ pub fn push_statement(out: &mut String, statement: &Statement) -> Result<(), All
     match &statement.command {
         Command::Memory(regions) => return push_memory(out, regions.as_slice()),
         Command::Sections(items) => return push_sections(out, items.as_slice()),
-        Command::Common(command) => push_common(out, command)?,
+        Command::Directive(command) => push_directive(out, command)?,
         Command::Entry(name) => {
             out.push_str("entry ")?;
             push_bytes(out, name.as_bytes())?;

@@ -14,7 +14,7 @@ use Rattle.symres.specs.decisions.Change.{CanGo, Table, changed_tables, reversed
 use Rattle.symres.specs.decisions.Decisions.{AreKept}
 use Rattle.symres.specs.decisions.declared.change.ObjectAt.{ObjectAt}
 use Rattle.symres.specs.decisions.declared.change.ObjectChange.{ObjectChange}
-use Rattle.symres.specs.Naming.{NamingState}
+use Rattle.symres.specs.SymbolTable.{SymbolTableState}
 use Rattle.ldmodel_project.specs.Holding.{Holding, Listing, SameHolding, TouchesOne, held, listing_of, next_listing}
 use Rattle.ldmodel_project.specs.Listing.{Contents, Entry, found_under, keys_of, objects_of}
 use Rattle.ldmodel_project.specs.Next.{next_entries, touched_key}
@@ -59,7 +59,7 @@ many_tables : (es : List Entry) → length (tables_under es) ≡ length (objects
 many_tables [] = refl
 many_tables (e ∷ es) = ap suc (many_tables es)
 
-pub stands : (h : Holding) (s : Staged) (key : ℕ) (c : ObjectChange) (a : NamingState) (ms : List Matches)
+pub stands : (h : Holding) (s : Staged) (key : ℕ) (c : ObjectChange) (a : SymbolTableState) (ms : List Matches)
     → IsChange h.contents.entries s.objects key c → IsKept (listing_of h) a ms → Stands ms (place_at c.out)
 stands h s key c a ms is kept =
     stands_out (tables_under h.contents.entries) c.key.0 c.out ms
@@ -72,7 +72,7 @@ among_long : (key : ℕ) (place : Option ℕ) (es : List Entry) (q : ℕ) → Is
     → q ≤ length (untouched (Some key) es)
 among_long key place es q h = h.0
 
-pub may_stand : (h : Holding) (s : Staged) (key : ℕ) (c : ObjectChange) (a : NamingState) (ms : List Matches)
+pub may_stand : (h : Holding) (s : Staged) (key : ℕ) (c : ObjectChange) (a : SymbolTableState) (ms : List Matches)
     → IsArranged h.contents.entries s.objects → touched_key s.objects.step ≡ Some key
     → IsChange h.contents.entries s.objects key c → IsKept (listing_of h) a ms
     → MayStand ms (place_at c.out) (place_at c.into)
@@ -111,7 +111,7 @@ may_stand h s key c a ms arranged touched is kept =
         )
 
 -- what is kept after an edit of an object
-pub kept_after : (h : Holding) (s : Staged) (key : ℕ) (c : ObjectChange) (a b : NamingState) (ms : List Matches)
+pub kept_after : (h : Holding) (s : Staged) (key : ℕ) (c : ObjectChange) (a b : SymbolTableState) (ms : List Matches)
     (coming : Option Matches) → IsArranged h.contents.entries s.objects → TouchesOne s
     → touched_key s.objects.step ≡ Some key → IsChange h.contents.entries s.objects key c → IsKept (listing_of h) a ms
     → b.kept.names.objects ≡ changed_tables a.kept.names.objects c → AreKept (next_listing h s).script b.kept
@@ -160,7 +160,7 @@ coming_of h s key l c coming same is m =
     (subst (λ (x : Listing). IsMatchedOr x.script (found_under x.entries c.key.0) coming) same m)
 
 -- what is kept after the change back
-pub kept_back : (h : Holding) (s : Staged) (key : ℕ) (c : ObjectChange) (a b d : NamingState) (ms last : List Matches)
+pub kept_back : (h : Holding) (s : Staged) (key : ℕ) (c : ObjectChange) (a b d : SymbolTableState) (ms last : List Matches)
     (coming : Option Matches) → IsArranged h.contents.entries s.objects → touched_key s.objects.step ≡ Some key
     → IsChange h.contents.entries s.objects key c → IsKept (listing_of h) a ms
     → b.kept.names.objects ≡ changed_tables a.kept.names.objects c
@@ -197,7 +197,7 @@ entries_stay entries s arranged touched =
     ∙ (subst (λ (t : Option ℕ). untouched t next ≡ untouched t entries) touched arranged.others ∙ filter_all entries)
 
 -- what is kept after an edit of the script
-pub kept_scripted : (h : Holding) (s : Staged) (a b : NamingState) (ms all : List Matches)
+pub kept_scripted : (h : Holding) (s : Staged) (a b : SymbolTableState) (ms all : List Matches)
     → IsArranged h.contents.entries s.objects → touched_key s.objects.step ≡ None → IsKept (listing_of h) a ms
     → b.kept.names ≡ a.kept.names → AreKept (next_listing h s).script b.kept
     → AllZip (IsMatched (next_listing h s).script) (objects_of (next_listing h s).entries) all
@@ -210,7 +210,7 @@ kept_scripted h s a b ms all arranged touched kept same names matched = record {
 }
 
 -- and where the old script is decided for again
-pub kept_again : (h : Holding) (a d : NamingState) (ms : List Matches) → IsKept (listing_of h) a ms
+pub kept_again : (h : Holding) (a d : SymbolTableState) (ms : List Matches) → IsKept (listing_of h) a ms
     → d.kept.names ≡ a.kept.names → AreKept h.script d.kept → IsKept (listing_of h) d ms
 kept_again h a d ms kept same names = record {
   tables = ap (λ n. n.objects) same ∙ kept.tables;
@@ -223,7 +223,7 @@ no_entries : (es : List Entry) → objects_of es ≡ [] → es ≡ []
 no_entries [] h = refl
 no_entries (e ∷ es) h = absurd (cc)
 
-pub kept_of_none : (l : Listing) (a : NamingState) → objects_of l.entries ≡ [] → a.kept.names.objects ≡ []
+pub kept_of_none : (l : Listing) (a : SymbolTableState) → objects_of l.entries ≡ [] → a.kept.names.objects ≡ []
     → AreKept l.script a.kept → IsKept l a []
 kept_of_none l a none objects names = record {
   tables = objects ∙ ap tables_under (sym (no_entries l.entries none));
@@ -240,7 +240,7 @@ same_held old new same =
     ∙ ap (project old.contents.entries) same.rest
 
 -- names that no object declares may be forgotten
-pub kept_forgetting : (l : Listing) (a b : NamingState) (ms : List Matches)
+pub kept_forgetting : (l : Listing) (a b : SymbolTableState) (ms : List Matches)
     → b.kept.names.objects ≡ a.kept.names.objects
     → ((script : List Statement) → AreKept script a.kept → AreKept script b.kept) → IsKept l a ms → IsKept l b ms
 kept_forgetting l a b ms same names kept = record {

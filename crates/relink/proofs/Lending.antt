@@ -16,7 +16,7 @@ use Rattle.ldmodel.specs.MapText.{map_text}
 use Rattle.ldmodel.specs.Project.{NamedObject, Project}
 use Rattle.ldmodel.specs.Stayed.{GoodLink}
 use Rattle.gather.specs.declared.matches.Matches.{Matches}
-use Rattle.symres.specs.Naming.{NamingState}
+use Rattle.symres.specs.SymbolTable.{SymbolTableState}
 use Rattle.ldmodel_project.specs.Holding.{Holding, Listing, SameHolding, held, listing_of, next_listing, project_of}
 use Rattle.ldmodel_project.specs.Listing.{AreKeysDistinct, Contents, Entry, found_under, keys_of, objects_of}
 use Rattle.ldmodel_project.specs.Next.{CanStep, Fits, next_found, touched_key}
@@ -392,18 +392,18 @@ renewed_last h s same bytes new a e (Some x) (Some y) true (Some u) v edit are i
 -- so it is after an edit that is linked over the last link
 pub ended_after : (h : Holding) (s : Staged) (same : Bool) (bytes new : List ℕ) (a b : Answer) (e : Effect)
     (last after : Option LastGood) (from : Option (Vec (Option ℕ) Global)) (f : Followed) (later : Holding)
-    (naming : NamingState) (ms : List Matches) → IsFollowing h s same bytes a last e
+    (symbol_table : SymbolTableState) (ms : List Matches) → IsFollowing h s same bytes a last e
     → IsFrom last e.known e.gone (keys_of (next_listing h s).entries) from → shown bytes a ≡ link (held h)
     → HasFollowed (next_listing h s) (lent last from e h.contents.entries s.objects) bytes new f
-    → IsEndOf f e last after a b → IsKept (next_listing h s) naming ms → listing_of later ≡ next_listing h s
-    → (shown new b ≡ link (held later)) × IsKept (listing_of later) naming ms × IsLast (listing_of later) new b after
-ended_after h s same bytes new a b e last after from f later naming ms x origins answers followed end kept is =
+    → IsEndOf f e last after a b → IsKept (next_listing h s) symbol_table ms → listing_of later ≡ next_listing h s
+    → (shown new b ≡ link (held later)) × IsKept (listing_of later) symbol_table ms × IsLast (listing_of later) new b after
+ended_after h s same bytes new a b e last after from f later symbol_table ms x origins answers followed end kept is =
     let both = ended (next_listing h s) (lent last from e h.contents.entries s.objects) bytes new f e last after a b
     followed end (λ later. kept_after_fault h s same bytes a e x.edit last later e.known refl x.kept x.effect)
     (λ v by renewed. renewed_last h s same bytes new a e last after e.known from v x.edit refl x.kept x.effect origins
     answers by renewed) in (
       subst (λ (l : Listing). shown new b ≡ link (project_of l)) (sym is) both.0,
-      subst (λ (l : Listing). IsKept l naming ms) (sym is) kept,
+      subst (λ (l : Listing). IsKept l symbol_table ms) (sym is) kept,
       subst (λ (l : Listing). IsLast l new b after) (sym is) both.1,
     )
 

@@ -4,13 +4,13 @@ use Rattle.std.specs.List.{AllZip}
 use Rattle.gather.specs.ProjectMatches.{IsMatched}
 use Rattle.gather.specs.declared.matches.Matches.{Matches}
 use Rattle.symres.specs.decisions.Decisions.{AreKept}
-use Rattle.symres.specs.Naming.{NamingState}
+use Rattle.symres.specs.SymbolTable.{SymbolTableState}
 use Rattle.ldmodel_project.specs.Holding.{Listing}
 use Rattle.ldmodel_project.specs.Listing.{objects_of}
 use Rattle.ldmodel_project.specs.Tables.{tables_under}
 
 -- what names stand for over the objects under their keys, and which statements take the input sections of each object
-pub record IsKept (l : Listing) (a : NamingState) (ms : List Matches) : Type 0 where
+pub record IsKept (l : Listing) (a : SymbolTableState) (ms : List Matches) : Type 0 where
   pub tables : a.kept.names.objects ≡ tables_under l.entries
   pub names : AreKept l.script a.kept
   pub matches : AllZip (IsMatched l.script) (objects_of l.entries) ms

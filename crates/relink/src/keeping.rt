@@ -31,13 +31,13 @@ use ldmodel_project::staged::Staged;
 use relink_link::Canvas;
 use relink_link::stays::Last;
 use std::alloc::Global;
-use symres::Naming;
+use symres::SymbolTable;
 use symres::decisions::change::ObjectChange;
 
 /// What names stand for, under the keys of the objects, and which statements take the input sections of each object.
 #[derive(Drop)]
 pub(crate) struct LinkTables {
-    pub(crate) naming: Naming,
+    pub(crate) symbol_table: SymbolTable,
     pub(crate) matches: Vec<Matches>,
 }
 
@@ -49,23 +49,23 @@ struct Coming {
 }
 
 /// Forgets the names that no object declares any more, where an object went. It takes no memory.
-fn forget_if(naming: &mut Naming, went: bool)
-    ensures tables { naming.new.kept.names.objects ≡ naming.old.kept.names.objects }
-    ensures kept { (script : List Statement) → AreKept script naming.old.kept → AreKept script naming.new.kept }
+fn forget_if(symbol_table: &mut SymbolTable, went: bool)
+    ensures tables { symbol_table.new.kept.names.objects ≡ symbol_table.old.kept.names.objects }
+    ensures kept { (script : List Statement) → AreKept script symbol_table.old.kept → AreKept script symbol_table.new.kept }
 {
     if went {
-        naming.forget();
+        symbol_table.forget();
     }
 }
 
 /// Puts the names into byte order after a link without faults, so that the next one need not sort them. Where memory
 /// runs out, they stay as they are.
-fn put_in_order_if(naming: &mut Naming, is_good: bool)
-    ensures tables { naming.new.kept.names.objects ≡ naming.old.kept.names.objects }
-    ensures kept { (script : List Statement) → AreKept script naming.old.kept → AreKept script naming.new.kept }
+fn put_in_order_if(symbol_table: &mut SymbolTable, is_good: bool)
+    ensures tables { symbol_table.new.kept.names.objects ≡ symbol_table.old.kept.names.objects }
+    ensures kept { (script : List Statement) → AreKept script symbol_table.old.kept → AreKept script symbol_table.new.kept }
 {
     if is_good {
-        naming.put_in_order();
+        symbol_table.put_in_order();
     }
 }
 
@@ -78,13 +78,13 @@ impl LinkTables {
         next: &Next<'_>,
         change: &ObjectChange<'_>,
     ) -> Result<Coming, NoMemory>
-        requires fits { FitsTables self.old.naming.kept.names.objects change.now }
-        requires kept { AreKept next.now.script self.old.naming.kept }
-        ensures tables { self.new.naming.kept.names.objects ≡ self.old.naming.kept.names.objects }
-        ensures names { AreKept next.now.script self.new.naming.kept }
+        requires fits { FitsTables self.old.symbol_table.kept.names.objects change.now }
+        requires kept { AreKept next.now.script self.old.symbol_table.kept }
+        ensures tables { self.new.symbol_table.kept.names.objects ≡ self.old.symbol_table.kept.names.objects }
+        ensures names { AreKept next.now.script self.new.symbol_table.kept }
         ensures matches { self.new.matches.items ≡ self.old.matches.items }
         ensures room { OnOk result (vec_len self.new.matches + 2 ≤ vec_capacity self.new.matches) }
-        ensures ready { OnOk result (IsReadyFor self.new.naming.kept change.now) }
+        ensures ready { OnOk result (IsReadyFor self.new.symbol_table.kept change.now) }
         ensures order { IfOk result (λ c. c.order ≡ keys_of next.now.entries) }
         ensures coming { IfOk result (λ c.
             IsMatchedOr next.now.script (found_under next.now.entries change.now.key.0) c.matches) }
@@ -92,7 +92,7 @@ impl LinkTables {
         let order = Order::of(alloc, next.keys())?;
         let matches = match_under(alloc, next, change.key)?;
         self.matches.reserve(2)?;
-        self.naming.room_for(next.script(), change)?;
+        self.symbol_table.room_for(next.script(), change)?;
         Ok(Coming { order, matches })
     }
 
@@ -112,15 +112,15 @@ impl LinkTables {
         requires arranged { IsArranged project.now.contents.entries staged.now.objects }
         requires one { TouchesOne staged.now }
         requires touched { touched_key staged.now.objects.step ≡ Some key.0 }
-        requires kept { IsKept (listing_of project.now) self.old.naming self.old.matches.items }
+        requires kept { IsKept (listing_of project.now) self.old.symbol_table self.old.matches.items }
         requires last { IfSome (last_of last)
             (HasLast (project_of (next_listing project.now staged.now)) canvas.old.bytes) }
         ensures followed { IfOk result (HasFollowed (next_listing project.now staged.now) (last_of last.entry)
             canvas.old.bytes canvas.new.bytes) }
         ensures unchanged { OnErr result (canvas.new.bytes ≡ canvas.old.bytes) }
-        ensures kept { OnOk result (IsKept (next_listing project.now staged.now) self.new.naming
+        ensures kept { OnOk result (IsKept (next_listing project.now staged.now) self.new.symbol_table
             self.new.matches.items) }
-        ensures back { OnErr result (IsKept (listing_of project.now) self.new.naming self.new.matches.items) }
+        ensures back { OnErr result (IsKept (listing_of project.now) self.new.symbol_table self.new.matches.items) }
         ensures decides { OnOk result (Decides meter.old meter.new
             (names_of_edit project.now.contents.entries staged.now.objects)) }
         ensures worked { IfOk result (HasWorked (project_of (next_listing project.now staged.now))
@@ -134,25 +134,27 @@ impl LinkTables {
         let Coming { order, matches } = coming;
         let out = place_of(change.out);
         let into = place_of(change.into);
-        let order = self.naming.change(next.script(), &change, order, meter);
+        let order = self
+            .symbol_table
+            .change(next.script(), &change, order, meter);
         let gone = exchange(&mut self.matches, out, into, matches);
         match link_next(
             alloc,
             &next,
-            &self.naming,
+            &self.symbol_table,
             &self.matches,
             last,
             canvas,
             meter,
         ) {
             Ok(followed) => {
-                forget_if(&mut self.naming, out.is_some());
-                put_in_order_if(&mut self.naming, followed.is_good());
+                forget_if(&mut self.symbol_table, out.is_some());
+                put_in_order_if(&mut self.symbol_table, followed.is_good());
                 Ok(followed)
             }
             Err(refused) => {
                 exchange(&mut self.matches, into, out, gone);
-                self.naming.undo(next.script(), &change, order, meter);
+                self.symbol_table.undo(next.script(), &change, order, meter);
                 Err(refused)
             }
         }
@@ -172,15 +174,15 @@ impl LinkTables {
         requires fits { Fits project.now.contents staged.now.objects }
         requires arranged { IsArranged project.now.contents.entries staged.now.objects }
         requires touched { touched_key staged.now.objects.step ≡ None }
-        requires kept { IsKept (listing_of project.now) self.old.naming self.old.matches.items }
+        requires kept { IsKept (listing_of project.now) self.old.symbol_table self.old.matches.items }
         requires last { IfSome (last_of last)
             (HasLast (project_of (next_listing project.now staged.now)) canvas.old.bytes) }
         ensures followed { IfOk result (HasFollowed (next_listing project.now staged.now) (last_of last.entry)
             canvas.old.bytes canvas.new.bytes) }
         ensures unchanged { OnErr result (canvas.new.bytes ≡ canvas.old.bytes) }
-        ensures kept { OnOk result (IsKept (next_listing project.now staged.now) self.new.naming
+        ensures kept { OnOk result (IsKept (next_listing project.now staged.now) self.new.symbol_table
             self.new.matches.items) }
-        ensures back { OnErr result (IsKept (listing_of project.now) self.new.naming self.new.matches.items) }
+        ensures back { OnErr result (IsKept (listing_of project.now) self.new.symbol_table self.new.matches.items) }
         ensures decides { OnOk result (Decides meter.old meter.new
             (names_of_edit project.now.contents.entries staged.now.objects)) }
         ensures worked { IfOk result (HasWorked (project_of (next_listing project.now staged.now))
@@ -191,14 +193,22 @@ impl LinkTables {
         let next = project.next(staged);
         let inputs = next.inputs(alloc)?;
         let matches = match_all(alloc, &next.view(&inputs))?;
-        self.naming.redecide(next.script(), meter);
-        match link_next(alloc, &next, &self.naming, &matches, last, canvas, meter) {
+        self.symbol_table.redecide(next.script(), meter);
+        match link_next(
+            alloc,
+            &next,
+            &self.symbol_table,
+            &matches,
+            last,
+            canvas,
+            meter,
+        ) {
             Ok(followed) => {
                 self.matches = matches;
                 Ok(followed)
             }
             Err(refused) => {
-                self.naming.redecide(project.script(), meter);
+                self.symbol_table.redecide(project.script(), meter);
                 Err(refused)
             }
         }
@@ -221,15 +231,15 @@ impl LinkTables {
         requires fits { Fits project.now.contents staged.now.objects }
         requires arranged { IsArranged project.now.contents.entries staged.now.objects }
         requires one { TouchesOne staged.now }
-        requires kept { IsKept (listing_of project.now) self.old.naming self.old.matches.items }
+        requires kept { IsKept (listing_of project.now) self.old.symbol_table self.old.matches.items }
         requires last { IfSome (last_of last)
             (HasLast (project_of (next_listing project.now staged.now)) canvas.old.bytes) }
         ensures followed { IfOk result (HasFollowed (next_listing project.now staged.now) (last_of last.entry)
             canvas.old.bytes canvas.new.bytes) }
         ensures unchanged { OnErr result (canvas.new.bytes ≡ canvas.old.bytes) }
-        ensures kept { OnOk result (IsKept (next_listing project.now staged.now) self.new.naming
+        ensures kept { OnOk result (IsKept (next_listing project.now staged.now) self.new.symbol_table
             self.new.matches.items) }
-        ensures back { OnErr result (IsKept (listing_of project.now) self.new.naming self.new.matches.items) }
+        ensures back { OnErr result (IsKept (listing_of project.now) self.new.symbol_table self.new.matches.items) }
         ensures decides { OnOk result (Decides meter.old meter.new
             (names_of_edit project.now.contents.entries staged.now.objects)) }
         ensures worked { IfOk result (HasWorked (project_of (next_listing project.now staged.now))

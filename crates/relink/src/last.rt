@@ -17,7 +17,7 @@ use ldmodel::names::{ObjectKey, ObjectPlace};
 use ldmodel_project::named::NamedObject;
 use ldmodel_project::project::{Next, Project};
 use ldmodel_project::staged::Staged;
-use relink_link::good::Good;
+use relink_link::link_state::LinkState;
 use relink_link::stays::{Last, Replaced};
 use std::alloc::Global;
 
@@ -25,7 +25,7 @@ use std::alloc::Global;
 #[derive(Drop)]
 pub(crate) struct LastGood {
     /// The tables of that link.
-    pub good: Good,
+    pub good: LinkState,
     /// At which place of that link each object stood that is still there with the same bytes, under the object's key.
     pub origins: Vec<Option<usize>>,
     /// The names of the objects of that link, by their places.

@@ -4,7 +4,7 @@ ghost use Rattle.std.specs.Prelude.{◌≡◌, IfOk, IfSome, None, OnErr, OnOk, 
 ghost use Rattle.gather.specs.ProjectMatches.{AreMatched};
 ghost use Rattle.relink_link.specs.Stays.{last_of};
 ghost use Rattle.ldmodel.specs.Project.{NamedObject};
-ghost use Rattle.symres.specs.Naming.{IsNaming};
+ghost use Rattle.symres.specs.SymbolTable.{IsSymbolTable};
 ghost use Rattle.ldmodel_project.specs.Holding.{Listing, listing_of, project_of};
 ghost use Rattle.ldmodel_project.specs.Inputs.{shown_inputs};
 ghost use Rattle.ldmodel_project.specs.Listing.{AreKeysDistinct, keys_of};
@@ -27,7 +27,7 @@ use relink_link::Canvas;
 use relink_link::again::{Ended, relink};
 use relink_link::stays::Last;
 use std::alloc::Global;
-use symres::Naming;
+use symres::SymbolTable;
 
 /// The names of these objects, in their order. Fails where memory runs out.
 fn names_of(alloc: Global, inputs: &[InputObject<'_>]) -> Result<Vec<Vec<u8>>, NoMemory>
@@ -47,14 +47,14 @@ fn link_keyed(
     alloc: Global,
     project: &ProjectView<'_>,
     keys: &[usize],
-    naming: &Naming,
+    symbol_table: &SymbolTable,
     matches: &[Matches],
     last: Option<Last<'_>>,
     canvas: &mut Canvas,
     meter: &mut Meter,
 ) -> Result<Followed, NoMemory>
     requires distinct { AreKeysDistinct keys.now }
-    requires naming { IsNaming project.now naming.now }
+    requires symbol_table { IsSymbolTable project.now symbol_table.now }
     requires matches { AreMatched project.now matches.now }
     requires last { IfSome (last_of last) (HasLast project.now canvas.old.bytes) }
     ensures followed { IfOk result (λ r. (l : Listing) → project.now ≡ project_of l → keys.now ≡ keys_of l.entries
@@ -67,7 +67,7 @@ fn link_keyed(
     let lent = lend_all(alloc, matches)?;
     let origins = places_of(alloc, keys)?;
     let names = names_of(alloc, project.inputs())?;
-    match relink(alloc, project, naming, &lent, last, canvas, meter) {
+    match relink(alloc, project, symbol_table, &lent, last, canvas, meter) {
         Err(refused) => Err(refused),
         Ok(Ended::Faulty(text)) => Ok(Followed::Faulty(text)),
         Ok(Ended::Retouched) => Ok(Followed::Retouched(origins)),
@@ -91,27 +91,27 @@ fn link_keyed(
 pub(crate) fn link_next(
     alloc: Global,
     next: &Next<'_>,
-    naming: &Naming,
+    symbol_table: &SymbolTable,
     matches: &[Matches],
     last: Option<Last<'_>>,
     canvas: &mut Canvas,
     meter: &mut Meter,
 ) -> Result<Followed, NoMemory>
-    requires kept { IsKept next.now naming.now matches.now }
+    requires kept { IsKept next.now symbol_table.now matches.now }
     requires last { IfSome (last_of last) (HasLast (project_of next.now) canvas.old.bytes) }
     ensures followed { IfOk result (HasFollowed next.now (last_of last.entry) canvas.old.bytes canvas.new.bytes) }
     ensures unchanged { OnErr result (canvas.new.bytes ≡ canvas.old.bytes) }
     ensures reads { OnOk result (ReadsNothing meter.old meter.new) }
     ensures worked { IfOk result (HasWorked (project_of next.now) (last_of last.entry) meter.old meter.new) }
 {
-    naming.names_kept();
+    symbol_table.names_kept();
     let inputs = next.inputs(alloc)?;
     let view = next.view(&inputs);
     link_keyed(
         alloc,
         &view,
         next.keys(),
-        naming,
+        symbol_table,
         matches,
         last,
         canvas,
@@ -127,21 +127,21 @@ pub(crate) fn link_next(
 pub(crate) fn link_first(
     alloc: Global,
     project: &Project,
-    naming: &Naming,
+    symbol_table: &SymbolTable,
     matches: &[Matches],
     canvas: &mut Canvas,
 ) -> Result<Followed, NoMemory>
-    requires kept { IsKept (listing_of project.now) naming.now matches.now }
+    requires kept { IsKept (listing_of project.now) symbol_table.now matches.now }
     ensures followed { IfOk result (HasFollowed (listing_of project.now) None canvas.old.bytes canvas.new.bytes) }
 {
-    naming.names_kept();
+    symbol_table.names_kept();
     let inputs = project.inputs(alloc)?;
     let view = project.view(&inputs);
     link_keyed(
         alloc,
         &view,
         project.keys(),
-        naming,
+        symbol_table,
         matches,
         None,
         canvas,

@@ -25,7 +25,7 @@ use relink_link::Canvas;
 use std::alloc::Global;
 use std::hash::RandomState;
 use std::marker::Model;
-use symres::Naming;
+use symres::SymbolTable;
 use symres::decisions::law::{distinct_more, names_of_objects};
 
 /// A linker that keeps what names stand for, which statements take the input sections of each object, and the last link
@@ -62,18 +62,18 @@ impl Model for Session {
     ghost view = { λ s. held s.project };
 
     ghost invariant = { λ s. (shown s.canvas.bytes s.answer ≡ link (held s.project))
-        × IsKept (listing_of s.project) s.kept.naming s.kept.matches.items
+        × IsKept (listing_of s.project) s.kept.symbol_table s.kept.matches.items
         × IsLast (listing_of s.project) s.canvas.bytes s.answer s.last };
 }
 
 /// What is kept of a project without objects. Fails where memory runs out.
 fn kept_of_none(alloc: Global, seed: RandomState, project: &Project) -> Result<LinkTables, NoMemory>
     requires { (held project.now).objects ≡ [] }
-    ensures { IfOk result (λ k. IsKept (listing_of project.now) k.naming k.matches.items) }
+    ensures { IfOk result (λ k. IsKept (listing_of project.now) k.symbol_table k.matches.items) }
 {
-    let naming = Naming::of(alloc, seed, &[], project.script(), &mut Meter::new())?;
+    let symbol_table = SymbolTable::of(alloc, seed, &[], project.script(), &mut Meter::new())?;
     Ok(LinkTables {
-        naming,
+        symbol_table,
         matches: Vec::new(alloc),
     })
 }
@@ -90,7 +90,13 @@ impl Session {
         let project = Project::new(alloc, options);
         let kept = kept_of_none(alloc, seed, &project)?;
         let mut canvas = Canvas::new(alloc);
-        let followed = link_first(alloc, &project, &kept.naming, &kept.matches, &mut canvas)?;
+        let followed = link_first(
+            alloc,
+            &project,
+            &kept.symbol_table,
+            &kept.matches,
+            &mut canvas,
+        )?;
         let mut last = None;
         let effect = Effect {
             known: true,

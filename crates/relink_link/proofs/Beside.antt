@@ -11,8 +11,8 @@ use Rattle.relink_link.specs.declared.stays.Stays.{Stays}
 use Rattle.emit.specs.Drawable.{IsDrawableAt}
 use Rattle.emit.specs.Kept.{IsSound}
 use Rattle.ldmodel_laws.specs.Untouched.{IsGood}
-use Rattle.place.specs.Laying.{IsLaying}
-use Rattle.place.specs.declared.laying.Laying.{Laying}
+use Rattle.place.specs.LinkLayout.{IsLinkLayout}
+use Rattle.place.specs.declared.link_layout.LinkLayout.{LinkLayout}
 use Rattle.ldmodel.specs.Counts.{Counts}
 use Rattle.ldmodel.specs.Edits.{AreNamesDistinct}
 use Rattle.ldmodel.specs.Image.{image}
@@ -25,15 +25,15 @@ use Rattle.ldmodel.specs.Rows.{rows}
 use Rattle.ldmodel.specs.SectionHeaders.{image_length}
 use Rattle.ldmodel.specs.Stayed.{GoodLink}
 use Rattle.ldmodel.specs.declared.sections.SectionKey.{SectionKey}
-use Rattle.symres.specs.Naming.{NamingState}
+use Rattle.symres.specs.SymbolTable.{SymbolTableState}
 use Rattle.ldmodel_project.specs.ByPlace.{faults_in}
 use Rattle.emit.specs.Beside.{IsRelocatedBeside, new_link}
 use Rattle.emit.specs.Runs.{AreRunsUnless}
 use Rattle.emit.specs.declared.relocated.Relocated.{Relocated}
 use Rattle.emit.specs.relocate.Earlier.{IsComplete}
 use Rattle.emit.specs.relocate.KnownLink.{KnownLink}
-use Rattle.emit.specs.relocate.SymbolTable.{AreSymbolValues}
-use Rattle.emit.specs.relocate.declared.symbol_table.SymbolTable.{SymbolTable}
+use Rattle.emit.specs.relocate.SymbolValues.{AreSymbolValues}
+use Rattle.emit.specs.relocate.declared.symbol_values.SymbolValues.{SymbolValues}
 use Rattle.emit.specs.values.LinkView.{IsLinkView, known_link}
 use Rattle.emit.specs.values.Values.{AreValues}
 use Rattle.emit.specs.values.declared.link_view.LinkView.{LinkView}
@@ -61,7 +61,7 @@ candidate p any None h = record { old = any; is = tt; good = inr refl }
 candidate p any (Some x) h = record { old = h.old; is = h.is; good = inl h.is.table.good }
 
 -- what is evaluated beside an earlier link, if there is one
-pub record IsKnownBeside (p : Project) (s : Layout) (a : NamingState) (y : Stays) (r : Relocated)
+pub record IsKnownBeside (p : Project) (s : Layout) (a : SymbolTableState) (y : Stays) (r : Relocated)
     (before after : Counts) : Type 0 where
   pub fields : AreRunsUnless (known_link p s a) (λ k. is_some (range_of y k)) r.patches.items r.ends.items
   pub faults : faults_in p r.faults.items ≡ relocation_faults p s
@@ -70,12 +70,12 @@ pub record IsKnownBeside (p : Project) (s : Layout) (a : NamingState) (y : Stays
   pub reads : ReadsNothing before after
 
 -- the new link, and the earlier one
-are_stays : (p : Project) (l : Laying) (y : Stays) (w : LinkView) (v : Values) (is : IsShort p l w v)
+are_stays : (p : Project) (l : LinkLayout) (y : Stays) (w : LinkView) (v : Values) (is : IsShort p l w v)
     → AreBeside p is.placed.known.layout y → AreNamesDistinct p.objects → (old : GoodLink)
     → IfSome (last_of y.last) (IsLastOf old p)
-    → AreStays y old (known_link p is.placed.known.layout is.placed.naming)
+    → AreStays y old (known_link p is.placed.known.layout is.placed.symbol_table)
 are_stays p l y w v is beside names old last = record {
-  naming = is.placed.naming;
+  symbol_table = is.placed.symbol_table;
   link = refl;
   names = names;
   arranged = beside.arranged;
@@ -91,22 +91,22 @@ AreComplete y =
 abbrev pub NoneStays : Stays → Type 0
 NoneStays y = y.last ≡ None → (k : SectionKey) → range_of y k ≡ None
 
-pub known_beside : (p : Project) (l : Laying) (y : Stays) (w : LinkView) (v : Values) (t : SymbolTable)
+pub known_beside : (p : Project) (l : LinkLayout) (y : Stays) (w : LinkView) (v : Values) (t : SymbolValues)
     (r : Relocated) (before after : Counts) (is : IsShort p l w v) → before.fields < 2 ^ 64 → AreBeside p is.placed.known.layout y
     → AreSymbolValues p is.placed.known.layout t → AreNamesDistinct p.objects
-    → ((s : Layout) (a : NamingState) (old : GoodLink) → placement p.script (rows p) (provided p) ≡ Ok s
+    → ((s : Layout) (a : SymbolTableState) (old : GoodLink) → placement p.script (rows p) (provided p) ≡ Ok s
     → IsLinkView (known_link p s a) w → AreValues p s a v → AreSymbolValues p s t → AreStays y old (known_link p s a)
     → IsRelocatedBeside old (range_of y) p s a r before after)
     → AreComplete y → NoneStays y
-    → IsKnownBeside p is.placed.known.layout is.placed.naming y r before after
+    → IsKnownBeside p is.placed.known.layout is.placed.symbol_table y r before after
 known_beside p l y w v t r before after is small tables worth names relocated complete none =
     let k = is.placed.known in
     let s = k.layout in
-    let a = is.placed.naming in
+    let a = is.placed.symbol_table in
     let beside : (old : GoodLink) → IfSome (last_of y.last) (IsLastOf old p)
     → IsRelocatedBeside old (range_of y) p s a r before after =
     λ old last.
-    relocated s a old k.laying.placed k.view is.placed.values worth (are_stays p l y w v is tables names old last) in
+    relocated s a old k.link_layout.placed k.view is.placed.values worth (are_stays p l y w v is tables names old last) in
     let one = candidate p (new_link p s) y.last tables.last in
     let b = beside one.old one.is in
     record {
@@ -130,14 +130,14 @@ known_beside p l y w v t r before after is small tables worth names relocated co
       reads = fields_read_nothing _ _ _ small b.counts.1;
     }
   where
-    faults : {old : GoodLink} {s : Layout} {a : NamingState}
+    faults : {old : GoodLink} {s : Layout} {a : SymbolTableState}
         → IsRelocatedBeside old (range_of y) p s a r before after → IsGood old ⊎ (y.last ≡ None)
         → faults_in p r.faults.items ≡ relocation_faults p s
     faults b (inl good) = b.faults good
     faults b (inr nothing) = (b.anew (none nothing)).faults
 
 -- the image that was drawn over that of the earlier link, if there is one
-pub drawn_image : (p : Project) (s : Layout) (a : NamingState) (y : Stays) (r : Relocated) (old_bytes bytes : List ℕ)
+pub drawn_image : (p : Project) (s : Layout) (a : SymbolTableState) (y : Stays) (r : Relocated) (old_bytes bytes : List ℕ)
     → IfSome (last_of y.last) (HasLast p old_bytes) → NoneStays y
     → ((old : GoodLink) → IfSome (last_of y.last) (IsLastOf old p)
     → IsSound (range_of y) old (known_link p s a))
@@ -174,14 +174,14 @@ end_within p s t qs e f h =
 
 -- what is counted at one is counted at each
 pub evaluated_at : (p : Project) (y : Stays) (r : Relocated) (before after : Counts) (s : Layout)
-    → IsLaying p s y.arranged.now.laying → AreEvaluated p s y r before after → HasEvaluated p y r before after
+    → IsLinkLayout p s y.arranged.now.link_layout → AreEvaluated p s y r before after → HasEvaluated p y r before after
 evaluated_at p y r before after s is h =
-    λ t laying.
-    subst (λ (z : Layout). AreEvaluated p z y r before after) (one_placement p s t is.placed laying.placed) h
+    λ t link_layout.
+    subst (λ (z : Layout). AreEvaluated p z y r before after) (one_placement p s t is.placed link_layout.placed) h
 
 -- a link that is filled can be drawn
 pub drawable_at : (p : Project) (y : Stays) (v : Values) (r : Relocated) (f : IsFilled p y v r)
-    → IsDrawableAt p f.short.placed.known.layout f.short.placed.naming y.arranged.now v r
+    → IsDrawableAt p f.short.placed.known.layout f.short.placed.symbol_table y.arranged.now v r
     (λ k. is_some (range_of y k))
 drawable_at p y v r f = record {
   arranged = f.beside.arranged;
@@ -193,5 +193,5 @@ drawable_at p y v r f = record {
 -- and its tables are those of the new link beside each that the earlier one may be
 pub stays_of : (p : Project) (y : Stays) (v : Values) (r : Relocated) (f : IsFilled p y v r) (old : GoodLink)
     → IfSome (last_of y.last) (IsLastOf old p)
-    → AreStays y old (known_link p f.short.placed.known.layout f.short.placed.naming)
+    → AreStays y old (known_link p f.short.placed.known.layout f.short.placed.symbol_table)
 stays_of p y v r f old last = are_stays p _ y _ v f.short f.beside f.names old last

@@ -31,13 +31,13 @@ module _ (old : GoodLink) (new : Project) (x : LastState) (last : IsLastOf old n
       ∙ same_before old.project new x last.origins last.replaced x.good.arranged.rows.items rows k below
       ∙ ap (λ (r : List (List model.Piece)). slice_index_or r k []) are
 
-  pub is_kept : x.same_script ≡ true → IsKept new.script (model.rows new) x.good.arranged.laying.placement first
+  pub is_kept : x.same_script ≡ true → IsKept new.script (model.rows new) x.good.arranged.link_layout.placement first
   is_kept same = record {
     earlier = model.rows old.project;
     earlier_provided = provided old.project;
     placed = subst (λ (script : List Statement).
-        IsPlacement script (model.rows old.project) (provided old.project) x.good.arranged.laying.placement) (last.script same)
-        last.table.arranged.laying.kept;
+        IsPlacement script (model.rows old.project) (provided old.project) x.good.arranged.link_layout.placement) (last.script same)
+        last.table.arranged.link_layout.kept;
     same = are_same;
   }
 

@@ -29,21 +29,21 @@ use Rattle.ldmodel_laws.specs.Outline.{section_outline, section_targets}
 use Rattle.ldmodel_laws.specs.Untouched.{IsGood}
 use Rattle.ldscript.specs.statements.declared.statement.Statement.{Statement}
 use Rattle.emit.specs.Beside.{new_link}
-use Rattle.emit.specs.relocate.SymbolTable.{AreSymbolValues}
-use Rattle.emit.specs.relocate.declared.symbol_table.SymbolTable.{SymbolTable}
+use Rattle.emit.specs.relocate.SymbolValues.{AreSymbolValues}
+use Rattle.emit.specs.relocate.declared.symbol_values.SymbolValues.{SymbolValues}
 use Rattle.gather.specs.sections.SectionTable.{IsTableOf, number_of}
 use Rattle.gather.specs.sections.declared.section_table.SectionTable.{SectionTable}
 use Rattle.place.specs.Arranged.{IsArranged, IsPartPlace}
 use Rattle.place.specs.InPlace.{IsOwned, entries_of}
-use Rattle.place.specs.Laying.{IsLaying}
+use Rattle.place.specs.LinkLayout.{IsLinkLayout}
 use Rattle.place.specs.declared.arranged.Arranged.{Arranged}
 use Rattle.place.specs.declared.arranged.PartPlace.{PartPlace}
-use Rattle.place.specs.declared.laying.Laying.{Laying}
+use Rattle.place.specs.declared.link_layout.LinkLayout.{LinkLayout}
 use Rattle.place.specs.sections.Places.{AreOf, IsPlacement}
 use Rattle.relink_link.specs.Retouched.{IsFollowed, IsKeptLink, origin_beside}
 use Rattle.relink_link.specs.Stays.{IsLastOf, IsReplaced, LastState, ReplacedState}
 use Rattle.relink_link.specs.Table.{IsTable}
-use Rattle.relink_link.specs.declared.good.Good.{Good}
+use Rattle.relink_link.specs.declared.link_state.LinkState.{LinkState}
 use Rattle.relink_link.proofs.Outlines.{same_at}
 use Rattle.relink_link.proofs.Outlined.{input_before, outline_at, outlines_at, same_linked, same_names, same_owned}
 use Rattle.relink_link.proofs.Outlined.{same_rows_in}
@@ -155,7 +155,7 @@ module _ (p q : Project) (i : ℕ) (h : IsRetouched p q i) (s : Layout) (k : IsK
     linked = λ n before e. is.linked n before e ∙ same_linked p q i h n;
   }
 
-  same_laying : (l : Laying) → IsLaying p s l → IsLaying q s l
+  same_laying : (l : LinkLayout) → IsLinkLayout p s l → IsLinkLayout q s l
   same_laying l is = record {
     placed = sym (ap (λ t. placement t (rows p) (provided p)) h.script
         ∙ ap (λ r. placement q.script r (provided p)) k.rows ∙ ap (placement q.script (rows q)) k.provided)
@@ -188,7 +188,7 @@ module _ (p q : Project) (i : ℕ) (h : IsRetouched p q i) (s : Layout) (k : IsK
   same_arranged t is = record {
     table = same_table t.table is.table;
     rows = sym (same_rows_in p q i h t.rows.items) ∙ is.rows ∙ k.rows;
-    laying = same_laying t.laying is.laying;
+    link_layout = same_laying t.link_layout is.link_layout;
     places = λ key. same_place key _ (is.places key);
     apart = record {
       once = is.apart.once;
@@ -219,13 +219,13 @@ module _ (p q : Project) (i : ℕ) (h : IsRetouched p q i) (s : Layout) (k : IsK
         outline = same_Some _ _ (sym (ap (option_map object_outline) e) ∙ outlines);
       }
 
-  pub same_symbols : (t : SymbolTable) → AreSymbolValues p s t → AreSymbolValues q s t
+  pub same_symbols : (t : SymbolValues) → AreSymbolValues p s t → AreSymbolValues q s t
   same_symbols t is j n o x at symbol =
       let b = before j o at in
       is j n b.object x b.at (ap (λ (v : ObjectOutline). slice_get v.symbols n) b.outline ∙ symbol)
       ∙ k.frame.references j b.object o x b.at at
 
-  pub table_of : (g : Good) → IsTable (new_link p s) g → AreNamesDistinct q.objects → IsGood (new_link q s)
+  pub table_of : (g : LinkState) → IsTable (new_link p s) g → AreNamesDistinct q.objects → IsGood (new_link q s)
       → model.link q ≡ model.good q s → IsTable (new_link q s) g
   table_of g is names good link = record {
     good = good;

@@ -179,13 +179,13 @@ module _ (p : Project) (s : Layout) (t : Arranged) (arranged : IsArranged p s t)
             ∙ ap (λ n. Some (place_with z.start n x.section.0)) size
             ∙ ap (λ n. Some (place_with z.start z.piece.size n)) number
 
-    section_at : slice_get t.laying.placement.sections k ≡ Some (placed_of q)
+    section_at : slice_get t.link_layout.placement.sections k ≡ Some (placed_of q)
     section_at =
-        ap (λ l. slice_get l k) arranged.laying.places.sections ∙ slice_get-map placed_of s.sections k
+        ap (λ l. slice_get l k) arranged.link_layout.places.sections ∙ slice_get-map placed_of s.sections k
         ∙ ap (option_map placed_of) at
 
-    begun : Beside (IsOffset s) t.laying.offsets.items k q
-    begun = beside (IsOffset s) s.sections t.laying.offsets.items k q arranged.laying.offsets at
+    begun : Beside (IsOffset s) t.link_layout.offsets.items k q
+    begun = beside (IsOffset s) s.sections t.link_layout.offsets.items k q arranged.link_layout.offsets at
 
     abbrev bytes : Option FileRange
     bytes = range_from (placed_of q) (begun.member) z.start z.piece.size
@@ -193,9 +193,9 @@ module _ (p : Project) (s : Layout) (t : Arranged) (arranged : IsArranged p s t)
     standing_is : standing_in t key ≡ option_map (standing_with (place_with z.start z.piece.size k)) bytes
     unfolding standing_in
     standing_is =
-        ap (option_and_then (standing_of t.laying)) place_is
+        ap (option_and_then (standing_of t.link_layout)) place_is
         ∙ ap (λ m. option_map (standing_with (place_with z.start z.piece.size k))
-        (option_and_then (code.range_in t.laying (place_with z.start z.piece.size k)) m)) section_at
+        (option_and_then (code.range_in t.link_layout (place_with z.start z.piece.size k)) m)) section_at
         ∙ ap (λ m. option_map (standing_with (place_with z.start z.piece.size k))
         (option_and_then (λ (offset : ℕ). range_from (placed_of q) offset z.start z.piece.size) m)) (begun.at)
 
@@ -239,7 +239,7 @@ module _ (p : Project) (s : Layout) (t : Arranged) (arranged : IsArranged p s t)
   stood key a e = go (place_in t key) (arranged.places key) refl e
     where
       go : (m : Option PartPlace) → IsPartPlace p s key m → place_in t key ≡ m
-          → option_and_then (standing_of t.laying) m ≡ Some a → Stood key a
+          → option_and_then (standing_of t.link_layout) m ≡ Some a → Stood key a
       go None h same g = absurd (let none : ⊥ = cc in none)
       go (Some x) h same g =
           let w = piece_of key (placed_part s (object_name p key.object.0) key.part) x.start h.0 in

@@ -14,7 +14,7 @@ use Rattle.ldmodel.specs.Project.{NamedObject, Project}
 use Rattle.ldmodel.specs.SymbolValues as model
 use Rattle.ldmodel.specs.Targets.{referenced_value}
 use Rattle.ldmodel.specs.declared.names.ObjectPlace.{ObjectPlace}
-use Rattle.symres.specs.Naming.{NamingState}
+use Rattle.symres.specs.SymbolTable.{SymbolTableState}
 use Rattle.ldmodel_project.specs.Inputs.{shown_input, shown_inputs}
 use Rattle.ldmodel_project.specs.declared.input.InputObject.{InputObject}
 use Rattle.emit.specs.relocate.KnownLink.{AreNameValues, IsSymbolOf, KnownLink, named_object}
@@ -23,8 +23,8 @@ use Rattle.emit.specs.relocate.declared.value.SymbolValue.{SymbolValue}
 use Rattle.emit.specs.relocate.declared.value.SymbolValue.TheVariants.{NotDefined}
 use Rattle.emit.specs.values.LinkView.{IsLinkView, known_link}
 use Rattle.emit.specs.values.declared.link_view.LinkView.{LinkView}
-use Rattle.emit.specs.relocate.SymbolTable.{AreSymbolValues}
-use Rattle.emit.specs.relocate.declared.symbol_table.SymbolTable.{SymbolTable}
+use Rattle.emit.specs.relocate.SymbolValues.{AreSymbolValues}
+use Rattle.emit.specs.relocate.declared.symbol_values.SymbolValues.{SymbolValues}
 
 -- ---- lists
 
@@ -149,7 +149,7 @@ pub record TableSoFar (p : Project) (link : LinkView) (names : List SymbolValue)
   pub many : length starts ≡ n
   pub begun : (i : ℕ) → i < n → slice_index_or starts i 0 ≡ total (take i objects)
   pub long : length values ≡ total (take n objects)
-  pub values_are : (s : Layout) (a : NamingState) → IsLinkView (known_link p s a) link
+  pub values_are : (s : Layout) (a : SymbolTableState) → IsLinkView (known_link p s a) link
       → AreNameValues (known_link p s a) names → objects ≡ p.objects
       → map value_of values ≡ flat_map (values_in p s) (take n objects)
 
@@ -247,7 +247,7 @@ module _ (p : Project) (link : LinkView) (names : List SymbolValue) (inputs : Li
               index_last starts (length values) i (omega (arith, same, so_far.many)) ∙ so_far.long
               ∙ ap (λ k. total (take k (shown_inputs inputs))) same
 
-      values_are : (s : Layout) (a : NamingState) → IsLinkView (known_link p s a) link
+      values_are : (s : Layout) (a : SymbolTableState) → IsLinkView (known_link p s a) link
           → AreNameValues (known_link p s a) names → shown_inputs inputs ≡ p.objects
           → map value_of now ≡ flat_map (values_in p s) (take (n + 1) (shown_inputs inputs))
       values_are s a view named same =
@@ -255,9 +255,9 @@ module _ (p : Project) (link : LinkView) (names : List SymbolValue) (inputs : Li
           ∙ ap (λ l. l ++ values_in p s (shown_input input)) (so_far.values_are s a view named same)
           ∙ sym (flat_next (values_in p s) (shown_inputs inputs) n (shown_input input) at)
 
-  pub whole_table : (n : ℕ) (t : SymbolTable) → length inputs ≤ n → shown_inputs inputs ≡ p.objects
+  pub whole_table : (n : ℕ) (t : SymbolValues) → length inputs ≤ n → shown_inputs inputs ≡ p.objects
       → TableSoFar p link names (shown_inputs inputs) n t.starts.items t.values.items
-      → (s : Layout) (a : NamingState) → IsLinkView (known_link p s a) link → AreNameValues (known_link p s a) names
+      → (s : Layout) (a : SymbolTableState) → IsLinkView (known_link p s a) link → AreNameValues (known_link p s a) names
       → AreSymbolValues p s t
   whole_table n t past same so_far s a view named i j o x at there =
       value_found t.values.items (slice_index_or t.starts.items i 0 + j) (referenced_value p s o x)

@@ -50,9 +50,9 @@ use Rattle.ldmodel_laws.specs.Untouched.{HasField, IsGood}
 use Rattle.emit.specs.Beside.{new_link}
 use Rattle.emit.specs.relocate.Fields.{evaluations, work_of}
 use Rattle.emit.specs.relocate.KnownLink.{KnownLink}
-use Rattle.emit.specs.relocate.SymbolTable.{AreSymbolValues, IsRow, row_at}
+use Rattle.emit.specs.relocate.SymbolValues.{AreSymbolValues, IsRow, row_at}
 use Rattle.emit.specs.relocate.Values.{value_of}
-use Rattle.emit.specs.relocate.declared.symbol_table.SymbolTable.{SymbolTable}
+use Rattle.emit.specs.relocate.declared.symbol_values.SymbolValues.{SymbolValues}
 use Rattle.emit.specs.relocate.declared.value.SymbolValue as code
 use Rattle.emit.specs.relocate.declared.value.SymbolValue.TheVariants as value
 use Rattle.emit.specs.retouch.Retouches.{IsBare, IsRetouch}
@@ -188,7 +188,7 @@ past [] j e = omega arith
 past (x ∷ xs) zero e = absurd (let none : ⊥ = cc in none)
 past (x ∷ xs) (suc j) e = omega (arith, past xs j e)
 
-row_values : (l : KnownLink) (t : SymbolTable) (place : ℕ) (o : NamedObject) (count : ℕ) (row : List code.SymbolValue)
+row_values : (l : KnownLink) (t : SymbolValues) (place : ℕ) (o : NamedObject) (count : ℕ) (row : List code.SymbolValue)
     → AreSymbolValues l.project l.layout t → slice_get l.project.objects place ≡ Some o
     → count ≡ length o.object.symbols → row ≡ row_at t place count → IsRow l o row
 row_values l t place o count row worth at many is j =
@@ -239,7 +239,7 @@ module _ (p : Project) (x : LastState) (r : ReplacedState) (f : IsFollowed x p r
     arranged = same_arranged old.project p place retouched s kept x.good.arranged is.table.arranged
 
     pub short : image_length p s ≤ max_image_length
-    short = short_layout p s arranged.laying.layout laid
+    short = short_layout p s arranged.link_layout.layout laid
 
     pub before_faultless : relocation_faults old.project s ≡ []
     before_faultless = faultless old.project s is.table.layout is.table.link
@@ -325,7 +325,7 @@ module _ (p : Project) (x : LastState) (r : ReplacedState) (f : IsFollowed x p r
       let ret = retouched old is in
       let b : NamedObject = f.after in
       let once : IsPlacedOnce p s = record {
-        placed = (arranged old is).laying.placed;
+        placed = (arranged old is).link_layout.placed;
         names = names;
         numbers = numbers;
       } in

@@ -17,20 +17,20 @@ use Rattle.ldmodel.specs.Targets.{referenced_value}
 use Rattle.emit.specs.relocate.Values.{value_of}
 use Rattle.relink_link.specs.Marks.{AreMarks}
 use Rattle.relink_link.specs.Stays.{IsLastOf, LastState, last_place}
-use Rattle.emit.specs.relocate.SymbolTable.{AreSymbolValues, row_at, value_at}
+use Rattle.emit.specs.relocate.SymbolValues.{AreSymbolValues, row_at, value_at}
 use Rattle.relink_link.specs.Unmarked.{IsUnmarked}
-use Rattle.emit.specs.relocate.declared.symbol_table.SymbolTable.{SymbolTable}
+use Rattle.emit.specs.relocate.declared.symbol_values.SymbolValues.{SymbolValues}
 use Rattle.emit.specs.relocate.declared.value.SymbolValue.TheVariants.{NotDefined}
 
 -- a row has the values of the symbols of its object
-in_row : (t : SymbolTable) (place count n : ℕ) → n < count
+in_row : (t : SymbolValues) (place count n : ℕ) → n < count
     → slice_index_or (row_at t place count) n NotDefined ≡ value_at t place n
 in_row t place count n l =
     get_or-take count (drop (slice_index_or t.starts.items place 0) t.values.items) n NotDefined l
     ∙ get_or-drop (slice_index_or t.starts.items place 0) t.values.items n NotDefined
 
 -- an object whose row is that of the earlier link
-pub unmarked_by_rows : (x : LastState) (symbols : SymbolTable) (place from count : ℕ)
+pub unmarked_by_rows : (x : LastState) (symbols : SymbolValues) (place from count : ℕ)
     → last_place x (record { 0 = place }) ≡ Some from
     → ((n : ℕ) → slice_index_or (row_at x.good.symbols from count) n NotDefined
     ≡ slice_index_or (row_at symbols place count) n NotDefined) → IsUnmarked (Some x) symbols place count
@@ -38,13 +38,13 @@ unmarked_by_rows x symbols place from count at same =
     (from, at, λ n l. sym (in_row x.good.symbols from count n l) ∙ (same n ∙ in_row symbols place count n l))
 
 -- the marks of the first objects
-pub record MarksSoFar (last : Option LastState) (symbols : SymbolTable) (objects : List NamedObject) (n : ℕ)
+pub record MarksSoFar (last : Option LastState) (symbols : SymbolValues) (objects : List NamedObject) (n : ℕ)
     (marks : List Bool) : Type 0 where
   pub long : length marks ≡ n
   pub unmarked : (i : ℕ) (o : NamedObject) → slice_index_or marks i true ≡ false → slice_get objects i ≡ Some o
       → IsUnmarked last symbols i (length o.object.symbols)
 
-pub no_marks : (last : Option LastState) (symbols : SymbolTable) (objects : List NamedObject)
+pub no_marks : (last : Option LastState) (symbols : SymbolValues) (objects : List NamedObject)
     → MarksSoFar last symbols objects 0 []
 no_marks last symbols objects = record {
   long = refl;
@@ -69,7 +69,7 @@ index_past [] y (suc k) l = refl
 index_past (x ∷ xs) y zero l = absurd (omega (arith, l))
 index_past (x ∷ xs) y (suc k) l = index_past xs y k (omega (arith, l))
 
-pub one_mark_more : (last : Option LastState) (symbols : SymbolTable) (objects : List NamedObject) (n : ℕ)
+pub one_mark_more : (last : Option LastState) (symbols : SymbolValues) (objects : List NamedObject) (n : ℕ)
     (marks now : List Bool) (mark : Bool) (count : ℕ) → now ≡ marks ++ mark ∷ []
     → ((o : NamedObject) → slice_get objects n ≡ Some o → length o.object.symbols ≡ count)
     → (mark ≡ false → IsUnmarked last symbols n count)
@@ -103,7 +103,7 @@ one_mark_more last symbols objects n marks now mark count is counted one so_far 
 abbrev pub worth_in : Project → Layout → NamedObject → Option NamedSymbol → model.SymbolValue
 worth_in p s o x = option_map_or (referenced_value p s o) x model.NotDefined
 
-module _ (old : GoodLink) (p : Project) (s : Layout) (x : LastState) (is : IsLastOf old p x) (symbols : SymbolTable)
+module _ (old : GoodLink) (p : Project) (s : Layout) (x : LastState) (is : IsLastOf old p x) (symbols : SymbolValues)
     (values : AreSymbolValues p s symbols) where
   one_site : (i : ℕ) (o : NamedObject) → slice_get p.objects i ≡ Some o
       → IsUnmarked (Some x) symbols i (length o.object.symbols) → (k : ℕ) (v : Option NamedSymbol)
@@ -119,7 +119,7 @@ module _ (old : GoodLink) (p : Project) (s : Layout) (x : LastState) (is : IsLas
   are_marks_of marks n so_far i t e at =
       one_site i t.object at (so_far.unmarked i t.object e at) t.relocation.symbol.0 (site_symbol t) refl
 
-pub are_marks : (old : GoodLink) (p : Project) (s : Layout) (last : Option LastState) (symbols : SymbolTable)
+pub are_marks : (old : GoodLink) (p : Project) (s : Layout) (last : Option LastState) (symbols : SymbolValues)
     (objects : List NamedObject) (marks : List Bool) (n : ℕ) → objects ≡ p.objects
     → MarksSoFar last symbols objects n marks → IfSome last (IsLastOf old p) → AreSymbolValues p s symbols
     → AreMarks old p s marks

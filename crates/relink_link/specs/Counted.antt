@@ -10,7 +10,7 @@ use Rattle.relink_link.specs.Stays.{IsLastOf, LastState, last_of}
 use Rattle.relink_link.specs.declared.stays.Stays.{Stays}
 use Rattle.ldmodel_laws.specs.Outline.{IsRetouched}
 use Rattle.ldmodel_laws.specs.Untouched.{IsGood}
-use Rattle.place.specs.Laying.{IsLaying}
+use Rattle.place.specs.LinkLayout.{IsLinkLayout}
 use Rattle.ldmodel.specs.Layout.{Layout}
 use Rattle.ldmodel.specs.Link.{layout}
 use Rattle.ldmodel.specs.Project.{Project}
@@ -49,7 +49,7 @@ pub record AreEvaluated (p : Project) (s : Layout) (y : Stays) (r : Relocated) (
 
 -- so it is at the layout of these tables
 abbrev pub HasEvaluated : Project → Stays → Relocated → Counts → Counts → Type 0
-HasEvaluated p y r before after = (s : Layout) → IsLaying p s y.arranged.now.laying → AreEvaluated p s y r before after
+HasEvaluated p y r before after = (s : Layout) → IsLinkLayout p s y.arranged.now.link_layout → AreEvaluated p s y r before after
 
 -- the bytes of the image outside of what stayed, and of the patches
 abbrev pub bytes_spent : GoodLink → GoodLink → Relocated → ℕ
@@ -64,7 +64,7 @@ pub record IsWritten (p : Project) (s : Layout) (y : Stays) (r : Relocated) (bef
       → after ≡ raised before Bytes (bytes_spent old (new_link p s) r)
 
 abbrev pub HasWritten : Project → Stays → Relocated → Counts → Counts → Type 0
-HasWritten p y r before after = (s : Layout) → IsLaying p s y.arranged.now.laying → IsWritten p s y r before after
+HasWritten p y r before after = (s : Layout) → IsLinkLayout p s y.arranged.now.link_layout → IsWritten p s y r before after
 
 -- the bytes of an image that is drawn over the earlier one: those outside of what stayed, with those of fields in it of
 -- symbols of another value

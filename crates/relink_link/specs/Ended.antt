@@ -8,7 +8,7 @@ use Rattle.ldmodel.specs.Stayed.{GoodLink}
 use Rattle.relink_link.specs.Stays.{IsLastOf, LastState}
 use Rattle.relink_link.specs.Retouched.{IsRetouchedEnd}
 use Rattle.relink_link.specs.Table.{IsTable}
-use Rattle.relink_link.specs.declared.good.Good.{Good}
+use Rattle.relink_link.specs.declared.link_state.LinkState.{LinkState}
 use Rattle.relink_link.specs.declared.again.Ended.{Ended}
 use Rattle.relink_link.specs.declared.again.Ended.TheVariants as ended
 
@@ -19,7 +19,7 @@ pub record HasLast (new : Project) (bytes : List ℕ) (x : LastState) : Type 0 w
   pub image : bytes ≡ image old.project old.layout
 
 -- a link without faults, whose image these bytes are
-pub record IsGoodEnd (p : Project) (bytes : List ℕ) (g : Good) (map : List ℕ) : Type 0 where
+pub record IsGoodEnd (p : Project) (bytes : List ℕ) (g : LinkState) (map : List ℕ) : Type 0 where
   pub layout : Layout
   pub link : link p ≡ record { status = 0; image = bytes; map = map; faults = [] }
   pub table : IsTable (record { project = p; layout = layout }) g

@@ -2,7 +2,7 @@
 use Rattle.std.specs.Prelude.{map}
 use Rattle.gather.specs.ProjectMatches.{AreMatched}
 use Rattle.ldmodel.specs.Project.{Project}
-use Rattle.symres.specs.Naming.{IsNaming}
+use Rattle.symres.specs.SymbolTable.{IsSymbolTable}
 use Rattle.relink_link.specs.declared.lent.Lent.{Lent}
 
 abbrev pub project_of : Lent → Project
@@ -10,5 +10,5 @@ project_of l = l.project.now
 
 -- names that are decided and matches that are found, both of the project
 pub record IsLent (l : Lent) : Type 0 where
-  pub naming : IsNaming (project_of l) l.naming.now
+  pub symbol_table : IsSymbolTable (project_of l) l.symbol_table.now
   pub matches : AreMatched (project_of l) (map (λ x. x.now) l.matches.now)

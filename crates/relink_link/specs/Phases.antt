@@ -7,8 +7,8 @@ use Rattle.relink_link.specs.Marks.{AreMarks}
 use Rattle.relink_link.specs.Stays.{IsLastOf, LastState, last_of, range_of}
 use Rattle.relink_link.specs.declared.stays.Stays.{Stays}
 use Rattle.ldmodel_laws.specs.Untouched.{IsGood}
-use Rattle.place.specs.Laying.{IsLaying}
-use Rattle.place.specs.declared.laying.Laying.{Laying}
+use Rattle.place.specs.LinkLayout.{IsLinkLayout}
+use Rattle.place.specs.declared.link_layout.LinkLayout.{LinkLayout}
 use Rattle.ldmodel.specs.Assertions.{assertion_faults}
 use Rattle.ldmodel.specs.Edits.{AreNamesDistinct}
 use Rattle.ldmodel.specs.Image.{image}
@@ -18,7 +18,7 @@ use Rattle.ldmodel.specs.Link.{link, max_image_length, placed, unless}
 use Rattle.ldmodel.specs.Project.{Project}
 use Rattle.ldmodel.specs.SectionHeaders.{image_length}
 use Rattle.ldmodel.specs.Stayed.{GoodLink}
-use Rattle.symres.specs.Naming.{NamingState}
+use Rattle.symres.specs.SymbolTable.{SymbolTableState}
 use Rattle.emit.specs.Beside.{new_link}
 use Rattle.emit.specs.Runs.{AreRunsUnless}
 use Rattle.emit.specs.declared.relocated.Relocated.{Relocated}
@@ -34,20 +34,20 @@ pub record HasOld (new : Project) (x : LastState) : Type 0 where
   pub is : IsLastOf old new x
 
 -- a link whose parts have their places is known
-pub record IsKnown (p : Project) (a : NamingState) (l : Laying) (w : LinkView) : Type 0 where
+pub record IsKnown (p : Project) (a : SymbolTableState) (l : LinkLayout) (w : LinkView) : Type 0 where
   pub layout : Layout
-  pub laying : IsLaying p layout l
+  pub link_layout : IsLinkLayout p layout l
   pub view : IsLinkView (known_link p layout a) w
   pub rest : link p ≡ placed p (model.layout p)
 
 -- and all names have their values
-pub record IsPlaced (p : Project) (l : Laying) (w : LinkView) (v : Values) : Type 0 where
-  pub naming : NamingState
-  pub known : IsKnown p naming l w
-  pub values : AreValues p known.layout naming v
+pub record IsPlaced (p : Project) (l : LinkLayout) (w : LinkView) (v : Values) : Type 0 where
+  pub symbol_table : SymbolTableState
+  pub known : IsKnown p symbol_table l w
+  pub values : AreValues p known.layout symbol_table v
 
 -- the image is not too long either
-pub record IsShort (p : Project) (l : Laying) (w : LinkView) (v : Values) : Type 0 where
+pub record IsShort (p : Project) (l : LinkLayout) (w : LinkView) (v : Values) : Type 0 where
   pub placed : IsPlaced p l w v
   pub length : image_length p placed.known.layout ≤ max_image_length
   pub rest : link p ≡ model.relocated p placed.known.layout
@@ -60,7 +60,7 @@ pub record AreBeside (p : Project) (s : Layout) (y : Stays) : Type 0 where
 
 -- at the layout of these tables
 abbrev pub IsBeside : Project → Stays → Type 0
-IsBeside p y = (s : Layout) → IsLaying p s y.arranged.now.laying → AreBeside p s y
+IsBeside p y = (s : Layout) → IsLinkLayout p s y.arranged.now.link_layout → AreBeside p s y
 
 -- patches of what stayed: they end within the image, and are those of each earlier link that this one may be
 pub record ArePatches (p : Project) (s : Layout) (y : Stays) (r : Relocated) : Type 0 where
@@ -71,11 +71,11 @@ pub record ArePatches (p : Project) (s : Layout) (y : Stays) (r : Relocated) : T
 -- all relocations have their fields, but those of what stayed
 pub record IsFilled (p : Project) (y : Stays) (v : Values) (r : Relocated) : Type 0 where
   pub known_by : LinkView
-  pub short : IsShort p y.arranged.now.laying known_by v
+  pub short : IsShort p y.arranged.now.link_layout known_by v
   pub names : AreNamesDistinct p.objects
   pub beside : AreBeside p short.placed.known.layout y
   pub fields :
-      AreRunsUnless (known_link p short.placed.known.layout short.placed.naming) (λ k. is_some (range_of y k))
+      AreRunsUnless (known_link p short.placed.known.layout short.placed.symbol_table) (λ k. is_some (range_of y k))
       r.patches.items r.ends.items
   pub patches : ArePatches p short.placed.known.layout y r
   pub good : IsGood (new_link p short.placed.known.layout)
@@ -89,4 +89,4 @@ pub record IsFaultless (p : Project) (y : Stays) (v : Values) (r : Relocated) : 
 
 -- these bytes are the image at the layout of these tables
 abbrev pub IsImage : Project → Stays → List ℕ → Type 0
-IsImage p y bytes = (s : Layout) → IsLaying p s y.arranged.now.laying → bytes ≡ image p s
+IsImage p y bytes = (s : Layout) → IsLinkLayout p s y.arranged.now.link_layout → bytes ≡ image p s

@@ -2,10 +2,10 @@
 use Rattle.std.specs.Prelude.{Bool, ◌+◌, ◌-◌, ◌^◌, ◌==◌, ◌&&◌, ℕ, Option, Some, None, not, nat_lt, slice_get}
 use Rattle.std.specs.Prelude.{option_and_then, if◌then◌else◌}
 use Rattle.std.specs.Option.{option_map}
-use Rattle.ldmodel.specs.declared.laid.Placed.{Placed}
+use Rattle.ldmodel.specs.declared.placed.Placed.{Placed}
 use Rattle.ldmodel.specs.declared.sections.SectionKey.{SectionKey}
 use Rattle.place.specs.Arranged.{place_in}
-use Rattle.place.specs.declared.laying.Laying.{Laying}
+use Rattle.place.specs.declared.link_layout.LinkLayout.{LinkLayout}
 use Rattle.place.specs.declared.arranged.PartPlace.{PartPlace}
 use Rattle.place.specs.declared.arranged.Arranged.{Arranged}
 use Rattle.emit.specs.relocate.declared.earlier.FileRange.{FileRange}
@@ -23,21 +23,21 @@ range_from q offset start size =
     else Some (record { offset = 0; length = 0 })
 
 -- by the tables of a link
-abbrev pub range_in : Laying → PartPlace → Placed → Option FileRange
+abbrev pub range_in : LinkLayout → PartPlace → Placed → Option FileRange
 range_in l x q =
     option_and_then (λ (offset : ℕ). range_from q offset x.start x.size) (slice_get l.offsets.items x.section.0)
 
-abbrev pub range_at : Laying → PartPlace → Option FileRange
+abbrev pub range_at : LinkLayout → PartPlace → Option FileRange
 range_at l x = option_and_then (range_in l x) (slice_get l.placement.sections x.section.0)
 
 abbrev pub standing_with : PartPlace → FileRange → Standing
 standing_with x range = record { start = x.start; size = x.size; range = range }
 
-abbrev pub standing_of : Laying → PartPlace → Option Standing
+abbrev pub standing_of : LinkLayout → PartPlace → Option Standing
 standing_of l x = option_map (standing_with x) (range_at l x)
 
 unfoldable pub standing_in : Arranged → SectionKey → Option Standing
-standing_in x k = option_and_then (standing_of x.laying) (place_in x k)
+standing_in x k = option_and_then (standing_of x.link_layout) (place_in x k)
 
 abbrev pub same_standing : Standing → Standing → Bool
 same_standing a b =

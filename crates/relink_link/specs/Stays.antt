@@ -12,7 +12,7 @@ use Rattle.ldmodel.specs.Stayed.{GoodLink}
 use Rattle.ldmodel.specs.declared.names.ObjectPlace.{ObjectPlace}
 use Rattle.ldmodel.specs.declared.sections.Part.{Part}
 use Rattle.ldmodel.specs.declared.sections.SectionKey.{SectionKey}
-use Rattle.symres.specs.Naming.{NamingState}
+use Rattle.symres.specs.SymbolTable.{SymbolTableState}
 use Rattle.place.specs.Arranged.{IsArranged}
 use Rattle.place.specs.declared.arranged.Arranged.{Arranged}
 use Rattle.emit.specs.relocate.KnownLink.{KnownLink}
@@ -23,9 +23,9 @@ use Rattle.emit.specs.values.LinkView.{known_link}
 use Rattle.relink_link.specs.Marks.{AreMarks}
 use Rattle.relink_link.specs.Origins.{AreOrigins}
 use Rattle.relink_link.specs.Standing.{same_standing, standing_in}
-use Rattle.emit.specs.relocate.SymbolTable.{value_at}
+use Rattle.emit.specs.relocate.SymbolValues.{value_at}
 use Rattle.relink_link.specs.Table.{IsTable}
-use Rattle.relink_link.specs.declared.good.Good.{Good}
+use Rattle.relink_link.specs.declared.link_state.LinkState.{LinkState}
 use Rattle.relink_link.specs.declared.standing.Standing.{Standing}
 use Rattle.relink_link.specs.declared.stays.Last.{Last}
 use Rattle.relink_link.specs.declared.stays.Replaced.{Replaced}
@@ -43,7 +43,7 @@ replaced_state x = record { old = x.old; object = x.object.now; new = x.new }
 -- an earlier link without faults, how many objects it has, which of them are still there, which one was replaced, and
 -- whether it is the one that is answered
 pub record LastState : Type 0 where
-  pub good : Good
+  pub good : LinkState
   pub objects : ℕ
   pub from : List (Option ℕ)
   pub same_script : Bool
@@ -118,8 +118,8 @@ pub record IsLastOf (old : GoodLink) (new : Project) (x : LastState) : Type 0 wh
 
 -- the new link, at a layout whose image is not too long, and the earlier one, if there is one
 pub record AreStays (s : Stays) (old : GoodLink) (l : KnownLink) : Type 0 where
-  pub naming : NamingState
-  pub link : l ≡ known_link l.project l.layout naming
+  pub symbol_table : SymbolTableState
+  pub link : l ≡ known_link l.project l.layout symbol_table
   pub names : AreNamesDistinct l.project.objects
   pub arranged : IsArranged l.project l.layout s.arranged.now
   pub short : image_length l.project l.layout ≤ max_image_length

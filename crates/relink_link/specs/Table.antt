@@ -5,10 +5,10 @@ use Rattle.ldmodel_laws.specs.Untouched.{IsGood}
 use Rattle.ldmodel.specs.Edits.{AreNamesDistinct}
 use Rattle.ldmodel.specs.Link as model
 use Rattle.place.specs.Arranged.{IsArranged}
-use Rattle.emit.specs.relocate.SymbolTable.{AreSymbolValues}
-use Rattle.relink_link.specs.declared.good.Good.{Good}
+use Rattle.emit.specs.relocate.SymbolValues.{AreSymbolValues}
+use Rattle.relink_link.specs.declared.link_state.LinkState.{LinkState}
 
-pub record IsTable (l : GoodLink) (g : Good) : Type 0 where
+pub record IsTable (l : GoodLink) (g : LinkState) : Type 0 where
   pub good : IsGood l
   pub names : AreNamesDistinct l.project.objects
   pub arranged : IsArranged l.project l.layout g.arranged

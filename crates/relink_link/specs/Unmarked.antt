@@ -1,11 +1,11 @@
 -- An object whose symbols have the values that they had in an earlier link.
 use Rattle.std.specs.Prelude.{◌≡◌, ◌<◌, ℕ, Option, Some, None}
 use Rattle.relink_link.specs.Stays.{LastState, last_place}
-use Rattle.emit.specs.relocate.SymbolTable.{value_at}
-use Rattle.emit.specs.relocate.declared.symbol_table.SymbolTable.{SymbolTable}
+use Rattle.emit.specs.relocate.SymbolValues.{value_at}
+use Rattle.emit.specs.relocate.declared.symbol_values.SymbolValues.{SymbolValues}
 
 -- it stood in the earlier link, and this number of its first symbols had the same values there
-abbrev pub IsUnmarked : Option LastState → SymbolTable → (place count : ℕ) → Type 0
+abbrev pub IsUnmarked : Option LastState → SymbolValues → (place count : ℕ) → Type 0
 IsUnmarked None symbols place count = ⊥
 IsUnmarked (Some x) symbols place count =
     (from : ℕ) × (last_place x (record { 0 = place }) ≡ Some from)

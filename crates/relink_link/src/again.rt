@@ -4,21 +4,21 @@ ghost use Rattle.std.specs.Prelude.{◌≡◌, IfErr, IfOk, IfSome, OnErr, OnOk,
 ghost use Rattle.gather.specs.ProjectMatches.{AreMatched};
 ghost use Rattle.relink_link.specs.Stays.{last_of};
 ghost use Rattle.ldmodel.specs.Link.{link};
-ghost use Rattle.symres.specs.Naming.{IsNaming};
+ghost use Rattle.symres.specs.SymbolTable.{IsSymbolTable};
 ghost use Rattle.relink_link.specs.Ended.{HasEnded, HasLast};
 ghost use Rattle.relink_link.specs.Lent.{IsLent, project_of};
 ghost use Rattle.relink_link.specs.Reads.{EndsReadingNothing, ReadsNothing};
 ghost use Rattle.relink_link.specs.Stops.{IsStop};
 ghost use Rattle.relink_link.specs.Worked.{HasWorked};
 
-use crate::good::Good;
 use crate::lent::Lent;
+use crate::link_state::LinkState;
 use crate::marks::marks_of;
 use crate::passes::{asserted, drawn, gathered, laid, named, relocated, valued};
 use crate::retouch::retouched;
 use crate::stays::{Last, Stays};
 use crate::stop::Stop;
-use crate::symbol_table::symbol_values;
+use crate::symbol_values::symbol_values;
 use emit::values::given::GivenValues;
 use emit::values::link_view::LinkView;
 use emit::{Canvas, map_text};
@@ -29,7 +29,7 @@ use ldmodel::meter::Meter;
 use ldmodel_project::view::ProjectView;
 use place::arranged::Arranged;
 use std::alloc::{AllocError, Global};
-use symres::Naming;
+use symres::SymbolTable;
 
 /// How a link over an earlier one ends.
 #[derive(Drop)]
@@ -37,7 +37,7 @@ pub enum Ended {
     /// The project has faults, and these are their lines.
     Faulty(Vec<u8>),
     /// It has none: what is kept of the link, and its map.
-    Good(Good, Vec<u8>),
+    Good(LinkState, Vec<u8>),
     /// It has none, and differs from the earlier link in what the input sections of one object hold: the image is the
     /// new one; the map, and what is kept of the earlier link, are right for this one.
     Retouched,
@@ -58,17 +58,17 @@ fn relinked(lent: Lent<'_, '_>, canvas: &mut Canvas, meter: &mut Meter) -> Resul
     let Lent {
         alloc,
         project,
-        naming,
+        symbol_table,
         last,
         ..
     } = lent;
     named(lent)?;
     let Gathering { table, rows, .. } = gathered(lent)?;
-    let laying = laid(lent, &rows, meter)?;
-    let arranged = Arranged::of(alloc, project, table, rows, laying)?;
-    let given = GivenValues::of(alloc, &*project, &*naming, &arranged.laying)?;
-    let view = LinkView::new(alloc, &*project, &*naming, &arranged, &given)?;
-    let values = valued(lent, &arranged.laying, &view, &given)?;
+    let link_layout = laid(lent, &rows, meter)?;
+    let arranged = Arranged::of(alloc, project, table, rows, link_layout)?;
+    let given = GivenValues::of(alloc, &*project, &*symbol_table, &arranged.link_layout)?;
+    let view = LinkView::new(alloc, &*project, &*symbol_table, &arranged, &given)?;
+    let values = valued(lent, &arranged.link_layout, &view, &given)?;
     let symbols = symbol_values(alloc, project, &view, &values.names)?;
     let marks = marks_of(alloc, project, last, &symbols)?;
     let stays = Stays {
@@ -78,12 +78,18 @@ fn relinked(lent: Lent<'_, '_>, canvas: &mut Canvas, meter: &mut Meter) -> Resul
     };
     let fields = relocated(lent, &stays, &view, &values, &symbols, meter)?;
     asserted(lent, &stays, &values, &fields)?;
-    let map = map_text(alloc, project, &arranged.rows, &arranged.laying, &values)?;
+    let map = map_text(
+        alloc,
+        project,
+        &arranged.rows,
+        &arranged.link_layout,
+        &values,
+    )?;
     // the last pass that may fail, since it changes the canvas
     drawn(lent, canvas, &stays, &values, &fields, meter)?;
     // what lends a table goes before the table is kept
     drop(view);
-    Ok(Ended::Good(Good { arranged, symbols }, map))
+    Ok(Ended::Good(LinkState { arranged, symbols }, map))
 }
 
 /// Links a project over names that are decided, matches that are found, and an earlier link, if there is one, whose
@@ -104,13 +110,13 @@ fn relinked(lent: Lent<'_, '_>, canvas: &mut Canvas, meter: &mut Meter) -> Resul
 pub fn relink(
     alloc: Global,
     project: &ProjectView<'_>,
-    naming: &Naming,
+    symbol_table: &SymbolTable,
     matches: &[&Matches],
     last: Option<Last<'_>>,
     canvas: &mut Canvas,
     meter: &mut Meter,
 ) -> Result<Ended, NoMemory>
-    requires naming { IsNaming project.now naming.now }
+    requires symbol_table { IsSymbolTable project.now symbol_table.now }
     requires matches { AreMatched project.now (map (λ x. x.now) matches.now) }
     requires last { IfSome (last_of last) (HasLast project.now canvas.old.bytes) }
     ensures ended { IfOk result (HasEnded project.now (last_of last.entry) canvas.old.bytes canvas.new.bytes) }
@@ -121,7 +127,7 @@ pub fn relink(
     let lent = Lent {
         alloc,
         project,
-        naming,
+        symbol_table,
         matches,
         last,
     };

@@ -41,5 +41,5 @@ pub fn resumed<'a>(
     }
     let before = &last.good.arranged;
     let first = first_changed(&last, project, &before.rows, rows);
-    Some((&before.laying.placement, first))
+    Some((&before.link_layout.placement, first))
 }

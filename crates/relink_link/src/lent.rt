@@ -4,7 +4,7 @@ use crate::stays::Last;
 use gather::matches::Matches;
 use ldmodel_project::view::ProjectView;
 use std::alloc::Global;
-use symres::Naming;
+use symres::SymbolTable;
 
 /// What each pass of a link is lent.
 #[derive(Clone, Copy)]
@@ -14,7 +14,7 @@ pub(crate) struct Lent<'a, 'p> {
     /// The project.
     pub project: &'a ProjectView<'p>,
     /// Its names, which are decided.
-    pub naming: &'a Naming,
+    pub symbol_table: &'a SymbolTable,
     /// The statements that take the sections of each of its objects.
     pub matches: &'a [&'a Matches],
     /// The earlier link, if there is one.

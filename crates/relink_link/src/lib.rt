@@ -3,11 +3,11 @@
 //!
 //! - `again` over `passes`, `lent`, `stop`: the engine: a link over names and matches that are given, and an earlier
 //!   link;
-//! - `good`: what is kept of a link; `stays`: which input sections stayed where it has them, as `emit_relocate` asks
+//! - `link_state`: what is kept of a link; `stays`: which input sections stayed where it has them, as `emit_relocate` asks
 //!   it; `first` over `same` and `names`: the first row that differs; `marks`: objects with a symbol of another value;
 //! - `retouch` over `outline`, `spots`: a link that differs from the earlier one in what the input sections of one
 //!   object hold;
-//! - `symbol_table`, `standing`: what symbols are worth, and where a section stands in memory and in the file;
+//! - `symbol_values`, `standing`: what symbols are worth, and where a section stands in memory and in the file;
 //! - `link`, `output`: a link from scratch; `plain`: `Plain`, the linker that links from scratch after every edit;
 //! - `files_link` over `file`, `fault`, `ending`: a link of files: a script and objects become a project, which is
 //!   linked once; its exit status, and its text on standard error.
@@ -19,9 +19,9 @@ pub mod fault;
 pub mod file;
 pub mod files_link;
 pub mod first;
-pub mod good;
 mod lent;
 mod link;
+pub mod link_state;
 pub mod marks;
 mod names;
 mod outline;
@@ -34,7 +34,7 @@ mod spots;
 mod standing;
 pub mod stays;
 mod stop;
-pub mod symbol_table;
+pub mod symbol_values;
 
 // what a link is drawn on: who keeps links names no more of `emit`
 pub use emit::Canvas;

@@ -12,7 +12,7 @@ use ldmodel::meter::Meter;
 use ldmodel_project::view::ProjectView;
 use std::alloc::{AllocError, Global};
 use std::hash::RandomState;
-use symres::Naming;
+use symres::SymbolTable;
 
 /// Links a project from scratch: over names and matches of its own, and no earlier link.
 ///
@@ -27,11 +27,19 @@ pub(crate) fn link(
 ) -> Result<Output, NoMemory>
     ensures { IfOk result (λ o. o ≡ link project.now) }
 {
-    let naming = Naming::of(alloc, seed, project.inputs(), project.script(), meter)?;
+    let symbol_table = SymbolTable::of(alloc, seed, project.inputs(), project.script(), meter)?;
     let matches = match_all(alloc, project)?;
     let lent = lend_all(alloc, &matches)?;
     let mut image = Canvas::new(alloc);
-    match relink(alloc, project, &naming, &lent, None, &mut image, meter) {
+    match relink(
+        alloc,
+        project,
+        &symbol_table,
+        &lent,
+        None,
+        &mut image,
+        meter,
+    ) {
         Ok(Ended::Good(_kept, map)) => Ok(Output::good(alloc, image, map)),
         Ok(Ended::Faulty(lines)) => Ok(Output::faulty(alloc, lines)),
         // there is no earlier link

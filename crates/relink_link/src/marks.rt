@@ -3,14 +3,14 @@
 ghost use Rattle.std.specs.Prelude.{◌≡◌, ℕ, IfOk, IfSome, false, slice_index_or, true};
 ghost use Rattle.relink_link.specs.Marks.{AreMarks};
 ghost use Rattle.relink_link.specs.Stays.{IsLastOf, last_of};
-ghost use Rattle.emit.specs.relocate.SymbolTable.{AreSymbolValues};
+ghost use Rattle.emit.specs.relocate.SymbolValues.{AreSymbolValues};
 ghost use Rattle.relink_link.specs.Unmarked.{IsUnmarked};
 ghost use Rattle.ldmodel.specs.Layout.{Layout};
 ghost use Rattle.ldmodel.specs.Stayed.{GoodLink};
 ghost use Rattle.emit.specs.relocate.declared.value.SymbolValue.TheVariants.{NotDefined};
 
 use crate::stays::Last;
-use crate::symbol_table::SymbolTable;
+use crate::symbol_values::SymbolValues;
 use emit::relocate::value::SymbolValue;
 use ldmodel::memory::NoMemory;
 use ldmodel::names::ObjectPlace;
@@ -35,7 +35,7 @@ fn have_same_values(old: &[SymbolValue], new: &[SymbolValue]) -> bool
 /// Whether an object of a link, which has `count` symbols, is no object of the last one, or one of its symbols had
 /// another value there.
 #[tactic(auto, using(crate::proofs::Unmarked::unmarked_by_rows))]
-fn is_marked(last: Option<Last<'_>>, symbols: &SymbolTable, place: usize, count: usize) -> bool
+fn is_marked(last: Option<Last<'_>>, symbols: &SymbolValues, place: usize, count: usize) -> bool
     ensures { result ≡ false → IsUnmarked (last_of last.entry) symbols.now place count }
 {
     let Some(last) = last else {
@@ -60,7 +60,7 @@ pub fn marks_of(
     alloc: Global,
     project: &ProjectView<'_>,
     last: Option<Last<'_>>,
-    symbols: &SymbolTable,
+    symbols: &SymbolValues,
 ) -> Result<Vec<bool>, NoMemory>
     ensures { IfOk result (λ marks. (old : GoodLink) (s : Layout)
         → IfSome (last_of last.entry) (IsLastOf old project.now)

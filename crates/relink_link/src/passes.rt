@@ -3,8 +3,8 @@
 ghost use Rattle.std.specs.Prelude.{◌≡◌, IfErr, IfOk, IfSome, OnErr, OnOk, map};
 ghost use Rattle.gather.specs.Gathering.{IsGathering};
 ghost use Rattle.relink_link.specs.Stays.{last_of};
-ghost use Rattle.emit.specs.relocate.SymbolTable.{AreSymbolValues};
-ghost use Rattle.place.specs.Laying.{HasLayout, IsLaying};
+ghost use Rattle.emit.specs.relocate.SymbolValues.{AreSymbolValues};
+ghost use Rattle.place.specs.LinkLayout.{HasLayout, IsLinkLayout};
 ghost use Rattle.ldmodel.specs.Layout.{Layout};
 ghost use Rattle.ldmodel.specs.Link.{gathering_faults, layout, link, placed, unless};
 ghost use Rattle.ldmodel.specs.Rows as model;
@@ -23,7 +23,7 @@ use crate::first::resumed;
 use crate::lent::Lent;
 use crate::stays::Stays;
 use crate::stop::{Stop, end_if_faulty};
-use crate::symbol_table::SymbolTable;
+use crate::symbol_values::SymbolValues;
 use emit::drawing::draw_image;
 use emit::good::is_good;
 use emit::length::image_length;
@@ -40,8 +40,8 @@ use ldmodel::meter::Meter;
 use ldmodel::rows::Piece;
 use ldmodel::sections::SectionKey;
 use ldmodel_laws::layout::placed_are_rows;
-use place::laying::{LayFault, Laying};
 use place::length::length_fault;
+use place::link_layout::{LayoutFault, LinkLayout};
 use std::alloc::Global;
 
 /// Names: no fault of names ends the link.
@@ -53,7 +53,7 @@ pub(crate) fn named(lent: Lent<'_, '_>) -> Result<(), Stop>
         (placed (project_of lent.entry) (layout (project_of lent.entry)))) }
     ensures stop { IfErr result (λ stop. IsStop (link (project_of lent.entry)) stop) }
 {
-    let faults = lent.naming.faults(lent.alloc, lent.project)?;
+    let faults = lent.symbol_table.faults(lent.alloc, lent.project)?;
     match end_if_faulty(lent.alloc, lent.project, &faults) {
         Ok(()) => Ok(()),
         Err(stop) => Err(stop),
@@ -81,7 +81,7 @@ pub(crate) fn gathered(lent: Lent<'_, '_>) -> Result<Gathering, Stop>
         ≡ placed (project_of lent.entry) (layout (project_of lent.entry))) }
     ensures stop { IfErr result (λ stop. IsStop (link (project_of lent.entry)) stop) }
 {
-    let gathering = Gathering::of(lent.alloc, lent.project, lent.naming, lent.matches)?;
+    let gathering = Gathering::of(lent.alloc, lent.project, lent.symbol_table, lent.matches)?;
     let faults = orphan_faults(lent.alloc, &gathering.orphans)?;
     match end_if_faulty(lent.alloc, lent.project, &faults) {
         Ok(()) => Ok(gathering),
@@ -95,12 +95,12 @@ pub(crate) fn laid(
     lent: Lent<'_, '_>,
     rows: &[Vec<Piece>],
     meter: &mut Meter,
-) -> Result<Laying, Stop>
+) -> Result<LinkLayout, Stop>
     requires lent { IsLent lent }
     requires rows { rows_in (project_of lent) rows.now ≡ model.rows (project_of lent) }
     requires rest { link (project_of lent) ≡ placed (project_of lent) (layout (project_of lent)) }
     requires last { IfSome (last_of lent.last) (HasOld (project_of lent)) }
-    ensures good { IfOk result (λ laying. HasLayout (project_of lent.entry) laying) }
+    ensures good { IfOk result (λ link_layout. HasLayout (project_of lent.entry) link_layout) }
     ensures stop { IfErr result (λ stop. IsStop (link (project_of lent.entry)) stop) }
     ensures reads { ReadsNothing meter.old meter.new }
     ensures counted { OnOk result
@@ -110,10 +110,17 @@ pub(crate) fn laid(
     // so that the range of the count is known
     let _pieces = meter.pieces();
     let kept = resumed(lent.last, lent.project, rows);
-    match Laying::of(lent.alloc, lent.project, lent.naming, rows, kept, meter) {
-        Ok(laying) => Ok(laying),
-        Err(LayFault::NoMemory) => Err(Stop::NoMemory),
-        Err(LayFault::Faulty(faults)) => {
+    match LinkLayout::of(
+        lent.alloc,
+        lent.project,
+        lent.symbol_table,
+        rows,
+        kept,
+        meter,
+    ) {
+        Ok(link_layout) => Ok(link_layout),
+        Err(LayoutFault::NoMemory) => Err(Stop::NoMemory),
+        Err(LayoutFault::Faulty(faults)) => {
             let lines = fault_text(lent.alloc, lent.project, &faults)?;
             Err(Stop::Faulty(lines))
         }
@@ -123,15 +130,15 @@ pub(crate) fn laid(
 /// The end of layout: the image is not too long.
 fn fits(
     lent: Lent<'_, '_>,
-    laying: &Laying,
+    link_layout: &LinkLayout,
     view: &LinkView<'_, '_>,
     values: &Values<'_>,
 ) -> Result<(), Stop>
-    requires { IsPlaced (project_of lent) laying.now view.now values.now }
-    ensures good { OnOk result (IsShort (project_of lent.entry) laying.now view.now values.now) }
+    requires { IsPlaced (project_of lent) link_layout.now view.now values.now }
+    ensures good { OnOk result (IsShort (project_of lent.entry) link_layout.now view.now values.now) }
     ensures stop { IfErr result (λ stop. IsStop (link (project_of lent.entry)) stop) }
 {
-    let length = image_length(lent.alloc, lent.project, laying, values)?;
+    let length = image_length(lent.alloc, lent.project, link_layout, values)?;
     match length_fault(length) {
         None => Ok(()),
         Some(fault) => {
@@ -144,18 +151,18 @@ fn fits(
 /// Values: what the symbols are worth, and so the length of the image.
 pub(crate) fn valued<'a>(
     lent: Lent<'a, '_>,
-    laying: &Laying,
+    link_layout: &LinkLayout,
     view: &LinkView<'_, '_>,
     given: &GivenValues<'a>,
 ) -> Result<Values<'a>, Stop>
     requires lent { IsLent lent }
-    requires given { IsGiven (project_of lent) lent.naming.now laying.now given.now }
-    requires known { IsKnown (project_of lent) lent.naming.now laying.now view.now }
-    ensures good { IfOk result (λ values. IsShort (project_of lent.entry) laying.now view.now values) }
+    requires given { IsGiven (project_of lent) lent.symbol_table.now link_layout.now given.now }
+    requires known { IsKnown (project_of lent) lent.symbol_table.now link_layout.now view.now }
+    ensures good { IfOk result (λ values. IsShort (project_of lent.entry) link_layout.now view.now values) }
     ensures stop { IfErr result (λ stop. IsStop (link (project_of lent.entry)) stop) }
 {
-    let values = Values::of(lent.alloc, lent.project, lent.naming, view, given)?;
-    fits(lent, laying, view, &values)?;
+    let values = Values::of(lent.alloc, lent.project, lent.symbol_table, view, given)?;
+    fits(lent, link_layout, view, &values)?;
     Ok(values)
 }
 
@@ -165,12 +172,12 @@ pub(crate) fn relocated(
     stays: &Stays<'_>,
     view: &LinkView<'_, '_>,
     values: &Values<'_>,
-    symbols: &SymbolTable,
+    symbols: &SymbolValues,
     meter: &mut Meter,
 ) -> Result<Relocated, Stop>
-    requires short { IsShort (project_of lent) stays.now.arranged.now.laying view.now values.now }
+    requires short { IsShort (project_of lent) stays.now.arranged.now.link_layout view.now values.now }
     requires beside { IsBeside (project_of lent) stays.now }
-    requires symbols { (s : Layout) → IsLaying (project_of lent) s stays.now.arranged.now.laying
+    requires symbols { (s : Layout) → IsLinkLayout (project_of lent) s stays.now.arranged.now.link_layout
         → AreSymbolValues (project_of lent) s symbols.now }
     ensures good { IfOk result (λ r. IsFilled (project_of lent.entry) stays.now values.now r) }
     ensures stop { IfErr result (λ stop. IsStop (link (project_of lent.entry)) stop) }
@@ -179,7 +186,7 @@ pub(crate) fn relocated(
     ensures early { IfErr result (λ stop. EndsReadingNothing meter.old meter.new stop) }
 {
     stays.is_complete();
-    is_good(lent.project, &stays.arranged.laying);
+    is_good(lent.project, &stays.arranged.link_layout);
     // so that what a project says of its objects is known
     let _inputs = lent.project.inputs();
     // so that the range of the count is known
@@ -210,7 +217,12 @@ pub(crate) fn asserted(
     ensures good { OnOk result (IsFaultless (project_of lent.entry) stays.now values.now fields.now) }
     ensures stop { IfErr result (λ stop. IsStop (link (project_of lent.entry)) stop) }
 {
-    let faults = assertion_faults(lent.alloc, lent.project, &stays.arranged.laying, values)?;
+    let faults = assertion_faults(
+        lent.alloc,
+        lent.project,
+        &stays.arranged.link_layout,
+        values,
+    )?;
     match end_if_faulty(lent.alloc, lent.project, &faults) {
         Ok(()) => Ok(()),
         Err(stop) => Err(stop),

@@ -121,7 +121,7 @@ fn touched(
     // so that what a project says of its objects is known
     let _inputs = lent.project.inputs();
     let arranged = &last.good.arranged;
-    is_good(lent.project, &arranged.laying);
+    is_good(lent.project, &arranged.link_layout);
     let Some(object) = lent.project.object(replaced.new) else {
         // the object in whose place it came was compared with it
         return Err(impossible());

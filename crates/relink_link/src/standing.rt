@@ -4,9 +4,9 @@ ghost use Rattle.std.specs.Prelude.{◌≡◌};
 ghost use Rattle.relink_link.specs.Standing.{range_at, range_from, standing_in};
 
 use emit::relocate::earlier::FileRange;
-use ldmodel::laid::Placed;
+use ldmodel::placed::Placed;
 use ldmodel::sections::SectionKey;
-use place::Laying;
+use place::LinkLayout;
 use place::arranged::{Arranged, PartPlace};
 
 /// Where an input section stands.
@@ -42,12 +42,12 @@ fn range_from(section: &Placed, offset: u128, start: u64, size: u64) -> Option<F
 }
 
 /// Where the bytes of an input section in its place stand in the file; none where they begin past 2^64.
-fn range_at(laying: &Laying, place: PartPlace) -> Option<FileRange>
-    ensures { result ≡ range_at laying.now place }
+fn range_at(link_layout: &LinkLayout, place: PartPlace) -> Option<FileRange>
+    ensures { result ≡ range_at link_layout.now place }
 {
     let number = place.section.0 as usize;
-    let section = laying.placement.sections().get(number)?;
-    let offset = laying.offsets.get(number)?;
+    let section = link_layout.placement.sections().get(number)?;
+    let offset = link_layout.offsets.get(number)?;
     range_from(section, *offset, place.start, place.size)
 }
 
@@ -57,7 +57,7 @@ pub(crate) fn find_standing(arranged: &Arranged, section: SectionKey) -> Option<
     ensures { result ≡ standing_in arranged.now section }
 {
     let place = arranged.find(section)?;
-    let range = range_at(&arranged.laying, place)?;
+    let range = range_at(&arranged.link_layout, place)?;
     Some(Standing {
         start: place.start,
         size: place.size,

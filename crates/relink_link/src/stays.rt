@@ -7,7 +7,7 @@ ghost use Rattle.emit.specs.relocate.Earlier.{IsComplete};
 ghost use Rattle.emit.specs.relocate.KnownLink.{KnownLink};
 ghost use Rattle.relink_link.specs.Stays.{AreStays, last_standing, last_state, last_value, range_of};
 
-use crate::good::Good;
+use crate::link_state::LinkState;
 use crate::standing::{Standing, find_standing};
 use elfobj::relocation::SymbolIndex;
 use elfobj::{Object, Symbol};
@@ -34,7 +34,7 @@ pub struct Replaced<'a> {
 #[derive(Clone, Copy)]
 pub struct Last<'a> {
     /// What is kept of that link.
-    pub good: &'a Good,
+    pub good: &'a LinkState,
     /// How many objects it has.
     pub objects: usize,
     /// For each object of the new link, by its place, the place in the earlier one.

@@ -49,7 +49,7 @@ use Rattle.symres.specs.Decided.{HasCase, case_at}
 use Rattle.symres.specs.Entered.{tables_of}
 use Rattle.symres.specs.Duplicates.{AreFound, Begins, IsDoubled, IsTableAt, by_place, declared_by, definer_before}
 use Rattle.symres.specs.Duplicates.{faults_of, first_entry, is_doubled, is_seen, strongs}
-use Rattle.symres.specs.Naming.{IsNameAt, IsNaming, IsSeenAt, NamingState}
+use Rattle.symres.specs.SymbolTable.{IsNameAt, IsSymbolTable, IsSeenAt, SymbolTableState}
 use Rattle.symres.proofs.Entering.{Table, length-tables, symbols_of, table_at}
 
 -- ---- strong definitions
@@ -328,14 +328,14 @@ some_at [] i h = absurd (omega (arith, h))
 some_at (x ∷ xs) zero h = (x, refl)
 some_at (x ∷ xs) (suc i) h = some_at xs i (omega (arith, h))
 
-symbols_at : (p : Project) (a : NamingState) (place : ℕ) (symbols : List NamedSymbol) → IsNaming p a
+symbols_at : (p : Project) (a : SymbolTableState) (place : ℕ) (symbols : List NamedSymbol) → IsSymbolTable p a
     → IsTableAt a.objects place symbols
     → (o : NamedObject) × (slice_get p.objects place ≡ Some o) × (o.object.symbols ≡ symbols)
-symbols_at p a place symbols naming table =
+symbols_at p a place symbols symbol_table table =
     let many : length (enumerate_from 0 (symbol_tables p.objects)) ≡ length p.objects =
     length-enumerate_from 0 (symbol_tables p.objects) ∙ length-map p.objects (λ (o : NamedObject). o.object.symbols) in
     let within : place < length p.objects =
-    subst (λ (n : ℕ). place < n) (ap length naming.objects ∙ many) table.within in
+    subst (λ (n : ℕ). place < n) (ap length symbol_table.objects ∙ many) table.within in
     let object = some_at p.objects place within in
     let t : Table = (0, []) in
     let at : get_or (symbol_tables p.objects) place t.1 ≡ object.0.object.symbols =
@@ -344,15 +344,15 @@ symbols_at p a place symbols naming table =
     let inside : place < length (symbol_tables p.objects) =
     subst (λ (n : ℕ). place < n) (sym (length-map p.objects (λ (o : NamedObject). o.object.symbols))) within in
     let is : get_or a.objects place t ≡ (0 + place, get_or (symbol_tables p.objects) place t.1) =
-    ap (λ (ts : List Table). get_or ts place t) naming.objects
+    ap (λ (ts : List Table). get_or ts place t) symbol_table.objects
     ∙ get_or-enumerate_from 0 (symbol_tables p.objects) place t inside in
     (object.0, object.1, sym at ∙ (sym (ap (λ (u : Table). u.1) is) ∙ ap (λ (u : Table). u.1) (table.is t)))
 
-name_is : (p : Project) (a : NamingState) (place number : ℕ) (symbols : List NamedSymbol) (d : NamedSymbol)
-    → IsNaming p a → IsTableAt a.objects place symbols → number < length symbols
+name_is : (p : Project) (a : SymbolTableState) (place number : ℕ) (symbols : List NamedSymbol) (d : NamedSymbol)
+    → IsSymbolTable p a → IsTableAt a.objects place symbols → number < length symbols
     → name_of_symbol p place number ≡ (get_or symbols number d).name
-name_is p a place number symbols d naming table within =
-    let at = symbols_at p a place symbols naming table in
+name_is p a place number symbols d symbol_table table within =
+    let at = symbols_at p a place symbols symbol_table table in
     ap (λ (o : Option NamedObject).
     option_map_or (λ (s : NamedSymbol). s.name) (option_and_then (λ (x : NamedObject).
     slice_get x.object.symbols number) o) []) at.1
@@ -415,17 +415,17 @@ no_more p names ds place number s firsts faults none = go (is_local s.symbol.bin
         (λ b h. keeps_found p names ds (declaration place (number, s)) firsts faults b none h)
 
 -- a definition of a name that is defined twice
-pub one_more : (p : Project) (a : NamingState) (ds : List Declaration) (place number : ℕ) (symbols : List NamedSymbol)
+pub one_more : (p : Project) (a : SymbolTableState) (ds : List Declaration) (place number : ℕ) (symbols : List NamedSymbol)
     (d : NamedSymbol) (k : NameKey) (x : code_names.Entry) (old new : List (Option code_names.Entry))
     (faults faults' : List code.Fault) (name : List ℕ)
-    → IsNaming p a → IsTableAt a.objects place symbols → number < length symbols
+    → IsSymbolTable p a → IsTableAt a.objects place symbols → number < length symbols
     → IsDoubled p a.names (declaration place (number, get_or symbols number d)) (Some k) → AreDistinct a.names
     → k.0 < length old → x ≡ unwrap_or (get_or old k.0 None) (record { key = place; symbol = number })
     → new ≡ set old k.0 (Some x) → name ≡ (get_or symbols number d).name
     → faults' ≡ faults ++ faults_of (record { key = place; symbol = number })
     (definer_before (is_assigned p.script name) x (record { key = place; symbol = number }))
     → Steps p a.names ds old new faults faults' (declared_by place number (get_or symbols number d))
-one_more p a ds place number symbols d k x old new faults faults' name naming table within is differ inside first set'
+one_more p a ds place number symbols d k x old new faults faults' name symbol_table table within is differ inside first set'
     named more =
     let s : NamedSymbol = get_or symbols number d in
     let y : Declaration = declaration place (number, s) in
@@ -438,7 +438,7 @@ one_more p a ds place number symbols d k x old new faults faults' name naming ta
     let defines : Defines p ds y e x = record {
       begins = b;
       strong = is.0;
-      name = name_is p a place number symbols d naming table within;
+      name = name_is p a place number symbols d symbol_table table within;
       entry = refl;
       first = λ ys.
           first_of_all (strongs y.name ds) ys y ∙ ap (λ (z : Entry). Some z) (sym noted);
@@ -477,34 +477,34 @@ case_duplicate case.Provided h = absurd (cc)
 case_duplicate case.Undefined h = absurd (cc)
 case_duplicate case.Duplicate h = refl
 
-named_at : (a : NamingState) (place number k : ℕ) (symbols : List NamedSymbol) (d : NamedSymbol)
+named_at : (a : SymbolTableState) (place number k : ℕ) (symbols : List NamedSymbol) (d : NamedSymbol)
     → IsTableAt a.objects place symbols → IsNameAt a place number k → IsNamed a.names k (get_or symbols number d).name
 named_at a place number k symbols d table named =
     subst (λ (u : Table). IsNamed a.names k (get_or u.1 number d).name) (table.is (place, symbols))
     (named (place, symbols) d)
 
-pub doubled : (p : Project) (a : NamingState) (place number : ℕ) (k : NameKey) (symbols : List NamedSymbol)
-    (d : NamedSymbol) → IsNaming p a → IsTableAt a.objects place symbols
+pub doubled : (p : Project) (a : SymbolTableState) (place number : ℕ) (k : NameKey) (symbols : List NamedSymbol)
+    (d : NamedSymbol) → IsSymbolTable p a → IsTableAt a.objects place symbols
     → is_strong (declaration place (number, get_or symbols number d)) ≡ true → IsNameAt a place number k.0
     → is_doubled (case_at a.cases k.0) ≡ true
     → IsDoubled p a.names (declaration place (number, get_or symbols number d)) (Some k)
-doubled p a place number k symbols d naming table strong named twice =
+doubled p a place number k symbols d symbol_table table strong named twice =
     let name : IsNamed a.names k.0 (get_or symbols number d).name =
     named_at a place number k.0 symbols d table named in (
       strong,
       name,
-      sym ((naming.sound k.0 case.Duplicate (duplicate_case (case_at a.cases k.0) twice)).case
+      sym ((symbol_table.sound k.0 case.Duplicate (duplicate_case (case_at a.cases k.0) twice)).case
           (get_or symbols number d).name name),
     )
 
-pub not_doubled : (p : Project) (a : NamingState) (place number : ℕ) (k : ℕ) (symbols : List NamedSymbol)
-    (d : NamedSymbol) → IsNaming p a → IsTableAt a.objects place symbols → IsNameAt a place number k
+pub not_doubled : (p : Project) (a : SymbolTableState) (place number : ℕ) (k : ℕ) (symbols : List NamedSymbol)
+    (d : NamedSymbol) → IsSymbolTable p a → IsTableAt a.objects place symbols → IsNameAt a place number k
     → HasCase a.cases k → is_doubled (case_at a.cases k) ≡ false
     → IsDoubled p a.names (declaration place (number, get_or symbols number d)) None
-not_doubled p a place number k symbols d naming table named has once strong twice =
+not_doubled p a place number k symbols d symbol_table table named has once strong twice =
     let name : IsNamed a.names k (get_or symbols number d).name = named_at a place number k symbols d table named in
     let is : is_doubled (Some has.0) ≡ true =
-    case_duplicate has.0 ((naming.sound k has.0 has.1).case (get_or symbols number d).name name ∙ twice) in
+    case_duplicate has.0 ((symbol_table.sound k has.0 has.1).case (get_or symbols number d).name name ∙ twice) in
     true≢false (sym is ∙ (sym (ap is_doubled has.1) ∙ once))
 
 -- ---- the symbols of an object
@@ -612,12 +612,12 @@ unfolding declarations_of
 declarations-append ts us = flat_map-append declarations_in ts us
 
 -- the table of an object of the project
-pub is_table_at : (p : Project) (a : NamingState) (inputs : List InputObject) (i : ℕ) (x : InputObject) → IsNaming p a
+pub is_table_at : (p : Project) (a : SymbolTableState) (inputs : List InputObject) (i : ℕ) (x : InputObject) → IsSymbolTable p a
     → shown_inputs inputs ≡ p.objects → i < length inputs → get_or inputs i x ≡ x
     → IsTableAt a.objects i x.object.now.symbols
-is_table_at p a inputs i x naming same within here =
+is_table_at p a inputs i x symbol_table same within here =
     let tables : a.objects ≡ tables_of inputs =
-    naming.objects ∙ sym (ap (λ (os : List NamedObject). enumerate_from 0 (symbol_tables os)) same) in
+    symbol_table.objects ∙ sym (ap (λ (os : List NamedObject). enumerate_from 0 (symbol_tables os)) same) in
     record {
       within = subst (λ (n : ℕ). i < n) (sym (ap length tables ∙ length-tables inputs)) within;
       is = λ t.

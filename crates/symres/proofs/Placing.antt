@@ -21,7 +21,7 @@ use Rattle.symres_table.specs.State.{HasName, IsNamed, entries_of}
 use Rattle.symres_decisions.specs.Decided.{HasCase, case_at, decision_in}
 use Rattle.symres_decisions.specs.Decisions.{AreKept, DecisionsState, IsCaseNamed}
 use Rattle.symres.specs.Keyed.{HasKey}
-use Rattle.symres.specs.Naming.{IsNameAt, IsNaming, IsSeenAt, state_of}
+use Rattle.symres.specs.SymbolTable.{IsNameAt, IsSymbolTable, IsSeenAt, state_of}
 use Rattle.symres.specs.Placed.{by_place, keys_of, place_case}
 use Rattle.symres.proofs.Entering.{Table, seconds}
 
@@ -60,11 +60,11 @@ named_by_place d order place number k within h t s =
     (sym (same_symbols d.names.objects place t within)) (h t s)
 
 -- the objects of a project
-pub same_tables : (p : Project) (d : DecisionsState) (order : List ℕ) → IsNaming p (state_of d order)
+pub same_tables : (p : Project) (d : DecisionsState) (order : List ℕ) → IsSymbolTable p (state_of d order)
     → map (λ (t : Table). t.1) d.names.objects ≡ symbol_tables p.objects
-same_tables p d order naming =
+same_tables p d order symbol_table =
     sym (seconds 0 (map (λ (t : Table). t.1) d.names.objects))
-    ∙ ap (map (λ (t : Table). t.1)) naming.objects ∙ seconds 0 (symbol_tables p.objects)
+    ∙ ap (map (λ (t : Table). t.1)) symbol_table.objects ∙ seconds 0 (symbol_tables p.objects)
 
 -- ---- cases
 
@@ -122,7 +122,7 @@ ByKeys p d name =
 -- kept cases of the objects of a project are what its names stand for
 pub kept_naming : (p : Project) (d : DecisionsState) (order : List ℕ) → keys_of d.names.objects ≡ order
     → ((name : List ℕ) → ByKeys p d name) → AreKept p.script d
-    → symbol_tables p.objects ≡ map (λ (t : Table). t.1) d.names.objects → IsNaming p (state_of d order)
+    → symbol_tables p.objects ≡ map (λ (t : Table). t.1) d.names.objects → IsSymbolTable p (state_of d order)
 kept_naming p d order keys by kept same = record {
   objects = ap (λ (ts : List (List NamedSymbol)). enumerate_from 0 ts) (sym same);
   sound = λ k c h.
@@ -140,18 +140,18 @@ kept_naming p d order keys by kept same = record {
 
 -- the case of any name
 pub named_decision : (p : Project) (script : List Statement) (d : DecisionsState) (order name : List ℕ) (c : Case)
-    → keys_of d.names.objects ≡ order → ByKeys p d name → IsCaseNamed script d name c → IsNaming p (state_of d order)
+    → keys_of d.names.objects ≡ order → ByKeys p d name → IsCaseNamed script d name c → IsSymbolTable p (state_of d order)
     → p.script ≡ script → decision_of (λ key. key) (place_case order c) ≡ decision p name
-named_decision p script d order name c keys by (inl h) naming same =
-    (naming.sound h.0 (place_case order c) (some_placed (place_case order) d.cases h.0 c h.2)).case name h.1
-named_decision p script d order name c keys by (inr h) naming same =
+named_decision p script d order name c keys by (inl h) symbol_table same =
+    (symbol_table.sound h.0 (place_case order c) (some_placed (place_case order) d.cases h.0 c h.2)).case name h.1
+named_decision p script d order name c keys by (inr h) symbol_table same =
     decision_placed order c
     ∙ ap (renumbered_decision (place_or_0 order))
     (h.1 ∙ ap (decided (is_assigned script name) (is_provided script name)) (sym h.0)
     ∙ ap (λ (st : List Statement).
     decided (is_assigned st name) (is_provided st name) (entries_of name d.names.objects)) (sym same))
     ∙ ap (λ (ks : List ℕ). renumbered_decision (place_or_0 ks) (decision_in p.script d.names name)) (sym keys)
-    ∙ sym (by (sym (same_tables p d order naming)))
+    ∙ sym (by (sym (same_tables p d order symbol_table)))
 
 -- ---- keys of symbols
 

@@ -8,30 +8,30 @@ use Rattle.std.proofs.lemmas.List.{get_or-map, length-map, map-append, take_all}
 use Rattle.std.proofs.lemmas.List.Elements.{filter-append}
 use Rattle.std.proofs.lemmas.Option.{slice_get-get_or}
 use Rattle.std.specs.Option.{option_map_or}
-use Rattle.ldscript.specs.statements.Numbering.{AssignmentAt, CommonAt, common_commands, provided_by, provided_in}
-use Rattle.ldscript.specs.statements.Numbered.{shown_commons}
-use Rattle.ldscript.specs.statements.declared.common.Common.{Common}
-use Rattle.ldscript.specs.statements.declared.common.Common.TheVariants as common
-use Rattle.ldscript.specs.statements.declared.numbering.CommonAt as code
+use Rattle.ldscript.specs.statements.Numbering.{AssignmentAt, DirectiveAt, all_directives, provided_by, provided_in}
+use Rattle.ldscript.specs.statements.Numbered.{shown_directives}
+use Rattle.ldscript.specs.statements.declared.directive.Directive.{Directive}
+use Rattle.ldscript.specs.statements.declared.directive.Directive.TheVariants as directive
+use Rattle.ldscript.specs.statements.declared.numbering.DirectiveAt as code
 use Rattle.ldscript.specs.statements.declared.statement.Statement.{Statement}
 use Rattle.ldmodel.specs.Lent.{given_name, name_given_by}
 use Rattle.ldmodel.specs.Names.{decision, is_provided_case, provided}
 use Rattle.ldmodel.specs.Project.{Project}
 use Rattle.ldmodel.specs.ScriptNames.{provided_names}
-use Rattle.ldmodel.specs.declared.script_symbol.CommonIndex.{CommonIndex}
+use Rattle.ldmodel.specs.declared.script_symbol.DirectiveIndex.{DirectiveIndex}
 use Rattle.symres.specs.Provided.{AddsIfInForce, in_force, names_in_force}
 
 -- the names of the commands of these numbers
-abbrev pub given : Project → List CommonIndex → List (List ℕ)
-given p list = map (λ (k : CommonIndex). name_given_by p.script k.0) list
+abbrev pub given : Project → List DirectiveIndex → List (List ℕ)
+given p list = map (λ (k : DirectiveIndex). name_given_by p.script k.0) list
 
-provided_in-append : (xs ys : List CommonAt) → provided_in (xs ++ ys) ≡ provided_in xs ++ provided_in ys
+provided_in-append : (xs ys : List DirectiveAt) → provided_in (xs ++ ys) ≡ provided_in xs ++ provided_in ys
 provided_in-append [] ys = refl
 provided_in-append (x ∷ xs) ys =
     ap (λ (zs : List AssignmentAt). provided_by x.line x.command ++ zs) (provided_in-append xs ys)
     ∙ sym (append_assoc (provided_by x.line x.command) (provided_in xs) (provided_in ys))
 
-in_force-append : (p : Project) (xs ys : List CommonAt) → names_in_force p (xs ++ ys) ≡ names_in_force p xs
+in_force-append : (p : Project) (xs ys : List DirectiveAt) → names_in_force p (xs ++ ys) ≡ names_in_force p xs
     ++ names_in_force p ys
 in_force-append p xs ys =
     let name : AssignmentAt → List ℕ = λ (a : AssignmentAt). a.assignment.name in
@@ -45,71 +45,71 @@ in_force-append p xs ys =
     (map (λ (a : AssignmentAt). a.assignment.name) (provided_in xs))
     (map (λ (a : AssignmentAt). a.assignment.name) (provided_in ys)))
 
-one_command : (p : Project) (line : ℕ) (c : Common)
+one_command : (p : Project) (line : ℕ) (c : Directive)
     → names_in_force p ((record { line = line; command = c }) ∷ []) ≡ cond (in_force p c) (given_name c ∷ []) []
-one_command p line (common.Assign a) = refl
-one_command p line (common.Provide a) = refl
-one_command p line (common.Assert a) = refl
+one_command p line (directive.Assign a) = refl
+one_command p line (directive.Provide a) = refl
+one_command p line (directive.Assert a) = refl
 
 map_cond : (p : Project) (b : Bool) (n : ℕ) (name : List ℕ) → name_given_by p.script n ≡ name
     → given p (cond b ((record { 0 = n }) ∷ []) []) ≡ cond b (name ∷ []) []
 map_cond p true n name h = ap (λ (x : List ℕ). x ∷ []) h
 map_cond p false n name h = refl
 
-pub more_given : (p : Project) (commands : List CommonAt) (n : ℕ) (x : CommonAt) (old new : List CommonIndex)
-    → common_commands p.script ≡ commands → n < length commands → get_or commands n x ≡ x
+pub more_given : (p : Project) (commands : List DirectiveAt) (n : ℕ) (x : DirectiveAt) (old new : List DirectiveIndex)
+    → all_directives p.script ≡ commands → n < length commands → get_or commands n x ≡ x
     → AddsIfInForce p n x.command old new → given p old ≡ names_in_force p (take n commands)
     → given p new ≡ names_in_force p (take (n + 1) commands)
 more_given p commands n x old new are within here adds h =
-    let at : slice_get (common_commands p.script) n ≡ Some x =
-    ap (λ (cs : List CommonAt). slice_get cs n) are
-    ∙ (slice_get-get_or commands n x within ∙ ap (λ (y : CommonAt). Some y) here) in
+    let at : slice_get (all_directives p.script) n ≡ Some x =
+    ap (λ (cs : List DirectiveAt). slice_get cs n) are
+    ∙ (slice_get-get_or commands n x within ∙ ap (λ (y : DirectiveAt). Some y) here) in
     let name : name_given_by p.script n ≡ given_name x.command =
-    ap (λ o. option_map_or (λ (c : CommonAt). given_name c.command) o []) at in
+    ap (λ o. option_map_or (λ (c : DirectiveAt). given_name c.command) o []) at in
     let suc_is : suc n ≡ n + 1 = omega arith in
     let more : take (n + 1) commands ≡ take n commands ++ x ∷ [] =
     ap (λ (k : ℕ). take k commands) (sym suc_is)
-    ∙ (take-suc commands n x within ∙ ap (λ (y : CommonAt). take n commands ++ y ∷ []) here) in
-    let number : CommonIndex = record { 0 = n } in
-    let added : List CommonIndex = cond (in_force p x.command) (number ∷ []) [] in
+    ∙ (take-suc commands n x within ∙ ap (λ (y : DirectiveAt). take n commands ++ y ∷ []) here) in
+    let number : DirectiveIndex = record { 0 = n } in
+    let added : List DirectiveIndex = cond (in_force p x.command) (number ∷ []) [] in
     ap (given p) adds
-    ∙ (map-append (λ (k : CommonIndex). name_given_by p.script k.0) old added
+    ∙ (map-append (λ (k : DirectiveIndex). name_given_by p.script k.0) old added
     ∙ (ap (λ (xs : List (List ℕ)). xs ++ given p added) h
     ∙ (ap (λ (xs : List (List ℕ)). names_in_force p (take n commands) ++ xs)
     (map_cond p (in_force p x.command) n (given_name x.command) name ∙ sym (one_command p x.line x.command))
     ∙ (sym (in_force-append p (take n commands) (x ∷ [])) ∙ ap (names_in_force p) (sym more)))))
 
-provided_is : (p : Project) → names_in_force p (common_commands p.script) ≡ provided p
+provided_is : (p : Project) → names_in_force p (all_directives p.script) ≡ provided p
 unfolding provided provided_names
 provided_is p = refl
 
-pub all_given : (p : Project) (commands : List CommonAt) (n : ℕ) (list : List CommonIndex)
-    → common_commands p.script ≡ commands → length commands ≤ n → given p list ≡ names_in_force p (take n commands)
+pub all_given : (p : Project) (commands : List DirectiveAt) (n : ℕ) (list : List DirectiveIndex)
+    → all_directives p.script ≡ commands → length commands ≤ n → given p list ≡ names_in_force p (take n commands)
     → given p list ≡ provided p
 all_given p commands n list are past h =
     h ∙ (ap (names_in_force p) (take_all n commands past ∙ sym are) ∙ provided_is p)
 
-abbrev pub shown : code.CommonAt → CommonAt
+abbrev pub shown : code.DirectiveAt → DirectiveAt
 shown at = record { line = at.line; command = at.command.now }
 
 -- one command more of a script
-pub one_given : (p : Project) (script : List Statement) (items : List code.CommonAt) (n : ℕ) (at : code.CommonAt)
-    (old new : List CommonIndex) → p.script ≡ script → shown_commons items ≡ common_commands script → n < length items
+pub one_given : (p : Project) (script : List Statement) (items : List code.DirectiveAt) (n : ℕ) (at : code.DirectiveAt)
+    (old new : List DirectiveIndex) → p.script ≡ script → shown_directives items ≡ all_directives script → n < length items
     → get_or items n at ≡ at → AddsIfInForce p n at.command.now old new
-    → given p old ≡ names_in_force p (take n (common_commands script))
-    → given p new ≡ names_in_force p (take (n + 1) (common_commands script))
+    → given p old ≡ names_in_force p (take n (all_directives script))
+    → given p new ≡ names_in_force p (take (n + 1) (all_directives script))
 one_given p script items n at old new same are within here adds h =
-    let long : length (common_commands script) ≡ length items = ap length (sym are) ∙ length-map items shown in
-    let there : get_or (common_commands script) n (shown at) ≡ shown at =
-    ap (λ (cs : List CommonAt). get_or cs n (shown at)) (sym are)
+    let long : length (all_directives script) ≡ length items = ap length (sym are) ∙ length-map items shown in
+    let there : get_or (all_directives script) n (shown at) ≡ shown at =
+    ap (λ (cs : List DirectiveAt). get_or cs n (shown at)) (sym are)
     ∙ (get_or-map shown items n at (shown at) within ∙ ap shown here) in
-    more_given p (common_commands script) n (shown at) old new (ap common_commands same) (omega (arith, long, within))
+    more_given p (all_directives script) n (shown at) old new (ap all_directives same) (omega (arith, long, within))
     there
     adds h
 
-pub end_given : (p : Project) (script : List Statement) (items : List code.CommonAt) (n : ℕ) (list : List CommonIndex)
-    → p.script ≡ script → shown_commons items ≡ common_commands script → length items ≤ n
-    → given p list ≡ names_in_force p (take n (common_commands script)) → given p list ≡ provided p
+pub end_given : (p : Project) (script : List Statement) (items : List code.DirectiveAt) (n : ℕ) (list : List DirectiveIndex)
+    → p.script ≡ script → shown_directives items ≡ all_directives script → length items ≤ n
+    → given p list ≡ names_in_force p (take n (all_directives script)) → given p list ≡ provided p
 end_given p script items n list same are past h =
-    let long : length (common_commands script) ≡ length items = ap length (sym are) ∙ length-map items shown in
-    all_given p (common_commands script) n list (ap common_commands same) (omega (arith, long, past)) h
+    let long : length (all_directives script) ≡ length items = ap length (sym are) ∙ length-map items shown in
+    all_given p (all_directives script) n list (ap all_directives same) (omega (arith, long, past)) h

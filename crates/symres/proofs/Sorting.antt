@@ -22,7 +22,7 @@ use Rattle.ldmodel.specs.Project.{NamedObject, Project}
 use Rattle.symres_table.specs.State.{AreDistinct, IsInByteOrder, IsListing, IsNamed, comes_before}
 use Rattle.symres_decisions.specs.Counted.{declared_names}
 use Rattle.symres_decisions.specs.Decisions.{DecisionsState}
-use Rattle.symres.specs.Naming.{IsNaming, NamingState, state_of}
+use Rattle.symres.specs.SymbolTable.{IsSymbolTable, SymbolTableState, state_of}
 use Rattle.symres.specs.Sorted.{AreSorted, named_number}
 use Rattle.symres.specs.declared.sorted.NamedKey.{NamedKey}
 use Rattle.symres.proofs.Entering.{Table}
@@ -133,11 +133,11 @@ pub declared_key : (p : Project) (d : DecisionsState) (order name : List ℕ)
     → ((objects : List NamedObject) (tables : List Table) → map (λ (t : Table). t.1) tables ≡ symbol_tables objects
     → declared_names tables ≡ names_in_objects objects)
     → (Contains (declared_names d.names.objects) name → (k : ℕ) × IsNamed d.names.names k name)
-    → IsNaming p (state_of d order) → Contains (names_in_objects p.objects) name
+    → IsSymbolTable p (state_of d order) → Contains (names_in_objects p.objects) name
     → (k : ℕ) × IsNamed d.names.names k name
-declared_key p d order name law known naming c =
+declared_key p d order name law known symbol_table c =
     known (subst (λ (ns : List (List ℕ)). Contains ns name)
-    (sym (law p.objects d.names.objects (same_tables p d order naming))) c)
+    (sym (law p.objects d.names.objects (same_tables p d order symbol_table))) c)
 
 -- ---- keys
 
@@ -150,8 +150,8 @@ differ names order l m n name a b = some_one m n (sym (l.complete m name a) ∙ 
 -- ---- both
 
 -- a list of the names has all that callers are told, once it is sorted
-pub are_sorted : (a : NamingState) (order : List Listed) (list sorted : List NamedKey)
-    → ((p : Project) (name : List ℕ) → IsNaming p a → Contains (names_in_objects p.objects) name
+pub are_sorted : (a : SymbolTableState) (order : List Listed) (list sorted : List NamedKey)
+    → ((p : Project) (name : List ℕ) → IsSymbolTable p a → Contains (names_in_objects p.objects) name
     → (k : ℕ) × IsNamed a.names k name)
     → IsListing a.names order → map named_number list ≡ order → IsPermutation list sorted
     → IsSortedBy is_first sorted → AreSorted a sorted
@@ -174,5 +174,5 @@ are_sorted a order list sorted known listing same moved up =
       distinct = differ a.names order listing;
       order = λ i j d below h. in_order sorted i j d up once below h;
       keys = has;
-      declared = λ p naming name c. let named = known p name naming c in has named.0 name named.1;
+      declared = λ p symbol_table name c. let named = known p name symbol_table c in has named.0 name named.1;
     }

@@ -14,7 +14,7 @@ use Rattle.ldmodel_project.specs.Tables.{place_or_0}
 use Rattle.symres_table.specs.State.{HasName, IsNamed, entries_of}
 use Rattle.symres_decisions.specs.Decided.{HasCase, case_at, is_doubled}
 use Rattle.symres_decisions.specs.Decisions.{DecisionsState}
-use Rattle.symres.specs.Naming.{IsNaming, state_of}
+use Rattle.symres.specs.SymbolTable.{IsSymbolTable, state_of}
 use Rattle.symres.specs.Placed.{keys_of, place_case}
 use Rattle.symres.proofs.Doubling.{case_duplicate, not_duplicate}
 use Rattle.symres.proofs.Placing.{ByKeys, same_tables, some_placed}
@@ -56,20 +56,20 @@ once f false false h = absurd (cc)
 pub none_twice : (p : Project) (d : DecisionsState) (order : List ℕ)
     → ((name : List ℕ) → ByKeys p d name) → ((k : ℕ) → HasName d.names.names k → HasCase d.cases k)
     → ((name : List ℕ) → ((k : ℕ) → IsNamed d.names.names k name → ⊥) → entries_of name d.names.objects ≡ [])
-    → count_by is_doubled d.cases ≡ 0 → IsNaming p (state_of d order) → (name : List ℕ) → decision p name ≡ Duplicate
+    → count_by is_doubled d.cases ≡ 0 → IsSymbolTable p (state_of d order) → (name : List ℕ) → decision p name ≡ Duplicate
     → ⊥
-none_twice p d order by complete unknown none naming name twice =
+none_twice p d order by complete unknown none symbol_table name twice =
     let unnamed : (k : ℕ) → IsNamed d.names.names k name → ⊥ = λ k n.
     let has = complete k (name, n) in
     let there = some_placed (place_case order) d.cases k has.0 has.1 in
-    let is = (naming.sound k (place_case order has.0) there).case name n in
+    let is = (symbol_table.sound k (place_case order has.0) there).case name n in
     none_counted d.cases k none
     (ap is_doubled has.1 ∙ sym (placed_doubled order has.0) ∙ case_duplicate (place_case order has.0) (is ∙ twice)) in
     once (place_or_0 (keys_of d.names.objects)) (is_assigned p.script name) (is_provided p.script name)
     (ap (λ (ds : List Declaration).
     renumbered_decision (place_or_0 (keys_of d.names.objects))
     (decided (is_assigned p.script name) (is_provided p.script name) ds)) (sym (unknown name unnamed))
-    ∙ sym (by name (sym (same_tables p d order naming))) ∙ twice)
+    ∙ sym (by name (sym (same_tables p d order symbol_table))) ∙ twice)
 
 -- so no declaration is a fault
 none_among : (p : Project) (ds rest : List Declaration) → declarations p.objects ≡ ds ++ rest

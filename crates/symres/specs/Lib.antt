@@ -3,7 +3,7 @@ pub use Rattle.symres_table.specs as table
 pub mod Entered
 pub mod Decided
 pub mod Placed
-pub mod Naming
+pub mod SymbolTable
 pub mod Keyed
 pub mod Provided
 pub mod Sorted

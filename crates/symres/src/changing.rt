@@ -11,7 +11,7 @@ ghost use Rattle.symres_decisions.specs.Texts.{declares};
 ghost use Rattle.symres.specs.Placed.{keys_of};
 ghost use Rattle.symres_table.specs.State.{Forgets, IsNamed};
 
-use crate::naming::Naming;
+use crate::symbol_table::SymbolTable;
 use elfobj::Meter;
 use ldmodel::memory::NoMemory;
 use ldmodel_project::order::Order;
@@ -19,7 +19,7 @@ use ldscript::Script;
 use std::mem;
 use symres_decisions::change::ObjectChange;
 
-impl Naming {
+impl SymbolTable {
     /// Takes all memory that a change needs, but for the order after it.
     ///
     /// # Errors

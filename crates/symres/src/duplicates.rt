@@ -11,11 +11,11 @@ ghost use Rattle.ldmodel.specs.ScriptNames as script_names;
 ghost use Rattle.symres.specs.Decided.{case_at, HasCase};
 ghost use Rattle.symres.specs.Duplicates as definition;
 ghost use Rattle.symres.specs.Duplicates.{declared_by, faults_of, is_doubled, AreFound, Begins, IsDoubled, IsTableAt};
-ghost use Rattle.symres.specs.Naming.{IsNaming};
+ghost use Rattle.symres.specs.SymbolTable.{IsSymbolTable};
 ghost use Rattle.ldmodel_project.specs.ByPlace.{faults_in};
 ghost use Rattle.symres_table.specs.State.{AreDistinct};
 
-use crate::naming::Naming;
+use crate::symbol_table::SymbolTable;
 use elfobj::Object;
 use elfobj::relocation::SymbolIndex;
 use elfobj::symbol::{Binding, Symbol, SymbolPlace};
@@ -96,7 +96,7 @@ fn add_if_not_first(
     }
 }
 
-impl Naming {
+impl SymbolTable {
     /// No two keys have one name.
     fn names_differ(&self)
         ensures { AreDistinct self.now.names }
@@ -108,7 +108,7 @@ impl Naming {
     /// Where no case is that of a name that is defined twice, no name of the project is defined twice. The call does
     /// nothing.
     fn none_doubled(&self, project: &ProjectView<'_>)
-        requires naming { IsNaming project.now self.now }
+        requires symbol_table { IsSymbolTable project.now self.now }
         requires none { count_by is_doubled self.now.kept.cases ≡ 0 }
         ensures { duplicates project.now ≡ [] }
     {
@@ -139,7 +139,7 @@ impl Naming {
     fn doubled_key(&self, place: usize, object: &Object, number: u32) -> Option<NameKey>
         requires table { IsTableAt self.now.objects place object.now.symbols }
         requires number { number < length object.now.symbols }
-        ensures key { (p : Project) (d : NamedSymbol) → IsNaming p self.now → IsDoubled p self.now.names
+        ensures key { (p : Project) (d : NamedSymbol) → IsSymbolTable p self.now → IsDoubled p self.now.names
             (declaration place (number, slice_index_or object.now.symbols number d)) result }
         ensures within { (k : NameKey) → result ≡ Some k → k.0 < length self.now.cases }
     {
@@ -168,7 +168,7 @@ impl Naming {
         requires long { length firsts.old.items ≡ length self.now.cases }
         ensures long { length firsts.new.items ≡ length firsts.old.items }
         ensures found { OnOk result ((p : Project) (d : NamedSymbol) (ds : List Declaration)
-            → IsNaming p self.now → p.script ≡ script.now
+            → IsSymbolTable p self.now → p.script ≡ script.now
             → Begins p (ds ++ declared_by place number (slice_index_or object.now.symbols number d))
             → AreFound p self.now.names ds firsts.old.items faults.old.items
             → AreFound p self.now.names (ds ++ declared_by place number (slice_index_or object.now.symbols number d))
@@ -206,7 +206,7 @@ impl Naming {
         requires table { IsTableAt self.now.objects place object.now.symbols }
         requires long { length firsts.old.items ≡ length self.now.cases }
         ensures long { length firsts.new.items ≡ length firsts.old.items }
-        ensures found { OnOk result ((p : Project) (ds : List Declaration) → IsNaming p self.now → p.script ≡ script.now
+        ensures found { OnOk result ((p : Project) (ds : List Declaration) → IsSymbolTable p self.now → p.script ≡ script.now
             → Begins p (ds ++ declarations_in (place, object.now.symbols))
             → AreFound p self.now.names ds firsts.old.items faults.old.items
             → AreFound p self.now.names (ds ++ declarations_in (place, object.now.symbols)) firsts.new.items
@@ -226,7 +226,7 @@ impl Naming {
         alloc: Global,
         project: &ProjectView<'_>,
     ) -> Result<Vec<Fault>, NoMemory>
-        requires { IsNaming project.now self.now }
+        requires { IsSymbolTable project.now self.now }
         ensures { IfOk result (λ fs. faults_in project.now fs.items ≡ map duplicate_fault (duplicates project.now)) }
     {
         if self.decisions.doubled() == 0 {

@@ -3,11 +3,11 @@
 ghost use Rattle.std.specs.Prelude.{◌≡◌, ◌++◌, IfOk, OnOk, is_some};
 ghost use Rattle.ldmodel.specs.Link.{name_faults};
 ghost use Rattle.ldmodel.specs.NameFaults.{undefined_entry};
-ghost use Rattle.symres.specs.Naming.{IsNaming};
+ghost use Rattle.symres.specs.SymbolTable.{IsSymbolTable};
 ghost use Rattle.symres.specs.Undefined.{faults_if, is_undefined};
 ghost use Rattle.ldmodel_project.specs.ByPlace.{faults_in};
 
-use crate::naming::Naming;
+use crate::symbol_table::SymbolTable;
 use ldmodel::fault::Fault;
 use ldmodel::memory::NoMemory;
 use ldmodel::names::Case;
@@ -29,10 +29,10 @@ fn is_undefined(case: Case) -> bool
     }
 }
 
-impl Naming {
+impl SymbolTable {
     /// Whether there is an entry symbol, and nothing defines it.
     fn is_entry_undefined(&self, project: &ProjectView<'_>) -> bool
-        requires { IsNaming project.now self.now }
+        requires { IsSymbolTable project.now self.now }
         ensures { result ≡ is_some (undefined_entry project.now) }
     {
         match project.entry_symbol() {
@@ -47,7 +47,7 @@ impl Naming {
         project: &ProjectView<'_>,
         faults: &mut Vec<Fault>,
     ) -> Result<(), NoMemory>
-        requires { IsNaming project.now self.now }
+        requires { IsSymbolTable project.now self.now }
         ensures { OnOk result (faults.new.items
             ≡ faults.old.items ++ faults_if (is_some (undefined_entry project.now))) }
     {
@@ -65,7 +65,7 @@ impl Naming {
     ///
     /// Where memory runs out.
     pub fn faults(&self, alloc: Global, project: &ProjectView<'_>) -> Result<Vec<Fault>, NoMemory>
-        requires { IsNaming project.now self.now }
+        requires { IsSymbolTable project.now self.now }
         ensures { IfOk result (λ fs. faults_in project.now fs.items ≡ name_faults project.now) }
     {
         let mut faults = self.duplicates(alloc, project)?;

@@ -2,9 +2,9 @@
 
 ghost use Rattle.symres.specs.Keyed.{AreKeyed};
 
-use crate::naming::Naming;
+use crate::symbol_table::SymbolTable;
 
-impl Naming {
+impl SymbolTable {
     /// Each symbol that isn't local has a key, that of its name, under which there is a case, and no two keys have one
     /// name: a pass over the keys below `limit` meets what each name stands for, once. The call does nothing.
     pub fn all_keyed(&self)

@@ -1,7 +1,7 @@
 //! The names of a link: what each stands for over all objects and the script, and the faults of names. Takes what is
 //! kept under keys; gives cases by place, PROVIDEs in force, names in byte order, and faults.
 //!
-//! - `naming` with `changing`: what is kept, and how it follows a change; `entered`: all objects, for a link from
+//! - `symbol_table` with `changing`: what is kept, and how it follows a change; `entered`: all objects, for a link from
 //!   scratch;
 //! - `placed`, `keyed`, `sorted`, `provided`: cases by place, symbols' keys, names in order, PROVIDEs;
 //! - `faults` over `duplicates`: names defined twice, and the entry symbol; `declaring`: which symbols have names;
@@ -15,12 +15,12 @@ mod duplicates;
 mod entered;
 mod faults;
 mod keyed;
-pub mod naming;
 mod placed;
 mod provided;
 pub mod sorted;
+pub mod symbol_table;
 
-pub use crate::naming::Naming;
+pub use crate::symbol_table::SymbolTable;
 pub use ldmodel::names::{Case, Entry};
 pub use symres_decisions as decisions;
 pub use symres_table as table;

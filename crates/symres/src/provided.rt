@@ -5,17 +5,17 @@ ghost use Rattle.ldmodel.specs.HandedOver.{decision_of};
 ghost use Rattle.ldmodel.specs.Lent.{name_given_by};
 ghost use Rattle.ldmodel.specs.Names.{is_provided_case, provided};
 ghost use Rattle.ldmodel.specs.Project.{Project};
-ghost use Rattle.ldmodel.specs.declared.script_symbol.CommonIndex.{CommonIndex};
-ghost use Rattle.symres.specs.Naming.{IsNaming};
+ghost use Rattle.ldmodel.specs.declared.script_symbol.DirectiveIndex.{DirectiveIndex};
+ghost use Rattle.symres.specs.SymbolTable.{IsSymbolTable};
 ghost use Rattle.symres.specs.Provided.{in_force, AddsIfInForce};
 
-use crate::naming::Naming;
+use crate::symbol_table::SymbolTable;
 use ldmodel::impossible::impossible;
 use ldmodel::memory::NoMemory;
 use ldmodel::names::Case;
-use ldmodel::script_symbol::CommonIndex;
+use ldmodel::script_symbol::DirectiveIndex;
 use ldscript::Script;
-use ldscript::tree::Common;
+use ldscript::tree::Directive;
 use std::alloc::Global;
 
 fn is_provided(case: Case) -> bool
@@ -25,23 +25,23 @@ fn is_provided(case: Case) -> bool
         Case::Provided => true,
         Case::Strong(_)
         | Case::Script
-        | Case::Common { .. }
+        | Case::Directive { .. }
         | Case::Weak(_)
         | Case::Undefined
         | Case::Duplicate => false,
     }
 }
 
-impl Naming {
+impl SymbolTable {
     /// Whether a command is a PROVIDE that is in force.
-    fn is_in_force(&self, script: &Script, command: &Common) -> bool
-        ensures { (p : Project) → IsNaming p self.now → p.script ≡ script.now → result ≡ in_force p command.now }
+    fn is_in_force(&self, script: &Script, command: &Directive) -> bool
+        ensures { (p : Project) → IsSymbolTable p self.now → p.script ≡ script.now → result ≡ in_force p command.now }
     {
         match command {
-            Common::Provide(assignment) => {
+            Directive::Provide(assignment) => {
                 is_provided(self.case_named(script, assignment.name.as_bytes()))
             }
-            Common::Assign(_) | Common::Assert(_) => false,
+            Directive::Assign(_) | Directive::Assert(_) => false,
         }
     }
 
@@ -50,10 +50,10 @@ impl Naming {
         &self,
         script: &Script,
         number: usize,
-        command: &Common,
-        list: &mut Vec<CommonIndex>,
+        command: &Directive,
+        list: &mut Vec<DirectiveIndex>,
     ) -> Result<(), NoMemory>
-        ensures { OnOk result ((p : Project) → IsNaming p self.now → p.script ≡ script.now
+        ensures { OnOk result ((p : Project) → IsSymbolTable p self.now → p.script ≡ script.now
             → AddsIfInForce p number command.now list.old.items list.new.items) }
     {
         if !self.is_in_force(script, command) {
@@ -61,7 +61,7 @@ impl Naming {
         }
         match u32::try_from(number) {
             Ok(number) => {
-                list.push(CommonIndex(number))?;
+                list.push(DirectiveIndex(number))?;
                 Ok(())
             }
             // No script has 2^32 statements
@@ -74,11 +74,11 @@ impl Naming {
     /// # Errors
     ///
     /// Where memory runs out, or where the script has more than 2^32 commands, which none that was read has.
-    pub fn provided(&self, alloc: Global, script: &Script) -> Result<Vec<CommonIndex>, NoMemory>
-        ensures { IfOk result (λ list. (p : Project) → IsNaming p self.now → p.script ≡ script.now
-            → map (λ (k : CommonIndex). name_given_by p.script k.0) list.items ≡ provided p) }
+    pub fn provided(&self, alloc: Global, script: &Script) -> Result<Vec<DirectiveIndex>, NoMemory>
+        ensures { IfOk result (λ list. (p : Project) → IsSymbolTable p self.now → p.script ≡ script.now
+            → map (λ (k : DirectiveIndex). name_given_by p.script k.0) list.items ≡ provided p) }
     {
-        let commands = script.common_commands(alloc)?;
+        let commands = script.all_directives(alloc)?;
         let mut list = Vec::new(alloc);
         for (number, at) in commands.iter().enumerate() {
             self.add_if_in_force(script, number, at.command, &mut list)?;

@@ -4,7 +4,7 @@ ghost use Rattle.std.specs.Prelude.{◌≡◌, IfOk, map};
 ghost use Rattle.symres.specs.Sorted.{named_number, AreSorted};
 ghost use Rattle.symres_table.specs.State.{IsListing};
 
-use crate::naming::Naming;
+use crate::symbol_table::SymbolTable;
 use ldmodel::memory::NoMemory;
 use ldmodel::names::NameKey;
 use std::alloc::Global;
@@ -35,7 +35,7 @@ fn listed(alloc: Global, decisions: &Decisions) -> Result<Vec<NamedKey<'_>>, NoM
     Ok(list)
 }
 
-impl Naming {
+impl SymbolTable {
     /// All known names in byte order, each with its key: all that objects declare are among them. They are
     /// sorted only where a name became known since they were put in order.
     ///

@@ -5,7 +5,7 @@ use crate::meaning::names::text_of;
 use crate::meaning::warning::{Caution, Warning};
 use ldscript::terms::expression::Expr;
 use ldscript::tree::{
-    Assignment, BodyCommand, Command, Common, DotCommand, Formula, Item, ItemCommand, Load,
+    Assignment, BodyCommand, Command, Directive, DotCommand, Formula, Item, ItemCommand, Load,
     OutputSection, Region, Statement,
 };
 use std::alloc::{AllocError, Global};
@@ -137,13 +137,17 @@ impl<'a> Reading<'a> {
     }
 
     /// An assignment, a PROVIDE or an ASSERT
-    fn read_common(&mut self, command: &'a Common, is_in_section: bool) -> Result<(), AllocError> {
+    fn read_directive(
+        &mut self,
+        command: &'a Directive,
+        is_in_section: bool,
+    ) -> Result<(), AllocError> {
         match command {
-            Common::Assign(assignment) | Common::Provide(assignment) => self.read_assignment(
+            Directive::Assign(assignment) | Directive::Provide(assignment) => self.read_assignment(
                 assignment,
                 is_in_section,
             ),
-            Common::Assert(assertion) => self.check_names(assertion.condition.expr(), false),
+            Directive::Assert(assertion) => self.check_names(assertion.condition.expr(), false),
         }
     }
 
@@ -161,7 +165,7 @@ impl<'a> Reading<'a> {
             BodyCommand::Dot(DotCommand::Add(value)) | BodyCommand::Data(_, value) => {
                 self.check_names(value.expr(), true)
             }
-            BodyCommand::Common(command) => self.read_common(command, true),
+            BodyCommand::Directive(command) => self.read_directive(command, true),
             BodyCommand::Input(_) => Ok(()),
         }
     }
@@ -219,7 +223,7 @@ impl<'a> Reading<'a> {
                 self.warn_of_zero()?;
                 self.read_value(value)
             }
-            ItemCommand::Common(command) => self.read_common(command, false),
+            ItemCommand::Directive(command) => self.read_directive(command, false),
             ItemCommand::Section(section) => self.read_section(section.get()),
             ItemCommand::Discard(_) => Ok(()),
         }
@@ -249,7 +253,7 @@ impl<'a> Reading<'a> {
                 }
                 Ok(())
             }
-            Command::Common(command) => self.read_common(command, false),
+            Command::Directive(command) => self.read_directive(command, false),
         }
     }
 }

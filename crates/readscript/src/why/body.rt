@@ -9,7 +9,7 @@ const WIDTHS: [&[u8]; 4] = [b"BYTE", b"SHORT", b"LONG", b"QUAD"];
 
 impl<'a> Walk<'a> {
     /// Whether an assignment, `PROVIDE` or `ASSERT` comes next.
-    fn begins_common_in_body(&self) -> bool {
+    fn begins_directive_in_body(&self) -> bool {
         match self.tokens.copy().word() {
             Some((word, rest)) => {
                 word == b"PROVIDE".as_slice()
@@ -40,8 +40,8 @@ impl<'a> Walk<'a> {
                 return Ok(());
             }
         }
-        if self.begins_common_in_body() {
-            return self.pass_common(Mode::Pattern, false);
+        if self.begins_directive_in_body() {
+            return self.pass_directive(Mode::Pattern, false);
         }
         self.pass_input()
     }

@@ -193,7 +193,7 @@ impl<'a> Walk<'a> {
     }
 
     /// `NAME = e ;`, `PROVIDE` or `ASSERT`: what stands in all places. At the top `.` is misplaced in each of them.
-    pub fn pass_common(&mut self, mode: Mode, is_top: bool) -> Result<(), Stop> {
+    pub fn pass_directive(&mut self, mode: Mode, is_top: bool) -> Result<(), Stop> {
         let line = self.tokens.line();
         if self.passes_key(mode, b"ASSERT") {
             return self.pass_assert();
@@ -234,14 +234,14 @@ impl<'a> Walk<'a> {
         if self.is_discard() {
             return self.pass_discard();
         }
-        if self.begins_common() {
-            return self.pass_common(Mode::Expression, false);
+        if self.begins_directive() {
+            return self.pass_directive(Mode::Expression, false);
         }
         self.pass_section()
     }
 
     /// Whether an assignment, `PROVIDE` or `ASSERT` comes next.
-    fn begins_common(&self) -> bool {
+    fn begins_directive(&self) -> bool {
         match self.tokens.copy().name() {
             Some((word, rest)) => {
                 word == b"PROVIDE".as_slice()
@@ -287,7 +287,7 @@ impl<'a> Walk<'a> {
                 "no statement begins so; there are ENTRY, MEMORY, SECTIONS, NAME = e, PROVIDE and ASSERT",
             ));
         }
-        self.pass_common(Mode::Expression, true)
+        self.pass_directive(Mode::Expression, true)
     }
 
     /// All statements.

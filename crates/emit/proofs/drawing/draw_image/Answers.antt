@@ -5,7 +5,7 @@ use Rattle.std.specs.Prelude.{Option, is_some}
 use Rattle.std.specs.Vec.{vec_items}
 use Rattle.ldmodel.specs.Layout.{Layout}
 use Rattle.ldmodel.specs.declared.sections.SectionKey.{SectionKey}
-use Rattle.symres.specs.Naming.{NamingState}
+use Rattle.symres.specs.SymbolTable.{SymbolTableState}
 use Rattle.emit_relocate.specs.declared.earlier.FileRange.{FileRange}
 use Rattle.emit.proofs.Lists.{on_ok}
 use Rattle.emit.proofs.Staying.{all_said, only_said}
@@ -28,7 +28,7 @@ draw_outputs-requires-clause-outputs g c =
         values = r.is.values;
         short = r.is.short;
         outputs = subst (λ l. AllZip (IsOutput p s stays) s.sections l) (sym c.deref-2.ensures.value)
-            (c.in_ok-outputs.ensures s stays r.is.arranged.laying
+            (c.in_ok-outputs.ensures s stays r.is.arranged.link_layout
             (subst (λ l. AllZip (IsJoinedRow p s stays) s.sections (map vec_items l)) (sym c.deref.ensures.value)
             (c.in_ok-pieces.ensures s r.names r.is.arranged r.is.fields)));
       };
@@ -39,7 +39,7 @@ returns g c =
     let p = c.args.project.now in
     let range : SectionKey → Option FileRange = g.E.Earlier.range c.args.earlier.now in
     let stays : SectionKey → Bool = λ k. is_some (range k) in
-    let outputs : (s : Layout) (a : NamingState)
+    let outputs : (s : Layout) (a : SymbolTableState)
     → IsDrawableAt p s a c.args.arranged.now c.args.values.now c.args.relocated.now stays
     → AreOutputs p c.args.arranged.now c.args.values.now s stays c.deref-2.result.now =
     λ s a is. record {
@@ -48,7 +48,7 @@ returns g c =
       values = is.values;
       short = is.short;
       outputs = subst (λ l. AllZip (IsOutput p s stays) s.sections l) (sym c.deref-2.ensures.value)
-          (c.in_ok-outputs.ensures s stays is.arranged.laying
+          (c.in_ok-outputs.ensures s stays is.arranged.link_layout
           (subst (λ l. AllZip (IsJoinedRow p s stays) s.sections (map vec_items l)) (sym c.deref.ensures.value)
           (c.in_ok-pieces.ensures s a is.arranged is.fields)));
     } in

@@ -28,7 +28,7 @@ redraw-requires-clause-drawing c =
       tail = c.image_parts-tail.ensures;
     }) are
     (c.drawing_stands.ensures p s)
-    (c.placement_is_in_memory.ensures p.script (rows p) (provided p) s h.are.arranged.laying.placed) h.are.short)
+    (c.placement_is_in_memory.ensures p.script (rows p) (provided p) s h.are.arranged.link_layout.placed) h.are.short)
 
 pub redraw-requires-clause-patches : goal.redraw-requires-clause-patches
 redraw-requires-clause-patches c =
@@ -123,7 +123,7 @@ returns-clause-work c =
       tail = c.image_parts-tail.ensures;
     }) are
     (c.drawing_stands.ensures new.project new.layout)
-    (c.placement_is_in_memory.ensures p.script (rows p) (provided p) new.layout outputs.arranged.laying.placed)
+    (c.placement_is_in_memory.ensures p.script (rows p) (provided p) new.layout outputs.arranged.link_layout.placed)
     (subst (λ pr. image_length pr new.layout ≤ 2 ^ 28) (sym same) outputs.short))
     good
     (drawing_of new.project new.layout stays x _ (record {
@@ -161,7 +161,7 @@ returns-clause-spent c =
       tail = c.image_parts-tail.ensures;
     }) are
     (c.drawing_stands.ensures new.project new.layout)
-    (c.placement_is_in_memory.ensures p.script (rows p) (provided p) new.layout outputs.arranged.laying.placed)
+    (c.placement_is_in_memory.ensures p.script (rows p) (provided p) new.layout outputs.arranged.link_layout.placed)
     (subst (λ pr. image_length pr new.layout ≤ 2 ^ 28) (sym same) outputs.short))
     good
     (drawing_of new.project new.layout stays x _ (record {

@@ -3,13 +3,13 @@ use Rattle.emit.proofs.good.is_good.Goals as goal
 
 pub returns : goal.returns
 returns c =
-    λ s laying short none.
+    λ s link_layout short none.
     let p = c.args.project.now in
     c.faultless_is_good.ensures (record { project = p; layout = s }) (record {
-      layout = short_layout p s laying.layout short;
+      layout = short_layout p s link_layout.layout short;
       relocated = none;
       names = c.inputs-inputs.ensures.distinct;
       numbers = c.are_numbered.ensures;
       read = c.objects_are_read.ensures;
-      named = laying.named;
+      named = link_layout.named;
     })

@@ -5,7 +5,7 @@ use Rattle.ldmodel.specs.Segments.{segments}
 use Rattle.emit.proofs.length.image_length.Goals as goal
 
 pub returns : goal.returns
-returns c s a laying values =
+returns c s a link_layout values =
     c.image_length.ensures c.args.project.now s
-    (subst (λ xs. AreSegments s.sections (segments s.sections) xs) (sym c.deref.ensures.value) laying.segments)
-    (c.in_ok-sizes.ensures s a c.args.laying.now laying values)
+    (subst (λ xs. AreSegments s.sections (segments s.sections) xs) (sym c.deref.ensures.value) link_layout.segments)
+    (c.in_ok-sizes.ensures s a c.args.link_layout.now link_layout values)

@@ -9,7 +9,7 @@ use Rattle.emit.proofs.length.tail_sizes.Goals as goal
 use Rattle.emit.specs.Sizes.{names_size, plus_symbols}
 
 pub returns : goal.returns
-returns c s a l laying values =
+returns c s a l link_layout values =
     let p = c.args.project.now in
     let t : TailSizes = record {
       symbols = c.in_ok-symbols.symbols.count;
@@ -18,7 +18,7 @@ returns c s a l laying values =
       sections = c.len.result;
     } in
     sizes_of_tail p s a c.args.values.now t c.in_ok-symbols.symbols c.in_ok-sections.sections.items
-    (c.outputs_are_of_script.ensures p (rows p) (provided p) s laying.placed) values
+    (c.outputs_are_of_script.ensures p (rows p) (provided p) s link_layout.placed) values
     (c.in_ok-sections.ensures ∙ ap output_sections c.script-script.ensures)
     (c.in_ok-symbols.ensures ∙ ap (plus_symbols (record { count = 0; names = 0 })) c.deref.ensures.value)
     refl

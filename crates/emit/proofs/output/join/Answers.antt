@@ -2,7 +2,7 @@
 use Rattle.std.proofs.Common.{List, map, arith}
 use Rattle.std.specs.Borrow.{Bor}
 use Rattle.std.specs.Vec.{vec_items}
-use Rattle.ldmodel.specs.declared.laid.PlacedData.{PlacedData}
+use Rattle.ldmodel.specs.declared.placed.PlacedData.{PlacedData}
 use Rattle.ldscript.specs.statements.Numbered.{shown_sections}
 use Rattle.emit.proofs.Joining.{one_joined}
 use Rattle.emit.proofs.Lists.{own_member}

@@ -4,7 +4,7 @@ use Rattle.std.specs.Borrow.{Bor}
 use Rattle.std.specs.Vec.{vec_items}
 use Rattle.std.proofs.lemmas.Option.{slice_get_read}
 use Rattle.ldmodel.specs.Image.{fill_byte}
-use Rattle.ldmodel.specs.declared.laid.PlacedData.{PlacedData}
+use Rattle.ldmodel.specs.declared.placed.PlacedData.{PlacedData}
 use Rattle.ldscript.specs.statements.Numbering.{OutputSectionAt}
 use Rattle.ldscript.specs.statements.declared.numbering.OutputSectionAt as code_section
 use Rattle.emit.proofs.Lists.{mapped_at}

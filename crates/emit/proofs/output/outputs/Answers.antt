@@ -7,7 +7,7 @@ use Rattle.ldmodel.specs.Lent.{data_of, placed_of}
 use Rattle.place.specs.Offsets.{IsOffset}
 use Rattle.ldmodel.specs.Names.{provided}
 use Rattle.ldmodel.specs.Rows.{rows}
-use Rattle.ldmodel.specs.declared.laid.PlacedData.{PlacedData}
+use Rattle.ldmodel.specs.declared.placed.PlacedData.{PlacedData}
 use Rattle.ldscript.specs.statements.Numbered.{shown_sections}
 use Rattle.ldscript.specs.statements.Numbering.{OutputSectionAt, output_sections}
 use Rattle.emit.proofs.Fills.{fills_are}
@@ -20,21 +20,21 @@ returns c =
     let p = c.args.project.now in
     let now : Bor (List PlacedData) → List PlacedData = λ run. run.now in
     if_ok c.join.result
-    (λ v h s stays laying pieces.
-    let outputs = c.outputs_are_of_script.ensures p (rows p) (provided p) s laying.placed in
-    let placed = sym (c.laid-laid.ensures.sections ∙ laying.places.sections) in
+    (λ v h s stays link_layout pieces.
+    let outputs = c.outputs_are_of_script.ensures p (rows p) (provided p) s link_layout.placed in
+    let placed = sym (c.view-placement.ensures.sections ∙ link_layout.places.sections) in
     let tree = ap shown_sections c.deref.ensures.value ∙ c.in_ok-sections.ensures
     ∙ ap output_sections c.script-script.ensures in
     h p s stays (record {
       placed = placed;
       names = outputs ∙ ap (map (λ (o : OutputSectionAt). o.section.name)) (sym tree);
-      fills = fills_are p.script s (c.layout_by_effects.ensures p.script (rows p) (provided p) s laying.placed)
+      fills = fills_are p.script s (c.layout_by_effects.ensures p.script (rows p) (provided p) s link_layout.placed)
           ∙ ap (map (λ (o : OutputSectionAt). o.section.fill)) (sym tree);
-      begun = subst (λ l. AllZip (IsOffset s) s.sections l) (sym c.deref-2.ensures.value) laying.offsets;
+      begun = subst (λ l. AllZip (IsOffset s) s.sections l) (sym c.deref-2.ensures.value) link_layout.offsets;
       pieces = pieces;
       data_commands = subst (λ l. AllZip AreDataOf s.sections (map now l)) (sym c.deref-3.ensures.value)
           (c.in_ok-runs.ensures s.sections
-          (ap (map data_of) c.laid-laid.ensures.data_commands ∙ laying.places.data_commands)
+          (ap (map data_of) c.view-placement.ensures.data_commands ∙ link_layout.places.data_commands)
           (sym (ap length placed) ∙ length-map s.sections placed_of));
     }))
     c.join.ensures

@@ -16,7 +16,7 @@ returns c s stays are =
     let p = c.args.project.now in
     let x = c.in_ok-tail.tail in
     let gs = subst (λ xs. AreSegments s.sections (segments s.sections) xs) (sym c.as_slice-segments.ensures.value)
-    are.arranged.laying.segments in
+    are.arranged.link_layout.segments in
     let headings = subst (λ ys. AllZip (IsTableSection s) s.sections ys) (sym c.deref-2.ensures.value)
     (c.in_ok-headings.ensures p s stays are.outputs) in
     let tail = c.in_ok-tail.ensures.of_link p s (record {
@@ -37,6 +37,6 @@ returns c s stays are =
             ap length c.deref-2.ensures.value,
             AllZip-long (IsTableSection s) s.sections c.deref-2.result.now headings,
           ));
-      drawn = c.in_ok-sections.ensures p s stays are.arranged.laying.named are.outputs;
+      drawn = c.in_ok-sections.ensures p s stays are.arranged.link_layout.named are.outputs;
       tail = tail;
     }

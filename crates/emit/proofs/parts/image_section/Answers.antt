@@ -1,7 +1,7 @@
 -- The whole section has each input section.
 use Rattle.std.proofs.Common.{refl, ap, arith}
 use Rattle.emit_image.specs.declared.section.ImageSection.{ImageSection}
-use Rattle.ldmodel.specs.declared.laid.Placed.{Placed}
+use Rattle.ldmodel.specs.declared.placed.Placed.{Placed}
 use Rattle.emit.proofs.parts.image_section.Goals as goal
 
 pub returns-in-Ok : goal.returns-in-Ok

@@ -14,11 +14,11 @@ returns g c =
     let p = c.args.project.now in
     if_ok c.image_rows.result
     (λ v h s a arranged fields.
-    let placed = c.placed_are_rows.ensures p (provided p) s arranged.laying.placed in
+    let placed = c.placed_are_rows.ensures p (provided p) s arranged.link_layout.placed in
     h (known_link p s a) refl (record { arranged = arranged; runs = fields })
     (record {
       placed = placed ∙ sym arranged.rows;
-      begun = c.pieces-starts.ensures ∙ arranged.laying.places.starts;
+      begun = c.pieces-starts.ensures ∙ arranged.link_layout.places.starts;
       sized = subst (Each (Each (IsSized p))) (sym arranged.rows)
           (rows_sized p c.inputs-inputs.ensures.distinct c.are_numbered.ensures
           (c.live_by_path.ensures.in_order p).0 (c.live_by_path.ensures.in_order p).1);

@@ -1,5 +1,5 @@
 use Rattle.std.proofs.Common.{arith}
-use Rattle.ldmodel.specs.declared.laid.PlacedData.{PlacedData}
+use Rattle.ldmodel.specs.declared.placed.PlacedData.{PlacedData}
 use Rattle.ldscript.specs.statements.declared.section.Width.TheVariants.{Byte}
 use Rattle.emit_image.proofs.InSection.{data-from}
 use Rattle.emit_image.proofs.add_section.add_data_before.Goals as goal

@@ -1,5 +1,5 @@
 use Rattle.std.proofs.Common.{◌≡◌, ◌+◌, ◌≤◌, ◌∙◌, ℕ, get_or, false, sym, ap, subst, arith}
-use Rattle.ldmodel.specs.declared.laid.PlacedData.{PlacedData}
+use Rattle.ldmodel.specs.declared.placed.PlacedData.{PlacedData}
 use Rattle.ldscript.specs.statements.declared.section.Width.TheVariants.{Byte}
 use Rattle.emit_image.specs.Drawing.{data_byte, data_end}
 use Rattle.emit_image.specs.Grown.{Grown}

@@ -7,7 +7,7 @@ use Rattle.ldmodel.specs.Relocations.{sites_at}
 use Rattle.emit_relocate.specs.Changes.{IsMoved}
 use Rattle.emit_relocate.specs.Earlier.{IsKept}
 use Rattle.emit_relocate.specs.Fields.{sites_among}
-use Rattle.emit_relocate.specs.SymbolTable.{IsRow}
+use Rattle.emit_relocate.specs.SymbolValues.{IsRow}
 use Rattle.emit_relocate.proofs.Filling.{not_past}
 use Rattle.emit_relocate.proofs.Found.{at_index, below, numbered_as, placed_of}
 use Rattle.emit_relocate.proofs.changed_fields.add_moved_at.Goals as goal

@@ -3,7 +3,7 @@ use Rattle.std.specs.Prelude.{slice_get}
 use Rattle.std.proofs.lemmas.List.{length-map}
 use Rattle.elfobj.specs.Object.{ObjectData}
 use Rattle.elfobj.specs.Sections.{section_of}
-use Rattle.emit_relocate.specs.SymbolTable.{IsRow}
+use Rattle.emit_relocate.specs.SymbolValues.{IsRow}
 use Rattle.emit_relocate.proofs.Changing.{changed_none, next_section, whole_object}
 use Rattle.emit_relocate.proofs.Rowed.{row_is}
 use Rattle.emit_relocate.proofs.changed_fields.add_object.Goals as goal

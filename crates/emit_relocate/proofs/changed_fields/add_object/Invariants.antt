@@ -4,7 +4,7 @@ use Rattle.ldmodel.specs.Stayed.{GoodLink}
 use Rattle.emit_relocate.specs.Changes.{AreChanged, results_of}
 use Rattle.emit_relocate.specs.Filled.{EndBelow, sections_of}
 use Rattle.emit_relocate.specs.KnownLink.{KnownLink, named_object}
-use Rattle.emit_relocate.specs.SymbolTable.{HasSymbolValues}
+use Rattle.emit_relocate.specs.SymbolValues.{HasSymbolValues}
 use Rattle.emit_relocate.proofs.changed_fields.add_object.Given as goal
 
 abbrev pub invariant-loop-index : goal.invariant-loop-index

@@ -4,7 +4,7 @@ use Rattle.elfobj.specs.Object.{ObjectData}
 use Rattle.elfobj.specs.declared.section.Section.{Section}
 use Rattle.elfobj.specs.declared.section.SectionKind.TheVariants.{Progbits}
 use Rattle.emit_relocate.specs.Fields.{IsAdded}
-use Rattle.emit_relocate.specs.SymbolTable.{IsRow}
+use Rattle.emit_relocate.specs.SymbolValues.{IsRow}
 use Rattle.emit_relocate.proofs.Filling.{not_past}
 use Rattle.emit_relocate.proofs.Found.{at_index, below, numbered_as, placed_of}
 use Rattle.emit_relocate.proofs.changed_fields.add_placed.Goals as goal

@@ -3,7 +3,7 @@ use Rattle.ldmodel.specs.Stayed.{GoodLink}
 use Rattle.emit_relocate.specs.Changes.{AreChanged, no_results, results_of}
 use Rattle.emit_relocate.specs.Filled.{EndBelow, IsOrder, sections_in}
 use Rattle.emit_relocate.specs.KnownLink.{KnownLink}
-use Rattle.emit_relocate.specs.SymbolTable.{HasSymbolValues}
+use Rattle.emit_relocate.specs.SymbolValues.{HasSymbolValues}
 use Rattle.emit_relocate.proofs.changed_fields.changed_fields.Given as goal
 
 abbrev pub invariant-loop-key : goal.invariant-loop-key

@@ -7,7 +7,7 @@ use Rattle.ldscript.specs.Numbering.{OutputSectionAt}
 use Rattle.ldscript.specs.Numbered.{shown_sections}
 use Rattle.ldscript.specs.statements.declared.numbering.OutputSectionAt as code_section
 use Rattle.ldmodel.specs.Project.{Project}
-use Rattle.ldmodel.specs.declared.laid.Placed.{Placed}
+use Rattle.ldmodel.specs.declared.placed.Placed.{Placed}
 use Rattle.ldmodel.specs.declared.rows.Piece.{Piece}
 use Rattle.emit_text.specs.ShownMap.{pieces_text, section_text, sections_text}
 use Rattle.emit_text.proofs.Appending.{written_step, written_both, written_end}
@@ -81,7 +81,7 @@ pub loop-k-preserved : goal.loop-k-preserved
 loop-k-preserved g c =
     sections_lent (g.M.Members.project c.args.members.now) (g.M.Members.number c.args.members.now) c.loop-k.text.items
     c.put_section.new.text.items c.put_pieces.new.text.items _
-    c.args.parts.now.laid.sections.now (shown_sections c.args.parts.now.sections.now)
+    c.args.parts.now.placement.sections.now (shown_sections c.args.parts.now.sections.now)
     (map vec_items c.args.parts.now.rows.now) c.loop-k.starts.now
     _ c.loop-k.k _ (shown_one c.in-Some.section.now) (vec_items c.in-Some-get.row.now)
     c.as_bytes.result.now c.deref.result.now
@@ -99,7 +99,7 @@ pub returns-in_default : goal.returns-in_default
 returns-in_default g c =
     written_end _ _ _
     (no_sections (g.M.Members.project c.args.members.now) (g.M.Members.number c.args.members.now)
-    (drop c.loop-k.k c.args.parts.now.laid.sections.now)
+    (drop c.loop-k.k c.args.parts.now.placement.sections.now)
     (drop c.loop-k.k (shown_sections c.args.parts.now.sections.now))
     (drop c.loop-k.k (map vec_items c.args.parts.now.rows.now)) c.loop-k.starts.now
     (none_left shown_one c.args.parts.now.sections.now c.loop-k.k c.in_default.ensures.lookup.3))
@@ -109,7 +109,7 @@ pub returns-in_default-get : goal.returns-in_default-get
 returns-in_default-get g c =
     written_end _ _ _
     (no_rows (g.M.Members.project c.args.members.now) (g.M.Members.number c.args.members.now)
-    (drop c.loop-k.k c.args.parts.now.laid.sections.now)
+    (drop c.loop-k.k c.args.parts.now.placement.sections.now)
     (drop c.loop-k.k (shown_sections c.args.parts.now.sections.now))
     (drop c.loop-k.k (map vec_items c.args.parts.now.rows.now)) c.loop-k.starts.now
     (none_left vec_items c.args.parts.now.rows.now c.loop-k.k c.in_default-get.ensures.lookup.3))
@@ -122,5 +122,5 @@ returns g c =
     qs
     (drop c.loop-k.k (shown_sections c.args.parts.now.sections.now))
     (drop c.loop-k.k (map vec_items c.args.parts.now.rows.now)) c.loop-k.starts.now)
-    c.args.parts.now.laid.sections.now c.loop-k.k c.loop-k-test.false)
+    c.args.parts.now.placement.sections.now c.loop-k.k c.loop-k-test.false)
     c.loop-k.invariant

@@ -8,8 +8,8 @@ use Rattle.emit_text.proofs.maps.put_sections.Given as goal
 abbrev pub invariant-loop-k : goal.invariant-loop-k
 invariant-loop-k g l =
     l.text.items ++ sections_text (g.M.Members.project l.members) (g.M.Members.number l.members)
-    (drop l.k l.parts.laid.sections.now) (drop l.k (shown_sections l.parts.sections.now))
+    (drop l.k l.parts.placement.sections.now) (drop l.k (shown_sections l.parts.sections.now))
     (drop l.k (map vec_items l.parts.rows.now)) l.starts
     ≡ l.initial.text.items
-    ++ sections_text (g.M.Members.project l.members) (g.M.Members.number l.members) l.parts.laid.sections.now
-    (shown_sections l.parts.sections.now) (map vec_items l.parts.rows.now) l.parts.laid.starts.now
+    ++ sections_text (g.M.Members.project l.members) (g.M.Members.number l.members) l.parts.placement.sections.now
+    (shown_sections l.parts.sections.now) (map vec_items l.parts.rows.now) l.parts.placement.starts.now

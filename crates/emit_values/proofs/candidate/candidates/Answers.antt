@@ -1,7 +1,7 @@
 use Rattle.std.proofs.Common.{◌∙◌, ◌++◌, List, ap, rules, subst}
 use Rattle.std.specs.Cmp.Lexicographic.{nat_list_cmp_total}
 use Rattle.std.proofs.lemmas.List.Sorted.{answers_always, ranks_by}
-use Rattle.ldscript.specs.statements.Numbered.{shown_commons}
+use Rattle.ldscript.specs.statements.Numbered.{shown_directives}
 use Rattle.emit_values.specs.Candidates.{all_given, comes_before, names_of}
 use Rattle.emit_values.specs.Merged.{Merged}
 use Rattle.emit_values.specs.declared.candidate.Candidate.{Candidate}
@@ -14,11 +14,11 @@ merge_names-requires c = sorted_keys c.args.sorted.now c.requires.order
 
 pub returns : goal.returns
 returns c =
-    merged_are c.args.naming.now c.args.script.now c.args.sorted.now (shown_commons c.deref.result.now)
+    merged_are c.args.symbol_table.now c.args.script.now c.args.sorted.now (shown_directives c.deref.result.now)
     c.add_all_given.new.list.items c.sort_by.new.self.items c.in_ok-list.list.items c.requires
-    (ap shown_commons c.deref.ensures.value ∙ c.in_ok-commands.ensures)
+    (ap shown_directives c.deref.ensures.value ∙ c.in_ok-commands.ensures)
     (c.in_ok-add_all_given.ensures.names
-    ∙ ap (λ (l : List Candidate). names_of l ++ all_given (shown_commons c.deref.result.now))
+    ∙ ap (λ (l : List Candidate). names_of l ++ all_given (shown_directives c.deref.result.now))
     c.in_ok-given.ensures.items)
     (λ b. c.in_ok-add_all_given.ensures.keyed b (none_keyed c.in_ok-given.given.items c.in_ok-given.ensures.items b))
     c.in_ok-sort_by.ensures.permutation

@@ -10,6 +10,6 @@ returns c =
     on_ok_weaker c.add_if_defined.result
     (λ added p s h.
     adds_one p s x c.args.list.now.items c.add_if_defined.new.list.items
-    (unnamed_symbol p s c.args.sources.now x c.value.result h (c.case_named-case.ensures.case p h.naming h.script)
+    (unnamed_symbol p s c.args.sources.now x c.value.result h (c.case_named-case.ensures.case p h.symbol_table h.script)
     c.value.ensures (c.in-Some.ensures p s c.args.name.now)) added)
     c.add_if_defined.ensures

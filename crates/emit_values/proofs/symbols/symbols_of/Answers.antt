@@ -13,6 +13,6 @@ pub returns : goal.returns
 returns c =
     λ p s h.
     c.loop-place.invariant p s h
-    ∙ symbols_are p s c.args.sources.now.naming.now c.args.sources.now.script.now c.args.candidates.now
-    c.loop-place.place c.requires h.naming h.script
+    ∙ symbols_are p s c.args.sources.now.symbol_table.now c.args.sources.now.script.now c.args.candidates.now
+    c.loop-place.place c.requires h.symbol_table h.script
     (omega (arith, c.loop-place-test.false, c.loop-place.auto.place-end))

@@ -8,8 +8,8 @@ use Rattle.gather.proofs.blocks.collected.Goals as goal
 
 pub loop-key-preserved : goal.loop-key-preserved
 loop-key-preserved c =
-    let cases = c.args.naming.now.cases in
-    let before = take c.loop-key.key c.args.naming.now.cases in
+    let cases = c.args.symbol_table.now.cases in
+    let before = take c.loop-key.key c.args.symbol_table.now.cases in
     record {
       len = c.add_if_named.ensures.len ∙ c.loop-key.invariant.len;
       blocks = λ i below.

@@ -24,5 +24,5 @@ returns c =
     let low : i < length found = omega (arith, many, slice_get_within p.objects i o at) in
     let below : i < length c.inputs.result.now = omega (arith, low, c.in_ok-all.ensures.len) in
     let own : IsInOrder (blocks_at found i) (blocks_at sorted i) = c.sort_all.ensures.sorted i low in
-    blocks_are p c.args.naming.now i o c.requires c.all_keyed.ensures at (blocks_at sorted i)
+    blocks_are p c.args.symbol_table.now i o c.requires c.all_keyed.ensures at (blocks_at sorted i)
     (subst (λ l. IsPermutation l (blocks_at sorted i)) (c.in_ok-all.ensures.blocks i below) own.same) own.order)

@@ -3,7 +3,7 @@ use Rattle.std.proofs.Common.{refl}
 use Rattle.ldscript.specs.terms.Grammar.{word_of}
 use Rattle.emit_fields.specs.Fields.{field_of}
 use Rattle.ldmodel.specs.Assertions.{assertion_faults}
-use Rattle.ldmodel.specs.Placement.{common_step, body_command_step, piece_placed, pieces_placed}
+use Rattle.ldmodel.specs.Placement.{directive_step, body_command_step, piece_placed, pieces_placed}
 use Rattle.ldmodel.specs.Chain.{run}
 use Rattle.ldmodel.specs.Commands.{line}
 use Rattle.ldmodel.specs.FaultCode.{fault_of}
@@ -42,7 +42,7 @@ use Rattle.ldscript.specs.terms.Matching.{is_match}
 use Rattle.ldmodel_laws.proofs.layouts.layout_by_example.Goals as goal
 
 pub returns-clause-regions : goal.returns-clause-regions
-unfolding assertion_faults assigned_names body_command_step byte_at command_step common_step decided decision
+unfolding assertion_faults assigned_names body_command_step byte_at command_step directive_step decided decision
     declarations_of declared_names difference_in duplicates elf_header entry_point entry_section entry_symbol fault_of
     fault_text field_of first_match gathering_faults given groups head_of header_name_table header_part file_headers hex
     image image_length input_sections is_match is_out item_command_step layout line line_of link linked_pieces live
@@ -53,7 +53,7 @@ unfolding assertion_faults assigned_names body_command_step byte_at command_step
 returns-clause-regions c = refl
 
 pub returns-clause-has_room : goal.returns-clause-has_room
-unfolding assertion_faults assigned_names body_command_step byte_at command_step common_step decided decision
+unfolding assertion_faults assigned_names body_command_step byte_at command_step directive_step decided decision
     declarations_of declared_names difference_in duplicates elf_header entry_point entry_section entry_symbol fault_of
     fault_text field_of first_match gathering_faults given groups head_of header_name_table header_part file_headers hex
     image image_length input_sections is_match is_out item_command_step layout line line_of link linked_pieces live
@@ -64,7 +64,7 @@ unfolding assertion_faults assigned_names body_command_step byte_at command_step
 returns-clause-has_room c = refl
 
 pub returns-clause-full : goal.returns-clause-full
-unfolding assertion_faults assigned_names body_command_step byte_at command_step common_step decided decision
+unfolding assertion_faults assigned_names body_command_step byte_at command_step directive_step decided decision
     declarations_of declared_names difference_in duplicates elf_header entry_point entry_section entry_symbol fault_of
     fault_text field_of first_match gathering_faults given groups head_of header_name_table header_part file_headers hex
     image image_length input_sections is_match is_out item_command_step layout line line_of link linked_pieces live
@@ -75,7 +75,7 @@ unfolding assertion_faults assigned_names body_command_step byte_at command_step
 returns-clause-full c = refl
 
 pub returns-clause-from_start : goal.returns-clause-from_start
-unfolding assertion_faults assigned_names body_command_step byte_at command_step common_step decided decision
+unfolding assertion_faults assigned_names body_command_step byte_at command_step directive_step decided decision
     declarations_of declared_names difference_in duplicates elf_header entry_point entry_section entry_symbol fault_of
     fault_text field_of first_match gathering_faults given groups head_of header_name_table header_part file_headers hex
     image image_length input_sections is_match is_out item_command_step layout line line_of link linked_pieces live
@@ -86,7 +86,7 @@ unfolding assertion_faults assigned_names body_command_step byte_at command_step
 returns-clause-from_start c = refl
 
 pub returns-clause-moved_back : goal.returns-clause-moved_back
-unfolding assertion_faults assigned_names body_command_step byte_at command_step common_step decided decision
+unfolding assertion_faults assigned_names body_command_step byte_at command_step directive_step decided decision
     declarations_of declared_names difference_in duplicates elf_header entry_point entry_section entry_symbol fault_of
     fault_text field_of first_match gathering_faults given groups head_of header_name_table header_part file_headers hex
     image image_length input_sections is_match is_out item_command_step layout line line_of link linked_pieces live
@@ -97,7 +97,7 @@ unfolding assertion_faults assigned_names body_command_step byte_at command_step
 returns-clause-moved_back c = refl
 
 pub returns-clause-past : goal.returns-clause-past
-unfolding assertion_faults assigned_names body_command_step byte_at command_step common_step decided decision
+unfolding assertion_faults assigned_names body_command_step byte_at command_step directive_step decided decision
     declarations_of declared_names difference_in duplicates elf_header entry_point entry_section entry_symbol fault_of
     fault_text field_of first_match gathering_faults given groups head_of header_name_table header_part file_headers hex
     image image_length input_sections is_match is_out item_command_step layout line line_of link linked_pieces live
@@ -108,7 +108,7 @@ unfolding assertion_faults assigned_names body_command_step byte_at command_step
 returns-clause-past c = refl
 
 pub returns-clause-wrapped : goal.returns-clause-wrapped
-unfolding assertion_faults assigned_names body_command_step byte_at command_step common_step decided decision
+unfolding assertion_faults assigned_names body_command_step byte_at command_step directive_step decided decision
     declarations_of declared_names difference_in duplicates elf_header entry_point entry_section entry_symbol fault_of
     fault_text field_of first_match gathering_faults given groups head_of header_name_table header_part file_headers hex
     image image_length input_sections is_match is_out item_command_step layout line line_of link linked_pieces live
@@ -119,7 +119,7 @@ unfolding assertion_faults assigned_names body_command_step byte_at command_step
 returns-clause-wrapped c = refl
 
 pub returns-clause-aligned : goal.returns-clause-aligned
-unfolding assertion_faults assigned_names body_command_step byte_at command_step common_step decided decision
+unfolding assertion_faults assigned_names body_command_step byte_at command_step directive_step decided decision
     declarations_of declared_names difference_in duplicates elf_header entry_point entry_section entry_symbol fault_of
     fault_text field_of first_match gathering_faults given groups head_of header_name_table header_part file_headers hex
     image image_length input_sections is_match is_out item_command_step layout line line_of link linked_pieces live
@@ -130,7 +130,7 @@ unfolding assertion_faults assigned_names body_command_step byte_at command_step
 returns-clause-aligned c = refl
 
 pub returns-clause-backwards : goal.returns-clause-backwards
-unfolding assertion_faults assigned_names body_command_step byte_at command_step common_step decided decision
+unfolding assertion_faults assigned_names body_command_step byte_at command_step directive_step decided decision
     declarations_of declared_names difference_in duplicates elf_header entry_point entry_section entry_symbol fault_of
     fault_text field_of first_match gathering_faults given groups head_of header_name_table header_part file_headers hex
     image image_length input_sections is_match is_out item_command_step layout line line_of link linked_pieces live
@@ -141,7 +141,7 @@ unfolding assertion_faults assigned_names body_command_step byte_at command_step
 returns-clause-backwards c = refl
 
 pub returns-clause-meeting : goal.returns-clause-meeting
-unfolding assertion_faults assigned_names body_command_step byte_at command_step common_step decided decision
+unfolding assertion_faults assigned_names body_command_step byte_at command_step directive_step decided decision
     declarations_of declared_names difference_in duplicates elf_header entry_point entry_section entry_symbol fault_of
     fault_text field_of first_match gathering_faults given groups head_of header_name_table header_part file_headers hex
     image image_length input_sections is_match is_out item_command_step layout line line_of link linked_pieces live
@@ -152,7 +152,7 @@ unfolding assertion_faults assigned_names body_command_step byte_at command_step
 returns-clause-meeting c = refl
 
 pub returns-clause-filled : goal.returns-clause-filled
-unfolding assertion_faults assigned_names body_command_step byte_at command_step common_step decided decision
+unfolding assertion_faults assigned_names body_command_step byte_at command_step directive_step decided decision
     declarations_of declared_names difference_in duplicates elf_header entry_point entry_section entry_symbol fault_of
     fault_text field_of first_match gathering_faults given groups head_of header_name_table header_part file_headers hex
     image image_length input_sections is_match is_out item_command_step layout line line_of link linked_pieces live

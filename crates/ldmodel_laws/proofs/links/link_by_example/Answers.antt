@@ -3,7 +3,7 @@ use Rattle.std.proofs.Common.{refl}
 use Rattle.ldscript.specs.terms.Grammar.{word_of}
 use Rattle.emit_fields.specs.Fields.{field_of}
 use Rattle.ldmodel.specs.Assertions.{assertion_faults}
-use Rattle.ldmodel.specs.Placement.{common_step, body_command_step, piece_placed, pieces_placed}
+use Rattle.ldmodel.specs.Placement.{directive_step, body_command_step, piece_placed, pieces_placed}
 use Rattle.ldmodel.specs.Chain.{run}
 use Rattle.ldmodel.specs.Commands.{line}
 use Rattle.ldmodel.specs.FaultCode.{fault_of}
@@ -42,7 +42,7 @@ use Rattle.ldscript.specs.terms.Matching.{is_match}
 use Rattle.ldmodel_laws.proofs.links.link_by_example.Goals as goal
 
 pub returns-clause-empty_status : goal.returns-clause-empty_status
-unfolding assertion_faults assigned_names body_command_step byte_at command_step common_step decided decision
+unfolding assertion_faults assigned_names body_command_step byte_at command_step directive_step decided decision
     declarations_of declared_names difference_in duplicates elf_header entry_point entry_section entry_symbol fault_of
     fault_text field_of first_match gathering_faults given groups head_of header_name_table header_part file_headers hex
     image image_length input_sections is_match is_out item_command_step layout line line_of link linked_pieces live
@@ -53,7 +53,7 @@ unfolding assertion_faults assigned_names body_command_step byte_at command_step
 returns-clause-empty_status c = refl
 
 pub returns-clause-empty_map : goal.returns-clause-empty_map
-unfolding assertion_faults assigned_names body_command_step byte_at command_step common_step decided decision
+unfolding assertion_faults assigned_names body_command_step byte_at command_step directive_step decided decision
     declarations_of declared_names difference_in duplicates elf_header entry_point entry_section entry_symbol fault_of
     fault_text field_of first_match gathering_faults given groups head_of header_name_table header_part file_headers hex
     image image_length input_sections is_match is_out item_command_step layout line line_of link linked_pieces live
@@ -64,7 +64,7 @@ unfolding assertion_faults assigned_names body_command_step byte_at command_step
 returns-clause-empty_map c = refl
 
 pub returns-clause-empty_length : goal.returns-clause-empty_length
-unfolding assertion_faults assigned_names body_command_step byte_at command_step common_step decided decision
+unfolding assertion_faults assigned_names body_command_step byte_at command_step directive_step decided decision
     declarations_of declared_names difference_in duplicates elf_header entry_point entry_section entry_symbol fault_of
     fault_text field_of first_match gathering_faults given groups head_of header_name_table header_part file_headers hex
     image image_length input_sections is_match is_out item_command_step layout line line_of link linked_pieces live
@@ -75,7 +75,7 @@ unfolding assertion_faults assigned_names body_command_step byte_at command_step
 returns-clause-empty_length c = refl
 
 pub returns-clause-orphan_status : goal.returns-clause-orphan_status
-unfolding assertion_faults assigned_names body_command_step byte_at command_step common_step decided decision
+unfolding assertion_faults assigned_names body_command_step byte_at command_step directive_step decided decision
     declarations_of declared_names difference_in duplicates elf_header entry_point entry_section entry_symbol fault_of
     fault_text field_of first_match gathering_faults given groups head_of header_name_table header_part file_headers hex
     image image_length input_sections is_match is_out item_command_step layout line line_of link linked_pieces live
@@ -86,7 +86,7 @@ unfolding assertion_faults assigned_names body_command_step byte_at command_step
 returns-clause-orphan_status c = refl
 
 pub returns-clause-orphan_faults : goal.returns-clause-orphan_faults
-unfolding assertion_faults assigned_names body_command_step byte_at command_step common_step decided decision
+unfolding assertion_faults assigned_names body_command_step byte_at command_step directive_step decided decision
     declarations_of declared_names difference_in duplicates elf_header entry_point entry_section entry_symbol fault_of
     fault_text field_of first_match gathering_faults given groups head_of header_name_table header_part file_headers hex
     image image_length input_sections is_match is_out item_command_step layout line line_of link linked_pieces live
@@ -97,7 +97,7 @@ unfolding assertion_faults assigned_names body_command_step byte_at command_step
 returns-clause-orphan_faults c = refl
 
 pub returns-clause-duplicate_faults : goal.returns-clause-duplicate_faults
-unfolding assertion_faults assigned_names body_command_step byte_at command_step common_step decided decision
+unfolding assertion_faults assigned_names body_command_step byte_at command_step directive_step decided decision
     declarations_of declared_names difference_in duplicates elf_header entry_point entry_section entry_symbol fault_of
     fault_text field_of first_match gathering_faults given groups head_of header_name_table header_part file_headers hex
     image image_length input_sections is_match is_out item_command_step layout line line_of link linked_pieces live
@@ -108,7 +108,7 @@ unfolding assertion_faults assigned_names body_command_step byte_at command_step
 returns-clause-duplicate_faults c = refl
 
 pub returns-clause-call_status : goal.returns-clause-call_status
-unfolding assertion_faults assigned_names body_command_step byte_at command_step common_step decided decision
+unfolding assertion_faults assigned_names body_command_step byte_at command_step directive_step decided decision
     declarations_of declared_names difference_in duplicates elf_header entry_point entry_section entry_symbol fault_of
     fault_text field_of first_match gathering_faults given groups head_of header_name_table header_part file_headers hex
     image image_length input_sections is_match is_out item_command_step layout line line_of link linked_pieces live
@@ -119,7 +119,7 @@ unfolding assertion_faults assigned_names body_command_step byte_at command_step
 returns-clause-call_status c = refl
 
 pub returns-clause-call_map : goal.returns-clause-call_map
-unfolding assertion_faults assigned_names body_command_step byte_at command_step common_step decided decision
+unfolding assertion_faults assigned_names body_command_step byte_at command_step directive_step decided decision
     declarations_of declared_names difference_in duplicates elf_header entry_point entry_section entry_symbol fault_of
     fault_text field_of first_match gathering_faults given groups head_of header_name_table header_part file_headers hex
     image image_length input_sections is_match is_out item_command_step layout line line_of link linked_pieces live
@@ -130,7 +130,7 @@ unfolding assertion_faults assigned_names body_command_step byte_at command_step
 returns-clause-call_map c = refl
 
 pub returns-clause-call_bytes : goal.returns-clause-call_bytes
-unfolding assertion_faults assigned_names body_command_step byte_at command_step common_step decided decision
+unfolding assertion_faults assigned_names body_command_step byte_at command_step directive_step decided decision
     declarations_of declared_names difference_in duplicates elf_header entry_point entry_section entry_symbol fault_of
     fault_text field_of first_match gathering_faults given groups head_of header_name_table header_part file_headers hex
     image image_length input_sections is_match is_out item_command_step layout line line_of link linked_pieces live
@@ -141,7 +141,7 @@ unfolding assertion_faults assigned_names body_command_step byte_at command_step
 returns-clause-call_bytes c = refl
 
 pub returns-clause-call_length : goal.returns-clause-call_length
-unfolding assertion_faults assigned_names body_command_step byte_at command_step common_step decided decision
+unfolding assertion_faults assigned_names body_command_step byte_at command_step directive_step decided decision
     declarations_of declared_names difference_in duplicates elf_header entry_point entry_section entry_symbol fault_of
     fault_text field_of first_match gathering_faults given groups head_of header_name_table header_part file_headers hex
     image image_length input_sections is_match is_out item_command_step layout line line_of link linked_pieces live
@@ -152,7 +152,7 @@ unfolding assertion_faults assigned_names body_command_step byte_at command_step
 returns-clause-call_length c = refl
 
 pub returns-clause-common_map : goal.returns-clause-common_map
-unfolding assertion_faults assigned_names body_command_step byte_at command_step common_step decided decision
+unfolding assertion_faults assigned_names body_command_step byte_at command_step directive_step decided decision
     declarations_of declared_names difference_in duplicates elf_header entry_point entry_section entry_symbol fault_of
     fault_text field_of first_match gathering_faults given groups head_of header_name_table header_part file_headers hex
     image image_length input_sections is_match is_out item_command_step layout line line_of link linked_pieces live
@@ -163,7 +163,7 @@ unfolding assertion_faults assigned_names body_command_step byte_at command_step
 returns-clause-common_map c = refl
 
 pub returns-clause-common_length : goal.returns-clause-common_length
-unfolding assertion_faults assigned_names body_command_step byte_at command_step common_step decided decision
+unfolding assertion_faults assigned_names body_command_step byte_at command_step directive_step decided decision
     declarations_of declared_names difference_in duplicates elf_header entry_point entry_section entry_symbol fault_of
     fault_text field_of first_match gathering_faults given groups head_of header_name_table header_part file_headers hex
     image image_length input_sections is_match is_out item_command_step layout line line_of link linked_pieces live
@@ -174,7 +174,7 @@ unfolding assertion_faults assigned_names body_command_step byte_at command_step
 returns-clause-common_length c = refl
 
 pub returns-clause-common_symbol : goal.returns-clause-common_symbol
-unfolding assertion_faults assigned_names body_command_step byte_at command_step common_step decided decision
+unfolding assertion_faults assigned_names body_command_step byte_at command_step directive_step decided decision
     declarations_of declared_names difference_in duplicates elf_header entry_point entry_section entry_symbol fault_of
     fault_text field_of first_match gathering_faults given groups head_of header_name_table header_part file_headers hex
     image image_length input_sections is_match is_out item_command_step layout line line_of link linked_pieces live

@@ -1,11 +1,11 @@
-use Rattle.ldscript.proofs.Items.{item_none, takes_common, takes_discard, takes_dot, takes_section_item}
+use Rattle.ldscript.proofs.Items.{item_none, takes_directive, takes_discard, takes_dot, takes_section_item}
 use Rattle.ldscript.proofs.read_item.item_command.Goals as goal
 
 pub returns-in-Some : goal.returns-in-Some
 returns-in-Some c = takes_dot _ _ _ (rw (c.in-Some.is, c.copy.ensures) at c.in_ok-command.ensures)
 
 pub returns-in-Some-2 : goal.returns-in-Some-2
-returns-in-Some-2 c = takes_common _ _ _ (rw (c.in-Some-2.is, c.copy-2.ensures) at c.in_ok-command-2.ensures)
+returns-in-Some-2 c = takes_directive _ _ _ (rw (c.in-Some-2.is, c.copy-2.ensures) at c.in_ok-command-2.ensures)
 
 pub returns-in-Some-3 : goal.returns-in-Some-3
 returns-in-Some-3 c = takes_discard _ _ _ (rw (c.in-Some-3.is, c.copy-3.ensures) at c.in_ok-inputs.ensures)

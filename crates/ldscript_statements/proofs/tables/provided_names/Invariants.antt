@@ -1,13 +1,13 @@
 -- The table has the names from here on.
 use Rattle.std.proofs.Common.{◌≡◌, ◌≤◌, ℕ, List, length, drop}
 use Rattle.ldscript_statements.specs.Given.{provided_from}
-use Rattle.ldscript_statements.specs.Numbered.{shown_commons}
+use Rattle.ldscript_statements.specs.Numbered.{shown_directives}
 use Rattle.ldscript_statements.specs.NumberTables.{number_at}
 use Rattle.ldscript_statements.proofs.tables.provided_names.Given as goal
 
 abbrev pub invariant-loop-left : goal.invariant-loop-left
-invariant-loop-left l = (l.left ≤ length l.commons)
-    × ((name : List ℕ) → number_at l.table name ≡ provided_from l.left (shown_commons (drop l.left l.commons)) name)
+invariant-loop-left l = (l.left ≤ length l.directives)
+    × ((name : List ℕ) → number_at l.table name ≡ provided_from l.left (shown_directives (drop l.left l.directives)) name)
 
 abbrev pub decreases-loop-left : goal.decreases-loop-left
 decreases-loop-left l = l.left

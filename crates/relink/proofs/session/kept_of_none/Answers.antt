@@ -9,7 +9,7 @@ use Rattle.relink.proofs.session.kept_of_none.Goals as goal
 
 pub returns : goal.returns
 returns c =
-    let a = c.in_ok-naming.naming in
+    let a = c.in_ok-symbol_table.symbol_table in
     subst (λ (ms : List Matches). IsKept (listing_of c.args.project.now) a ms) (sym c.new-2.ensures.items)
-    (kept_of_none (listing_of c.args.project.now) a c.requires c.in_ok-naming.ensures.objects
-    (subst (λ (script : List Statement). AreKept script a.kept) c.script.ensures c.in_ok-naming.ensures.kept))
+    (kept_of_none (listing_of c.args.project.now) a c.requires c.in_ok-symbol_table.ensures.objects
+    (subst (λ (script : List Statement). AreKept script a.kept) c.script.ensures c.in_ok-symbol_table.ensures.kept))

@@ -19,7 +19,7 @@ returns-clause-kept c = λ old h.
     let last : IsLastOf old new x = subst (λ m. IfSome (last_of m) (IsLastOf old new)) c.in_ok-last.was h in
     let first = c.first_changed-first.ensures
     ∙ ap (λ l. first_changed x new l c.args.rows.now) c.deref.ensures.value in
-    subst (λ n. IsKept new.script (model.rows new) x.good.arranged.laying.placement n) (sym first)
+    subst (λ n. IsKept new.script (model.rows new) x.good.arranged.link_layout.placement n) (sym first)
     (is_kept old new x last c.args.rows.now c.requires.rows c.if-not-last.false)
 
 pub returns-clause-same : goal.returns-clause-same
@@ -43,4 +43,4 @@ returns-clause-first c = λ old y e h g n same.
     ∙ ap (λ l. first_changed x new l c.args.rows.now) c.deref.ensures.value in
     subst (λ k. entries_from k (model.rows new) ≤ entries_from n (model.rows new)) (sym first)
     (is_first old new x last c.args.rows.now c.requires.rows next
-    (c.placed_are_rows.ensures old.project (provided old.project) old.layout last.table.arranged.laying.placed) n same)
+    (c.placed_are_rows.ensures old.project (provided old.project) old.layout last.table.arranged.link_layout.placed) n same)

@@ -22,7 +22,7 @@ draw_image-requires-clause-drawable c =
     let h = c.requires.filled.short.placed in
     record {
       layout = h.known.layout;
-      names = h.naming;
+      names = h.symbol_table;
       is = drawable_at (project_of c.args.lent) _ _ _ c.requires.filled;
     }
 
@@ -32,20 +32,20 @@ draw_image-requires-clause-patches c =
     let p = project_of c.args.lent in
     let k = c.requires.filled.short.placed.known in
     subst (All (EndsBy (image_length p s))) (sym c.deref.ensures.value)
-    (end_within p k.layout s c.args.fields.now.retargeted.items k.laying.placed arranged.laying.placed
+    (end_within p k.layout s c.args.fields.now.retargeted.items k.link_layout.placed arranged.link_layout.placed
     c.requires.filled.patches.ends)
 
 pub returns-clause-image : goal.returns-clause-image
 returns-clause-image c =
-    λ t laying.
+    λ t link_layout.
     let p = project_of c.args.lent in
     let f = c.requires.filled in
     let k = f.short.placed.known in
     let s = k.layout in
-    let a = f.short.placed.naming in
+    let a = f.short.placed.symbol_table in
     let drawable = drawable_at p _ _ _ f in
     subst (λ (z : Layout). c.draw_image.new.canvas.bytes ≡ image p z)
-    (one_placement p s t k.laying.placed laying.placed)
+    (one_placement p s t k.link_layout.placed link_layout.placed)
     (drawn_image p s a _ c.args.fields.now c.args.canvas.now.bytes c.draw_image.new.canvas.bytes
     c.requires.last c.is_complete.ensures.none
     (λ old last. c.is_complete.ensures.sound old (known_link p s a) (stays_of p _ _ _ f old last))
@@ -60,14 +60,14 @@ returns-clause-reads c =
 
 pub returns-clause-counted : goal.returns-clause-counted
 returns-clause-counted c =
-    λ t laying.
+    λ t link_layout.
     let p = project_of c.args.lent in
     let f = c.requires.filled in
     let k = f.short.placed.known in
     let s = k.layout in
-    let a = f.short.placed.naming in
+    let a = f.short.placed.symbol_table in
     subst (λ (z : Layout). IsWritten p z c.args.stays.now c.args.fields.now c.args.meter.now c.draw_image.new.meter)
-    (one_placement p s t k.laying.placed laying.placed)
+    (one_placement p s t k.link_layout.placed link_layout.placed)
     (record {
       bytes = c.in_ok-draw_image.ensures.counted;
       beside = λ old last some.

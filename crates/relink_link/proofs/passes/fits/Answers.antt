@@ -14,7 +14,7 @@ returns-in-None-clause-good c =
     let k = c.requires.known in
     let s = k.layout in
     let n : ℕ = c.in_ok-length.length in
-    let is : n ≡ image_length p s = c.in_ok-length.ensures s c.requires.naming k.laying c.requires.values in
+    let is : n ≡ image_length p s = c.in_ok-length.ensures s c.requires.symbol_table k.link_layout c.requires.values in
     let short : n ≤ max_image_length =
     short_of (nat_lt max_image_length n) max_image_length n (variant.ImageTooLong n) refl c.in-None.ensures in
     let here : placed p (of_length n s) ≡ relocated p s =
@@ -24,7 +24,7 @@ returns-in-None-clause-good c =
       placed = c.requires;
       length = subst (λ (k : ℕ). k ≤ max_image_length) is short;
       rest = k.rest
-          ∙ (ap (placed p) k.laying.layout ∙ (ap (λ (k : ℕ). placed p (of_length k s)) (sym is) ∙ here));
+          ∙ (ap (placed p) k.link_layout.layout ∙ (ap (λ (k : ℕ). placed p (of_length k s)) (sym is) ∙ here));
     }
 
 pub returns-in_ok-lines-in-Some-clause-stop : goal.returns-in_ok-lines-in-Some-clause-stop
@@ -33,8 +33,8 @@ returns-in_ok-lines-in-Some-clause-stop c =
     let k = c.requires.known in
     let s = k.layout in
     let n : ℕ = c.in_ok-length.length in
-    let is : n ≡ image_length p s = c.in_ok-length.ensures s c.requires.naming k.laying c.requires.values in
+    let is : n ≡ image_length p s = c.in_ok-length.ensures s c.requires.symbol_table k.link_layout c.requires.values in
     ap faulty_link c.in_ok-lines-in-Some.ensures
     ∙ (too_long_of p s n c.in-Some.fault c.in-Some.ensures
     ∙ (ap (λ (k : ℕ). placed p (of_length k s)) is
-    ∙ sym (k.rest ∙ ap (placed p) k.laying.layout)))
+    ∙ sym (k.rest ∙ ap (placed p) k.link_layout.layout)))

@@ -4,7 +4,7 @@ pub fits-requires : goal.fits-requires
 fits-requires c =
     let k = c.requires.known in
     record {
-      naming = c.args.lent.naming.now;
+      symbol_table = c.args.lent.symbol_table.now;
       known = k;
-      values = c.in_ok-values.ensures k.layout (c.requires.given.values k.layout k.laying) k.view;
+      values = c.in_ok-values.ensures k.layout (c.requires.given.values k.layout k.link_layout) k.view;
     }

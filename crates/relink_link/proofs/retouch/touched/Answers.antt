@@ -15,7 +15,7 @@ use Rattle.ldmodel.specs.Stayed.{GoodLink}
 use Rattle.emit.specs.Beside.{new_link}
 use Rattle.emit.specs.relocate.Fields.{evaluations}
 use Rattle.emit.specs.relocate.KnownLink.{KnownLink}
-use Rattle.emit.specs.relocate.SymbolTable.{IsRow}
+use Rattle.emit.specs.relocate.SymbolValues.{IsRow}
 use Rattle.emit.specs.retouch.Spots.{HasSpots, bytes_of, sites_of}
 use Rattle.emit.specs.retouch.declared.spot.SectionSpot.{SectionSpot}
 use Rattle.relink_link.specs.Lent.{project_of}
@@ -48,7 +48,7 @@ returns-clause-link c =
     c.row-values.ensures in
     let order = c.files_in_order.ensures s.sections in
     let all = c.sections_in_file.ensures.all s.sections in
-    let offset_is = c.sections_in_file.ensures.offset s.sections is.table.arranged.laying.named in
+    let offset_is = c.sections_in_file.ensures.offset s.sections is.table.arranged.link_layout.named in
     let spots : HasSpots p s f.after c.deref.result.now =
     subst (HasSpots p s f.after) (sym (c.deref.ensures.value ∙ c.in_ok-spots.ensures
     ∙ ap (λ (d : ObjectData). spots_below x.good.arranged r.new (map section_of d.sections) (length d.sections))
@@ -58,7 +58,7 @@ returns-clause-link c =
     let none = faultless yes old.project l f.after retouch object row spots
     (touching.before_faultless p x r f names keeps old is) in
     touching.retouched_end p x r f names keeps old is c.retouch.new.canvas.bytes none
-    (c.is_good.ensures s (touching.arranged p x r f names keeps old is).laying
+    (c.is_good.ensures s (touching.arranged p x r f names keeps old is).link_layout
     (touching.short p x r f names keeps old is) none)
     (image yes old.project l f.after retouch object row spots c.requires.last.image))
     c.retouch.ensures.image c.retouch.ensures.faultless
@@ -87,13 +87,13 @@ returns-clause-counted c =
     c.row-values.ensures in
     let order = c.files_in_order.ensures s.sections in
     let all = c.sections_in_file.ensures.all s.sections in
-    let offset_is = c.sections_in_file.ensures.offset s.sections is.table.arranged.laying.named in
+    let offset_is = c.sections_in_file.ensures.offset s.sections is.table.arranged.link_layout.named in
     let spots : HasSpots p s f.after c.deref.result.now =
     subst (HasSpots p s f.after) (sym spots_are) (touching.spots_of p x r f names keeps old is order all offset_is) in
     let retouch = touching.retouch_of p x r f names keeps old is c.nobits_are_bare.ensures in
     let none = faultless yes old.project l f.after retouch object row spots
     (touching.before_faultless p x r f names keeps old is) in
-    let good = c.is_good.ensures s (touching.arranged p x r f names keeps old is).laying
+    let good = c.is_good.ensures s (touching.arranged p x r f names keeps old is).link_layout
     (touching.short p x r f names keeps old is) none in
     let raised_by = counted yes l f.after f.at object row spots
     ∙ ap (λ (d : ObjectData). raised (raised c.args.meter.now Fields (evaluations l (sites_of s f.after))) Bytes
@@ -130,7 +130,7 @@ returns-clause-faulty c =
     c.row-values.ensures in
     let order = c.files_in_order.ensures s.sections in
     let all = c.sections_in_file.ensures.all s.sections in
-    let offset_is = c.sections_in_file.ensures.offset s.sections is.table.arranged.laying.named in
+    let offset_is = c.sections_in_file.ensures.offset s.sections is.table.arranged.link_layout.named in
     let spots : HasSpots p s f.after c.deref.result.now =
     subst (HasSpots p s f.after) (sym (c.deref.ensures.value ∙ c.in_ok-spots.ensures
     ∙ ap (λ (d : ObjectData). spots_below x.good.arranged r.new (map section_of d.sections) (length d.sections))
@@ -161,7 +161,7 @@ returns-clause-reads c =
     c.row-values.ensures in
     let order = c.files_in_order.ensures s.sections in
     let all = c.sections_in_file.ensures.all s.sections in
-    let offset_is = c.sections_in_file.ensures.offset s.sections is.table.arranged.laying.named in
+    let offset_is = c.sections_in_file.ensures.offset s.sections is.table.arranged.link_layout.named in
     let spots : HasSpots p s f.after c.deref.result.now =
     subst (HasSpots p s f.after) (sym (c.deref.ensures.value ∙ c.in_ok-spots.ensures
     ∙ ap (λ (d : ObjectData). spots_below x.good.arranged r.new (map section_of d.sections) (length d.sections))

@@ -5,7 +5,7 @@ use Rattle.ldmodel.specs.Stayed.{GoodLink}
 use Rattle.ldmodel_project.specs.ByPlace.{faults_in}
 use Rattle.emit_relocate.specs.Filled.{EndBelow, IsOrder}
 use Rattle.emit_relocate.specs.KnownLink.{KnownLink}
-use Rattle.emit_relocate.specs.SymbolTable.{HasSymbolValues}
+use Rattle.emit_relocate.specs.SymbolValues.{HasSymbolValues}
 use Rattle.emit_relocate.specs.Values.{value_of}
 use Rattle.emit_values.specs.LinkView.{known_link}
 use Rattle.emit.proofs.Beside.{are_runs}

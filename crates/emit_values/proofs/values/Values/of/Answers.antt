@@ -7,15 +7,15 @@ use Rattle.emit_values.proofs.values.Values.of.Goals as goal
 pub returns : goal.returns
 returns c =
     λ s given link.
-    let names : AreNameValues (known_link c.args.project.now s c.args.naming.now) c.in_ok-names.names.items =
-    c.in_ok-names.ensures (known_link c.args.project.now s c.args.naming.now) link in record {
+    let names : AreNameValues (known_link c.args.project.now s c.args.symbol_table.now) c.in_ok-names.names.items =
+    c.in_ok-names.ensures (known_link c.args.project.now s c.args.symbol_table.now) link in record {
       names = names;
-      entry = c.entry_value-entry.ensures s c.requires.naming given link;
+      entry = c.entry_value-entry.ensures s c.requires.symbol_table given link;
       symbols = c.in_ok-symbols.ensures c.args.project.now s (record {
-        naming = c.requires.naming;
+        symbol_table = c.requires.symbol_table;
         script = sym c.script-script.ensures;
         names = subst (λ (vs : List code.SymbolValue).
-            AreNameValues (known_link c.args.project.now s c.args.naming.now) vs) (sym c.deref-2.ensures.value) names;
+            AreNameValues (known_link c.args.project.now s c.args.symbol_table.now) vs) (sym c.deref-2.ensures.value) names;
         given = given;
       });
     }

@@ -14,9 +14,9 @@ use Rattle.place.proofs.Placing.{all_places}
 use Rattle.place.proofs.arranged.Arranged.of.Goals as goal
 
 pub returns-clause-arranged : goal.returns-clause-arranged
-returns-clause-arranged c = λ s laid.
+returns-clause-arranged c = λ s placement.
     let p = c.args.project.now in
-    let placed = c.placed_are_rows.ensures p (provided p) s laid.placed in
+    let placed = c.placed_are_rows.ensures p (provided p) s placement.placed in
     let flat : List (List Piece) → List Piece = flat_map (λ (row : List Piece). row) in
     let inputs = all_inputs p (c.live_by_path.ensures.in_order p) in
     let owned : Each (IsOwned p) (flat (rows p)) =
@@ -30,10 +30,10 @@ returns-clause-arranged c = λ s laid.
       once = subst (EachLater Differ) (ap flat (sym placed))
           (c.once_in_rows.ensures p c.inputs.ensures.distinct c.are_numbered.ensures);
       owned = subst (Each (IsOwned p)) (ap flat (sym placed)) owned;
-      spread = c.nothing_meets.ensures p.script (rows p) (provided p) s laid.placed;
+      spread = c.nothing_meets.ensures p.script (rows p) (provided p) s placement.placed;
     })
     (placed ∙ sym c.requires.rows)
-    (c.pieces.ensures ∙ laid.places.starts) are c.requires.table c.requires.rows laid
+    (c.pieces.ensures ∙ placement.places.starts) are c.requires.table c.requires.rows placement
     (all_numbered p c.args.table c.inputs.ensures.distinct c.requires.table (c.sections_of_objects.ensures p)
     c.args.rows.items c.pieces.result.now c.in_ok-entries.entries.items c.requires.rows owned inputs are)
     (subst (λ (l : List Entry). AreOwners c.args.table l c.in_ok-owners.owners.items) c.deref-2.ensures.value

@@ -2,14 +2,14 @@ use Rattle.std.proofs.Common.{◌≡◌, nat_eq, true, ap, refl, sym, eq-eqb, �
 use Rattle.std.specs.Bool.{Decides}
 use Rattle.std.proofs.lemmas.Bool.{eqb-true}
 use Rattle.std.proofs.lemmas.Slice.Eq.{slice_eq-Decides}
-use Rattle.ldmodel.specs.declared.script_symbol.CommonIndex.{CommonIndex}
+use Rattle.ldmodel.specs.declared.script_symbol.DirectiveIndex.{DirectiveIndex}
 use Rattle.place_sections.specs.Places.{Places}
 use Rattle.place_sections.proofs.placement.Placement.kept.Goals as goal
 
-same_number : (a b : CommonIndex) → Decides (nat_eq a.0 b.0) (a ≡ b)
+same_number : (a b : DirectiveIndex) → Decides (nat_eq a.0 b.0) (a ≡ b)
 same_number a b = (
   λ e. let same : a.0 ≡ b.0 = eqb-true a.0 b.0 e in ap (λ k. record { 0 = k }) same,
-  λ e. eq-eqb a.0 b.0 (ap (λ (x : CommonIndex). x.0) e),
+  λ e. eq-eqb a.0 b.0 (ap (λ (x : DirectiveIndex). x.0) e),
 )
 
 pub returns : goal.returns

@@ -6,8 +6,8 @@ ghost-advance g a = g.naming
 abbrev pub ghost-set_dot : goal.ghost-set_dot
 ghost-set_dot g a = g.naming
 
-abbrev pub ghost-common : goal.ghost-common
-ghost-common g a = g.naming
+abbrev pub ghost-directive : goal.ghost-directive
+ghost-directive g a = g.naming
 
 abbrev pub ghost-place_data : goal.ghost-place_data
 ghost-place_data g a = g.naming

@@ -1,6 +1,6 @@
 use Rattle.std.proofs.Common.{sym, ap, ◌∙◌}
 use Rattle.place_terms.proofs.Numbers.{found_by_name, named_by_number}
-use Rattle.place_terms.specs.SymbolTable.{Numbered}
+use Rattle.place_terms.specs.LayoutSymbols.{Numbered}
 use Rattle.place_terms.specs.Tables.{symbol_number}
 use Rattle.place_terms.proofs.symbols.AssignedSymbols.assign.Goals as goal
 

@@ -1,5 +1,5 @@
 use Rattle.std.proofs.Common.{subst, sym}
-use Rattle.place_terms.specs.SymbolTable.{IsFound, Numbered}
+use Rattle.place_terms.specs.LayoutSymbols.{IsFound, Numbered}
 use Rattle.place_terms.proofs.InTurn.{turns_more}
 use Rattle.place_terms.proofs.symbols.AssignedSymbols.push.Goals as goal
 

@@ -1,6 +1,6 @@
 use Rattle.std.proofs.Common.{◌≡◌, rules, subst, sym, ap, ◌∙◌, take}
 use Rattle.std.proofs.lemmas.List.Elements.{All-take}
-use Rattle.place_terms.specs.SymbolTable.{risen, AreFound, IsFound, Numbered, Rises}
+use Rattle.place_terms.specs.LayoutSymbols.{risen, AreFound, IsFound, Numbered, Rises}
 use Rattle.place_terms.proofs.InTurn.{rises_first}
 use Rattle.place_terms.proofs.symbols.AssignedSymbols.take_over.Goals as goal
 

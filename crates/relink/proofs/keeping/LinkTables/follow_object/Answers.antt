@@ -34,7 +34,7 @@ exchange-gone-requires-clause-out c =
     let v = c.make_room.new.self.matches in
     let ms : List Matches = c.args.self.now.matches.items in
     let there = stands c.args.project.now c.args.staged.now c.args.key.0 c.object_change-change.result
-    c.args.self.now.naming ms c.object_change-change.ensures c.requires.kept in
+    c.args.self.now.symbol_table ms c.object_change-change.ensures c.requires.kept in
     out_within ms c.place_of-out.result (vec_len v)
     (subst (λ (p : Option ℕ). Stands ms p) (sym c.place_of-out.ensures) there)
     (omega (arith, v.ok.0, v.ok.1, ap (λ (l : List Matches). length l) c.make_room.ensures.matches))
@@ -45,9 +45,9 @@ exchange-gone-requires-clause-into c =
     let ms : List Matches = c.args.self.now.matches.items in
     let x = c.object_change-change.result in
     let there = stands c.args.project.now c.args.staged.now c.args.key.0 x
-    c.args.self.now.naming ms c.object_change-change.ensures c.requires.kept in
+    c.args.self.now.symbol_table ms c.object_change-change.ensures c.requires.kept in
     let may = may_stand c.args.project.now c.args.staged.now c.args.key.0 x
-    c.args.self.now.naming ms c.requires.arranged c.requires.touched c.object_change-change.ensures c.requires.kept in
+    c.args.self.now.symbol_table ms c.requires.arranged c.requires.touched c.object_change-change.ensures c.requires.kept in
     into_within ms c.place_of-out.result c.place_of-into.result (vec_len v)
     (subst (λ (p : Option ℕ). Stands ms p) (sym c.place_of-out.ensures) there)
     (subst (λ (p : Option ℕ). MayStand ms p c.place_of-into.result) (sym c.place_of-out.ensures)
@@ -60,9 +60,9 @@ exchange-gone-requires-clause-added c =
     let ms : List Matches = c.args.self.now.matches.items in
     let x = c.object_change-change.result in
     let there = stands c.args.project.now c.args.staged.now c.args.key.0 x
-    c.args.self.now.naming ms c.object_change-change.ensures c.requires.kept in
+    c.args.self.now.symbol_table ms c.object_change-change.ensures c.requires.kept in
     let may = may_stand c.args.project.now c.args.staged.now c.args.key.0 x
-    c.args.self.now.naming ms c.requires.arranged c.requires.touched c.object_change-change.ensures c.requires.kept in
+    c.args.self.now.symbol_table ms c.requires.arranged c.requires.touched c.object_change-change.ensures c.requires.kept in
     added_within ms (place_at x.out) c.place_of-into.result (vec_len v) there
     (subst (λ (q : Option ℕ). MayStand ms (place_at x.out) q) (sym c.place_of-into.ensures) may)
     (omega (arith, v.ok.0, v.ok.1, ap (λ (l : List Matches). length l) c.make_room.ensures.matches))
@@ -77,7 +77,7 @@ link_next-requires-clause-kept c =
     let items = c.exchange-gone.ensures.items
     ∙ exchanged_as c.make_room.new.self.matches.items ms c.place_of-out.result (place_at x.out) c.place_of-into.result
     (place_at x.into) coming coming c.make_room.ensures.matches c.place_of-out.ensures c.place_of-into.ensures refl in
-    let after = kept_after h s c.args.key.0 x c.args.self.now.naming c.change-order.new.self ms coming
+    let after = kept_after h s c.args.key.0 x c.args.self.now.symbol_table c.change-order.new.self ms coming
     c.requires.arranged c.requires.one c.requires.touched c.object_change-change.ensures c.requires.kept
     (c.change-order.ensures.objects ∙ ap (λ (ts : List Table). changed_tables ts x) c.make_room.ensures.tables)
     (subst (λ (t : List Statement). AreKept t c.change-order.new.self.kept)
@@ -99,7 +99,7 @@ exchange-requires-clause-out c =
     let items = c.exchange-gone.ensures.items
     ∙ exchanged_as c.make_room.new.self.matches.items ms c.place_of-out.result (place_at x.out) c.place_of-into.result
     (place_at x.into) coming coming c.make_room.ensures.matches c.place_of-out.ensures c.place_of-into.ensures refl in
-    let may = may_stand h s c.args.key.0 x c.args.self.now.naming ms c.requires.arranged c.requires.touched
+    let may = may_stand h s c.args.key.0 x c.args.self.now.symbol_table ms c.requires.arranged c.requires.touched
     c.object_change-change.ensures c.requires.kept in
     let both = both_come h s c.args.key.0 x coming c.object_change-change.ensures
     (coming_of h s c.args.key.0 c.next-next.result x coming c.next-next.ensures.next c.object_change-change.ensures.is
@@ -121,8 +121,8 @@ exchange-requires-clause-into c =
     let items = c.exchange-gone.ensures.items
     ∙ exchanged_as c.make_room.new.self.matches.items ms c.place_of-out.result (place_at x.out) c.place_of-into.result
     (place_at x.into) coming coming c.make_room.ensures.matches c.place_of-out.ensures c.place_of-into.ensures refl in
-    let there = stands h s c.args.key.0 x c.args.self.now.naming ms c.object_change-change.ensures c.requires.kept in
-    let may = may_stand h s c.args.key.0 x c.args.self.now.naming ms c.requires.arranged c.requires.touched
+    let there = stands h s c.args.key.0 x c.args.self.now.symbol_table ms c.object_change-change.ensures c.requires.kept in
+    let may = may_stand h s c.args.key.0 x c.args.self.now.symbol_table ms c.requires.arranged c.requires.touched
     c.object_change-change.ensures c.requires.kept in
     let both = both_come h s c.args.key.0 x coming c.object_change-change.ensures
     (coming_of h s c.args.key.0 c.next-next.result x coming c.next-next.ensures.next c.object_change-change.ensures.is
@@ -147,8 +147,8 @@ exchange-requires-clause-added c =
     let items = c.exchange-gone.ensures.items
     ∙ exchanged_as c.make_room.new.self.matches.items ms c.place_of-out.result (place_at x.out) c.place_of-into.result
     (place_at x.into) coming coming c.make_room.ensures.matches c.place_of-out.ensures c.place_of-into.ensures refl in
-    let there = stands h s c.args.key.0 x c.args.self.now.naming ms c.object_change-change.ensures c.requires.kept in
-    let may = may_stand h s c.args.key.0 x c.args.self.now.naming ms c.requires.arranged c.requires.touched
+    let there = stands h s c.args.key.0 x c.args.self.now.symbol_table ms c.object_change-change.ensures c.requires.kept in
+    let may = may_stand h s c.args.key.0 x c.args.self.now.symbol_table ms c.requires.arranged c.requires.touched
     c.object_change-change.ensures c.requires.kept in
     let both = both_come h s c.args.key.0 x coming c.object_change-change.ensures
     (coming_of h s c.args.key.0 c.next-next.result x coming c.next-next.ensures.next c.object_change-change.ensures.is
@@ -176,11 +176,11 @@ returns-in-Ok-clause-kept c =
     ∙ exchanged_as c.make_room.new.self.matches.items ms c.place_of-out.result (place_at x.out) c.place_of-into.result
     (place_at x.into) coming coming c.make_room.ensures.matches c.place_of-out.ensures c.place_of-into.ensures refl in
     let last : List Matches = exchanged ms (place_at x.out) (place_at x.into) coming in
-    subst (λ (l : List Matches). IsKept (next_listing h s) c.put_in_order_if.new.naming l) (sym items)
-    (kept_forgetting (next_listing h s) c.change-order.new.self c.put_in_order_if.new.naming last
+    subst (λ (l : List Matches). IsKept (next_listing h s) c.put_in_order_if.new.symbol_table l) (sym items)
+    (kept_forgetting (next_listing h s) c.change-order.new.self c.put_in_order_if.new.symbol_table last
     (c.put_in_order_if.ensures.tables ∙ c.forget_if.ensures.tables)
     (λ script kept. c.put_in_order_if.ensures.kept script (c.forget_if.ensures.kept script kept))
-    (kept_after h s c.args.key.0 x c.args.self.now.naming c.change-order.new.self ms coming
+    (kept_after h s c.args.key.0 x c.args.self.now.symbol_table c.change-order.new.self ms coming
     c.requires.arranged c.requires.one c.requires.touched c.object_change-change.ensures c.requires.kept
     (c.change-order.ensures.objects ∙ ap (λ (ts : List Table). changed_tables ts x) c.make_room.ensures.tables)
     (subst (λ (t : List Statement). AreKept t c.change-order.new.self.kept)
@@ -214,7 +214,7 @@ returns-in-Err-clause-back c =
     ∙ exchanged_as c.exchange-gone.new.list.items (exchanged ms (place_at x.out) (place_at x.into) coming)
     c.place_of-into.result (place_at x.into) c.place_of-out.result (place_at x.out) c.exchange-gone.result
     (gone_at ms (place_at x.out)) items c.place_of-into.ensures c.place_of-out.ensures gone in
-    kept_back h s c.args.key.0 x c.args.self.now.naming c.change-order.new.self c.undo.new.self ms
+    kept_back h s c.args.key.0 x c.args.self.now.symbol_table c.change-order.new.self c.undo.new.self ms
     c.exchange.new.list.items coming c.requires.arranged c.requires.touched c.object_change-change.ensures
     c.requires.kept
     (c.change-order.ensures.objects ∙ ap (λ (ts : List Table). changed_tables ts x) c.make_room.ensures.tables)

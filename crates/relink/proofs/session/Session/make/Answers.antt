@@ -95,7 +95,7 @@ invariant_of-self-in-Ok-follow c =
     let followed = subst (λ (x : Option LastState). HasFollowed next x bytes c.follow.new.canvas.bytes
     c.in-Ok-follow.followed) c.lend-last.ensures c.in-Ok-follow.ensures.followed in
     ended_after h s same bytes c.follow.new.canvas.bytes a c.end.new.answer e last c.end.new.last
-    c.in-Ok-origins_for.from c.in-Ok-follow.followed c.commit.new.self c.follow.new.self.naming
+    c.in-Ok-origins_for.from c.in-Ok-follow.followed c.commit.new.self c.follow.new.self.symbol_table
     c.follow.new.self.matches.items given from answers followed c.end.ensures c.in-Ok-follow.ensures.kept
     c.commit.ensures.next
 
@@ -124,7 +124,7 @@ invariant_of-self-in-Ok-follow-2 c =
     let followed = subst (λ (x : Option LastState). HasFollowed next x bytes c.follow.new.canvas.bytes
     c.in-Ok-follow.followed) c.lend-last.ensures c.in-Ok-follow.ensures.followed in
     ended_after h s same bytes c.follow.new.canvas.bytes a c.end.new.answer e last c.end.new.last
-    c.in-Ok-origins_for.from c.in-Ok-follow.followed c.commit.new.self c.follow.new.self.naming
+    c.in-Ok-origins_for.from c.in-Ok-follow.followed c.commit.new.self c.follow.new.self.symbol_table
     c.follow.new.self.matches.items given from answers followed c.end.ensures c.in-Ok-follow.ensures.kept
     c.commit.ensures.next
 

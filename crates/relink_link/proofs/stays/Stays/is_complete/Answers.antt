@@ -14,7 +14,7 @@ returns-clause-complete c = λ old l h some.
     complete_or_none old l (λ k. ap (λ (m : KnownLink). m.number k) h.link) h.names
     c.args.self.now.arranged.now h.arranged c.args.self.now.last some h.last h.short
     (c.files_in_order.ensures l.layout.sections) (c.sections_in_file.ensures.all l.layout.sections)
-    (c.sections_in_file.ensures.offset l.layout.sections h.arranged.laying.named)
+    (c.sections_in_file.ensures.offset l.layout.sections h.arranged.link_layout.named)
 
 -- a section that is known to have stayed has, if each range that is known says so
 if_known : (old : GoodLink) (l : KnownLink) (key : SectionKey) (known : Option FileRange)

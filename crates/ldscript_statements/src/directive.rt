@@ -1,0 +1,42 @@
+//! Commands that stand in more than one list of statements.
+
+use crate::formula::Formula;
+use ldscript_tokens::name::ScriptName;
+
+/// A name and the value that it is given.
+#[derive(Drop)]
+pub struct Assignment {
+    /// The name.
+    pub name: ScriptName,
+    /// The value.
+    pub value: Formula,
+}
+
+/// A condition that must hold of the finished link.
+#[derive(Drop)]
+pub struct Assertion {
+    /// The condition: any number but 0.
+    pub condition: Formula,
+    /// What is reported where it does not hold, without its quotes.
+    pub message: ScriptName,
+}
+
+/// A command that may stand in a script, in `SECTIONS` and in an output section.
+#[derive(Drop)]
+pub enum Directive {
+    /// `NAME = e`
+    Assign(Assignment),
+    /// `PROVIDE(NAME = e)`
+    Provide(Assignment),
+    /// `ASSERT(e, "message")`
+    Assert(Assertion),
+}
+
+/// A command that moves the location counter.
+#[derive(Drop)]
+pub enum DotCommand {
+    /// `. = e`
+    Set(Formula),
+    /// `. += e`
+    Add(Formula),
+}

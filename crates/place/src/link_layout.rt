@@ -1,0 +1,155 @@
+//! The layout of a project, or its faults.
+
+ghost use Rattle.std.specs.Prelude.{◌≡◌, IfErr, IfOk, IfSome, map};
+ghost use Rattle.ldmodel.specs.Names.{provided};
+ghost use Rattle.ldmodel.specs.Project.{Project};
+ghost use Rattle.ldmodel.specs.Rows as model;
+ghost use Rattle.place.specs.LinkLayout.{HasLayout, HasPlaces, IsOne, IsWhy};
+ghost use Rattle.symres.specs.SymbolTable.{IsSymbolTable};
+ghost use Rattle.ldmodel_project.specs.ByPlace.{rows_in};
+ghost use Rattle.elfobj.specs.Raised.{raised};
+ghost use Rattle.elfobj.specs.declared.meter.Count.TheVariants.{Pieces};
+ghost use Rattle.place_sections.specs.Counted.{CountsPieces, entries, first_of, placed_from};
+ghost use Rattle.place_sections.specs.Kept.{IsKept};
+ghost use Rattle.place_sections.specs.Outcomes as outcomes;
+
+use crate::offsets::offsets;
+use crate::segments::segments;
+use elfobj::Meter;
+use ldmodel::fault::Fault;
+use ldmodel::rows::Piece;
+use ldmodel::segment::Segment;
+use ldmodel_project::view::ProjectView;
+use place_sections::fault::PlaceFault;
+use place_sections::law::outputs_are_of_script;
+use place_sections::place::place;
+use place_sections::placement::Placement;
+use std::alloc::{AllocError, Global};
+use symres::SymbolTable;
+
+/// Where everything of a project stands.
+#[derive(Drop)]
+pub struct LinkLayout {
+    /// The places in memory.
+    pub placement: Placement,
+    /// The places in the file: the segments.
+    pub segments: Vec<Segment>,
+    /// Where each output section begins in the file; 0 where its size is 0.
+    pub offsets: Vec<u128>,
+}
+
+/// Why a project has no layout.
+#[derive(Debug, Drop)]
+pub enum LayoutFault {
+    /// The project has these faults: `F4` to `F10`.
+    Faulty(Vec<Fault>),
+    /// Out of memory.
+    NoMemory,
+}
+
+impl From<AllocError> for LayoutFault {
+    ghost use Rattle.std.specs.Prelude.{◌≡◌};
+    ghost use Rattle.place.specs.declared.link_layout.LayoutFault.TheVariants.{NoMemory};
+
+    ghost from_gives = { λ _ e. e ≡ NoMemory };
+
+    fn from(_failed: AllocError) -> LayoutFault {
+        LayoutFault::NoMemory
+    }
+}
+
+/// One fault, or out of memory.
+fn one(alloc: Global, fault: Fault) -> LayoutFault
+    ensures { IsOne result fault }
+{
+    match vec![in alloc; fault] {
+        Ok(faults) => LayoutFault::Faulty(faults),
+        Err(_) => LayoutFault::NoMemory,
+    }
+}
+
+/// What a fault of the placement says of the project.
+#[tactic(auto, unfolding(ldmodel::specs::Link::layout))]
+fn reported(alloc: Global, fault: PlaceFault) -> LayoutFault
+    ensures { (p : Project) → outcomes.IsWhy p.script (model.rows p) (provided p) fault → IsWhy p result }
+{
+    match fault {
+        PlaceFault::First(fault) => one(alloc, fault),
+        PlaceFault::Meeting(faults) => LayoutFault::Faulty(faults),
+        PlaceFault::NoMemory => LayoutFault::NoMemory,
+    }
+}
+
+/// Where everything of a project stands in memory. `lent` is the project once more: it names what the rows' keys stand
+/// for.
+fn place_rows(
+    alloc: Global,
+    project: &ProjectView<'_>,
+    symbol_table: &SymbolTable,
+    rows: &[Vec<Piece>],
+    kept: Option<(&Placement, usize)>,
+    meter: &mut Meter,
+) -> Result<Placement, LayoutFault>
+    ghost lent: { Project }
+    requires project { project.now ≡ lent }
+    requires symbol_table { IsSymbolTable lent symbol_table.now }
+    requires rows { rows_in lent rows.now ≡ model.rows lent }
+    requires kept { IfSome kept (λ k. IsKept lent.script (model.rows lent) k.0.now k.1) }
+    ensures good { IfOk result (λ l. HasPlaces lent l) }
+    ensures faulty { IfErr result (λ f. IsWhy lent f) }
+    ensures counted { CountsPieces meter.old meter.new (entries 0 (map (λ v. v.items) rows.now)) }
+    ensures resumed { IfOk result (λ _. IfSome kept.entry (λ k.
+        CountsPieces meter.old meter.new (entries k.1 (map (λ v. v.items) rows.now)))) }
+    ensures exact { IfOk result (λ p. meter.new ≡ raised meter.old Pieces (placed_from (first_of kept.entry) p.counts)) }
+{
+    let script = project.script();
+    let provided = symbol_table.provided(alloc, script)?;
+    match place(alloc, script, rows, &provided, kept, meter) {
+        Ok(placement) => Ok(placement),
+        Err(fault) => Err(reported(alloc, fault)),
+    }
+}
+
+impl LinkLayout {
+    /// Lays out the rows of a project whose names are decided. The length of the image isn't looked at: it is known
+    /// only when the symbols have their values. The entries of the rows are counted as placed.
+    ///
+    /// With `kept`, an earlier placement of the script and the number of a row before which no row differs from the
+    /// earlier ones, the layout is the same, and the entries of the rows from that one on are counted.
+    ///
+    /// # Errors
+    ///
+    /// `Faulty` has the first fault of the layout, or else all output sections that meet; `NoMemory` where memory runs
+    /// out.
+    pub fn of(
+        alloc: Global,
+        project: &ProjectView<'_>,
+        symbol_table: &SymbolTable,
+        rows: &[Vec<Piece>],
+        kept: Option<(&Placement, usize)>,
+        meter: &mut Meter,
+    ) -> Result<LinkLayout, LayoutFault>
+        requires symbol_table { IsSymbolTable project.now symbol_table.now }
+        requires rows { rows_in project.now rows.now ≡ model.rows project.now }
+        requires kept { IfSome kept (λ k. IsKept project.now.script (model.rows project.now) k.0.now k.1) }
+        ensures good { IfOk result (λ l. HasLayout project.now l) }
+        ensures faulty { IfErr result (λ f. IsWhy project.now f) }
+        ensures counted { CountsPieces meter.old meter.new (entries 0 (map (λ v. v.items) rows.now)) }
+        ensures resumed { IfOk result (λ _. IfSome kept.entry (λ k.
+            CountsPieces meter.old meter.new (entries k.1 (map (λ v. v.items) rows.now)))) }
+        ensures exact { IfOk result (λ l. meter.new
+            ≡ raised meter.old Pieces (placed_from (first_of kept.entry) l.placement.counts)) }
+    {
+        outputs_are_of_script();
+        // so that what a script says of its statements is known
+        let _statements = project.script().statements();
+        let placement = place_rows(alloc, project, symbol_table, rows, kept, meter)?;
+        let segments = segments(alloc, placement.view())?;
+        let offsets = offsets(alloc, placement.sections(), &segments)?;
+        Ok(LinkLayout {
+            placement,
+            segments,
+            offsets,
+        })
+    }
+}

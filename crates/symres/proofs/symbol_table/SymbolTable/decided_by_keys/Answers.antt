@@ -1,0 +1,15 @@
+use Rattle.std.proofs.Common.{refl, subst, sym}
+use Rattle.ldmodel_project.specs.Listing.{AreKeysDistinct}
+use Rattle.ldmodel_project.specs.Tables.{place_or_0}
+use Rattle.symres.specs.Placed.{keys_of}
+use Rattle.symres.proofs.symbol_table.SymbolTable.decided_by_keys.Goals as goal
+
+pub returns : goal.returns
+returns c =
+    let tables = c.self.inside.decisions.names.objects in
+    let distinct : AreKeysDistinct (keys_of tables) =
+    subst AreKeysDistinct (sym c.self.invariant) c.keys-keys.ensures.distinct in
+    rw (← c.self.view_is)
+    (λ p name same.
+    c.decision_by_keys.ensures (place_or_0 (keys_of tables)) p tables name
+    (c.tables_by_place.ensures (keys_of tables) p.objects tables distinct refl (sym same)))

@@ -1,0 +1,50 @@
+use Rattle.std.proofs.Common.{◌∙◌, List, [], arith, sym, ap, length, map, subst}
+use Rattle.std.specs.Prelude.{Option, None}
+use Rattle.ldmodel.specs.Link.{duplicate_fault}
+use Rattle.ldmodel.specs.Names.{declarations_of}
+use Rattle.ldmodel.specs.declared.fault.Fault.{Fault}
+use Rattle.ldmodel.specs.declared.names.Entry.{Entry}
+use Rattle.ldmodel_project.specs.ByPlace.{faults_in}
+use Rattle.symres.specs.Duplicates.{AreFound}
+use Rattle.std.proofs.lemmas.List.{length-replicate}
+use Rattle.symres.proofs.Doubling.{is_table_at, none_found, object_more, objects_all}
+use Rattle.symres.proofs.symbol_table.SymbolTable.duplicates.Goals as goal
+
+pub returns-then-doubled-eq0 : goal.returns-then-doubled-eq0
+returns-then-doubled-eq0 c =
+    ap (faults_in c.args.project.now) c.new.ensures.items ∙ ap (map duplicate_fault) (sym c.none_doubled.ensures)
+
+pub loop-place-init : goal.loop-place-init
+loop-place-init c = record {
+  long = ap length c.in_ok-firsts.ensures ∙ (length-replicate c.limit.result nothing ∙ c.limit.ensures);
+  found = subst (λ (fs : List Fault). AreFound c.args.project.now c.args.self.now.names (declarations_of [])
+      c.in_ok-firsts.firsts.items fs) (sym c.new-faults.ensures.items)
+      (none_found c.args.project.now c.args.self.now.names c.limit.result c.in_ok-firsts.firsts.items
+      c.in_ok-firsts.ensures);
+}
+  where
+    nothing : Option Entry
+    nothing = None
+
+pub add_symbols-requires-clause-table : goal.add_symbols-requires-clause-table
+add_symbols-requires-clause-table c =
+    is_table_at c.args.project.now c.args.self.now c.inputs-input-items.result.now c.loop-place.place
+    c.input-item.result c.requires c.inputs-input-items.ensures.same (omega (arith, c.loop-place-test.true))
+    (sym c.input-item.is)
+
+pub loop-place-preserved : goal.loop-place-preserved
+loop-place-preserved c = record {
+  long = c.add_symbols.ensures.long ∙ c.loop-place.invariant.long;
+  found = object_more c.args.project.now c.args.self.now.names c.inputs-input-items.result.now c.loop-place.place
+      c.input-item.result c.loop-place.firsts.items c.add_symbols.new.firsts.items c.loop-place.faults.items
+      c.add_symbols.new.faults.items c.inputs-input-items.ensures.same (omega (arith, c.loop-place-test.true))
+      (sym c.input-item.is)
+      (λ ds. c.in_ok-add_symbols.ensures.found c.args.project.now ds c.requires (sym c.script.ensures))
+      c.loop-place.invariant.found;
+}
+
+pub returns : goal.returns
+returns c =
+    objects_all c.args.project.now c.args.self.now.names c.inputs-input-items.result.now c.loop-place.place
+    c.loop-place.firsts.items c.loop-place.faults.items c.inputs-input-items.ensures.same
+    (omega (arith, c.loop-place-test.false)) c.loop-place.invariant.found

@@ -1,0 +1,37 @@
+use Rattle.std.proofs.Common.{◌≡◌, ◌∙◌, List, ap, map, subst, sym}
+use Rattle.ldscript.specs.statements.declared.statement.Statement.{Statement}
+use Rattle.ldmodel.specs.Names.{symbol_tables}
+use Rattle.ldmodel_project.specs.Inputs.{shown_inputs}
+use Rattle.ldmodel_project.specs.Listing.{AreKeysDistinct}
+use Rattle.symres_decisions.specs.Decisions.{AreKept}
+use Rattle.symres_decisions.specs.Keyed.{tables_of}
+use Rattle.symres_decisions.specs.declared.keyed.Keyed.{Keyed}
+use Rattle.symres.specs.Entered as entered
+use Rattle.symres.specs.Placed.{keys_of}
+use Rattle.symres.proofs.Entering.{Table, keys_are, places_distinct, seconds}
+use Rattle.symres.proofs.symbol_table.SymbolTable.of.Goals as goal
+
+pub of-requires : goal.of-requires
+of-requires c =
+    subst AreKeysDistinct (sym c.deref-2.ensures.value)
+    (places_distinct c.args.inputs.now c.in_ok-objects.objects.items c.in_ok-keys.keys.items
+    c.in_ok-objects.ensures.tables
+    (c.in_ok-keys.ensures ∙ ap (map (λ (x : Keyed). x.key.0)) c.deref.ensures.value))
+
+pub invariant_of-symbol_table : goal.invariant_of-symbol_table
+invariant_of-symbol_table c =
+    ap keys_of c.in_ok-decisions.ensures.objects
+    ∙ ap (λ (xs : List Keyed). keys_of (tables_of xs)) c.deref-3.ensures.value
+    ∙ keys_are c.args.inputs.now c.in_ok-objects.objects.items c.in_ok-keys.keys.items
+    (c.in_ok-keys.ensures ∙ ap (map (λ (x : Keyed). x.key.0)) c.deref.ensures.value)
+    ∙ sym (c.in_ok-order.ensures ∙ c.deref-2.ensures.value)
+
+pub returns-clause-symbol_table : goal.returns-clause-symbol_table
+returns-clause-symbol_table c =
+    λ p objects same.
+    let d = c.in_ok-decisions.decisions in
+    let tables : d.names.objects ≡ entered.tables_of c.args.inputs.now =
+    c.in_ok-decisions.ensures.objects ∙ ap tables_of c.deref-3.ensures.value ∙ c.in_ok-objects.ensures.tables in
+    c.names_kept.ensures p (subst (λ (st : List Statement). AreKept st d) (sym same) c.in_ok-decisions.ensures.kept)
+    (ap symbol_tables objects ∙ sym (seconds 0 (symbol_tables (shown_inputs c.args.inputs.now)))
+    ∙ sym (ap (map (λ (t : Table). t.1)) tables))

@@ -1,0 +1,13 @@
+use Rattle.std.proofs.Common.{◌≡◌, take}
+use Rattle.ldscript.specs.statements.Numbering.{all_directives}
+use Rattle.ldmodel.specs.Project.{Project}
+use Rattle.symres.specs.SymbolTable.{IsSymbolTable}
+use Rattle.symres.specs.Provided.{names_in_force}
+use Rattle.symres.proofs.Providing.{given}
+use Rattle.symres.proofs.symbol_table.SymbolTable.provided.Given as goal
+
+-- the commands before this one are seen to
+abbrev pub invariant-loop-number : goal.invariant-loop-number
+invariant-loop-number l =
+    (p : Project) → IsSymbolTable p l.self → p.script ≡ l.script
+    → given p l.list.items ≡ names_in_force p (take l.number (all_directives l.script))

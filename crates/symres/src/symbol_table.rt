@@ -1,0 +1,160 @@
+//! The names of a link: what each name that its objects declare stands for.
+
+ghost use Rattle.std.specs.Prelude.{◌≡◌, ℕ, List, IfOk, MatchOption, length, map};
+ghost use Rattle.elfobj.specs.Symbols.{NamedSymbol};
+ghost use Rattle.ldmodel.specs.HandedOver.{decision_of};
+ghost use Rattle.ldmodel.specs.Names.{decision, symbol_tables};
+ghost use Rattle.ldmodel.specs.Project.{Project};
+ghost use Rattle.ldmodel_laws.specs.Renumbering.{renumbered_decision};
+ghost use Rattle.symres_decisions.specs.Decided.{case_at, decision_in, HasCase};
+ghost use Rattle.symres_decisions.specs.Decisions.{AreKept};
+ghost use Rattle.symres.specs.Entered.{tables_of};
+ghost use Rattle.symres.specs.SymbolTable.{IsNameAt, IsSymbolTable, IsSeenAt};
+ghost use Rattle.symres.specs.Placed.{keys_of};
+ghost use Rattle.ldmodel_project.specs.Inputs.{shown_inputs};
+ghost use Rattle.ldmodel_project.specs.Tables.{place_or_0};
+ghost use Rattle.symres_table.specs.State.{AreDistinct, IsNamed};
+
+use crate::entered::{by_place, keys_of};
+use crate::placed::place_case;
+use elfobj::Meter;
+use elfobj::relocation::SymbolIndex;
+use ldmodel::memory::NoMemory;
+use ldmodel::names::{Case, NameKey};
+use ldmodel_laws::names::decision_by_keys;
+use ldmodel_project::input::InputObject;
+use ldmodel_project::law::tables_by_place;
+use ldmodel_project::order::Order;
+use ldscript::Script;
+use std::alloc::Global;
+use std::hash::RandomState;
+use std::marker::Model;
+use symres_decisions::decisions::Decisions;
+
+/// What the names of the objects of a link stand for, kept under keys of objects while these change, and seen by place:
+/// the key of an object in a link is its place among all.
+#[derive(Drop)]
+pub struct SymbolTable {
+    pub(crate) decisions: Decisions,
+    pub(crate) order: Order,
+}
+
+impl Model for SymbolTable {
+    ghost use Rattle.std.specs.Prelude.{◌≡◌};
+    ghost use Rattle.symres.specs.SymbolTable.{SymbolTableState, state_of};
+    ghost use Rattle.symres.specs.Placed.{keys_of};
+
+    ghost Value = { SymbolTableState };
+
+    ghost view = { λ a. state_of a.decisions a.order };
+
+    ghost invariant = { λ a. keys_of a.decisions.names.objects ≡ a.order };
+}
+
+impl SymbolTable {
+    /// Decides the names of all symbols of these objects that aren't local, each once. The key of each object is its
+    /// place.
+    ///
+    /// # Errors
+    ///
+    /// Where memory runs out.
+    pub fn of(
+        alloc: Global,
+        seed: RandomState,
+        inputs: &[InputObject<'_>],
+        script: &Script,
+        meter: &mut Meter,
+    ) -> Result<SymbolTable, NoMemory>
+        ensures symbol_table { IfOk result (λ symbol_table. (p : Project) → p.objects ≡ shown_inputs inputs.now
+            → p.script ≡ script.now → IsSymbolTable p symbol_table) }
+        ensures objects { IfOk result (λ a. a.kept.names.objects ≡ tables_of inputs.now) }
+        ensures kept { IfOk result (λ a. AreKept script.now a.kept) }
+    {
+        let objects = by_place(alloc, inputs)?;
+        let keys = keys_of(alloc, &objects)?;
+        let order = Order::of(alloc, &keys)?;
+        let decisions = Decisions::of(alloc, seed, &objects, script, meter)?;
+        let symbol_table = SymbolTable { decisions, order };
+        symbol_table.names_kept();
+        Ok(symbol_table)
+    }
+
+    /// What a name stands for among objects under their places is decided under their keys. The call does nothing.
+    pub(crate) fn decided_by_keys(&self)
+        ensures { (p : Project) (name : List ℕ)
+            → symbol_tables p.objects ≡ map (λ (t : ℕ × List NamedSymbol). t.1) self.now.kept.names.objects
+            → decision p name ≡ renumbered_decision (place_or_0 (keys_of self.now.kept.names.objects))
+            (decision_in p.script self.now.kept.names name) }
+    {
+        decision_by_keys();
+        tables_by_place();
+        // so that it is known that each object has a key of its own
+        let _keys = self.order.keys();
+    }
+
+    /// While the cases are kept for the script of a project, and the objects are those of the project, the cases are
+    /// what the names of the project stand for. The call does nothing.
+    pub fn names_kept(&self)
+        ensures { (p : Project) → AreKept p.script self.now.kept
+            → symbol_tables p.objects ≡ map (λ (t : ℕ × List NamedSymbol). t.1) self.now.kept.names.objects
+            → IsSymbolTable p self.now }
+    {
+        // so that the invariant of the field is known
+        let _order = &self.order;
+        self.decided_by_keys();
+    }
+
+    /// Each key of a name has a case, and no two keys have one name. The call does nothing.
+    pub fn keys_decided(&self)
+        ensures cases { (k : ℕ) (name : List ℕ) → IsNamed self.now.names k name → HasCase self.now.cases k }
+        ensures distinct { AreDistinct self.now.names }
+    {
+        // so that the invariant of the field is known
+        let _order = &self.order;
+        let _known = self.decisions.known();
+    }
+
+    /// The key of a name, while it is known. The name is hashed.
+    pub fn key_named(&self, name: &[u8]) -> Option<NameKey>
+        ensures { MatchOption result ((k : ℕ) → IsNamed self.now.names k name.now → ⊥) (λ k.
+            IsNamed self.now.names k.0 name.now) }
+    {
+        self.decisions.key_named(name)
+    }
+
+    /// The length of a table of cases under keys: each key that has a case is below it.
+    pub fn limit(&self) -> usize
+        ensures { result ≡ length self.now.cases }
+    {
+        self.decisions.limit()
+    }
+
+    /// What the name of a key stands for, if the key has one. The time is constant.
+    pub fn case_of(&self, key: NameKey) -> Option<Case>
+        ensures { result ≡ case_at self.now.cases key.0 }
+    {
+        match self.decisions.case_of(key) {
+            Some(case) => Some(place_case(&self.order, case)),
+            None => None,
+        }
+    }
+
+    /// The key of the name of a symbol that isn't local, of the object at a place. The key has a case. The time is
+    /// constant.
+    pub fn key_of(&self, place: usize, symbol: SymbolIndex) -> NameKey
+        requires { IsSeenAt self.now.objects place symbol.0 }
+        ensures name { IsNameAt self.now place symbol.0 result.0 }
+        ensures case { HasCase self.now.cases result.0 }
+    {
+        self.decisions.key_at(place, symbol)
+    }
+
+    /// What any name stands for, such as the entry symbol: the name is hashed and looked up.
+    pub fn case_named(&self, script: &Script, name: &[u8]) -> Case
+        ensures case { (p : Project) → IsSymbolTable p self.now → p.script ≡ script.now → decision_of (λ key. key) result
+            ≡ decision p name.now }
+    {
+        self.decided_by_keys();
+        place_case(&self.order, self.decisions.case_named(script, name))
+    }
+}
