@@ -14,7 +14,7 @@ use Rattle.elfobj_file.specs.SymbolEntries.{st_bind}
 use Rattle.elfobj_file.specs.Symbols.{NamedSymbol, entries_of, named_symbol, null_symbol, strings_of, symbol_of}
 use Rattle.elfobj_file.specs.Symbols.{symbol_table, symbols_from, symbols_in, symbols_of}
 use Rattle.elfobj_file.specs.SymbolKinds.{binding_of}
-use Rattle.elfobj_file.specs.Tables.{has_wrong_entry, has_wrong_symbol, is_local_entry, is_not_local, is_wrong_directive}
+use Rattle.elfobj_file.specs.Tables.{has_wrong_entry, has_wrong_symbol, is_local_entry, is_not_local, is_wrong_common}
 use Rattle.elfobj_file.specs.Tables.{is_wrong_non_local, is_wrong_symbol}
 use Rattle.elfobj_file.specs.declared.section_header.SectionHeader.{SectionHeader}
 use Rattle.elfobj_file.specs.declared.symbol.Binding.TheVariants.{Local, Global, Weak}
@@ -48,7 +48,7 @@ place_common n false true c h = cc
 place_common n false false true h = refl
 place_common n false false false h = cc
 
-common_right : (e : SymbolEntry) → is_wrong_directive e ≡ false → (symbol_of e).place ≡ Common
+common_right : (e : SymbolEntry) → is_wrong_common e ≡ false → (symbol_of e).place ≡ Common
     → IsCommonBlock (symbol_of e)
 unfolding symbol_of
 common_right e h p =

@@ -78,8 +78,8 @@ is_wrong_non_local strings e =
     || (not (option_map_or is_name (string_at strings e.st_name) false)))
 
 -- not global, or with an alignment that is no power of two, or too large
-abbrev pub is_wrong_directive : SymbolEntry → Bool
-is_wrong_directive e =
+abbrev pub is_wrong_common : SymbolEntry → Bool
+is_wrong_common e =
     (e.st_shndx == SHN_COMMON)
     && ((not (st_bind e == STB_GLOBAL)) || (not (is_power_of_two e.st_value)) || nat_lt MAX_SECTION_SIZE e.st_size)
 
@@ -87,7 +87,7 @@ is_wrong_directive e =
 abbrev pub is_wrong_symbol : ℕ → List ℕ → SymbolEntry → Bool
 is_wrong_symbol n strings e =
     nat_lt STB_WEAK (st_bind e) || nat_lt STT_COMMON (st_type e) || is_nowhere n e || is_wrong_local e
-    || is_wrong_non_local strings e || is_wrong_directive e
+    || is_wrong_non_local strings e || is_wrong_common e
 
 abbrev pub has_wrong_entry : List ℕ → SectionHeader → Bool
 has_wrong_entry bytes table = list_any (is_wrong_symbol (e_shnum bytes) (strings_of bytes table))

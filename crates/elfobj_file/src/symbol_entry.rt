@@ -39,7 +39,7 @@ impl SymbolEntry {
     ghost use Rattle.elfobj_file.specs.Spans.{IsInside, bytes_at};
     ghost use Rattle.elfobj_file.specs.TableOf.{table_of};
     ghost use Rattle.elfobj_file.specs.Tables.{is_local_entry, is_nowhere, is_wrong_local, is_wrong_non_local};
-    ghost use Rattle.elfobj_file.specs.Tables.{is_wrong_directive, is_wrong_symbol};
+    ghost use Rattle.elfobj_file.specs.Tables.{is_wrong_common, is_wrong_symbol};
 
     /// `ELF64_ST_BIND` of `st_info`.
     pub fn bind(&self) -> u8
@@ -83,8 +83,8 @@ impl SymbolEntry {
                 || strings.name_length(self.st_name).is_none())
     }
 
-    fn is_wrong_directive(&self) -> bool
-        ensures { result ≡ is_wrong_directive self.now }
+    fn is_wrong_common(&self) -> bool
+        ensures { result ≡ is_wrong_common self.now }
     {
         self.st_shndx == SHN_COMMON
             && (self.bind() != STB_GLOBAL
@@ -107,7 +107,7 @@ impl SymbolEntry {
             || self.is_nowhere(sections)
             || self.is_wrong_local()
             || self.is_wrong_non_local(strings)
-            || self.is_wrong_directive()
+            || self.is_wrong_common()
     }
 
     /// Where the name lies in the file, if the entry is within the profile in an object of this number of section
@@ -124,7 +124,7 @@ impl SymbolEntry {
         if self.has_strange_info()
             || self.is_nowhere(sections)
             || self.is_wrong_local()
-            || self.is_wrong_directive()
+            || self.is_wrong_common()
         {
             return None;
         }

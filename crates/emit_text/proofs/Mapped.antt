@@ -190,7 +190,8 @@ unfolding shown_map map_text
 map_is_shown p number s m h =
     let sections : sections_text p number m.placement.sections.now (shown_sections m.sections.now)
     (map vec_items m.rows.now) m.placement.starts.now ≡ flat_map section_lines s.sections =
-    ap (λ qs. sections_text p number qs (shown_sections m.sections.now) (map vec_items m.rows.now) m.placement.starts.now)
+    ap (λ qs. sections_text p number qs (shown_sections m.sections.now) (map vec_items m.rows.now)
+    m.placement.starts.now)
     h.placement.sections
     ∙ ap (λ ss. sections_text p number (map placed_of s.sections) (shown_sections m.sections.now)
     (map vec_items m.rows.now) ss) h.placement.starts

@@ -94,7 +94,8 @@ fn put_sections<M: Members>(
     parts: &MapParts<'_>,
 ) -> Result<(), AllocError>
     ensures { OnOk result (text.new.items
-        ≡ text.old.items ++ sections_text (M.project members.now) (M.number members.now) parts.now.placement.sections.now
+        ≡ text.old.items ++ sections_text (M.project members.now) (M.number members.now)
+        parts.now.placement.sections.now
         (shown_sections parts.now.sections.now) (map vec_items parts.now.rows.now) parts.now.placement.starts.now) }
 {
     let mut starts = parts.placement.starts;

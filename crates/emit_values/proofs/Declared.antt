@@ -12,7 +12,16 @@ use Rattle.ldscript.specs.statements.declared.directive.Directive.TheVariants as
 use Rattle.ldscript.specs.statements.declared.statement.Statement.{Statement}
 use Rattle.ldmodel.specs.Assertions.{number_if_any}
 use Rattle.ldmodel.specs.Layout.{Layout}
-use Rattle.ldmodel.specs.Names.{Declaration, Decision, Strong, Script, Directive as DirectiveCase, Weak, Provided, Undefined}
+use Rattle.ldmodel.specs.Names.{
+  Declaration,
+  Decision,
+  Strong,
+  Script,
+  Common as CommonCase,
+  Weak,
+  Provided,
+  Undefined,
+}
 use Rattle.ldmodel.specs.Names.{Duplicate, decided, decision, declarations, declared_names, entries, is_of_name}
 use Rattle.ldmodel.specs.Names.{names_in_objects}
 use Rattle.ldmodel.specs.OutputSymbols.{is_defined}
@@ -93,7 +102,7 @@ undefined_value : (p : Project) (s : Layout) (name : Name) (d : Decision) → is
     → number_if_any (decided_value p s name d) ≡ None
 undefined_value p s name (Strong e) h = absurd (true≢false h)
 undefined_value p s name Script h = absurd (true≢false h)
-undefined_value p s name (DirectiveCase e size align) h = absurd (true≢false h)
+undefined_value p s name (CommonCase e size align) h = absurd (true≢false h)
 undefined_value p s name (Weak e) h = absurd (true≢false h)
 undefined_value p s name Provided h = absurd (true≢false h)
 undefined_value p s name Undefined h = refl

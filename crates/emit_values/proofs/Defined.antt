@@ -129,7 +129,8 @@ same_symbols p s ns up all =
 -- ---- candidates
 
 -- all candidates are seen to
-pub symbols_are : (p : Project) (s : Layout) (a : SymbolTableState) (script : List Statement) (xs : List Candidate) (n : ℕ)
+pub symbols_are : (p : Project) (s : Layout) (a : SymbolTableState) (script : List Statement) (xs : List Candidate) (n :
+    ℕ)
     → AreCandidates a script xs → IsSymbolTable p a → p.script ≡ script → n ≡ length xs
     → defined_symbols p s (distinct_first (names_of xs) n) ≡ output_symbols p s
 symbols_are p s a script xs n h symbol_table same all =

@@ -100,7 +100,8 @@ put_under a key name value old new distinct named places is = record {
 }
 
 -- the name of a command, as the code has it
-pub called_here : (script : List Statement) (commands : List code_directive.DirectiveAt) (i : ℕ) (x : code_directive.DirectiveAt)
+pub called_here : (script : List Statement) (commands : List code_directive.DirectiveAt) (i : ℕ) (x :
+    code_directive.DirectiveAt)
     → i < length commands → x ≡ get_or commands i x → shown_directives commands ≡ all_directives script
     → given_name x.command.now ≡ name_given_by script i
 called_here script commands i x within is shown =

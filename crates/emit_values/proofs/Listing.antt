@@ -60,7 +60,8 @@ more_given first commands i x old new within is added h =
     ∙ (ap (λ (ns : List (List ℕ)). ns ++ names_given x.command.now) h
     ∙ (append_assoc first these (names_given x.command.now) ∙ ap (λ (ns : List (List ℕ)). first ++ ns) (sym more)))
 
-in_assigned : (z : List ℕ) (cs : List DirectiveAt) → In z (map (λ (a : AssignmentAt). a.assignment.name) (assigned_in cs))
+in_assigned : (z : List ℕ) (cs : List DirectiveAt) → In z (map (λ (a : AssignmentAt). a.assignment.name) (assigned_in
+    cs))
     → In z (all_given cs)
 in_assigned z [] i = i
 in_assigned z (c ∷ cs) i =
@@ -76,7 +77,8 @@ in_assigned z (c ∷ cs) i =
     here line (directive.Provide a) j = absurd j
     here line (directive.Assert a) j = absurd j
 
-in_provided : (z : List ℕ) (cs : List DirectiveAt) → In z (map (λ (a : AssignmentAt). a.assignment.name) (provided_in cs))
+in_provided : (z : List ℕ) (cs : List DirectiveAt) → In z (map (λ (a : AssignmentAt). a.assignment.name) (provided_in
+    cs))
     → In z (all_given cs)
 in_provided z [] i = i
 in_provided z (c ∷ cs) i =

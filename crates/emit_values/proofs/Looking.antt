@@ -245,7 +245,8 @@ same_scope : (m n : Scope) → ((z : Name) → m.symbol z ≡ n.symbol z) → ((
     → ((z : Name) → m.region z ≡ n.region z) → m ≡ n
 same_scope m n a b c = λ i. record { symbol = λ z. a z i; section = λ z. b z i; region = λ z. c z i }
 
-pub scope_is : (p : Project) (s : Layout) (f : FinalScope) → f.script.now ≡ p.script → IsPlacementView p.script s f.placement
+pub scope_is : (p : Project) (s : Layout) (f : FinalScope) → f.script.now ≡ p.script
+    → IsPlacementView p.script s f.placement
     → map shown_symbol f.symbols.list.now ≡ output_symbols p s → AreOutputs p s.sections
     → map (λ (m : MemoryRegion). m.name) s.regions ≡ map (λ (r : Region). r.name) (regions p.script)
     → meaning_of f ≡ final_scope p s

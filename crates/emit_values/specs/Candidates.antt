@@ -46,5 +46,6 @@ pub record AreCandidates (a : SymbolTableState) (script : List Statement) (xs : 
   pub order : IsSortedBy comes_before xs
   pub keyed : AreKeyed a xs
   pub distinct : AreDistinct a.names
-  pub complete : (p : Project) → IsSymbolTable p a → p.script ≡ script → (name : List ℕ) → Contains (declared_names p) name
+  pub complete : (p : Project) → IsSymbolTable p a → p.script ≡ script → (name : List ℕ)
+      → Contains (declared_names p) name
       → Contains (names_of xs) name

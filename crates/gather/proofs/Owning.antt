@@ -172,7 +172,8 @@ owns name i n Provided y h = absurd (cc)
 owns name i n Undefined y h = absurd (cc)
 owns name i n Duplicate y h = absurd (cc)
 
-module _ (p : Project) (a : SymbolTableState) (i : ℕ) (o : NamedObject) (symbol_table : IsSymbolTable p a) (keyed : AreKeyed a)
+module _ (p : Project) (a : SymbolTableState) (i : ℕ) (o : NamedObject) (symbol_table : IsSymbolTable p a) (keyed :
+    AreKeyed a)
     (here : slice_get p.objects i ≡ Some o) where
   -- the name of a key comes to a block of this object
   record IsOwner (k : ℕ) (b : CommonBlock) : Type 0 where

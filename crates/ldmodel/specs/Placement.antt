@@ -62,7 +62,8 @@ assigned s line a = and_then (number s line a.value) (λ x. Ok (with_symbol s a.
 -- link
 unfoldable pub directive_step : List (List ℕ) → Layout → ℕ → Directive → Result Layout Fault
 directive_step provided s line (directive.Assign a) = assigned s line a
-directive_step provided s line (directive.Provide a) = if list_any (bytes_eq a.name) provided then assigned s line a else Ok s
+directive_step provided s line (directive.Provide a) = if list_any (bytes_eq a.name) provided then assigned s line a
+    else Ok s
 directive_step provided s line (directive.Assert a) = Ok s
 
 -- THE HEAD of an output section: its alignment, start and load address (GNU ld manual, "Output Section Address",

@@ -24,7 +24,15 @@ use Rattle.ldscript.specs.statements.declared.section.BodyCommand.{BodyCommand}
 use Rattle.ldscript.specs.statements.declared.section.BodyCommand.TheVariants as body
 use Rattle.ldscript.specs.statements.declared.section.BodyStatement.{BodyStatement}
 use Rattle.ldscript.specs.statements.declared.section.Width.{Width}
-use Rattle.ldmodel.specs.Placement.{assigned, directive_step, Body, piece_placed, piece_start, pieces_placed, input_step}
+use Rattle.ldmodel.specs.Placement.{
+  assigned,
+  directive_step,
+  Body,
+  piece_placed,
+  piece_start,
+  pieces_placed,
+  input_step,
+}
 use Rattle.ldmodel.specs.Placement.{with_dot, with_data, data_step, moved_on, advanced, set_to, dot_step}
 use Rattle.ldmodel.specs.Placement.{body_command_step, body_step}
 use Rattle.ldmodel.specs.Chain.{and_then}
@@ -326,7 +334,9 @@ input_alike line b ys d e =
 -- a statement of a body
 module _ (b : Body) (ys : List ScriptSymbol) (names : List (List ℕ)) (earlier provided : List (List ℕ)) where
   directive_in_body : (line : ℕ) (x : Directive) → AreSymbolsAlike (given_names x ++ names) b.layout.symbols ys
-      → Both (AreBodiesAlike names) (and_then (directive_step earlier b.layout line x) (λ s. Ok (record b { layout = s })))
+      → Both (AreBodiesAlike names) (and_then (directive_step earlier b.layout line x) (λ s. Ok (record b {
+        layout = s;
+      })))
       (and_then (directive_step provided (having b.layout ys) line x) (λ s. Ok (record b { layout = s })))
   directive_in_body line x h =
       both_then (AreAlike names) (AreBodiesAlike names) (directive_step earlier b.layout line x)

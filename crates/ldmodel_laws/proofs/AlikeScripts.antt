@@ -11,7 +11,13 @@ use Rattle.ldscript.specs.statements.Mentions.{Clashes, Mention, SymbolGiven, in
 use Rattle.ldscript.specs.statements.Mentions.{in_item_command, in_items, in_load_head, in_load_tail, in_optional}
 use Rattle.ldscript.specs.statements.Mentions.{in_region_name}
 use Rattle.ldscript.specs.statements.Mentions.{in_section, in_top_command, mentions}
-use Rattle.ldscript.specs.statements.Numbering.{DirectiveAt, all_directives, directives_in, directives_of, item_directives}
+use Rattle.ldscript.specs.statements.Numbering.{
+  DirectiveAt,
+  all_directives,
+  directives_in,
+  directives_of,
+  item_directives,
+}
 use Rattle.ldscript.specs.statements.Numbering.{items_directives}
 use Rattle.ldscript.specs.statements.Numbering.{top_directives}
 use Rattle.ldscript.specs.statements.declared.directive.Directive.{Directive}
@@ -62,8 +68,10 @@ module _ (first : ℕ) (old rows : List (List Piece)) (earlier provided : List (
         let m = came (item_step rows provided t x) (λ z. run (item_step rows provided) z xs) v q in
         let few = fewer xs m.value v m.gives in
         run_items names xs k.value m.value u v
-        (items_alike first old rows earlier provided (names_given (items_directives xs) ++ names) x s t k.value m.value rs
-        (subst (λ z. AreAlike z s t) (names_on (item_directives x.line x.command) (items_directives xs) names) a) k.is m.is
+        (items_alike first old rows earlier provided (names_given (items_directives xs)
+        ++ names) x s t k.value m.value rs
+        (subst (λ z. AreAlike z s t) (names_on (item_directives x.line x.command) (items_directives xs) names) a) k.is
+        m.is
         (omega (arith, few, l))) k.gives m.gives l
 
     -- regions
@@ -310,7 +318,8 @@ names_left : (script before : List Statement) (items : List Item) (p : IsPartedA
 names_left script before items p =
     let later : List DirectiveAt = items_directives p.more ++ all_directives p.after in
     ap (λ l. names_given (all_directives l)) p.parts
-    ∙ (ap names_given (directives_on before (record { line = p.line; command = top.Sections (items ++ p.more) } ∷ p.after))
+    ∙ (ap names_given (directives_on before (record { line = p.line; command = top.Sections (items ++ p.more) }
+    ∷ p.after))
     ∙ (names_of_both (all_directives before) (items_directives (items ++ p.more) ++ all_directives p.after)
     ∙ ap (λ l. names_given (all_directives before) ++ l)
     (ap (λ l. names_given (l ++ all_directives p.after)) (items_directives_on items p.more)

@@ -27,7 +27,16 @@ use Rattle.ldmodel.specs.Placement.{number_if_given, section_start, widest}
 use Rattle.ldmodel_laws.specs.Alike.{AreAlike, AreBodiesAlike, AreSameBefore, AreSymbolsAlike, given_names, names_given}
 use Rattle.ldmodel_laws.specs.Alike.{with_symbols}
 use Rattle.ldscript.specs.statements.Numbering.{DirectiveAt}
-use Rattle.ldmodel_laws.proofs.Alike.{Both, IsSame, bodies_alike, both_ok, both_then, directive_both, having, number_both}
+use Rattle.ldmodel_laws.proofs.Alike.{
+  Both,
+  IsSame,
+  bodies_alike,
+  both_ok,
+  both_then,
+  directive_both,
+  having,
+  number_both,
+}
 use Rattle.ldmodel_laws.proofs.Alike.{same_both}
 use Rattle.ldmodel_laws.specs.Placed.{PieceTo}
 use Rattle.ldmodel_laws.proofs.Effects.{came, directive_named, free_dot_kept, named_kept, run_by, Quiet, added, onward}
@@ -146,7 +155,8 @@ run_alike earlier provided names (x ∷ xs) b c d e a p q =
     let l = came (body_step provided c x) (λ z. run (body_step provided) z xs) e q in
     run_alike earlier provided names xs k.value l.value d e
     (bodies_alike earlier provided (names_given (directives_in xs) ++ names) x b c k.value l.value
-    (subst (λ z. AreBodiesAlike z b c) (names_on (directives_of x.line x.command) (directives_in xs) names) a) k.is l.is)
+    (subst (λ z. AreBodiesAlike z b c) (names_on (directives_of x.line x.command) (directives_in xs) names) a) k.is
+    l.is)
     k.gives l.gives
 
 -- the end of an output section

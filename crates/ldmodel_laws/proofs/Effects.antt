@@ -245,7 +245,8 @@ pub command_by : (provided : List (List ℕ)) (I : Body → Type 0) → ((b c : 
     → (line : ℕ) (b : Body) (x : BodyCommand) (c : Body) → body_command_step provided line b x ≡ Ok c → I b → I c
 unfolding body_command_step
 command_by provided I quiet piece past line b (body.Dot d) c e h = quiet b c (dot_quiet line b d c e) h
-command_by provided I quiet piece past line b (body.Directive d) c e h = quiet b c (directive_quiet provided line b d c e) h
+command_by provided I quiet piece past line b (body.Directive d) c e h = quiet b c (directive_quiet provided line b d c
+    e) h
 command_by provided I quiet piece past line b (body.Data w x) c e h = quiet b c (data_quiet line b w x c e) h
 command_by provided I quiet piece past line b (body.Input i) c e h =
     let d = came (pieces_placed line b.layout.inputs b b.rest) (λ d. Ok (past_inputs b d)) c e in

@@ -27,7 +27,14 @@ use Rattle.ldmodel.specs.Placement.{placed_section}
 use Rattle.ldmodel_laws.specs.Placed.{past_inputs}
 use Rattle.ldmodel_laws.specs.Spread.{entries_in}
 use Rattle.ldmodel_laws.proofs.Effects.{came, run_by, Kept, kept_same, Quiet, still, renamed, onward, added, named_kept}
-use Rattle.ldmodel_laws.proofs.Effects.{directive_named, free_dot_kept, region_kept, dot_quiet, directive_quiet, data_quiet}
+use Rattle.ldmodel_laws.proofs.Effects.{
+  directive_named,
+  free_dot_kept,
+  region_kept,
+  dot_quiet,
+  directive_quiet,
+  data_quiet,
+}
 use Rattle.ldmodel_laws.proofs.Effects.{SectionPlaced, section_placed}
 use Rattle.ldmodel_laws.proofs.RowParts.{entries, IsOf, Took, takes, of_all, later}
 

@@ -185,7 +185,8 @@ module _ (rows : List (List Piece)) (provided : List (List ℕ)) where
       ≡ Ok t → AllSpread s → AllSpread t
   unfolding item_command_step
   command_spread line s (item.Dot c) t e = kept_spread s t (free_dot_kept s line c t e)
-  command_spread line s (item.Directive c) t e = kept_spread s t (named_kept s t (directive_named provided s line c t e))
+  command_spread line s (item.Directive c) t e = kept_spread s t (named_kept s t (directive_named provided s line c t
+      e))
   command_spread line s (item.Section o) t e =
       section_spread provided (next_row rows s) s o t (section_placed provided (next_row rows s) s line o t e)
   command_spread line s (item.Discard is) t e =
@@ -195,7 +196,8 @@ module _ (rows : List (List Piece)) (provided : List (List ℕ)) where
       → AllSpread s → AllSpread t
   unfolding command_step
   statement_spread line s (top.Entry n) t e = kept_spread s t (kept_same s t cc)
-  statement_spread line s (top.Directive c) t e = kept_spread s t (named_kept s t (directive_named provided s line c t e))
+  statement_spread line s (top.Directive c) t e = kept_spread s t (named_kept s t (directive_named provided s line c t
+      e))
   statement_spread line s (top.Memory rs) t e =
       run_by region_step (λ u xs. AllSpread u) (λ u r xs v f. kept_spread u v (region_kept u r v f)) rs s t e
   statement_spread line s (top.Sections is) t e =

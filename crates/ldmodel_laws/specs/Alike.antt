@@ -3,7 +3,13 @@ use Rattle.std.specs.Prelude.{◌≡◌, ℕ, ◌+◌, ◌<◌, ◌≤◌, List,
 use Rattle.std.specs.Prelude.{Ok, false, bytes_eq}
 use Rattle.std.specs.List.{list_any}
 use Rattle.std.specs.Option.{option_map}
-use Rattle.ldscript.specs.statements.Numbering.{DirectiveAt, all_directives, directives_of, item_directives, items_directives}
+use Rattle.ldscript.specs.statements.Numbering.{
+  DirectiveAt,
+  all_directives,
+  directives_of,
+  item_directives,
+  items_directives,
+}
 use Rattle.ldscript.specs.statements.declared.directive.Directive.{Directive}
 use Rattle.ldscript.specs.statements.declared.directive.Directive.TheVariants as directive
 use Rattle.ldscript.specs.statements.declared.section.BodyStatement.{BodyStatement}

@@ -9,7 +9,15 @@ use Rattle.ldscript_tokens.specs.declared.token.Mark.TheVariants.{AddAssign}
 use Rattle.ldscript_tokens.specs.declared.token.Mode.TheVariants.{Pattern}
 use Rattle.ldscript_terms.specs.Expressions.{Expr}
 use Rattle.ldscript.specs.Steps.{◌▸◌, mark, token, key, statements}
-use Rattle.ldscript.specs.Grammar.{dot_command, directive, in_parentheses, width_word, input, body_command, body_statement}
+use Rattle.ldscript.specs.Grammar.{
+  dot_command,
+  directive,
+  in_parentheses,
+  width_word,
+  input,
+  body_command,
+  body_statement,
+}
 use Rattle.ldscript.specs.Readings.{NoneAt, data_part, width_part}
 use Rattle.ldscript_statements.specs.declared.directive.Directive.{Directive}
 use Rattle.ldscript_statements.specs.declared.directive.Directive.TheVariants as directives
@@ -103,7 +111,8 @@ word_no_input w m d e k i ts us r s x h y = elim (kept_cases i.keep i ts s y) [
 
 dot_no_directive : (a : DotCommand) (b : Directive) (ts r s : List Lexeme) → dot_command Pattern a ts r
     → directive Pattern b ts s → ⊥
-dot_no_directive a (directives.Assign b) ts r s x y = name_no_key Pattern b.name (codes ".") dot_no_name ts y.0 x.0 y.1 x.1
+dot_no_directive a (directives.Assign b) ts r s x y = name_no_key Pattern b.name (codes ".") dot_no_name ts y.0 x.0 y.1
+    x.1
 dot_no_directive a (directives.Provide b) ts r s x y =
     keys_differ Pattern (codes ".") (codes "PROVIDE") refl refl ts x.0 y.0 x.1 y.1
 dot_no_directive a (directives.Assert b) ts r s x y =
@@ -151,7 +160,8 @@ data_same v w e f p q = ap (λ x. body.Data x e) p ∙ ap (λ x. body.Data w x) 
 pub body_command_single : Single body_command
 body_command_single ts r s (body.Dot a) (body.Dot b) x y = let e = dot_command_single Pattern ts r s a b x y in
     (ap body.Dot e.0, e.1)
-body_command_single ts r s (body.Directive a) (body.Directive b) x y = let e = directive_single Pattern ts r s a b x y in
+body_command_single ts r s (body.Directive a) (body.Directive b) x y = let e = directive_single Pattern ts r s a b x y
+    in
     (ap body.Directive e.0, e.1)
 body_command_single ts r s (body.Data v e) (body.Data w f) x y =
     let h = pair_single width_part in_parentheses width_single in_parentheses_single ts r s v w e f x y in
@@ -217,7 +227,8 @@ pub data_none : (ts us : List Lexeme) (w : Width) → width_part w ts us → Non
 data_none ts us w h n (v, e) more d =
     n e more (behind_tree width_part (in_parentheses e) width_single ts us more w v h d).1
 
-pub body_none : (ts : List Lexeme) → NoneAt (dot_command Pattern) ts → NoneAt (directive Pattern) ts → NoneAt data_part ts
+pub body_none : (ts : List Lexeme) → NoneAt (dot_command Pattern) ts → NoneAt (directive Pattern) ts
+    → NoneAt data_part ts
     → NoneAt input ts → NoneAt body_command ts
 body_none ts a b c d (body.Dot y) more k = a y more k
 body_none ts a b c d (body.Directive y) more k = b y more k

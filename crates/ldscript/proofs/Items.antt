@@ -12,7 +12,15 @@ use Rattle.ldscript_tokens.specs.declared.token.Mode.TheVariants.{Expression}
 use Rattle.ldscript_terms.specs.Expressions.{Expr}
 use Rattle.ldscript_terms.specs.Grammar.{Whole}
 use Rattle.ldscript.specs.Steps.{◌▸◌, mark, token, key, name, optional, expression, statements}
-use Rattle.ldscript.specs.Grammar.{ended, in_parentheses, dot_command, directive, stated_address, at_address, load_in_head}
+use Rattle.ldscript.specs.Grammar.{
+  ended,
+  in_parentheses,
+  dot_command,
+  directive,
+  stated_address,
+  at_address,
+  load_in_head,
+}
 use Rattle.ldscript.specs.Grammar.{load_in_tail, alignment, section, body_statement, input_statement, discarded}
 use Rattle.ldscript.specs.Grammar.{discard, item_command, item_statement}
 use Rattle.ldscript.specs.Readings.{Takes, TakesOnly, NoneAt, NoneUntil, Reads, EndsSection, TakesTail, tail_part}
@@ -32,7 +40,13 @@ use Rattle.ldscript_statements.specs.declared.statement.ItemCommand.TheVariants 
 use Rattle.ldscript_statements.specs.declared.statement.Item.{Item}
 use Rattle.ldscript.proofs.Singles.{Fixed, Single, SingleUntil, tokens_same, words_same, mark_fixed, key_fixed}
 use Rattle.ldscript.proofs.Singles.{token_fixed, then_fixed, skip_single, behind, behind_tree, keys_differ, name_no_key}
-use Rattle.ldscript.proofs.Singles.{name_single, ended_single, in_parentheses_single, directive_single, dot_command_single}
+use Rattle.ldscript.proofs.Singles.{
+  name_single,
+  ended_single,
+  in_parentheses_single,
+  directive_single,
+  dot_command_single,
+}
 use Rattle.ldscript.proofs.Singles.{marks_differ}
 use Rattle.ldscript.proofs.Starts.{starts}
 use Rattle.ldscript.proofs.Tails.{NoTail, tails_same, tails_single}
@@ -348,7 +362,8 @@ assert_no_name = refl
 
 dot_no_directive : (a : DotCommand) (b : Directive) (ts r s : List Lexeme) → dot_command Expression a ts r
     → directive Expression b ts s → ⊥
-dot_no_directive a (directives.Assign b) ts r s x y = name_no_key Expression b.name (codes ".") dot_no_name ts y.0 x.0 y.1 x.1
+dot_no_directive a (directives.Assign b) ts r s x y = name_no_key Expression b.name (codes ".") dot_no_name ts y.0 x.0
+    y.1 x.1
 dot_no_directive a (directives.Provide b) ts r s x y =
     keys_differ Expression (codes ".") (codes "PROVIDE") refl refl ts x.0 y.0 x.1 y.1
 dot_no_directive a (directives.Assert b) ts r s x y =
@@ -388,10 +403,15 @@ dot_only ts r s a (item.Directive b) x y = absurd (dot_no_directive a b ts r s x
 dot_only ts r s a (item.Section b) x y = absurd (dot_no_section a b ts r s x y)
 dot_only ts r s a (item.Discard b) x y = absurd (name_no_discard (codes ".") ts x.0 y.0 x.1 y.1)
 
-directive_only : (ts r s : List Lexeme) (a : Directive) (b : ItemCommand) → directive Expression a ts r → item_command b ts s
+directive_only : (ts r s : List Lexeme) (a : Directive) (b : ItemCommand) → directive Expression a ts r
+    → item_command b ts s
     → (b ≡ item.Directive a) × (s ≡ r)
 directive_only ts r s a (item.Dot b) x y = absurd (dot_no_directive b a ts s r y x)
-directive_only ts r s a (item.Directive b) x y = let e = directive_single Expression ts s r b a y x in (ap item.Directive e.0, e.1)
+directive_only ts r s a (item.Directive b) x y = let e = directive_single Expression ts s r b a y x in (
+  ap
+      item.Directive e.0,
+  e.1,
+)
 directive_only ts r s a (item.Section b) x y = absurd (directive_no_section a b ts r s x y)
 directive_only ts r s a (item.Discard b) x y = absurd (directive_no_discard a ts r y.0 x y.1)
 

@@ -224,11 +224,14 @@ provide_no_assert : (mode : Mode) (ts r s : List Lexeme) → key mode (codes "PR
 provide_no_assert mode = keys_differ mode (codes "PROVIDE") (codes "ASSERT") refl refl
 
 pub directive_single : (mode : Mode) → Single (directive mode)
-directive_single mode ts r s (directives.Assign a) (directives.Assign b) x y = let e = assign_single mode ts r s a b x y in
+directive_single mode ts r s (directives.Assign a) (directives.Assign b) x y = let e = assign_single mode ts r s a b x y
+    in
     (ap directives.Assign e.0, e.1)
-directive_single mode ts r s (directives.Provide a) (directives.Provide b) x y = let e = provide_single mode ts r s a b x y in
+directive_single mode ts r s (directives.Provide a) (directives.Provide b) x y = let e = provide_single mode ts r s a b
+    x y in
     (ap directives.Provide e.0, e.1)
-directive_single mode ts r s (directives.Assert a) (directives.Assert b) x y = let e = assertion_single mode ts r s a b x y in
+directive_single mode ts r s (directives.Assert a) (directives.Assert b) x y = let e = assertion_single mode ts r s a b
+    x y in
     (ap directives.Assert e.0, e.1)
 directive_single mode ts r s (directives.Assign a) (directives.Provide b) x y =
     absurd (name_no_key mode a.name (codes "PROVIDE") provide_kept ts x.0 y.0 x.1 y.1)

@@ -9,7 +9,16 @@ use Rattle.ldscript_tokens.specs.declared.token.Mark.TheVariants.{CloseBrace}
 use Rattle.ldscript_tokens.specs.declared.token.Mark.TheVariants.{Semicolon}
 use Rattle.ldscript_tokens.specs.declared.token.Mode.TheVariants.{Expression}
 use Rattle.ldscript.specs.Steps.{Rule, ◌▸◌, mark, token, key, name, each, statements, Semicolons, none}
-use Rattle.ldscript.specs.Grammar.{directive, region, item_statement, entry, memory, sections, top_command, top_statement}
+use Rattle.ldscript.specs.Grammar.{
+  directive,
+  region,
+  item_statement,
+  entry,
+  memory,
+  sections,
+  top_command,
+  top_statement,
+}
 use Rattle.ldscript.specs.Grammar.{script}
 use Rattle.ldscript.specs.Readings.{NoneAt}
 use Rattle.ldscript.specs.Script.{IsTree}
@@ -60,8 +69,10 @@ key_no_directive : (w : List ℕ) → is_free_name w ≡ false → bytes_eq w w 
     → bytes_eq w (codes "ASSERT") ≡ false
     → (c : Directive) (ts r s : List Lexeme) → key Expression w ts r → directive Expression c ts s → ⊥
 key_no_directive w f e p a (directives.Assign c) ts r s x y = name_no_key Expression c.name w f ts y.0 r y.1 x
-key_no_directive w f e p a (directives.Provide c) ts r s x y = keys_differ Expression w (codes "PROVIDE") e p ts r y.0 x y.1
-key_no_directive w f e p a (directives.Assert c) ts r s x y = keys_differ Expression w (codes "ASSERT") e a ts r y.0 x y.1
+key_no_directive w f e p a (directives.Provide c) ts r s x y = keys_differ Expression w (codes "PROVIDE") e p ts r y.0 x
+    y.1
+key_no_directive w f e p a (directives.Assert c) ts r s x y = keys_differ Expression w (codes "ASSERT") e a ts r y.0 x
+    y.1
 
 pub top_command_single : Single top_command
 top_command_single ts r s (top.Entry a) (top.Entry b) x y = let e = entry_single ts r s a b x y in
@@ -70,7 +81,8 @@ top_command_single ts r s (top.Memory a) (top.Memory b) x y = let e = memory_sin
     (ap top.Memory e.0, e.1)
 top_command_single ts r s (top.Sections a) (top.Sections b) x y = let e = sections_single ts r s a b x y in
     (ap top.Sections e.0, e.1)
-top_command_single ts r s (top.Directive a) (top.Directive b) x y = let e = directive_single Expression ts r s a b x y in
+top_command_single ts r s (top.Directive a) (top.Directive b) x y = let e = directive_single Expression ts r s a b x y
+    in
     (ap top.Directive e.0, e.1)
 top_command_single ts r s (top.Entry a) (top.Memory b) x y =
     absurd (keys_differ Expression (codes "ENTRY") (codes "MEMORY") refl refl ts x.0 y.0 x.1 y.1)

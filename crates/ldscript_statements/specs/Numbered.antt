@@ -35,7 +35,8 @@ abbrev pub AddsInputs : List code_input.InputStatementAt → List code_input.Inp
     → List InputStatementAt → Type 0
 AddsInputs old new these = shown_inputs new ≡ shown_inputs old ++ these
 
-abbrev pub AddsDirectives : List code_directive.DirectiveAt → List code_directive.DirectiveAt → List DirectiveAt → Type 0
+abbrev pub AddsDirectives : List code_directive.DirectiveAt → List code_directive.DirectiveAt → List DirectiveAt
+    → Type 0
 AddsDirectives old new these = shown_directives new ≡ shown_directives old ++ these
 
 abbrev pub AddsRegions : List (Bor Region) → List (Bor Region) → List Region → Type 0

@@ -5,7 +5,13 @@ ghost use Rattle.std.specs.Option.{option_copied};
 ghost use Rattle.ldscript_statements.specs.Numbering.{items, items_of, item_sections, sections_in, output_sections};
 ghost use Rattle.ldscript_statements.specs.Numbering.{inputs_of, inputs_in, discarded_inputs, item_inputs, inputs_from};
 ghost use Rattle.ldscript_statements.specs.Numbering.{input_statements, directives_of, directives_in, item_directives};
-ghost use Rattle.ldscript_statements.specs.Numbering.{items_directives, top_directives, all_directives, regions, regions_in};
+ghost use Rattle.ldscript_statements.specs.Numbering.{
+  items_directives,
+  top_directives,
+  all_directives,
+  regions,
+  regions_in,
+};
 ghost use Rattle.ldscript_statements.specs.Numbering.{entry_of};
 ghost use Rattle.ldscript_statements.specs.Numbered.{AddsItems, AddsSections, AddsInputs, AddsDirectives, AddsRegions};
 ghost use Rattle.ldscript_statements.specs.Numbered.{shown_items};
@@ -258,7 +264,8 @@ fn add_item_directives<'a>(
     list: &mut Vec<DirectiveAt<'a>>,
     item: &'a Item,
 ) -> Result<(), AllocError>
-    ensures { OnOk result (AddsDirectives list.old.items list.new.items (item_directives item.now.line item.now.command)) }
+    ensures { OnOk result (AddsDirectives list.old.items list.new.items (item_directives item.now.line
+        item.now.command)) }
 {
     match &item.command {
         ItemCommand::Directive(command) => add_directive(list, item.line, command),

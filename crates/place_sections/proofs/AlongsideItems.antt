@@ -3,7 +3,13 @@ use Rattle.std.proofs.Common.{◌≡◌, ℕ, ◌+◌, ◌≤◌, ◌<◌, List,
 use Rattle.std.proofs.Common.{false, get_or, length, map}
 use Rattle.std.proofs.Math.ListN.{get_or-map}
 use Rattle.std.proofs.lemmas.List.{append-nil, length-map}
-use Rattle.ldscript.specs.statements.Numbering.{DirectiveAt, all_directives, directives_in, item_directives, items_directives}
+use Rattle.ldscript.specs.statements.Numbering.{
+  DirectiveAt,
+  all_directives,
+  directives_in,
+  item_directives,
+  items_directives,
+}
 use Rattle.ldscript.specs.statements.Numbering.{top_directives}
 use Rattle.ldscript.specs.statements.declared.section.OutputSection.{OutputSection}
 use Rattle.ldscript.specs.statements.declared.statement.Command.{Command}
@@ -42,10 +48,12 @@ module _ (n : Naming) (i : Input) (script : List Statement) (s : Layout) (x : It
       chained (item_step a.rows a.provided a.state x) (λ d. run (item_step a.rows a.provided) d xs) a.leads.layout
       a.leads.comes
 
-  alike : AreAlike (names_given (item_directives x.line x.command) ++ (names_given (items_directives xs) ++ a.names)) a.state
+  alike : AreAlike (names_given (item_directives x.line x.command) ++ (names_given (items_directives xs)
+      ++ a.names)) a.state
       s
   alike =
-      subst (λ z. AreAlike z a.state s) (names_on (item_directives x.line x.command) (items_directives xs) a.names) a.alike
+      subst (λ z. AreAlike z a.state s) (names_on (item_directives x.line x.command) (items_directives xs) a.names)
+      a.alike
 
   -- the layouts stay alongside
   pub items_go_on : ItemsStayAlike → (provided : List (List ℕ)) (t : Layout)

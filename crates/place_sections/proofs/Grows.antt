@@ -55,7 +55,8 @@ directive_leaves f same provided s line (directive.Assert a) t e = ap f (sym (gi
 
 pub directive_keeps : (provided : List (List ℕ)) (s : Layout) (line : ℕ) (c : Directive) (t : Layout)
     → directive_step provided s line c ≡ Ok t → t.sections ≡ s.sections
-directive_keeps provided s line c t e = directive_leaves (λ (u : Layout). u.sections) (λ u n x. refl) provided s line c t e
+directive_keeps provided s line c t e = directive_leaves (λ (u : Layout). u.sections) (λ u n x. refl) provided s line c
+    t e
 
 -- an assignment adds a symbol
 assigned_adds : (s : Layout) (line : ℕ) (a : Assignment) (t : Layout) → assigned s line a ≡ Ok t
@@ -229,7 +230,10 @@ directive_grows : (provided : List (List ℕ)) (line : ℕ) (x : Directive) (b :
 directive_grows provided line x b s e = record {
   row = refl;
   pieces = begins_same b.pieces b.pieces refl;
-  dot = let h = directive_leaves (λ (u : Layout). u.dot) (λ u n v. refl) provided b.layout line x s e in omega (arith, h);
+  dot = let h = directive_leaves (λ (u : Layout). u.dot) (λ u n v. refl) provided b.layout line x s e in omega (
+    arith,
+    h,
+  );
   sections = directive_keeps provided b.layout line x s e;
   regions = directive_leaves (λ (u : Layout). u.regions) (λ u n v. refl) provided b.layout line x s e;
   dots_are = begins_same b.layout.dots s.dots

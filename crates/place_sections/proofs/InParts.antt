@@ -61,7 +61,8 @@ module _ (rows : List (List Piece)) (provided : List (List ℕ)) where
       outside (record { line = line; command = top.Entry name }) xs s later
   first_in_parts line (top.Memory regions) xs s later =
       outside (record { line = line; command = top.Memory regions }) xs s later
-  first_in_parts line (top.Directive c) xs s later = outside (record { line = line; command = top.Directive c }) xs s later
+  first_in_parts line (top.Directive c) xs s later = outside (record { line = line; command = top.Directive c }) xs s
+      later
 
   pub in_parts : (script : List Statement) (s : Layout) → run (statement_step rows provided) s script
       ≡ whole s (before_sections script) (items_within script) (after_sections script)

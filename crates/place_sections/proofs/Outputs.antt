@@ -76,7 +76,8 @@ pub item_names : (rows : List (List Piece)) (provided : List (List ℕ)) (line :
     ++ names_in (item_sections line c)
 unfolding item_command_step
 item_names rows provided line s (item.Dot c) t e = unnamed t.sections s.sections (free_dot_keeps s line c t e)
-item_names rows provided line s (item.Directive c) t e = unnamed t.sections s.sections (directive_keeps provided s line c t e)
+item_names rows provided line s (item.Directive c) t e = unnamed t.sections s.sections (directive_keeps provided s line
+    c t e)
 item_names rows provided line s (item.Section o) t e = section_names_it provided (next_row rows s) s line o t e
 item_names rows provided line s (item.Discard inputs) t e =
     unnamed t.sections s.sections (ap (λ (u : Layout). u.sections) (sym (given_is _ t e)))

@@ -58,7 +58,8 @@ abbrev name_of_region : Region → List ℕ
 name_of_region r = r.name
 
 -- one more command, which assigns the name or does not
-assigned_by : (from : ℕ) (c : DirectiveAt) (cs : List DirectiveAt) (name : List ℕ) (k : ℕ) (rest : Option ℕ) (d : Directive)
+assigned_by : (from : ℕ) (c : DirectiveAt) (cs : List DirectiveAt) (name : List ℕ) (k : ℕ) (rest : Option ℕ) (d :
+    Directive)
     → c.command ≡ d → assigned_here from d name rest ≡ Some k
     → (rest ≡ Some k → FoundAt name_of_command (suc from) cs name k) → FoundAt name_of_command from (c ∷ cs) name k
 assigned_by from c cs name k rest (directive.Assign a) h e go =
@@ -73,7 +74,8 @@ assigned_at from [] name k e = absurd (let no : ⊥ = cc in no)
 assigned_at from (c ∷ cs) name k e =
     assigned_by from c cs name k (assigned_from (suc from) cs name) c.command refl e (assigned_at (suc from) cs name k)
 
-provided_by : (from : ℕ) (c : DirectiveAt) (cs : List DirectiveAt) (name : List ℕ) (k : ℕ) (rest : Option ℕ) (d : Directive)
+provided_by : (from : ℕ) (c : DirectiveAt) (cs : List DirectiveAt) (name : List ℕ) (k : ℕ) (rest : Option ℕ) (d :
+    Directive)
     → c.command ≡ d → provided_here from d name rest ≡ Some k
     → (rest ≡ Some k → FoundAt name_of_command (suc from) cs name k) → FoundAt name_of_command from (c ∷ cs) name k
 provided_by from c cs name k rest (directive.Provide a) h e go =

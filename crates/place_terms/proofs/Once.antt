@@ -13,7 +13,13 @@ use Rattle.ldscript.specs.statements.Mentions.{Clashes, Mention, SymbolGiven, in
 use Rattle.ldscript.specs.statements.Mentions.{in_item_command, in_items, in_load_head, in_load_tail, in_optional}
 use Rattle.ldscript.specs.statements.Mentions.{in_region_name}
 use Rattle.ldscript.specs.statements.Mentions.{in_section, in_top_command, mentions}
-use Rattle.ldscript.specs.statements.Numbering.{DirectiveAt, all_directives, directives_in, directives_of, item_directives}
+use Rattle.ldscript.specs.statements.Numbering.{
+  DirectiveAt,
+  all_directives,
+  directives_in,
+  directives_of,
+  item_directives,
+}
 use Rattle.ldscript.specs.statements.Numbering.{items_directives}
 use Rattle.ldscript.specs.statements.Numbering.{top_directives}
 use Rattle.ldscript.specs.statements.declared.directive.Assertion.{Assertion}
@@ -164,7 +170,8 @@ Once (c ∷ cs) = ((n : List ℕ) → gives c.command n ≡ true → Ungiven n c
 same_given : (n k : List ℕ) (cs : List DirectiveAt) → Ungiven k cs → bytes_eq n k ≡ true → Ungiven n cs
 same_given n k cs u e = let same : n ≡ k = (bytes_eq-Decides n k).0 e in subst (λ z. Ungiven z cs) (sym same) u
 
-all_once : (before : List Mention) {cs : List DirectiveAt} {ms : List Mention} → Among cs ms → NoClash before ms → Once cs
+all_once : (before : List Mention) {cs : List DirectiveAt} {ms : List Mention} → Among cs ms → NoClash before ms
+    → Once cs
 all_once before no_more h = tt
 all_once before (passed {m = m} {ms = ms} r) h = all_once (before ++ m ∷ []) r (shift before m ms h)
 all_once before (assigned {cs = cs} {a = a} {ms = ms} r) h =

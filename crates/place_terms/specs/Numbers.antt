@@ -27,7 +27,8 @@ gives (directive.Assert a) name = false
 
 -- the one of a number does
 abbrev pub gives_at : List DirectiveAt → ℕ → List ℕ → Bool
-gives_at commands number name = option_map_or (λ (c : DirectiveAt). gives c.command name) (slice_get commands number) false
+gives_at commands number name = option_map_or (λ (c : DirectiveAt). gives c.command name) (slice_get commands number)
+    false
 
 -- these are all the directive commands of a script in which nothing is given twice
 pub record AreCommandsOf (script : List Statement) (commands : List DirectiveAt) : Type 0 where

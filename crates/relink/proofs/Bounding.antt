@@ -101,7 +101,8 @@ current_is l bytes x p s c is laid =
     let link_of : Project → Layout → GoodLink = λ q t. record { project = q; layout = t } in
     let same : c.kept.old.project ≡ p = c.project ∙ is in
     let layout_is : c.kept.old.layout ≡ s =
-    known_layout c.kept.old.project c.kept.old.layout s c.kept.table.arranged.link_layout.layout (ap layout same ∙ laid) in
+    known_layout c.kept.old.project c.kept.old.layout s c.kept.table.arranged.link_layout.layout (ap layout same
+    ∙ laid) in
     ap (λ (q : Project). link_of q c.kept.old.layout) same ∙ ap (link_of p) layout_is
 
 -- ---- an edit that leads to the same project

@@ -160,7 +160,8 @@ coming_of h s key l c coming same is m =
     (subst (λ (x : Listing). IsMatchedOr x.script (found_under x.entries c.key.0) coming) same m)
 
 -- what is kept after the change back
-pub kept_back : (h : Holding) (s : Staged) (key : ℕ) (c : ObjectChange) (a b d : SymbolTableState) (ms last : List Matches)
+pub kept_back : (h : Holding) (s : Staged) (key : ℕ) (c : ObjectChange) (a b d : SymbolTableState) (ms last : List
+    Matches)
     (coming : Option Matches) → IsArranged h.contents.entries s.objects → touched_key s.objects.step ≡ Some key
     → IsChange h.contents.entries s.objects key c → IsKept (listing_of h) a ms
     → b.kept.names.objects ≡ changed_tables a.kept.names.objects c

@@ -396,7 +396,8 @@ pub ended_after : (h : Holding) (s : Staged) (same : Bool) (bytes new : List ℕ
     → IsFrom last e.known e.gone (keys_of (next_listing h s).entries) from → shown bytes a ≡ link (held h)
     → HasFollowed (next_listing h s) (lent last from e h.contents.entries s.objects) bytes new f
     → IsEndOf f e last after a b → IsKept (next_listing h s) symbol_table ms → listing_of later ≡ next_listing h s
-    → (shown new b ≡ link (held later)) × IsKept (listing_of later) symbol_table ms × IsLast (listing_of later) new b after
+    → (shown new b ≡ link (held later)) × IsKept (listing_of later) symbol_table ms
+    × IsLast (listing_of later) new b after
 ended_after h s same bytes new a b e last after from f later symbol_table ms x origins answers followed end kept is =
     let both = ended (next_listing h s) (lent last from e h.contents.entries s.objects) bytes new f e last after a b
     followed end (λ later. kept_after_fault h s same bytes a e x.edit last later e.known refl x.kept x.effect)

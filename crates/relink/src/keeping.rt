@@ -51,7 +51,8 @@ struct Coming {
 /// Forgets the names that no object declares any more, where an object went. It takes no memory.
 fn forget_if(symbol_table: &mut SymbolTable, went: bool)
     ensures tables { symbol_table.new.kept.names.objects ≡ symbol_table.old.kept.names.objects }
-    ensures kept { (script : List Statement) → AreKept script symbol_table.old.kept → AreKept script symbol_table.new.kept }
+    ensures kept { (script : List Statement) → AreKept script symbol_table.old.kept
+        → AreKept script symbol_table.new.kept }
 {
     if went {
         symbol_table.forget();
@@ -62,7 +63,8 @@ fn forget_if(symbol_table: &mut SymbolTable, went: bool)
 /// runs out, they stay as they are.
 fn put_in_order_if(symbol_table: &mut SymbolTable, is_good: bool)
     ensures tables { symbol_table.new.kept.names.objects ≡ symbol_table.old.kept.names.objects }
-    ensures kept { (script : List Statement) → AreKept script symbol_table.old.kept → AreKept script symbol_table.new.kept }
+    ensures kept { (script : List Statement) → AreKept script symbol_table.old.kept
+        → AreKept script symbol_table.new.kept }
 {
     if is_good {
         symbol_table.put_in_order();

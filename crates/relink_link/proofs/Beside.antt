@@ -106,7 +106,8 @@ known_beside p l y w v t r before after is small tables worth names relocated co
     let beside : (old : GoodLink) → IfSome (last_of y.last) (IsLastOf old p)
     → IsRelocatedBeside old (range_of y) p s a r before after =
     λ old last.
-    relocated s a old k.link_layout.placed k.view is.placed.values worth (are_stays p l y w v is tables names old last) in
+    relocated s a old k.link_layout.placed k.view is.placed.values worth (are_stays p l y w v is tables names old last)
+    in
     let one = candidate p (new_link p s) y.last tables.last in
     let b = beside one.old one.is in
     record {
@@ -137,7 +138,8 @@ known_beside p l y w v t r before after is small tables worth names relocated co
     faults b (inr nothing) = (b.anew (none nothing)).faults
 
 -- the image that was drawn over that of the earlier link, if there is one
-pub drawn_image : (p : Project) (s : Layout) (a : SymbolTableState) (y : Stays) (r : Relocated) (old_bytes bytes : List ℕ)
+pub drawn_image : (p : Project) (s : Layout) (a : SymbolTableState) (y : Stays) (r : Relocated) (old_bytes bytes : List
+    ℕ)
     → IfSome (last_of y.last) (HasLast p old_bytes) → NoneStays y
     → ((old : GoodLink) → IfSome (last_of y.last) (IsLastOf old p)
     → IsSound (range_of y) old (known_link p s a))

@@ -112,7 +112,8 @@ module _ (old : GoodLink) (l : KnownLink) (keys : (k : ℕ) → l.number k ≡ k
           (offset_is : (v : SectionInFile) → Contains (in_file (segments l.layout.sections)) v
           → file_offset (segments l.layout.sections) v.section ≡ v.offset) where
         low : x.range.offset < 2 ^ 64
-        low = below_64 l.project l.layout arranged.apart.spread arranged.link_layout.named order all offset_is k q z at among short
+        low = below_64 l.project l.layout arranged.apart.spread arranged.link_layout.named order all offset_is k q z at
+            among short
 
         module _ (w : LinkedPiece) (there : Linked (of_link old.project old.layout) old.layout.sections w)
             (is_same : Same x w) where

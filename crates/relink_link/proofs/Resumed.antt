@@ -36,7 +36,8 @@ module _ (old : GoodLink) (new : Project) (x : LastState) (last : IsLastOf old n
     earlier = model.rows old.project;
     earlier_provided = provided old.project;
     placed = subst (λ (script : List Statement).
-        IsPlacement script (model.rows old.project) (provided old.project) x.good.arranged.link_layout.placement) (last.script same)
+        IsPlacement script (model.rows old.project) (provided old.project) x.good.arranged.link_layout.placement)
+        (last.script same)
         last.table.arranged.link_layout.kept;
     same = are_same;
   }

@@ -251,7 +251,8 @@ module _ (p : Project) (s : Layout) (t : Arranged) (arranged : IsArranged p s t)
         (shows p s t arranged (key x) k.number k.section y k.at k.among
         (name_is ∙ sym ((bytes_eq-Decides y.piece.object o.name).0 both.0))
         (sym (same_part y.piece.part (InTable x.number) both.1))).some
-        (below_64 p s arranged.apart.spread arranged.link_layout.named order all offset_is k.number k.section y k.at k.among short)
+        (below_64 p s arranged.apart.spread arranged.link_layout.named order all offset_is k.number k.section y k.at
+        k.among short)
 
     spot_there : (j : ℕ) (x : LinkedSection) (y : PlacedPiece) → slice_get o.object.sections j ≡ Some x
         → placed_part s o.name (InTable x.number) ≡ Some y → (u : SectionSpot) × (found_spot j ≡ Some u)
@@ -321,7 +322,8 @@ module _ (p : Project) (s : Layout) (t : Arranged) (arranged : IsArranged p s t)
             let w = (shows p s t arranged (key x) k.number k.section k.piece k.at k.among
             (name_is ∙ sym of.0 ∙ sym (ap (λ (w : LinkedPiece). w.object) k.is))
             (sym of.1 ∙ sym (ap (λ (w : LinkedPiece). w.part) k.is))).some
-            (below_64 p s arranged.apart.spread arranged.link_layout.named order all offset_is k.number k.section k.piece k.at
+            (below_64 p s arranged.apart.spread arranged.link_layout.named order all offset_is k.number k.section
+            k.piece k.at
             k.among short) in
             let none : None ≡ Some w.0 = sym e ∙ w.1 in
             absurd (let never : ⊥ = cc in never)

@@ -257,7 +257,8 @@ module _ (p : Project) (link : LinkView) (names : List SymbolValue) (inputs : Li
 
   pub whole_table : (n : ℕ) (t : SymbolValues) → length inputs ≤ n → shown_inputs inputs ≡ p.objects
       → TableSoFar p link names (shown_inputs inputs) n t.starts.items t.values.items
-      → (s : Layout) (a : SymbolTableState) → IsLinkView (known_link p s a) link → AreNameValues (known_link p s a) names
+      → (s : Layout) (a : SymbolTableState) → IsLinkView (known_link p s a) link
+      → AreNameValues (known_link p s a) names
       → AreSymbolValues p s t
   whole_table n t past same so_far s a view named i j o x at there =
       value_found t.values.items (slice_index_or t.starts.items i 0 + j) (referenced_value p s o x)

@@ -49,7 +49,8 @@ pub record AreEvaluated (p : Project) (s : Layout) (y : Stays) (r : Relocated) (
 
 -- so it is at the layout of these tables
 abbrev pub HasEvaluated : Project → Stays → Relocated → Counts → Counts → Type 0
-HasEvaluated p y r before after = (s : Layout) → IsLinkLayout p s y.arranged.now.link_layout → AreEvaluated p s y r before after
+HasEvaluated p y r before after = (s : Layout) → IsLinkLayout p s y.arranged.now.link_layout
+    → AreEvaluated p s y r before after
 
 -- the bytes of the image outside of what stayed, and of the patches
 abbrev pub bytes_spent : GoodLink → GoodLink → Relocated → ℕ
@@ -64,7 +65,8 @@ pub record IsWritten (p : Project) (s : Layout) (y : Stays) (r : Relocated) (bef
       → after ≡ raised before Bytes (bytes_spent old (new_link p s) r)
 
 abbrev pub HasWritten : Project → Stays → Relocated → Counts → Counts → Type 0
-HasWritten p y r before after = (s : Layout) → IsLinkLayout p s y.arranged.now.link_layout → IsWritten p s y r before after
+HasWritten p y r before after = (s : Layout) → IsLinkLayout p s y.arranged.now.link_layout
+    → IsWritten p s y r before after
 
 -- the bytes of an image that is drawn over the earlier one: those outside of what stayed, with those of fields in it of
 -- symbols of another value

@@ -3,7 +3,8 @@
 //!
 //! - `again` over `passes`, `lent`, `stop`: the engine: a link over names and matches that are given, and an earlier
 //!   link;
-//! - `link_state`: what is kept of a link; `stays`: which input sections stayed where it has them, as `emit_relocate` asks
+//! - `link_state`: what is kept of a link; `stays`: which input sections stayed where it has them, as `emit_relocate`
+//! asks
 //!   it; `first` over `same` and `names`: the first row that differs; `marks`: objects with a symbol of another value;
 //! - `retouch` over `outline`, `spots`: a link that differs from the earlier one in what the input sections of one
 //!   object hold;

@@ -415,7 +415,8 @@ no_more p names ds place number s firsts faults none = go (is_local s.symbol.bin
         (λ b h. keeps_found p names ds (declaration place (number, s)) firsts faults b none h)
 
 -- a definition of a name that is defined twice
-pub one_more : (p : Project) (a : SymbolTableState) (ds : List Declaration) (place number : ℕ) (symbols : List NamedSymbol)
+pub one_more : (p : Project) (a : SymbolTableState) (ds : List Declaration) (place number : ℕ) (symbols : List
+    NamedSymbol)
     (d : NamedSymbol) (k : NameKey) (x : code_names.Entry) (old new : List (Option code_names.Entry))
     (faults faults' : List code.Fault) (name : List ℕ)
     → IsSymbolTable p a → IsTableAt a.objects place symbols → number < length symbols
@@ -425,7 +426,8 @@ pub one_more : (p : Project) (a : SymbolTableState) (ds : List Declaration) (pla
     → faults' ≡ faults ++ faults_of (record { key = place; symbol = number })
     (definer_before (is_assigned p.script name) x (record { key = place; symbol = number }))
     → Steps p a.names ds old new faults faults' (declared_by place number (get_or symbols number d))
-one_more p a ds place number symbols d k x old new faults faults' name symbol_table table within is differ inside first set'
+one_more p a ds place number symbols d k x old new faults faults' name symbol_table table within is differ inside first
+    set'
     named more =
     let s : NamedSymbol = get_or symbols number d in
     let y : Declaration = declaration place (number, s) in
@@ -612,7 +614,8 @@ unfolding declarations_of
 declarations-append ts us = flat_map-append declarations_in ts us
 
 -- the table of an object of the project
-pub is_table_at : (p : Project) (a : SymbolTableState) (inputs : List InputObject) (i : ℕ) (x : InputObject) → IsSymbolTable p a
+pub is_table_at : (p : Project) (a : SymbolTableState) (inputs : List InputObject) (i : ℕ) (x : InputObject)
+    → IsSymbolTable p a
     → shown_inputs inputs ≡ p.objects → i < length inputs → get_or inputs i x ≡ x
     → IsTableAt a.objects i x.object.now.symbols
 is_table_at p a inputs i x symbol_table same within here =

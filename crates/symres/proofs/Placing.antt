@@ -140,7 +140,8 @@ kept_naming p d order keys by kept same = record {
 
 -- the case of any name
 pub named_decision : (p : Project) (script : List Statement) (d : DecisionsState) (order name : List ℕ) (c : Case)
-    → keys_of d.names.objects ≡ order → ByKeys p d name → IsCaseNamed script d name c → IsSymbolTable p (state_of d order)
+    → keys_of d.names.objects ≡ order → ByKeys p d name → IsCaseNamed script d name c
+    → IsSymbolTable p (state_of d order)
     → p.script ≡ script → decision_of (λ key. key) (place_case order c) ≡ decision p name
 named_decision p script d order name c keys by (inl h) symbol_table same =
     (symbol_table.sound h.0 (place_case order c) (some_placed (place_case order) d.cases h.0 c h.2)).case name h.1

@@ -94,7 +94,8 @@ shown at = record { line = at.line; command = at.command.now }
 
 -- one command more of a script
 pub one_given : (p : Project) (script : List Statement) (items : List code.DirectiveAt) (n : ℕ) (at : code.DirectiveAt)
-    (old new : List DirectiveIndex) → p.script ≡ script → shown_directives items ≡ all_directives script → n < length items
+    (old new : List DirectiveIndex) → p.script ≡ script → shown_directives items ≡ all_directives script
+    → n < length items
     → get_or items n at ≡ at → AddsIfInForce p n at.command.now old new
     → given p old ≡ names_in_force p (take n (all_directives script))
     → given p new ≡ names_in_force p (take (n + 1) (all_directives script))
@@ -107,7 +108,8 @@ one_given p script items n at old new same are within here adds h =
     there
     adds h
 
-pub end_given : (p : Project) (script : List Statement) (items : List code.DirectiveAt) (n : ℕ) (list : List DirectiveIndex)
+pub end_given : (p : Project) (script : List Statement) (items : List code.DirectiveAt) (n : ℕ) (list : List
+    DirectiveIndex)
     → p.script ≡ script → shown_directives items ≡ all_directives script → length items ≤ n
     → given p list ≡ names_in_force p (take n (all_directives script)) → given p list ≡ provided p
 end_given p script items n list same are past h =

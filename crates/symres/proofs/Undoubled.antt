@@ -56,7 +56,8 @@ once f false false h = absurd (cc)
 pub none_twice : (p : Project) (d : DecisionsState) (order : List ℕ)
     → ((name : List ℕ) → ByKeys p d name) → ((k : ℕ) → HasName d.names.names k → HasCase d.cases k)
     → ((name : List ℕ) → ((k : ℕ) → IsNamed d.names.names k name → ⊥) → entries_of name d.names.objects ≡ [])
-    → count_by is_doubled d.cases ≡ 0 → IsSymbolTable p (state_of d order) → (name : List ℕ) → decision p name ≡ Duplicate
+    → count_by is_doubled d.cases ≡ 0 → IsSymbolTable p (state_of d order) → (name : List ℕ) → decision p name
+    ≡ Duplicate
     → ⊥
 none_twice p d order by complete unknown none symbol_table name twice =
     let unnamed : (k : ℕ) → IsNamed d.names.names k name → ⊥ = λ k n.

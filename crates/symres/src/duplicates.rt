@@ -206,7 +206,8 @@ impl SymbolTable {
         requires table { IsTableAt self.now.objects place object.now.symbols }
         requires long { length firsts.old.items ≡ length self.now.cases }
         ensures long { length firsts.new.items ≡ length firsts.old.items }
-        ensures found { OnOk result ((p : Project) (ds : List Declaration) → IsSymbolTable p self.now → p.script ≡ script.now
+        ensures found { OnOk result ((p : Project) (ds : List Declaration) → IsSymbolTable p self.now → p.script
+            ≡ script.now
             → Begins p (ds ++ declarations_in (place, object.now.symbols))
             → AreFound p self.now.names ds firsts.old.items faults.old.items
             → AreFound p self.now.names (ds ++ declarations_in (place, object.now.symbols)) firsts.new.items

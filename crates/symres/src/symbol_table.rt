@@ -151,7 +151,8 @@ impl SymbolTable {
 
     /// What any name stands for, such as the entry symbol: the name is hashed and looked up.
     pub fn case_named(&self, script: &Script, name: &[u8]) -> Case
-        ensures case { (p : Project) → IsSymbolTable p self.now → p.script ≡ script.now → decision_of (λ key. key) result
+        ensures case { (p : Project) → IsSymbolTable p self.now → p.script ≡ script.now
+            → decision_of (λ key. key) result
             ≡ decision p name.now }
     {
         self.decided_by_keys();

@@ -17,7 +17,8 @@ pub loop-at-preserved : goal.loop-at-preserved
 loop-at-preserved c =
     let values = c.args.values.now in
     let called = c.given_name-name.result.now in
-    next_noted c.args.symbol_table.now values c.loop-at.at-index called c.loop-at.table.items c.put_given.new.table.items
+    next_noted c.args.symbol_table.now values c.loop-at.at-index called c.loop-at.table.items
+    c.put_given.new.table.items
     (c.given_name-name.ensures
     ∙ called_here values.script.now c.deref-at-items.result.now c.loop-at.at-index c.at-item.result
     (omega (arith, c.loop-at-test.true)) c.at-item.is

@@ -7,7 +7,8 @@ use Rattle.ldscript_statements.proofs.tables.provided_names.Given as goal
 
 abbrev pub invariant-loop-left : goal.invariant-loop-left
 invariant-loop-left l = (l.left ≤ length l.directives)
-    × ((name : List ℕ) → number_at l.table name ≡ provided_from l.left (shown_directives (drop l.left l.directives)) name)
+    × ((name : List ℕ) → number_at l.table name ≡ provided_from l.left (shown_directives (drop l.left l.directives))
+    name)
 
 abbrev pub decreases-loop-left : goal.decreases-loop-left
 decreases-loop-left l = l.left

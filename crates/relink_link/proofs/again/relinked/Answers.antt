@@ -42,7 +42,8 @@ relocated-requires-clause-beside c =
           (subst (λ (z : Layout). AreSymbolValues p z c.in_ok-symbols.symbols)
           (one_placement p k.layout s k.link_layout.placed link_layout.placed)
           (c.in_ok-symbols.ensures k.layout h.symbol_table k.view
-          (subst (AreNameValues (known_link p k.layout h.symbol_table)) (sym c.deref-2.ensures.value) h.values.names))));
+          (subst (AreNameValues (known_link p k.layout h.symbol_table)) (sym c.deref-2.ensures.value)
+          h.values.names))));
     }
 
 pub relocated-requires-clause-symbols : goal.relocated-requires-clause-symbols
@@ -87,7 +88,8 @@ returns-clause-ended c =
 
 pub returns-clause-reads : goal.returns-clause-reads
 returns-clause-reads c =
-    reads_then _ _ _ (reads_then _ _ _ c.in_ok-link_layout.ensures.reads c.in_ok-fields.ensures.reads) c.in_ok-drawn.ensures.reads
+    reads_then _ _ _ (reads_then _ _ _ c.in_ok-link_layout.ensures.reads c.in_ok-fields.ensures.reads)
+    c.in_ok-drawn.ensures.reads
 
 pub returns-clause-worked : goal.returns-clause-worked
 returns-clause-worked c =

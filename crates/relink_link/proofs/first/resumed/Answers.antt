@@ -43,4 +43,5 @@ returns-clause-first c = λ old y e h g n same.
     ∙ ap (λ l. first_changed x new l c.args.rows.now) c.deref.ensures.value in
     subst (λ k. entries_from k (model.rows new) ≤ entries_from n (model.rows new)) (sym first)
     (is_first old new x last c.args.rows.now c.requires.rows next
-    (c.placed_are_rows.ensures old.project (provided old.project) old.layout last.table.arranged.link_layout.placed) n same)
+    (c.placed_are_rows.ensures old.project (provided old.project) old.layout last.table.arranged.link_layout.placed) n
+    same)

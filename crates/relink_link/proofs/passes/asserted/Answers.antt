@@ -14,7 +14,8 @@ returns-in-Ok-clause-good c =
       filled = c.requires;
       rest = c.requires.rest
           ∙ c.in-Ok.ensures.good (assertion_faults p s) (good p s)
-          (ap (faults_in p) c.deref.ensures.value ∙ c.in_ok-faults.ensures s h.symbol_table h.known.link_layout h.values);
+          (ap (faults_in p) c.deref.ensures.value ∙ c.in_ok-faults.ensures s h.symbol_table h.known.link_layout
+          h.values);
     }
 
 pub returns-clause-stop : goal.returns-clause-stop

@@ -6,6 +6,7 @@ use Rattle.emit_values.proofs.given.GivenValues.of.Goals as goal
 pub returns : goal.returns
 returns c = record {
   values = λ s placement. c.in_ok-values.ensures s
-      (subst (λ (t : List Statement). AreOf t s c.args.link_layout.now.placement) (sym c.script-script.ensures) placement.places);
+      (subst (λ (t : List Statement). AreOf t s c.args.link_layout.now.placement) (sym c.script-script.ensures)
+      placement.places);
   sorted = c.in_ok-sorted.ensures;
 }

@@ -15,7 +15,8 @@ returns c =
         symbol_table = c.requires.symbol_table;
         script = sym c.script-script.ensures;
         names = subst (λ (vs : List code.SymbolValue).
-            AreNameValues (known_link c.args.project.now s c.args.symbol_table.now) vs) (sym c.deref-2.ensures.value) names;
+            AreNameValues (known_link c.args.project.now s c.args.symbol_table.now) vs) (sym c.deref-2.ensures.value)
+            names;
         given = given;
       });
     }

@@ -47,7 +47,8 @@ exchange-gone-requires-clause-into c =
     let there = stands c.args.project.now c.args.staged.now c.args.key.0 x
     c.args.self.now.symbol_table ms c.object_change-change.ensures c.requires.kept in
     let may = may_stand c.args.project.now c.args.staged.now c.args.key.0 x
-    c.args.self.now.symbol_table ms c.requires.arranged c.requires.touched c.object_change-change.ensures c.requires.kept in
+    c.args.self.now.symbol_table ms c.requires.arranged c.requires.touched c.object_change-change.ensures
+    c.requires.kept in
     into_within ms c.place_of-out.result c.place_of-into.result (vec_len v)
     (subst (λ (p : Option ℕ). Stands ms p) (sym c.place_of-out.ensures) there)
     (subst (λ (p : Option ℕ). MayStand ms p c.place_of-into.result) (sym c.place_of-out.ensures)
@@ -62,7 +63,8 @@ exchange-gone-requires-clause-added c =
     let there = stands c.args.project.now c.args.staged.now c.args.key.0 x
     c.args.self.now.symbol_table ms c.object_change-change.ensures c.requires.kept in
     let may = may_stand c.args.project.now c.args.staged.now c.args.key.0 x
-    c.args.self.now.symbol_table ms c.requires.arranged c.requires.touched c.object_change-change.ensures c.requires.kept in
+    c.args.self.now.symbol_table ms c.requires.arranged c.requires.touched c.object_change-change.ensures
+    c.requires.kept in
     added_within ms (place_at x.out) c.place_of-into.result (vec_len v) there
     (subst (λ (q : Option ℕ). MayStand ms (place_at x.out) q) (sym c.place_of-into.ensures) may)
     (omega (arith, v.ok.0, v.ok.1, ap (λ (l : List Matches). length l) c.make_room.ensures.matches))
@@ -121,7 +123,8 @@ exchange-requires-clause-into c =
     let items = c.exchange-gone.ensures.items
     ∙ exchanged_as c.make_room.new.self.matches.items ms c.place_of-out.result (place_at x.out) c.place_of-into.result
     (place_at x.into) coming coming c.make_room.ensures.matches c.place_of-out.ensures c.place_of-into.ensures refl in
-    let there = stands h s c.args.key.0 x c.args.self.now.symbol_table ms c.object_change-change.ensures c.requires.kept in
+    let there = stands h s c.args.key.0 x c.args.self.now.symbol_table ms c.object_change-change.ensures c.requires.kept
+    in
     let may = may_stand h s c.args.key.0 x c.args.self.now.symbol_table ms c.requires.arranged c.requires.touched
     c.object_change-change.ensures c.requires.kept in
     let both = both_come h s c.args.key.0 x coming c.object_change-change.ensures
@@ -147,7 +150,8 @@ exchange-requires-clause-added c =
     let items = c.exchange-gone.ensures.items
     ∙ exchanged_as c.make_room.new.self.matches.items ms c.place_of-out.result (place_at x.out) c.place_of-into.result
     (place_at x.into) coming coming c.make_room.ensures.matches c.place_of-out.ensures c.place_of-into.ensures refl in
-    let there = stands h s c.args.key.0 x c.args.self.now.symbol_table ms c.object_change-change.ensures c.requires.kept in
+    let there = stands h s c.args.key.0 x c.args.self.now.symbol_table ms c.object_change-change.ensures c.requires.kept
+    in
     let may = may_stand h s c.args.key.0 x c.args.self.now.symbol_table ms c.requires.arranged c.requires.touched
     c.object_change-change.ensures c.requires.kept in
     let both = both_come h s c.args.key.0 x coming c.object_change-change.ensures

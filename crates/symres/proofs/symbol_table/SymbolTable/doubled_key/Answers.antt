@@ -5,7 +5,8 @@ use Rattle.symres.proofs.symbol_table.SymbolTable.doubled_key.Goals as goal
 pub returns-then-not-is_doubled-clause-key : goal.returns-then-not-is_doubled-clause-key
 returns-then-not-is_doubled-clause-key c =
     λ p d symbol_table.
-    not_doubled p c.args.self.now c.args.place c.args.number c.key_of-key.result.0 c.args.object.now.symbols d symbol_table
+    not_doubled p c.args.self.now c.args.place c.args.number c.key_of-key.result.0 c.args.object.now.symbols d
+    symbol_table
     c.requires.table c.key_of-key.ensures.name c.key_of-key.ensures.case
     (sym c.is_doubled.ensures ∙ c.if-not-is_doubled.true)
 
