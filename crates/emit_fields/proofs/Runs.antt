@@ -2,7 +2,7 @@
 use Rattle.std.proofs.Common.{◌≡◌, ◌+◌, ◌-◌, ◌*◌, ◌%◌, ◌<◌, ◌≤◌, ℕ, zero, suc, List, length, get_or, drop, take, sym}
 use Rattle.std.proofs.Common.{ap, ◌∙◌, arith}
 use Rattle.std.proofs.Math.Nat.{mul-add-mod_self_right}
-use Rattle.std.proofs.lemmas.Grind.{directive_steps}
+use Rattle.std.proofs.lemmas.Grind.{common_steps}
 use Rattle.std.proofs.lemmas.List.{length-take, length-drop}
 use Rattle.elfobj.specs.Counts.{Counts, capped}
 use Rattle.elfobj.specs.Raised.{raised}
@@ -18,7 +18,7 @@ run_reads canvas bytes from done stop i h a b d =
     let e : from + done + (i - done) ≡ from + i = omega arith in
     let f : done + (i - done) ≡ i = omega arith in
     let g : get_or (take (stop - done) (drop done bytes)) (i - done) 0 ≡ get_or bytes i 0 = grind
-    (arith, directive_steps) in
+    (arith, common_steps) in
     (ap (λ k. get_or canvas k 0) (sym e) ∙ j) ∙ g
 
 -- a field, read where it was written

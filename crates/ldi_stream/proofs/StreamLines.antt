@@ -1,6 +1,6 @@
 use Rattle.std.proofs.Common.{◌≡◌, ◌≢◌, ℕ, ◌+◌, ◌<◌, ◌≤◌, ◌-◌, take_all, take-add, length-drop, List, [], ◌∷◌, ◌++◌}
 use Rattle.std.proofs.Common.{length, take, drop, set, ap, arith, ◌∙◌, length-take}
-use Rattle.std.proofs.lemmas.Grind.{directive_steps}
+use Rattle.std.proofs.lemmas.Grind.{common_steps}
 use Rattle.std.proofs.lemmas.List.{take-append-le}
 use Rattle.std.proofs.Math.Seq.{take-append-add}
 use borrow.Rule.Slice.PartMut.{put_mid, post_of}
@@ -11,7 +11,7 @@ NoFeed-more [] b h n = (n, tt)
 NoFeed-more (x ∷ xs) b h n = (h.0, NoFeed-more xs b h.1 n)
 
 pub take_set : (xs : List ℕ) (i b : ℕ) → i < length xs → take (i + 1) (set xs i b) ≡ take i xs ++ b ∷ []
-take_set xs i b h = grind (arith, directive_steps)
+take_set xs i b h = grind (arith, common_steps)
 
 pub take_two : (xs : List ℕ) (i n : ℕ) → i ≤ length xs → n ≤ length (take (length xs - i) (drop i xs))
     → take (i + n) xs ≡ take i xs ++ take n (take (length xs - i) (drop i xs))

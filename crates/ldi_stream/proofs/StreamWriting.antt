@@ -1,7 +1,7 @@
 use Rattle.std.proofs.Common.{◌≡◌, ℕ, zero, suc, ◌+◌, List, [], ◌∷◌, ◌++◌, length, take, Option, Result, Ok, Err}
 use Rattle.std.proofs.Common.{refl, ap, subst, arith}
 use Rattle.std.specs.Result.{IsErrAnd, MatchResult}
-use Rattle.std.proofs.lemmas.Grind.{directive_steps}
+use Rattle.std.proofs.lemmas.Grind.{common_steps}
 use Rattle.std.specs.Io.KnownBytes.{Appends, Keeps}
 use Rattle.std.proofs.KnownBytes.{Appends-trans, Appends-kept}
 use Rattle.std.proofs.Math.Seq.{take-append-add}
@@ -12,7 +12,7 @@ abbrev pub Part : Option (List ℕ) → Option (List ℕ) → List ℕ → Type 
 Part a b text = (n : ℕ) × Appends a b (take n text)
 
 take_front : (n : ℕ) (x y : List ℕ) → (m : ℕ) × (take n x ≡ take m (x ++ y))
-take_front n [] y = (0, grind (arith, directive_steps))
+take_front n [] y = (0, grind (arith, common_steps))
 take_front zero (a ∷ x) y = (0, refl)
 take_front (suc n) (a ∷ x) y = let t = take_front n x y in (suc t.0, ap (λ l. a ∷ l) t.1)
 
@@ -26,7 +26,7 @@ pub Part-whole : (a b c : Option (List ℕ)) (x : List ℕ) → Appends a b x �
 Part-whole a b c x h k = (length x, rw (take_all x) (Appends-kept a b c x h k))
   where
     take_all : (x : List ℕ) → take (length x) x ≡ x
-    take_all x = grind (arith, directive_steps)
+    take_all x = grind (arith, common_steps)
 
 pub Writes-cut : {T E : Type 0} (Q : E → Type 0) (a b : Option (List ℕ)) (text : List ℕ) (r : Result T E)
     → IsErrAnd r Q → Part a b text → Writes a b text r

@@ -25,7 +25,7 @@ fn is_provided(case: Case) -> bool
         Case::Provided => true,
         Case::Strong(_)
         | Case::Script
-        | Case::Directive { .. }
+        | Case::Common { .. }
         | Case::Weak(_)
         | Case::Undefined
         | Case::Duplicate => false,
