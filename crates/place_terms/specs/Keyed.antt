@@ -4,7 +4,7 @@ use Rattle.byteorder.specs.Endian.{little_bytes}
 use Rattle.ldscript.specs.statements.Widths.{byte_count}
 use Rattle.ldmodel.specs.Layout.{PlacedPiece, PlacedSection, PlacedData}
 use Rattle.ldmodel.specs.declared.placed.Placed.{Placed}
-use Rattle.ldmodel.specs.declared.data.PlacedData as code
+use Rattle.ldmodel.specs.declared.placed.PlacedData as code
 use Rattle.ldmodel.specs.declared.rows.Piece as rows
 use Rattle.place_terms.specs.Naming.{Naming, piece_named}
 use Rattle.place_terms.specs.declared.sections.DataAt.{DataAt}
