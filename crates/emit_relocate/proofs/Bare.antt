@@ -41,7 +41,8 @@ module _ (old : GoodLink) (l : KnownLink) (s : ObjectSection) (bare : s.section.
   abbrev nothing : Evaluated
   nothing = record { run = []; patches = []; sites = [] }
 
-  no_sites_at : (a : Option PlacedPiece) → option_map_or (λ (y : PlacedPiece). sites_at s.object s.section y.start) a [] ≡ []
+  no_sites_at : (a : Option PlacedPiece)
+      → option_map_or (λ (y : PlacedPiece). sites_at s.object s.section y.start) a [] ≡ []
   no_sites_at None = refl
   no_sites_at (Some y) = ap (sites_among s.object s.section y.start) bare
 
@@ -52,7 +53,8 @@ module _ (old : GoodLink) (l : KnownLink) (s : ObjectSection) (bare : s.section.
   no_run_at None = refl
   no_run_at (Some y) = record {
     same = λ bytes i.
-        ap (λ rs. patched_byte bytes (filter_map (field_at l) (sites_among s.object s.section y.start rs)) i) (sym bare);
+        ap (λ rs. patched_byte bytes (filter_map (field_at l) (sites_among s.object s.section y.start rs)) i)
+        (sym bare);
     order = λ n below. omega arith;
   }
 

@@ -109,6 +109,6 @@ module _ (l : KnownLink) where
   not_there key o h named = let e : None ≡ Some o.object = h
       ∙ ap (λ a. option_map (λ (y : NamedObject). y.object) a) named in cc
 
-  pub lent : (key : ObjectPlace) (o : NamedObject) (read : ObjectData) → Some read ≡ object_of l key → named_object l key
-      ≡ Some o → o.object ≡ read
+  pub lent : (key : ObjectPlace) (o : NamedObject) (read : ObjectData) → Some read ≡ object_of l key
+      → named_object l key ≡ Some o → o.object ≡ read
   lent key o read h named = sym (same_Some _ _ (h ∙ ap (λ a. option_map (λ (y : NamedObject). y.object) a) named))

@@ -20,7 +20,7 @@ use Rattle.emit_relocate.specs.declared.input_section.InputSection.{InputSection
 use Rattle.emit_relocate.specs.declared.moved.StayedSection.{StayedSection}
 use Rattle.emit_relocate.specs.declared.site.PlacedSection.{PlacedSection}
 
--- two links may be those at hand; the relations say which links a linker knows
+-- these may be the links at hand, by what the linker knows of them: `knows` of `Known`, and that of `Earlier`
 pub record AreLinks {L E : Type 0} (knows : L → KnownLink → Type 0) (knows_both : E → GoodLink → KnownLink → Type 0)
     (m : Links L E) (old : GoodLink) (l : KnownLink) : Type 0 where
   -- the link whose relocations are evaluated

@@ -3,8 +3,8 @@
 //!
 //! - `known`, `earlier`: what a linker says of its link and of an earlier one; `symbol`, `value`, `target`: values;
 //! - `symbol_values`: the values of the symbols of all objects, which evaluation reads;
-//! - `site`, `fields`, `moved`, `input_section`, `changed_fields`: fields, all of them or those that an earlier link did
-//!   not have; `law`;
+//! - `site`, `fields`, `moved`, `input_section`, `changed_fields`: fields, all of them or those that an earlier link
+//!   did not have; `law`;
 //! - `index`, `bucket`, `walk`: from targets to relocations.
 #![tactic(auto)]
 

@@ -34,12 +34,14 @@ symbol_of l m o x h i entry is = go (slice_get o.object.symbols i.0) refl
     go : (a : Option NamedSymbol) → slice_get o.object.symbols i.0 ≡ a
         → (y : NamedSymbol) × IsSymbolOf l m.object i entry o y
     go None e = let none : None ≡ Some entry = sym (ap (option_map symbol) e) ∙ there in cc
-    go (Some y) e =
-        (y, record {
-          object_is = h.object_is;
-          entry_is = e;
-          symbol_is = same_Some _ _ (sym (ap (option_map symbol) e) ∙ there);
-        })
+    go (Some y) e = (
+      y,
+      record {
+        object_is = h.object_is;
+        entry_is = e;
+        symbol_is = same_Some _ _ (sym (ap (option_map symbol) e) ∙ there);
+      },
+    )
 
 pub returns-in-Some : goal.returns-in-Some
 returns-in-Some g c =
