@@ -2,7 +2,7 @@
 use Rattle.std.proofs.Common.{◌≡◌, ◌∙◌, ℕ, ◌+◌, ◌<◌, ◌≤◌, List, [], ◌∷◌, ◌++◌, length, map, take, get_or, set, ap, sym}
 use Rattle.std.proofs.Common.{subst, refl, arith, suc, zero, ⊎_elim, ◌⊎◌, inl, inr, Bool, true, false}
 use Rattle.std.specs.Prelude.{Option, Some, None, replicate, bytes_eq, slice_get}
-use Rattle.std.specs.Option.{option_map, option_map_or}
+use Rattle.std.specs.Option.{is_some, option_map, option_map_or}
 use Rattle.std.proofs.lemmas.Option.{slice_get-map, slice_get-get_or}
 use Rattle.std.proofs.Math.Seq.{take-suc}
 use Rattle.std.proofs.lemmas.Bool.{cases_eq, cases_lt, true≢false}
@@ -54,6 +54,14 @@ pub found_inside : (script : List Statement) (x : code.ScriptSymbol) → IsFound
     → x.command.0 < length (all_directives script)
 found_inside script x found =
     let f = symbol_at script (name_given_by script x.command.0) x.command.0 found in omega (arith, f.here, f.inside)
+
+pub none_there : (o : Option ℕ) → is_some o ≡ false → o ≡ None
+none_there None e = refl
+none_there (Some v) e = absurd (true≢false e)
+
+pub some_there : (o : Option ℕ) → is_some o ≡ true → (v : ℕ) × (o ≡ Some v)
+some_there None e = absurd (true≢false (sym e))
+some_there (Some v) e = (v, refl)
 
 all_none : (n k : ℕ) → let none : Option ℕ = None in get_or (replicate n none) k none ≡ none
 all_none zero k = refl
