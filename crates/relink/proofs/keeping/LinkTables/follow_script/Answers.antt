@@ -9,7 +9,7 @@ use Rattle.ldmodel_project.specs.Holding.{Listing, next_listing, project_of}
 use Rattle.ldscript.specs.statements.declared.statement.Statement.{Statement}
 use Rattle.relink.specs.Change.{names_of_step}
 use Rattle.relink.proofs.Followed.{is_followed}
-use Rattle.relink.proofs.Following.{kept_again, kept_scripted}
+use Rattle.relink.proofs.Following.{kept_scripted}
 use Rattle.relink.proofs.keeping.LinkTables.follow_script.Goals as goal
 
 pub returns-in-Ok-clause-followed : goal.returns-in-Ok-clause-followed
@@ -31,13 +31,3 @@ returns-in-Ok-clause-followed c =
     (ap declared_names c.requires.given.kept.tables
     ∙ ap (names_of_step h.contents.entries s.objects) (sym c.requires.touched))
     c.in-Ok.ensures.followed c.in-Ok.ensures.reads c.in-Ok.ensures.worked
-
-pub returns-in-Err-clause-back : goal.returns-in-Err-clause-back
-returns-in-Err-clause-back c =
-    let d = c.redecide-in-Err.new.self in
-    record {
-      kept = kept_again c.args.project.now c.args.self.now.symbol_table d c.args.self.now.matches.items
-          c.requires.given.kept (c.redecide-in-Err.ensures.names ∙ c.redecide.ensures.names)
-          (subst (λ (t : List Statement). AreKept t d.kept) c.script-in-Err.ensures c.redecide-in-Err.ensures.kept);
-      canvas = c.in-Err.ensures.unchanged;
-    }
