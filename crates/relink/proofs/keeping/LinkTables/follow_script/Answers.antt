@@ -1,11 +1,10 @@
 use Rattle.std.proofs.Common.{◌∙◌, List, ap, subst, sym}
-use Rattle.std.specs.List.{AllZip}
 use Rattle.gather.specs.ProjectMatches.{AreMatched}
 use Rattle.relink_link.specs.Stays.{last_of}
 use Rattle.symres.specs.decisions.Counted.{declared_names}
 use Rattle.symres.specs.decisions.Decisions.{AreKept}
 use Rattle.ldmodel.specs.Project.{Project}
-use Rattle.ldmodel_project.specs.Holding.{Listing, next_listing, project_of}
+use Rattle.ldmodel_project.specs.Holding.{Listing, project_of}
 use Rattle.ldscript.specs.statements.declared.statement.Statement.{Statement}
 use Rattle.relink.specs.Change.{names_of_step}
 use Rattle.relink.proofs.Followed.{is_followed}
