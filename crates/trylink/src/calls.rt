@@ -4,14 +4,13 @@ use crate::answer::Answer;
 use crate::answered::{Answered, MALFORMED};
 use crate::command::{Command, split_command};
 use crate::printing::print_command;
+use crate::task::Task;
 use ldi_stream::head::Query;
 use ldmodel::memory::NoMemory;
 use ldmodel::meter::Meter;
 use relink::{Edit, Options, Output, Project};
-use std::alloc::Global;
+use std::alloc::{AllocError, Global};
 use std::hash::RandomState;
-use std::io;
-use std::io::Write;
 
 /// A project and its link.
 #[derive(Drop)]
@@ -71,33 +70,28 @@ impl Calls {
 }
 
 /// The answers to a stream by calls, each printed as it comes, after its command.
-pub fn answer_by_calls<W: Write>(
-    alloc: Global,
-    seed: RandomState,
-    options: Options,
-    stream: &[u8],
-    out: &mut W,
-) -> io::Result<Answered> {
-    let mut calls = Calls::new(alloc, seed, options)?;
+pub fn answer_by_calls(task: Task<'_>, out: &mut String) -> Result<Answered, AllocError> {
+    let alloc = task.alloc;
+    let mut calls = Calls::new(alloc, task.seed, task.own_options()?)?;
     let mut answers = Vec::new(alloc);
-    let mut rest = stream;
+    let mut rest = task.bytes;
     // a command takes a byte at least
-    for _ in 0..=stream.len() {
+    for _ in 0..=task.bytes.len() {
         if rest.is_empty() {
             break;
         }
         let Some((command, others)) = split_command(alloc, rest)? else {
             print_command(out, rest)?;
-            Answer::Malformed.spell(&mut answers)?;
-            Answer::Malformed.print(out)?;
+            Answer::Malformed.spell(alloc, &mut answers)?;
+            Answer::Malformed.print(alloc, out)?;
             let status = MALFORMED;
             return Ok(Answered { answers, status });
         };
         print_command(out, &rest[..rest.len().saturating_sub(others.len())])?;
         rest = others;
         let answer = calls.answer(command)?;
-        answer.spell(&mut answers)?;
-        answer.print(out)?;
+        answer.spell(alloc, &mut answers)?;
+        answer.print(alloc, out)?;
     }
     let status = calls.output.status();
     Ok(Answered { answers, status })

@@ -2,12 +2,12 @@
 //! from link to link.
 
 use crate::answered::{Answered, MALFORMED};
+use crate::task::Task;
 use ldi_stream::devices::{AnswerWriter, CommandReader};
 use ldi_stream::fault::RunFault;
 use ldi_stream::{Status, run};
-use relink::{Linker, Options, Plain, Session};
+use relink::{Linker, Plain, Session};
 use std::alloc::{AllocError, Global};
-use std::hash::RandomState;
 
 /// The status after a device failed.
 const DEVICE: u8 = 3;
@@ -35,23 +35,13 @@ fn answer_by<L: Linker>(
 }
 
 /// The answers of a session to a stream.
-pub fn answer_by_session(
-    alloc: Global,
-    seed: RandomState,
-    options: Options,
-    stream: &[u8],
-) -> Result<Answered, AllocError> {
-    let mut linker = Session::new(alloc, seed, options)?;
-    answer_by(alloc, &mut linker, stream)
+pub fn answer_by_session(task: Task<'_>) -> Result<Answered, AllocError> {
+    let mut linker = Session::new(task.alloc, task.seed, task.own_options()?)?;
+    answer_by(task.alloc, &mut linker, task.bytes)
 }
 
 /// The answers of the plain linker to a stream.
-pub fn answer_by_plain(
-    alloc: Global,
-    seed: RandomState,
-    options: Options,
-    stream: &[u8],
-) -> Result<Answered, AllocError> {
-    let mut linker = Plain::new(alloc, seed, options)?;
-    answer_by(alloc, &mut linker, stream)
+pub fn answer_by_plain(task: Task<'_>) -> Result<Answered, AllocError> {
+    let mut linker = Plain::new(task.alloc, task.seed, task.own_options()?)?;
+    answer_by(task.alloc, &mut linker, task.bytes)
 }
