@@ -9,7 +9,7 @@
 --   `section_end`   its size, load size and flags, and whether its regions have room
 --   `body_step`     a statement of its body: `.`, an assignment, a data command, or an input statement
 --   `head_of`       its alignment, then its start, then its load address, each with its fault
---   `directive_step`   an assignment of a symbol, a PROVIDE, an ASSERT
+--   `directive_step`  an assignment of a symbol, a PROVIDE, an ASSERT
 --
 -- The first fault ends the pass. `Layout` has what a layout is, and `number` and `address`, which give most faults.
 use Rattle.std.specs.Prelude.{ℕ, ◌+◌, ◌-◌, max, List, [], ◌∷◌, ◌++◌, length, map, filter, slice_index_or, Option, Some}

@@ -2,8 +2,8 @@
 //! that the layers of a link hand one another.
 //!
 //! - `edit`, `options`, `linker`: edits, their answers and limits; options; the trait of linkers;
-//! - `names`, `sections`, `rows`, `placed`, `segment`, `target`, `fault`, `script_symbol`: what layers hand one
-//! another;
+//! - `names`, `sections`, `rows`, `placed`, `segment`, `target`, `fault`, `script_symbol`: what layers hand
+//!   one another;
 //! - `given`: what a script makes of a name; `impossible`: the error of a case that cannot come up.
 #![tactic(auto)]
 

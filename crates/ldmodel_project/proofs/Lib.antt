@@ -12,3 +12,4 @@ pub mod Leading
 pub mod Noting
 pub mod Tabled
 pub mod Tagged
+pub mod Naming

@@ -1,6 +1,6 @@
 //! The objects of a project under stable keys, in their order.
 
-ghost use Rattle.std.specs.Prelude.{◌≡◌, ◌==◌, ◌<◌, [], ℕ, IfOk, length, is_some, slice_get, true};
+ghost use Rattle.std.specs.Prelude.{◌≡◌, ◌==◌, ◌<◌, [], ℕ, IfOk, IfSome, length, is_some, slice_get, true};
 ghost use Rattle.std.specs.Option.{option_copied};
 ghost use Rattle.ldmodel.specs.Edits.{AreNamesDistinct, place_of, is_in_use};
 ghost use Rattle.ldmodel_project.specs.Inputs.{shown_inputs};
@@ -75,12 +75,13 @@ impl KeyedObjects {
     pub fn place_of(&self, name: &[u8]) -> Option<usize>
         ensures place { result ≡ place_of (objects_of self.now.entries) name.now }
         ensures used { is_some result ≡ is_in_use (objects_of self.now.entries) name.now }
+        ensures named { IfSome result (λ _. 0 < length name.now) }
     {
         if self.objects.surely_lack(name) {
             return None;
         }
         for (i, key) in self.order.iter().enumerate() {
-            if self.objects[*key].name() == name {
+            if self.objects[*key].input().name == name {
                 return Some(i);
             }
         }

@@ -1,6 +1,6 @@
 //! Objects under their names.
 
-ghost use Rattle.std.specs.Prelude.{◌≡◌, IfOk};
+ghost use Rattle.std.specs.Prelude.{◌≡◌, ◌<◌, IfOk, length};
 ghost use Rattle.ldmodel_project.specs.Inputs.{shown_input};
 
 use crate::input::InputObject;
@@ -9,7 +9,7 @@ use ldmodel::memory::NoMemory;
 use std::alloc::Global;
 use std::marker::Model;
 
-/// An object and the name under which it was added.
+/// An object and the name under which it was added, which is not empty.
 #[derive(Drop)]
 pub struct NamedObject {
     name: Vec<u8>,
@@ -17,11 +17,14 @@ pub struct NamedObject {
 }
 
 impl Model for NamedObject {
+    ghost use Rattle.std.specs.Prelude.{◌<◌, length};
     ghost use Rattle.ldmodel.specs.Project.{NamedObject};
 
     ghost Value = { NamedObject };
 
     ghost view = { λ o. record { name = o.name.items; object = o.object } };
+
+    ghost invariant = { λ o. 0 < length o.name.items };
 }
 
 impl NamedObject {
@@ -31,6 +34,7 @@ impl NamedObject {
     ///
     /// Where memory runs out.
     pub fn new(alloc: Global, name: &[u8], object: Object) -> Result<NamedObject, NoMemory>
+        requires { 0 < length name.now }
         ensures { IfOk result (λ o. o ≡ record { name = name.now; object = object }) }
     {
         let name = Vec::from_slice(alloc, name)?;

@@ -174,10 +174,7 @@ impl<'a> Next<'a> {
         let mut inputs = Vec::with_capacity(alloc, self.len())?;
         for at in 0..self.len() {
             let (_key, named) = self.entry(at);
-            inputs.push(InputObject {
-                name: named.name(),
-                object: named.object(),
-            })?;
+            inputs.push(named.input())?;
         }
         Ok(inputs)
     }

@@ -6,7 +6,7 @@ ghost use Rattle.ldmodel.specs.Edits.{AreNamesDistinct};
 ghost use Rattle.ldmodel.specs.NameFaults.{object_name};
 ghost use Rattle.ldmodel.specs.Names.{entry_symbol};
 ghost use Rattle.ldmodel.specs.Project.{NamedObject};
-ghost use Rattle.ldmodel_project.specs.Inputs.{shown_inputs};
+ghost use Rattle.ldmodel_project.specs.Inputs.{AreObjectsNamed, shown_inputs};
 ghost use Rattle.ldmodel_project.specs.Read.{AreObjectsRead};
 
 use crate::input::InputObject;
@@ -17,7 +17,7 @@ use ldscript::Script;
 use std::marker::Model;
 
 /// A project, lent for a link: its objects in their order, its script and its options. The key of an object in that
-/// link is its place among all, from 0. No two objects have one name.
+/// link is its place among all, from 0. No name is empty, and no two objects have one name.
 #[derive(Drop)]
 pub struct ProjectView<'a> {
     inputs: &'a [InputObject<'a>],
@@ -72,6 +72,15 @@ impl<'a> ProjectView<'a> {
         ensures distinct { AreNamesDistinct self.now.objects }
     {
         self.inputs
+    }
+
+    /// The names of the objects are not empty, and no two are the same. The call does nothing.
+    pub fn objects_are_named(&self)
+        ensures named { AreObjectsNamed self.now.objects }
+        ensures distinct { AreNamesDistinct self.now.objects }
+    {
+        // so that what a view says of its objects is known
+        let _inputs = self.inputs;
     }
 
     /// Each object is what its bytes spell, since it was read.

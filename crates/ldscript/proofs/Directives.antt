@@ -1,4 +1,4 @@
--- Why no command of those that stand in several lists stands at some tokens.
+-- Why no directive stands at some tokens.
 use Rattle.std.proofs.Common.{List, ℕ}
 use Rattle.ldscript_tokens.specs.Tokens.{Lexeme}
 use Rattle.ldscript_tokens.specs.declared.token.Mark.TheVariants.{OpenParenthesis, CloseParenthesis, Semicolon, Comma}

@@ -24,7 +24,7 @@ use Rattle.ldscript.specs.Grammar.{
 use Rattle.ldscript.specs.Grammar.{load_in_tail, alignment, section, body_statement, input_statement, discarded}
 use Rattle.ldscript.specs.Grammar.{discard, item_command, item_statement}
 use Rattle.ldscript.specs.Readings.{Takes, TakesOnly, NoneAt, NoneUntil, Reads, EndsSection, TakesTail, tail_part}
-use Rattle.ldscript.specs.Readings.{opened_part, head_part, discard_head}
+use Rattle.ldscript.specs.Readings.{IsOfParts, opened_part, head_part, discard_head}
 use Rattle.ldscript_statements.specs.declared.directive.Directive.{Directive}
 use Rattle.ldscript_statements.specs.declared.directive.Directive.TheVariants as directives
 use Rattle.ldscript_statements.specs.declared.directive.DotCommand.{DotCommand}
@@ -334,6 +334,16 @@ takes_section s h t ts b1 b2 b3 b4 rest named addressed headed bodied tailed at 
           (λ u m x z. let o = tailed.only u m x z in (o.0 ∙ sym f, o.1)) d k;
       shorter = omega (arith, named.shorter, addressed.shorter, headed.shorter, bodied.shorter, tailed.within);
     }
+
+pub section_of_parts : (s : OutputSection) (n : List ℕ) (a : Option Expr) (h : SectionHead) (b : List BodyStatement)
+    (t : SectionTail) (ts b1 b2 b3 b4 rest : List Lexeme) → Takes name ts n b1 → Takes stated_address b1 a b2
+    → Takes head_part b2 h b3 → Takes (λ ss. statements body_statement ss ▸ mark CloseBrace) b3 b b4
+    → TakesTail b4 t rest → IsOfParts s n a h b t → TakesOnly EndsSection section ts s rest
+section_of_parts s n a h b t ts b1 b2 b3 b4 rest named addressed headed bodied tailed is =
+    takes_section s h t ts b1 b2 b3 b4 rest (subst (λ x. Takes name ts x b1) (sym is.name) named)
+    (subst (λ x. Takes stated_address b1 x b2) (sym is.address) addressed) headed
+    (subst (λ x. Takes (λ ss. statements body_statement ss ▸ mark CloseBrace) b3 x b4) (sym is.body) bodied) tailed
+    is.in_head is.alignment is.region is.in_tail is.fill
 
 section_until : SingleUntil EndsSection section
 section_until ts r s a b x y hr hs =

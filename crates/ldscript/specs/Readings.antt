@@ -1,5 +1,5 @@
 -- What the readers of the parts of a script answer, and the parts that one reader reads at once.
-use Rattle.std.specs.Prelude.{◌≡◌, ◌<◌, ◌≤◌, List, codes, length, Bool, true, false, Option, Some, None, IfOk, Result}
+use Rattle.std.specs.Prelude.{◌≡◌, ◌<◌, ◌≤◌, ℕ, List, codes, length, Bool, true, false, Option, Some, None, IfOk, Result}
 use Rattle.ldscript_tokens.specs.Tokens.{Lexeme, Discard}
 use Rattle.ldscript_tokens.specs.declared.token.Mark.TheVariants.{OpenParenthesis, CloseParenthesis, OpenBrace, Colon}
 use Rattle.ldscript_tokens.specs.declared.token.Mark.TheVariants.{Greater}
@@ -9,11 +9,13 @@ use Rattle.ldscript_terms.specs.Expressions.{Expr}
 use Rattle.ldscript_terms.specs.Parts as patterns
 use Rattle.ldscript.specs.Steps.{Rule, ◌▸◌, key, mark, optional, pattern, some, token}
 use Rattle.ldscript.specs.Grammar.{bare, one, selection, width_word, in_parentheses, alignment, at_address, in_region}
-use Rattle.ldscript.specs.Grammar.{at_region, filled}
+use Rattle.ldscript.specs.Grammar.{at_region, filled, load_in_head, load_in_tail}
 use Rattle.ldscript_statements.specs.declared.input.SectionWord.{SectionWord}
 use Rattle.ldscript_statements.specs.declared.input.Sort.{Sort}
 use Rattle.ldscript.specs.declared.read_section.SectionHead.{SectionHead}
 use Rattle.ldscript.specs.declared.read_section.SectionTail.{SectionTail}
+use Rattle.ldscript_statements.specs.declared.section.BodyStatement.{BodyStatement}
+use Rattle.ldscript_statements.specs.declared.section.OutputSection.{OutputSection}
 use Rattle.ldscript_statements.specs.declared.section.Width.{Width}
 
 -- this tree stands here, and takes a token or more
@@ -114,6 +116,18 @@ ReadsMaybe f p ts tree rest r = IfOk r (λ found. FindsMaybe f p ts tree rest fo
 -- [">" NAME] [AT ">" NAME] ["=" fill]
 abbrev pub tail_part : SectionTail → Rule
 tail_part t = optional in_region t.region ▸ optional at_region t.load ▸ optional filled t.fill
+
+-- an output section of these parts
+pub record IsOfParts (s : OutputSection) (n : List ℕ) (a : Option Expr) (h : SectionHead) (b : List BodyStatement)
+    (t : SectionTail) : Type 0 where
+  pub name : s.name ≡ n
+  pub address : s.address ≡ a
+  pub in_head : load_in_head s.load ≡ h.load
+  pub alignment : s.alignment ≡ h.alignment
+  pub body : s.body ≡ b
+  pub region : s.region ≡ t.region
+  pub in_tail : load_in_tail s.load ≡ t.load
+  pub fill : s.fill ≡ t.fill
 
 -- the tail that stands here, and no other of which what follows ends the section
 pub record TakesTail (ts : List Lexeme) (t : SectionTail) (rest : List Lexeme) : Type 0 where

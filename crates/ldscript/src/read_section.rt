@@ -4,14 +4,16 @@ ghost use Rattle.std.specs.Prelude.{◌≡◌, ◌<◌, ℕ, List, IsTrue, Match
 ghost use Rattle.ldscript.specs.Steps.{◌▸◌, key, mark, statements};
 ghost use Rattle.ldscript.specs.Grammar.{stated_address as address_part, at_region, filled as filled_part, in_region};
 ghost use Rattle.ldscript.specs.Grammar.{load_in_head, load_in_tail, section as section_part};
-ghost use Rattle.ldscript.specs.Readings.{EndsSection, Reads, ReadsMaybe, ReadsOnly, ReadsTail, opened_part, head_part};
+ghost use Rattle.ldscript.specs.Readings.{EndsSection, IsOfParts, Reads, ReadsMaybe, ReadsOnly, ReadsTail};
+ghost use Rattle.ldscript.specs.Readings.{opened_part, head_part};
 ghost use Rattle.ldscript_statements.specs.declared.section.Load.{Load};
 
 use crate::read_body::body;
 use crate::steps::{after, after_key, ended, in_parentheses, plain_name};
 use ldscript_statements::fill::Fill;
 use ldscript_statements::formula::Formula;
-use ldscript_statements::section::{Load, OutputSection};
+use ldscript_statements::section::{BodyStatement, Load, OutputSection};
+use ldscript_statements::sequence::Sequence;
 use ldscript_terms::reader::Parsed;
 use ldscript_tokens::cursor::Cursor;
 use ldscript_tokens::name::ScriptName;
@@ -166,6 +168,36 @@ fn load_of(head: Option<Formula>, tail: Option<ScriptName>) -> Option<Load>
     }
 }
 
+/// The output section of these parts, unless its head and its tail both give a load address.
+fn section_of(
+    name: ScriptName,
+    address: Option<Formula>,
+    head: SectionHead,
+    body: Sequence<BodyStatement>,
+    tail: SectionTail,
+) -> Option<OutputSection>
+    ensures { MatchOption result ((l : Load) → load_in_head l ≡ head.load → load_in_tail l ≡ tail.load → ⊥)
+        (λ s. IsOfParts s name address head body tail) }
+{
+    let SectionHead {
+        load: address_given,
+        alignment,
+    } = head;
+    let SectionTail { region, load, fill } = tail;
+    match load_of(address_given, load) {
+        None => None,
+        Some(load) => Some(OutputSection {
+            name,
+            address,
+            load,
+            alignment,
+            body,
+            region,
+            fill,
+        }),
+    }
+}
+
 /// An output section.
 pub fn section<'a>(alloc: Global, tokens: Cursor<'a>) -> Parsed<'a, OutputSection>
     ensures { ReadsOnly EndsSection section_part tokens.entry (λ x. x.0) (λ x. x.1) result }
@@ -173,6 +205,7 @@ pub fn section<'a>(alloc: Global, tokens: Cursor<'a>) -> Parsed<'a, OutputSectio
     let Some((name, rest)) = plain_name(tokens) else {
         return Ok(None);
     };
+    let name = ScriptName::new(alloc, name)?;
     let Some((address, rest)) = address(alloc, rest)? else {
         return Ok(None);
     };
@@ -185,17 +218,8 @@ pub fn section<'a>(alloc: Global, tokens: Cursor<'a>) -> Parsed<'a, OutputSectio
     let Some((tail, rest)) = tail(alloc, rest)? else {
         return Ok(None);
     };
-    let Some(load) = load_of(head.load, tail.load) else {
-        return Ok(None);
-    };
-    let section = OutputSection {
-        name: ScriptName::new(alloc, name)?,
-        address,
-        load,
-        alignment: head.alignment,
-        body,
-        region: tail.region,
-        fill: tail.fill,
-    };
-    Ok(Some((section, rest)))
+    match section_of(name, address, head, body, tail) {
+        None => Ok(None),
+        Some(section) => Ok(Some((section, rest))),
+    }
 }

@@ -1,4 +1,4 @@
-//! Commands that stand in more than one list of statements.
+//! Directives: an assignment, a PROVIDE, an ASSERT; and the commands that move the location counter.
 
 use crate::formula::Formula;
 use ldscript_tokens::name::ScriptName;
@@ -21,7 +21,8 @@ pub struct Assertion {
     pub message: ScriptName,
 }
 
-/// A command that may stand in a script, in `SECTIONS` and in an output section.
+/// A directive: a command that may stand in a script, in `SECTIONS` and in an output section (GNU ld manual, "Assigning
+/// Values to Symbols", and ASSERT). It takes no room.
 #[derive(Drop)]
 pub enum Directive {
     /// `NAME = e`

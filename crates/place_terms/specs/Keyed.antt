@@ -4,7 +4,7 @@ use Rattle.byteorder.specs.Endian.{little_bytes}
 use Rattle.ldscript.specs.statements.Widths.{byte_count}
 use Rattle.ldmodel.specs.Layout.{PlacedPiece, PlacedSection, PlacedData}
 use Rattle.ldmodel.specs.declared.placed.Placed.{Placed}
-use Rattle.ldmodel.specs.declared.placed.PlacedData as laid
+use Rattle.ldmodel.specs.declared.placed.PlacedData as code
 use Rattle.ldmodel.specs.declared.rows.Piece as rows
 use Rattle.place_terms.specs.Naming.{Naming, piece_named}
 use Rattle.place_terms.specs.declared.sections.DataAt.{DataAt}
@@ -27,7 +27,7 @@ abbrev pub piece_at : Naming → KeyedPiece → PlacedPiece
 piece_at n x = record { start = x.start; piece = piece_named n x.piece }
 
 -- a data command of an earlier layout
-abbrev pub data_at_of : laid.PlacedData → DataAt
+abbrev pub data_at_of : code.PlacedData → DataAt
 data_at_of d = record { start = d.start; width = d.width; value = d.value }
 
 abbrev pub data_at : DataAt → PlacedData

@@ -10,7 +10,7 @@ use Rattle.ldscript.specs.statements.declared.given.Given.{Given}
 use Rattle.ldscript.specs.statements.declared.given.Given.TheVariants.{Assigned, Provided}
 use Rattle.ldscript.specs.statements.declared.statement.Statement.{Statement}
 
--- the number of a command among the directive commands
+-- the number of a command among the directives
 abbrev pub number_of : Given → ℕ
 number_of (Assigned k) = k
 number_of (Provided k) = k
@@ -30,7 +30,7 @@ abbrev pub gives_at : List DirectiveAt → ℕ → List ℕ → Bool
 gives_at commands number name = option_map_or (λ (c : DirectiveAt). gives c.command name) (slice_get commands number)
     false
 
--- these are all the directive commands of a script in which nothing is given twice
+-- these are all the directives of a script in which nothing is given twice
 pub record AreCommandsOf (script : List Statement) (commands : List DirectiveAt) : Type 0 where
   pub sound : IsSound script
   pub all : commands ≡ all_directives script

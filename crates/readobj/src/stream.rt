@@ -4,7 +4,7 @@
 use std::str;
 
 /// What is asked of an object.
-#[derive(Clone, Copy, Debug)]
+#[derive(Clone, Copy)]
 pub enum Kind {
     /// Its lines.
     Object,
@@ -13,7 +13,7 @@ pub enum Kind {
 }
 
 /// An object of the stream.
-#[derive(Clone, Copy, Debug)]
+#[derive(Clone, Copy)]
 pub struct Frame<'a> {
     /// What is asked of it.
     pub kind: Kind,

@@ -9,7 +9,7 @@ use std::io::Write;
 const VALUES: [u8; 3] = [0x00, 0x7f, 0xff];
 
 /// What the reader says of some bytes.
-#[derive(Clone, Copy, Debug, PartialEq, Eq)]
+#[derive(Clone, Copy, PartialEq, Eq)]
 enum Answer {
     /// They are an object.
     Object,

@@ -24,7 +24,7 @@ use std::alloc::Global;
 /// What is kept of the last link without faults.
 #[derive(Drop)]
 pub(crate) struct LastGood {
-    /// The tables of that link.
+    /// The state of that link.
     pub good: LinkState,
     /// At which place of that link each object stood that is still there with the same bytes, under the object's key.
     pub origins: Vec<Option<usize>>,

@@ -3,9 +3,9 @@
 //!
 //! - `again` over `passes`, `lent`, `stop`: the engine: a link over names and matches that are given, and an earlier
 //!   link;
-//! - `link_state`: what is kept of a link; `stays`: which input sections stayed where it has them, as `emit_relocate`
-//! asks
-//!   it; `first` over `same` and `names`: the first row that differs; `marks`: objects with a symbol of another value;
+//! - `link_state`: what is kept of a link; `stays`: which input sections stayed where it has them, as
+//!   `emit_relocate` asks it; `first` over `same` and `names`: the first row that differs; `marks`: objects with a
+//!   symbol of another value;
 //! - `retouch` over `outline`, `spots`: a link that differs from the earlier one in what the input sections of one
 //!   object hold;
 //! - `symbol_values`, `standing`: what symbols are worth, and where a section stands in memory and in the file;

@@ -61,6 +61,7 @@ impl KeyedObjects {
         at: usize,
         object: Object,
     ) -> Result<StagedObjects, NoMemory>
+        requires named { 0 < length name.now }
         requires place { at ≤ length self.old.entries }
         requires unused { place_of (objects_of self.old.entries) name.now ≡ None }
         ensures same { SameButRoom self.old self.new }
@@ -91,7 +92,8 @@ impl KeyedObjects {
         at: usize,
         object: Object,
     ) -> Result<StagedObjects, NoMemory>
-        requires { place_of (objects_of self.now.entries) name.now ≡ Some at }
+        requires named { 0 < length name.now }
+        requires place { place_of (objects_of self.now.entries) name.now ≡ Some at }
         ensures staged { IfOk result (λ s.
             IsStaged self.now s (slice_set (objects_of self.now.entries) at
             (record { name = name.now; object = object }))) }

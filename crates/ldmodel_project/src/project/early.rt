@@ -45,6 +45,7 @@ impl Project {
         ensures ok { IfOk result (λ place. early_refusal (held self.now) (Add name.now at bytes.now) ≡ None) }
         ensures place { IfOk result (λ place. (place ≡ at) × (place ≤ length self.now.contents.entries)) }
         ensures unused { IfOk result (λ place. place_of (objects_of self.now.contents.entries) name.now ≡ None) }
+        ensures named { IfOk result (λ _. 0 < length name.now) }
         ensures err { IfErr result (λ r. early_refusal (held self.now) (Add name.now at bytes.now)
             ≡ Some (refusal_of r)) }
     {
@@ -65,6 +66,7 @@ impl Project {
     pub(crate) fn place_to_replace(&self, name: &[u8], bytes: &[u8]) -> Result<usize, EditRefusal>
         ensures ok { IfOk result (λ place. early_refusal (held self.now) (Replace name.now bytes.now) ≡ None) }
         ensures place { IfOk result (λ place. place_of (objects_of self.now.contents.entries) name.now ≡ Some place) }
+        ensures named { IfOk result (λ _. 0 < length name.now) }
         ensures err { IfErr result (λ r. early_refusal (held self.now) (Replace name.now bytes.now)
             ≡ Some (refusal_of r)) }
     {

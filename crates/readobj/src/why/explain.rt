@@ -20,7 +20,7 @@ use elfobj::{ObjectRefusal, Relocation};
 use std::alloc::{AllocError, Global};
 
 /// What a refusal is about.
-#[derive(Clone, Copy, Debug)]
+#[derive(Clone, Copy)]
 pub enum Place {
     /// The ELF header.
     Header,
@@ -33,7 +33,7 @@ pub enum Place {
 }
 
 /// Where a file is refused, and why.
-#[derive(Clone, Copy, Debug)]
+#[derive(Clone, Copy)]
 pub struct Explanation {
     /// What is wrong.
     pub place: Place,

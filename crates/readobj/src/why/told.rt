@@ -10,7 +10,7 @@ use elfobj::section::SectionKind;
 use std::fmt;
 
 /// What stands at the place of a refusal.
-#[derive(Clone, Copy, Debug)]
+#[derive(Clone, Copy)]
 enum Detail {
     /// Nothing more is said.
     Nothing,
@@ -82,7 +82,7 @@ impl fmt::Display for Detail {
 }
 
 /// Where a file is refused and why, with names, and what to do.
-#[derive(Clone, Copy, Debug)]
+#[derive(Clone, Copy)]
 pub struct Told<'a> {
     explanation: Explanation,
     /// The name of the section or the symbol.

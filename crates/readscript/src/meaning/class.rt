@@ -6,7 +6,7 @@ use ldscript::terms::operator::BinaryOperator;
 use std::collections::BTreeMap;
 
 /// What GNU ld takes a value for.
-#[derive(Clone, Copy, Debug, PartialEq, Eq)]
+#[derive(Clone, Copy, PartialEq, Eq)]
 pub enum Class {
     /// An address: a place of a section.
     Address,

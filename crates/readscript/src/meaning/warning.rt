@@ -3,7 +3,7 @@
 use std::fmt;
 
 /// What is said of a statement.
-#[derive(Clone, Copy, Debug, PartialEq, Eq)]
+#[derive(Clone, Copy, PartialEq, Eq)]
 pub enum Caution<'a> {
     /// `. = e` in an output section, where `e` is an address.
     DotToAddress,
@@ -24,7 +24,7 @@ pub enum Caution<'a> {
 }
 
 /// What is said of the statement on a line.
-#[derive(Clone, Copy, Debug)]
+#[derive(Clone, Copy)]
 pub struct Warning<'a> {
     /// The line.
     pub line: u32,

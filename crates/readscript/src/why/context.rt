@@ -5,7 +5,7 @@ use ldscript::tokens::token::{Mark, TokenKind};
 use ldscript::tokens::words::is_reserved;
 
 /// What a block outside of all others is.
-#[derive(Clone, Copy, Debug, PartialEq, Eq)]
+#[derive(Clone, Copy, PartialEq, Eq)]
 enum Block {
     /// `MEMORY`.
     Memory,

@@ -13,7 +13,7 @@ use std::alloc::Global;
 const QUERIES: [&[u8]; 5] = [b"ORIGIN", b"LENGTH", b"ADDR", b"LOADADDR", b"SIZEOF"];
 
 /// What is open around a place in an expression.
-#[derive(Clone, Copy, Debug)]
+#[derive(Clone, Copy)]
 enum Open {
     /// `(`
     Parenthesis,

@@ -4,7 +4,7 @@ use crate::why::reason::Explanation;
 use std::fmt;
 
 /// The tables of docs/scripts.md that say what to write in place of what GNU ld takes.
-#[derive(Clone, Copy, Debug, PartialEq, Eq)]
+#[derive(Clone, Copy, PartialEq, Eq)]
 pub enum Table {
     /// Statements outside of `SECTIONS`.
     Commands,
@@ -37,7 +37,7 @@ impl fmt::Display for Table {
 }
 
 /// What GNU ld takes and the profile does not have.
-#[derive(Clone, Copy, Debug, PartialEq, Eq)]
+#[derive(Clone, Copy, PartialEq, Eq)]
 pub enum Foreign<'a> {
     /// A word, or a mark.
     Word(&'a str),
@@ -61,7 +61,7 @@ impl<'a> fmt::Display for Foreign<'a> {
 }
 
 /// What is said of a place.
-#[derive(Clone, Copy, Debug, PartialEq, Eq)]
+#[derive(Clone, Copy, PartialEq, Eq)]
 pub enum Finding<'a> {
     /// GNU ld has this, on this line, and the profile does not; a table says what to write.
     OutsideProfile(u32, Foreign<'a>, Table),

@@ -12,7 +12,7 @@ use std::alloc::{AllocError, Global};
 const STRETCH_WORDS: [&str; 4] = ["PROVIDE_HIDDEN", "HIDDEN", "SQUAD", "FILL"];
 
 /// What a piece is.
-#[derive(Clone, Copy, Debug, PartialEq, Eq)]
+#[derive(Clone, Copy, PartialEq, Eq)]
 pub enum PieceKind {
     /// Nothing: the text ends, or begins.
     Edge,
@@ -23,7 +23,7 @@ pub enum PieceKind {
 }
 
 /// A piece of a text.
-#[derive(Clone, Copy, Debug)]
+#[derive(Clone, Copy)]
 pub struct Piece<'a> {
     /// What it is.
     pub kind: PieceKind,

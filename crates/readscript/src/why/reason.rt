@@ -3,7 +3,7 @@
 use std::fmt;
 
 /// Where a text is refused, and why.
-#[derive(Clone, Copy, Debug, PartialEq, Eq)]
+#[derive(Clone, Copy, PartialEq, Eq)]
 pub struct Explanation {
     /// The line, from 1; `None` says that the whole of the text is meant.
     pub line: Option<u32>,
@@ -57,7 +57,7 @@ impl fmt::Display for Explanation {
 }
 
 /// Why the walk over a script's tokens stops.
-#[derive(Clone, Copy, Debug)]
+#[derive(Clone, Copy)]
 pub enum Stop {
     /// The grammar does not go on so.
     Wrong(Explanation),

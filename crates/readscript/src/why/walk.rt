@@ -20,7 +20,7 @@ fn is_spelled_as_name(word: &[u8]) -> bool {
 }
 
 /// What a script does with a name.
-#[derive(Clone, Copy, Debug, PartialEq, Eq)]
+#[derive(Clone, Copy, PartialEq, Eq)]
 pub enum Use {
     /// Gives it by `ENTRY`, `MEMORY` or `SECTIONS`.
     Command,
@@ -35,7 +35,7 @@ pub enum Use {
 }
 
 /// A name in the script, what is done with it, and the line.
-#[derive(Clone, Copy, Debug)]
+#[derive(Clone, Copy)]
 pub struct Note<'a> {
     /// What is done.
     pub what: Use,
@@ -46,7 +46,7 @@ pub struct Note<'a> {
 }
 
 /// Where a statement stops being one of the grammar.
-#[derive(Clone, Copy, Debug)]
+#[derive(Clone, Copy)]
 pub struct Stopped {
     /// The line on which the statement begins.
     pub from: u32,

@@ -16,7 +16,7 @@ returns-clause-staged c =
     let places : Places = record { before = Some c.args.at; after = Some c.args.at } in
     let named : c.in_ok-named.named ≡ o = c.in_ok-named.ensures in
     let place = subst (λ (k : Contents). place_of (objects_of k.entries) c.args.name.now
-    ≡ Some c.args.at) (sym c.self.view_is) c.requires in
+    ≡ Some c.args.at) (sym c.self.view_is) c.requires.place in
     let within : c.args.at < length c.self.inside.order.items =
     place_within c.self.inside.objects c.self.inside.order.items c.args.name.now c.args.at place in
     let key : get_or c.self.inside.order.items c.args.at 0 ≡ c.index-key.result.now =

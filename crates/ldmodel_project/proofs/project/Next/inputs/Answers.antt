@@ -1,6 +1,5 @@
-use Rattle.std.proofs.Common.{◌≡◌, ◌∙◌, ◌∷◌, [], ◌++◌, ℕ, List, ap, sym, take}
+use Rattle.std.proofs.Common.{◌∙◌, ◌∷◌, [], ◌++◌, List, ap, sym, take}
 use Rattle.std.proofs.lemmas.List.{map-append}
-use Rattle.elfobj.specs.Object.{ObjectData}
 use Rattle.ldmodel.specs.Project.{NamedObject}
 use Rattle.ldmodel_project.specs.Inputs.{shown_input, shown_inputs}
 use Rattle.ldmodel_project.specs.Listing.{objects_of}
@@ -10,13 +9,10 @@ use Rattle.ldmodel_project.proofs.project.Next.inputs.Goals as goal
 
 pub loop-at-preserved : goal.loop-at-preserved
 loop-at-preserved c =
-    let input : InputObject = record { name = c.name.result; object = c.object.result } in
+    let input : InputObject = c.input.result in
     let o : NamedObject = c.entry.result.1.now in
-    let shown : shown_input input ≡ o =
-    ap (λ (n : List ℕ). let x : NamedObject = record { name = n; object = c.object.result.now } in x) c.name.ensures
-    ∙ ap (λ (d : ObjectData). let x : NamedObject = record { name = o.name; object = d } in x) c.object.ensures in
     ap shown_inputs c.in_ok-push.ensures.items
     ∙ (map-append shown_input c.loop-at.inputs.items (input ∷ [])
     ∙ (ap (λ (xs : List NamedObject). xs ++ shown_input input ∷ []) c.loop-at.invariant
-    ∙ (ap (λ (x : NamedObject). take c.loop-at.at (objects_of c.args.self.now.entries) ++ x ∷ []) shown
+    ∙ (ap (λ (x : NamedObject). take c.loop-at.at (objects_of c.args.self.now.entries) ++ x ∷ []) c.input.ensures
     ∙ sym (take_entry c.args.self.now.entries c.loop-at.at c.entry.result.0.0 o c.entry.ensures))))
