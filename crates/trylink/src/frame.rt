@@ -42,18 +42,25 @@ pub struct Frame<'a> {
     repeats: usize,
 }
 
+/// The words that a frame's line begins with, and what they ask.
+const KINDS: [(&str, Kind); 7] = [
+    ("stream", Kind::Answers),
+    ("list", Kind::Sum),
+    ("counts", Kind::Counts),
+    ("devices", Kind::Devices),
+    ("steps", Kind::Steps),
+    ("files", Kind::Files),
+    ("surface", Kind::Surface),
+];
+
 /// What the first word of a frame's line asks.
 fn kind_of(word: &str) -> Option<Kind> {
-    match word.as_bytes() {
-        b"stream" => Some(Kind::Answers),
-        b"list" => Some(Kind::Sum),
-        b"counts" => Some(Kind::Counts),
-        b"devices" => Some(Kind::Devices),
-        b"steps" => Some(Kind::Steps),
-        b"files" => Some(Kind::Files),
-        b"surface" => Some(Kind::Surface),
-        _ => None,
+    for (name, kind) in KINDS {
+        if name == word {
+            return Some(kind);
+        }
     }
+    None
 }
 
 /// The number of bytes, and how often the last of them stands once more.
@@ -97,14 +104,13 @@ impl Frame<'_> {
 
     /// All words of the command line.
     fn command_line(&self, alloc: Global) -> Result<Vec<String>, AllocError> {
+        let line = match self.words {
+            Some(words) => format!(in alloc; "ldi session {words}")?,
+            None => String::from_str(alloc, "ldi session")?,
+        };
         let mut args = Vec::new(alloc);
-        for word in ["ldi", "session"] {
+        for word in line.as_str().split(' ') {
             args.push(String::from_str(alloc, word)?)?;
-        }
-        if let Some(words) = self.words {
-            for word in words.split(' ') {
-                args.push(String::from_str(alloc, word)?)?;
-            }
         }
         Ok(args)
     }
