@@ -10,21 +10,17 @@ use Rattle.std.proofs.lemmas.List.{map-append}
 use Rattle.std.proofs.lemmas.Option.{get_or_from_slice_get, slice_get_within}
 use Rattle.elfobj.specs.Object.{ObjectData}
 use Rattle.elfobj.specs.Sections.{LinkedSection}
-use Rattle.elfobj.specs.declared.section.SectionIndex.{SectionIndex}
 use Rattle.emit_fields.specs.declared.patch.Patch.{Patch}
-use Rattle.ldmodel.specs.Counts.{Counts}
 use Rattle.ldmodel.specs.Project.{NamedObject}
 use Rattle.ldmodel.specs.Relocations.{Site}
 use Rattle.ldmodel.specs.Stayed.{GoodLink}
-use Rattle.ldmodel.specs.declared.fault.Fault as code
 use Rattle.ldmodel.specs.declared.names.ObjectPlace.{ObjectPlace}
-use Rattle.ldmodel.specs.declared.sections.Part.TheVariants.{InTable}
 use Rattle.ldmodel.specs.declared.sections.SectionKey.{SectionKey}
-use Rattle.emit_relocate.specs.Changes.{AreChanged, Evaluated, IsEvaluatedAt, IsEvaluatedOf, IsMoved, IsSectionAdded}
+use Rattle.emit_relocate.specs.Changes.{Adds, AreChanged, Evaluated, IsEvaluatedAt, IsEvaluatedOf, IsMoved, IsRetained}
 use Rattle.emit_relocate.specs.Changes.{Results, file_patch_at, own_sites, section_key}
 use Rattle.emit_relocate.specs.Earlier.{HasStayedAt, IsKept, has_moved}
 use Rattle.emit_relocate.specs.Fields.{IsCounted, faults_of}
-use Rattle.emit_relocate.specs.Filled.{IsOrder, IsRunAdded, ObjectSection, ends_of, sections_in, sections_of}
+use Rattle.emit_relocate.specs.Filled.{IsOrder, ObjectSection, ends_of, sections_in, sections_of}
 use Rattle.emit_relocate.specs.KnownLink.{KnownLink, named_object}
 use Rattle.emit_relocate.specs.declared.earlier.FileRange.{FileRange}
 use Rattle.emit_relocate.proofs.Added.{counted_more, raise_none}
@@ -44,75 +40,56 @@ pub flat_runs : (cs : List Evaluated) → flat_map (λ run. run) (map run_of cs)
 flat_runs [] = refl
 flat_runs (c ∷ cs) = ap (λ r. c.run ++ r) (flat_runs cs)
 
--- a section of an object that is known to have stayed
-pub kept_by : (range : SectionKey → Option FileRange) (key : ObjectPlace) (number : SectionIndex) (r : FileRange)
-    → Some r ≡ range (record { object = key; part = InTable number }) → IsKept range key
-kept_by range key number r e = (InTable number, ap is_some (sym e))
+-- a section that is known to have stayed is one of its object
+pub kept_by : (range : SectionKey → Option FileRange) (key : SectionKey) (r : FileRange) → Some r ≡ range key
+    → IsKept range key.object
+kept_by range key r e = (key.part, ap is_some (sym e))
 
 module _ (old : GoodLink) (l : KnownLink) (range : SectionKey → Option FileRange) where
-  module _ (key : ObjectPlace) (o : NamedObject) (x : LinkedSection) (number : SectionIndex)
-      (named : named_object l key ≡ Some o) (is : number ≡ x.number) where
-    abbrev own : ObjectSection
-    own = record { object = o; section = x }
+  -- those sites of a section that stayed were evaluated whose symbol has another value
+  pub retained : (s : ObjectSection) (key : SectionKey) (r : FileRange) (a b : Results) → HasStayedAt old l key r
+      → b.fields ≡ a.fields → b.ends ≡ a.ends
+      → IsMoved old l r (own_sites l s) a.patches b.patches a.faults b.faults a.counts b.counts
+      → Adds l (IsRetained old l key r s) a b
+  retained s key r a b stays fields ends h =
+      let ts : List Site = filter (has_moved old l) (own_sites l s) in
+      record {
+        evaluated = record { run = []; patches = filter_map (file_patch_at l r) ts; sites = ts };
+        is_done = record { stayed = λ t d. stays; run = refl; patches = refl; sites = refl };
+        fields = fields ∙ sym (append-nil a.fields);
+        ends = ends;
+        patches = h.patches;
+        counts = h.counts;
+      }
 
-    key_is : record { object = key; part = InTable number } ≡ section_key key own
-    key_is = ap (λ n. record { object = key; part = InTable n }) is
-
-    pub renewed : (f0 f1 : List Patch) (g0 g1 : List code.Fault) (m0 m1 : Counts)
-        → None ≡ range (record { object = key; part = InTable number })
-        → IsRunAdded l (record { object = o; section = x }) f0 f1 g0 g1 m0 m1 → (ps : List Patch)
-        → IsSectionAdded old l range (record { object = o; section = x }) f0 f1 ps ps g0 g1 m0 m1
-    renewed f0 f1 g0 g1 m0 m1 e h ps =
-        let c : Evaluated = record { run = h.run; patches = []; sites = own_sites l own } in
-        record {
-          evaluated = c;
-          is_evaluated = record {
-            key = key;
-            named = named;
-            outcome = subst (λ a. IsEvaluatedAt old l (section_key key own) a own c) (e ∙ ap range key_is)
-                (record { run = h.is_run; patches = refl; sites = refl });
-          };
-          fields = h.fields;
-          patches = sym (append-nil ps);
-          counts = h.counts;
-        }
-
-    pub retained : (r : FileRange) (p0 p1 : List Patch) (g0 g1 : List code.Fault) (m0 m1 : Counts)
-        → Some r ≡ range (record { object = key; part = InTable number })
-        → HasStayedAt old l (record { object = key; part = InTable number }) r
-        → IsMoved old l r (own_sites l (record { object = o; section = x })) p0 p1 g0 g1 m0 m1 → (fs : List Patch)
-        → IsSectionAdded old l range (record { object = o; section = x }) fs fs p0 p1 g0 g1 m0 m1
-    retained r p0 p1 g0 g1 m0 m1 e stays h fs =
-        let ts : List Site = filter (has_moved old l) (own_sites l own) in
-        let c : Evaluated = record { run = []; patches = filter_map (file_patch_at l r) ts; sites = ts } in
-        record {
-          evaluated = c;
-          is_evaluated = record {
-            key = key;
-            named = named;
-            outcome = subst (λ a. IsEvaluatedAt old l (section_key key own) a own c) (e ∙ ap range key_is)
-                (record {
-                  stayed = λ t d. subst (λ k. HasStayedAt old l k r) key_is stays;
-                  run = refl;
-                  patches = refl;
-                  sites = refl;
-                });
-          };
-          fields = sym (append-nil fs);
-          patches = h.patches;
-          counts = h.counts;
-        }
+  -- by what is known of the section
+  pub known_as : (s : ObjectSection) (key : ObjectPlace) → named_object l key ≡ Some s.object
+      → (r : Option FileRange) → r ≡ range (section_key key s) → (a b : Results)
+      → Adds l (λ c. IsEvaluatedAt old l (section_key key s) r s c) a b → Adds l (IsEvaluatedOf old l range s) a b
+  known_as s key named r e a b h = record {
+    evaluated = h.evaluated;
+    is_done = record {
+      key = key;
+      named = named;
+      outcome = subst (λ q. IsEvaluatedAt old l (section_key key s) q s h.evaluated) e h.is_done;
+    };
+    fields = h.fields;
+    ends = h.ends;
+    patches = h.patches;
+    counts = h.counts;
+  }
 
   -- lists of input sections
 
-  pub changed_one : (s : ObjectSection) (a b : Results)
-      → IsSectionAdded old l range s a.fields b.fields a.patches b.patches a.faults b.faults a.counts b.counts
-      → (n : ℕ) → n ≡ length b.fields → b.ends ≡ a.ends ++ n ∷ [] → AreChanged old l range (s ∷ []) a b
-  changed_one s a b h n many e = record {
+  -- what was evaluated of a section was added, and then the end of its fields
+  pub changed_one : (s : ObjectSection) (a b : Results) → Adds l (IsEvaluatedOf old l range s) a b
+      → (ends : List ℕ) (n : ℕ) → n ≡ length b.fields → ends ≡ b.ends ++ n ∷ []
+      → AreChanged old l range (s ∷ []) a (record b { ends = ends })
+  changed_one s a b h ends n many e = record {
     sections = h.evaluated ∷ [];
-    each = (h.is_evaluated, tt);
+    each = (h.is_done, tt);
     fields = h.fields ∙ ap (λ r. a.fields ++ r) (sym (append-nil h.evaluated.run));
-    ends = e
+    ends = e ∙ ap (λ r. r ++ n ∷ []) h.ends
         ∙ ap (λ k. a.ends ++ k ∷ []) (many ∙ ap length h.fields ∙ length-append a.fields h.evaluated.run);
     patches = h.patches ∙ ap (λ r. a.patches ++ r) (sym (append-nil h.evaluated.patches));
     counts = subst (λ ts. IsCounted l ts a.faults b.faults a.counts b.counts) (sym (append-nil h.evaluated.sites))

@@ -1,6 +1,6 @@
 -- A section by its number among those of its object.
 use Rattle.std.proofs.Common.{◌≡◌, ◌<◌, ◌≤◌, ◌^◌, ℕ, ◌+◌, zero, suc, List, [], ◌∷◌, length, map, find, get_or, Option}
-use Rattle.std.proofs.Common.{Some, None, refl, ap, sym, ◌∙◌, arith, nat_eq}
+use Rattle.std.proofs.Common.{Some, None, refl, ap, sym, ◌∙◌, arith, nat_eq, subst}
 use Rattle.std.specs.Prelude.{slice_get}
 use Rattle.std.specs.List.{All, AllPairs}
 use Rattle.std.specs.Option.{option_map}
@@ -14,11 +14,12 @@ use Rattle.elfobj.specs.Sections.{LinkedSection, section_of}
 use Rattle.elfobj.specs.declared.relocation.Relocation.{Relocation}
 use Rattle.elfobj.specs.declared.section.Section.{Section}
 use Rattle.ldmodel.specs.Image.{section_numbered}
-use Rattle.ldmodel.specs.Project.{NamedObject}
-use Rattle.ldmodel.specs.declared.names.ObjectPlace.{ObjectPlace}
-use Rattle.emit_relocate.specs.KnownLink.{KnownLink, named_object}
+use Rattle.emit_relocate.specs.Filled.{ObjectSection}
+use Rattle.emit_relocate.specs.KnownLink.{KnownLink}
+use Rattle.emit_relocate.specs.Links.{IsAtHand}
 use Rattle.emit_relocate.specs.Sites.{IsPlaced, IsSectionOf}
 use Rattle.emit_relocate.specs.SymbolValues.{IsRow}
+use Rattle.emit_relocate.specs.declared.input_section.InputSection.{InputSection}
 use Rattle.emit_relocate.specs.declared.site.PlacedSection.{PlacedSection}
 
 abbrev Ascend : List LinkedSection → Type 0
@@ -49,6 +50,11 @@ pub there : (xs : List LinkedSection) (i : ℕ) → i < length xs → slice_get 
 there [] i low e = absurd (omega (arith, low))
 there (x ∷ xs) zero low e = cc
 there (x ∷ xs) (suc i) low e = there xs i (omega (arith, low)) e
+
+pub some_at : (xs : List LinkedSection) (i : ℕ) → i < length xs → (x : LinkedSection) × (slice_get xs i ≡ Some x)
+some_at [] i low = absurd (omega (arith, low))
+some_at (x ∷ xs) zero low = (x, refl)
+some_at (x ∷ xs) (suc i) low = some_at xs i (omega (arith, low))
 
 module _ (xs : List LinkedSection) (i : ℕ) (d : Section) (ss : List Section) (are : ss
     ≡ map section_of xs) (x : LinkedSection) (is : slice_get xs i ≡ Some x) where
@@ -95,20 +101,27 @@ module _ (xs : List LinkedSection) (i : ℕ) (d : Section) (ss : List Section) (
   pub below : i < length xs → All (λ r. start + r.offset < 2 ^ 64) rs
   below low = below_at (slice_get xs i) refl low
 
--- a section of an object of the link
-pub placed_of : (l : KnownLink) (key : ObjectPlace) (read : ObjectData) (m : PlacedSection) (o : NamedObject)
-    (x : LinkedSection) → named_object l key ≡ Some o → o.object ≡ read → IsSectionOf read x key m
-    → IsRow l o m.values.now → IsPlaced l m o x
-placed_of l key read m o x named same h row = record {
-  object_is = rw h.key_is named;
-  section_is = rw same h.number_is;
-  symbols_are = rw same h.symbols_are;
-  values_are = row;
-  relocations_are = h.relocations_are;
-}
+-- the section at hand
+module _ (l : KnownLink) (m : InputSection) (s : ObjectSection) (h : IsAtHand l m s) where
+  pub there_of : slice_get m.object.now.sections m.index.0 ≡ Some s.section
+  there_of = ap (λ (r : ObjectData). slice_get r.sections m.index.0) (sym h.read_is) ∙ h.section_is
 
-pub numbered_as : (o : NamedObject) (read : ObjectData) (i : ℕ) (ss : List Section) (x : LinkedSection) → o.object
-    ≡ read → ss ≡ map section_of read.sections
-    → AllPairs (λ (s : Section) (t : Section). s.number.0 < t.number.0) ss → slice_get o.object.sections i ≡ Some x
-    → section_numbered o x.number ≡ Some x
-numbered_as o read i ss x same are pairs is = found o.object.sections i x (rw (are, ← same) at pairs) is
+  -- where it was placed
+  pub placed_of : (p : PlacedSection) → p.values.now ≡ m.values.now → IsSectionOf m.object.now s.section m.key p
+      → IsPlaced l p s.object s.section
+  placed_of p values is = record {
+    object_is = rw is.key_is h.object_is;
+    section_is = rw h.read_is is.number_is;
+    symbols_are = rw h.read_is is.symbols_are;
+    values_are = subst (IsRow l s.object) (sym values) h.values_are;
+    relocations_are = is.relocations_are;
+  }
+
+  module _ (d : Section) (ss : List Section) (are : ss ≡ map section_of m.object.now.sections) where
+    pub header_of : get_or ss m.index.0 d ≡ section_of s.section
+    header_of = at_index m.object.now.sections m.index.0 d ss are s.section there_of
+
+    pub numbered_as : AllPairs (λ (a : Section) (b : Section). a.number.0 < b.number.0) ss
+        → section_numbered s.object s.section.number ≡ Some s.section
+    numbered_as pairs =
+        found s.object.object.sections m.index.0 s.section (rw (are, ← h.read_is) at pairs) h.section_is

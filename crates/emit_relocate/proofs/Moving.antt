@@ -9,7 +9,6 @@ use Rattle.std.proofs.lemmas.Bool.{eq-eqb}
 use Rattle.std.proofs.lemmas.List.Elements.{filter-append, filter_map-append}
 use Rattle.elfobj.specs.Sections.{LinkedSection}
 use Rattle.elfobj.specs.declared.relocation.Relocation.{Relocation}
-use Rattle.elfobj.specs.declared.section.SectionIndex.{SectionIndex}
 use Rattle.emit_fields.specs.declared.patch.Patch.{Patch}
 use Rattle.ldmodel.specs.Counts.{Counts}
 use Rattle.ldmodel.specs.Layout.{PlacedPiece}
@@ -23,10 +22,12 @@ use Rattle.ldmodel.specs.declared.sections.Part.TheVariants.{InTable}
 use Rattle.emit_relocate.specs.Changes.{IsFiled, IsMoved, file_patch_at, own_sites}
 use Rattle.emit_relocate.specs.Earlier.{HasSameValues, has_moved, is_same_value}
 use Rattle.emit_relocate.specs.Fields.{IsCounted, sites_among}
-use Rattle.emit_relocate.specs.KnownLink.{KnownLink, named_object, start_of}
+use Rattle.emit_relocate.specs.Filled.{ObjectSection}
+use Rattle.emit_relocate.specs.KnownLink.{KnownLink, named_object}
+use Rattle.emit_relocate.specs.Links.{IsPlaceOf, IsPlacedAt, sites_at_hand}
 use Rattle.emit_relocate.specs.declared.earlier.FileRange.{FileRange}
+use Rattle.emit_relocate.specs.declared.site.PlacedSection.{PlacedSection}
 use Rattle.emit_relocate.proofs.Added.{among_more, counted_more, tried_nothing}
-use Rattle.emit_relocate.proofs.Filling.{none_in, start_in, start_is}
 
 -- a value is the same as itself
 same_self : (v : SymbolValue) → is_same_value v v ≡ true
@@ -116,58 +117,46 @@ module _ (old : GoodLink) (l : KnownLink) where
           subst (λ ys. IsMoved old l r (sites_among o x start ys) p0 p1 g0 g1 m0 m1) (ap (λ n. take n rs) e
           ∙ take-length rs) h
 
-  -- an object whose symbols are all worth what they were
-  module _ (key : ObjectPlace) (o : NamedObject) (named : named_object l key ≡ Some o) (same : HasSameValues old l key)
-    where
-      none_of : (x : LinkedSection) (start : ℕ) (rs : List Relocation)
-          → filter (has_moved old l) (map (λ a. record { object = o; section = x; start = start; relocation = a }) rs)
-          ≡ []
-      none_of x start [] = refl
-      none_of x start (a ∷ rs) =
-          let t : Site = record { object = o; section = x; start = start; relocation = a } in
-          let e : has_moved old l t ≡ false = unmoved t (same t named) in
-          rw e (none_of x start rs)
+  -- a section of an object whose symbols are all worth what they were
+  module _ (s : ObjectSection) (key : ObjectPlace) (named : named_object l key ≡ Some s.object)
+      (same : HasSameValues old l key) where
+    none_of : (start : ℕ) (rs : List Relocation)
+        → filter (has_moved old l)
+        (map (λ a. record { object = s.object; section = s.section; start = start; relocation = a }) rs)
+        ≡ []
+    none_of start [] = refl
+    none_of start (a ∷ rs) =
+        let t : Site = record { object = s.object; section = s.section; start = start; relocation = a } in
+        let e : has_moved old l t ≡ false = unmoved t (same t named) in
+        rw e (none_of start rs)
 
-      none_at : (x : LinkedSection) (a : Option PlacedPiece)
-          → filter (has_moved old l) (option_map_or (λ (y : PlacedPiece). sites_at o x y.start) a []) ≡ []
-      none_at x None = refl
-      none_at x (Some y) = none_of x y.start (filter (λ (r : Relocation). is_evaluated r.kind) x.relocations)
+    none_at : (a : Option PlacedPiece)
+        → filter (has_moved old l) (option_map_or (λ (y : PlacedPiece). sites_at s.object s.section y.start) a []) ≡ []
+    none_at None = refl
+    none_at (Some y) = none_of y.start (filter (λ (r : Relocation). is_evaluated r.kind) s.section.relocations)
 
-      pub moved_in_none : (r : FileRange) (x : LinkedSection) (ps : List Patch) (gs : List code.Fault) (m : Counts)
-          → m.fields < 2 ^ 64 → IsMoved old l r (own_sites l (record { object = o; section = x })) ps ps gs gs m m
-      moved_in_none r x ps gs m h =
-          let none = moved_nothing r ps gs m h in
-          moved_by r (own_sites l (record { object = o; section = x })) [] ps ps gs gs m m
-          (none_at x (placed_part l.layout o.name (InTable x.number))) none.patches none.counts
+    pub moved_in_none : (r : FileRange) (ps : List Patch) (gs : List code.Fault) (m : Counts) → m.fields < 2 ^ 64
+        → IsMoved old l r (own_sites l s) ps ps gs gs m m
+    moved_in_none r ps gs m h =
+        let none = moved_nothing r ps gs m h in
+        moved_by r (own_sites l s) [] ps ps gs gs m m
+        (none_at (placed_part l.layout s.object.name (InTable s.section.number))) none.patches none.counts
 
   -- a section by where it starts, if it is in the output
-  module _ (r : FileRange) (key : ObjectPlace) (o : NamedObject) (x : LinkedSection) (number : SectionIndex)
-      (named : named_object l key ≡ Some o) (is : number ≡ x.number) where
-    abbrev placed : Option PlacedPiece
-    placed = placed_part l.layout o.name (InTable x.number)
-
+  module _ (r : FileRange) (s : ObjectSection) where
     abbrev sites_in : Option PlacedPiece → List Site
-    sites_in a = option_map_or (λ (y : PlacedPiece). sites_at o x y.start) a []
+    sites_in a = option_map_or (λ (y : PlacedPiece). sites_at s.object s.section y.start) a []
 
-    pub moved_unplaced : None ≡ start_of l (record { object = key; part = InTable number })
-        → (ps : List Patch) (gs : List code.Fault) (m : Counts) → m.fields < 2 ^ 64
-        → IsMoved old l r (own_sites l (record { object = o; section = x })) ps ps gs gs m m
-    moved_unplaced e ps gs m h =
-        let gone : placed ≡ None = none_in placed (e ∙ start_is l key o x number named is) in
+    pub moved_unplaced : IsPlaceOf l s None → (ps : List Patch) (gs : List code.Fault) (m : Counts)
+        → m.fields < 2 ^ 64 → IsMoved old l r (own_sites l s) ps ps gs gs m m
+    moved_unplaced gone ps gs m h =
         subst (λ a. IsMoved old l r (sites_in a) ps ps gs gs m m) (sym gone) (moved_nothing r ps gs m h)
 
-    module _ (start : ℕ) (p0 p1 : List Patch) (g0 g1 : List code.Fault) (m0 m1 : Counts) where
-      moved_at : (a : Option PlacedPiece) → placed ≡ a → Some start ≡ start_in a
-          → ((y : PlacedPiece) → placed ≡ Some y → y.start ≡ start
-          → IsMoved old l r (sites_at o x start) p0 p1 g0 g1 m0 m1)
-          → IsMoved old l r (sites_in a) p0 p1 g0 g1 m0 m1
-      moved_at None p e k = cc
-      moved_at (Some y) p e k =
-          let same : start ≡ y.start = cc in
-          subst (λ n. IsMoved old l r (sites_at o x n) p0 p1 g0 g1 m0 m1) same (k y p (sym same))
-
-      pub moved_placed : Some start ≡ start_of l (record { object = key; part = InTable number })
-          → ((y : PlacedPiece) → placed_part l.layout o.name (InTable x.number) ≡ Some y → y.start ≡ start
-          → IsMoved old l r (sites_at o x start) p0 p1 g0 g1 m0 m1)
-          → IsMoved old l r (own_sites l (record { object = o; section = x })) p0 p1 g0 g1 m0 m1
-      moved_placed e k = moved_at placed refl (e ∙ start_is l key o x number named is) k
+    pub moved_placed : (m : PlacedSection) → IsPlacedAt l s m
+        → (p0 p1 : List Patch) (g0 g1 : List code.Fault) (m0 m1 : Counts)
+        → IsMoved old l r (sites_at_hand m s m.relocations.now) p0 p1 g0 g1 m0 m1
+        → IsMoved old l r (own_sites l s) p0 p1 g0 g1 m0 m1
+    moved_placed m p p0 p1 g0 g1 m0 m1 h =
+        subst (λ a. IsMoved old l r (sites_in a) p0 p1 g0 g1 m0 m1) (sym p.piece_is)
+        (subst (λ n. IsMoved old l r (sites_at s.object s.section n) p0 p1 g0 g1 m0 m1) p.start_is
+        (subst (λ rs. IsMoved old l r (sites_at_hand m s rs) p0 p1 g0 g1 m0 m1) p.section_is.relocations_are h))

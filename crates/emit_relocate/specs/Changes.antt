@@ -80,16 +80,6 @@ pub record IsEvaluatedOf (old : GoodLink) (l : KnownLink) (range : SectionKey �
   pub named : named_object l key ≡ Some s.object
   pub outcome : IsEvaluatedAt old l (section_key key s) (range (section_key key s)) s c
 
--- what was evaluated of an input section was added
-pub record IsSectionAdded (old : GoodLink) (l : KnownLink) (range : SectionKey → Option FileRange) (s : ObjectSection)
-    (old_fields new_fields old_patches new_patches : List Patch) (old_faults new_faults : List code.Fault)
-    (before after : Counts) : Type 0 where
-  pub evaluated : Evaluated
-  pub is_evaluated : IsEvaluatedOf old l range s evaluated
-  pub fields : new_fields ≡ old_fields ++ evaluated.run
-  pub patches : new_patches ≡ old_patches ++ evaluated.patches
-  pub counts : IsCounted l evaluated.sites old_faults new_faults before after
-
 -- what has been evaluated so far: fields, the places where those of each input section end, patches in the file,
 -- faults, and the counts of work
 pub record Results : Type 0 where
@@ -110,6 +100,19 @@ results_of f counts = record {
 
 abbrev pub no_results : Counts → Results
 no_results counts = record { fields = []; ends = []; patches = []; faults = []; counts = counts }
+
+-- something of which this is true was evaluated of an input section, and was added
+pub record Adds (l : KnownLink) (IsDone : Evaluated → Type 0) (before after : Results) : Type 0 where
+  -- what was evaluated
+  pub evaluated : Evaluated
+  pub is_done : IsDone evaluated
+  -- its fields were added, and no end of them
+  pub fields : after.fields ≡ before.fields ++ evaluated.run
+  pub ends : after.ends ≡ before.ends
+  -- its patches in the file
+  pub patches : after.patches ≡ before.patches ++ evaluated.patches
+  -- and the faults of its sites, each of which counts
+  pub counts : IsCounted l evaluated.sites before.faults after.faults before.counts after.counts
 
 -- what was evaluated of these input sections was added, one after another
 pub record AreChanged (old : GoodLink) (l : KnownLink) (range : SectionKey → Option FileRange) (ss : List ObjectSection)

@@ -1,17 +1,14 @@
 -- The fields of input sections of objects, in their order.
-use Rattle.std.specs.Prelude.{◌≡◌, ℕ, ◌+◌, ◌<◌, ◌^◌, List, [], ◌∷◌, ◌++◌, length, map, flat_map, Option, Some, None}
+use Rattle.std.specs.Prelude.{◌≡◌, ℕ, ◌+◌, ◌<◌, ◌^◌, List, [], ◌∷◌, length, map, flat_map, Option, Some, None}
 use Rattle.elfobj.specs.Sections.{LinkedSection}
 use Rattle.emit_fields.specs.declared.patch.Patch.{Patch}
-use Rattle.ldmodel.specs.Counts.{Counts}
 use Rattle.ldmodel.specs.Image.{section_numbered}
 use Rattle.ldmodel.specs.Layout.{PlacedPiece}
 use Rattle.ldmodel.specs.Project.{NamedObject}
-use Rattle.ldmodel.specs.Relocations.{sites_of_section}
 use Rattle.ldmodel.specs.SymbolValues.{placed_part}
-use Rattle.ldmodel.specs.declared.fault.Fault as code
 use Rattle.ldmodel.specs.declared.names.ObjectPlace.{ObjectPlace}
 use Rattle.ldmodel.specs.declared.sections.Part.TheVariants.{InTable}
-use Rattle.emit_relocate.specs.Fields.{IsCounted, IsRun}
+use Rattle.emit_relocate.specs.Fields.{IsRun}
 use Rattle.emit_relocate.specs.KnownLink.{KnownLink, named_object}
 
 -- an input section: a section of an object
@@ -33,14 +30,6 @@ IsRunAt l s (Some y) run = IsRun l s.object s.section y.start run
 
 abbrev pub IsRunOf : KnownLink → ObjectSection → List Patch → Type 0
 IsRunOf l s run = IsRunAt l s (placed_part l.layout s.object.name (InTable s.section.number)) run
-
--- its fields were added, and its sites counted
-pub record IsRunAdded (l : KnownLink) (s : ObjectSection) (old new : List Patch)
-    (old_faults new_faults : List code.Fault) (before after : Counts) : Type 0 where
-  pub run : List Patch
-  pub fields : new ≡ old ++ run
-  pub is_run : IsRunOf l s run
-  pub counts : IsCounted l (sites_of_section l.layout s.object s.section) old_faults new_faults before after
 
 -- where lists end that stand one after another from a place on
 abbrev pub ends_of : ℕ → List (List Patch) → List ℕ

@@ -8,3 +8,4 @@ pub mod Index
 pub mod Filled
 pub mod Changes
 pub mod Patched
+pub mod Links

@@ -1,5 +1,5 @@
 -- Relocations of input sections in the output, as the code hands them on.
-use Rattle.std.specs.Prelude.{◌≡◌, ℕ, map, Some, Result, Ok, Err, length, slice_get, true, find, ◌==◌}
+use Rattle.std.specs.Prelude.{◌≡◌, ◌+◌, ℕ, List, map, Some, Result, Ok, Err, length, slice_get, true, find, ◌==◌}
 use Rattle.elfobj.specs.Object.{ObjectData}
 use Rattle.elfobj.specs.RelocationKinds.{width}
 use Rattle.elfobj.specs.Sections.{LinkedSection}
@@ -31,6 +31,11 @@ pub record IsSectionOf (o : ObjectData) (x : LinkedSection) (key : ObjectPlace) 
   pub number_is : find (λ (y : LinkedSection). y.number.0 == m.section.0) o.sections ≡ Some x
   pub symbols_are : m.symbols.now ≡ map (λ (y : NamedSymbol). y.symbol) o.symbols
   pub relocations_are : m.relocations.now ≡ x.relocations
+
+-- these are entries of its table of relocations, from a number on
+abbrev pub AreEntriesFrom : PlacedSection → ℕ → List Relocation → Type 0
+AreEntriesFrom m first rs =
+    (k : ℕ) (r : Relocation) → slice_get rs k ≡ Some r → slice_get m.relocations.now (first + k) ≡ Some r
 
 -- a site of it
 pub record IsSite (l : KnownLink) (m : PlacedSection) (t : Site) : Type 0 where

@@ -1,28 +1,22 @@
 //! The fields of a link that an earlier link did not have, in one flat list, those that change in sections that stayed,
 //! and the faults of relocations. Beside no earlier link these are the fields of all objects.
 
-ghost use Rattle.std.specs.Prelude.{◌≡◌, ◌<◌, IfOk, OnOk, Some, [], ◌∷◌, length, slice_get};
-ghost use Rattle.elfobj.specs.Sections.{LinkedSection};
-ghost use Rattle.ldmodel.specs.Layout.{PlacedPiece};
+ghost use Rattle.std.specs.Prelude.{◌≡◌, IfOk, OnOk, Some, [], ◌∷◌};
 ghost use Rattle.ldmodel.specs.Project.{NamedObject};
-ghost use Rattle.ldmodel.specs.Relocations.{sites_at};
 ghost use Rattle.ldmodel.specs.Stayed.{GoodLink};
-ghost use Rattle.ldmodel.specs.SymbolValues.{placed_part};
-ghost use Rattle.ldmodel.specs.declared.sections.Part.TheVariants.{InTable};
-ghost use Rattle.emit_relocate.specs.Changes.{AreChanged, IsMoved, IsSectionAdded, no_results, own_sites, results_of};
-ghost use Rattle.emit_relocate.specs.Earlier.{IsKept};
-ghost use Rattle.emit_relocate.specs.Fields.{IsAdded};
-ghost use Rattle.emit_relocate.specs.Filled.{EndBelow, IsOrder, IsRunAdded, sections_in, sections_of};
+ghost use Rattle.emit_relocate.specs.Changes.{Adds, AreChanged, IsEvaluatedOf, IsRenewed, IsRetained, no_results};
+ghost use Rattle.emit_relocate.specs.Changes.{results_of, section_key};
+ghost use Rattle.emit_relocate.specs.Filled.{EndBelow, IsOrder, ObjectSection, sections_in, sections_of};
 ghost use Rattle.emit_relocate.specs.KnownLink.{KnownLink, named_object};
-ghost use Rattle.emit_relocate.specs.SymbolValues.{HasSymbolValues, IsRow};
+ghost use Rattle.emit_relocate.specs.Links.{AreLinks, IsAtHand, IsKeptAt};
+ghost use Rattle.emit_relocate.specs.SymbolValues.{HasSymbolValues};
 
 use crate::earlier::{Earlier, FileRange};
 use crate::fields::add_fields;
+use crate::input_section::InputSection;
 use crate::known::Known;
-use crate::moved::add_moved;
-use crate::site::PlacedSection;
+use crate::moved::StayedSection;
 use crate::symbol_values::SymbolValues;
-use crate::value::SymbolValue;
 use elfobj::Object;
 use elfobj::section::LinkedIndex;
 use emit_fields::patch::Patch;
@@ -47,263 +41,173 @@ pub struct ChangedFields {
     pub faults: Vec<Fault>,
 }
 
-/// Adds the fields of a section of an object that starts at an address.
-fn add_placed(
-    alloc: Global,
-    values: &[SymbolValue],
-    key: ObjectPlace,
-    object: &Object,
-    index: LinkedIndex,
-    start: u64,
-    patches: &mut Vec<Patch>,
-    faults: &mut Vec<Fault>,
-    meter: &mut Meter,
-) -> Result<(), NoMemory>
-    requires { index.0 < length object.now.sections }
-    ensures { OnOk result ((l : KnownLink) (o : NamedObject) (x : LinkedSection) → IsRow l o values.now → EndBelow l
-        → named_object l key ≡ Some o → o.object ≡ object.now → slice_get o.object.sections index.0 ≡ Some x
-        → (y : PlacedPiece) → placed_part l.layout o.name (InTable x.number) ≡ Some y → y.start ≡ start
-        → IsAdded l o x start patches.old.items patches.new.items faults.old.items faults.new.items meter.old
-        meter.new) }
-{
-    let section = object.sections()[index.0];
-    if u64::MAX - start < section.size {
-        // no layout has a section past the end of the address space
-        return Ok(());
-    }
-    let section = PlacedSection::new(key, object, index, start, values);
-    add_fields(alloc, &section, patches, faults, meter)?;
-    Ok(())
+/// The link whose relocations are evaluated, with the values of its symbols, and the earlier link beside it.
+#[derive_where(Clone, Copy)]
+struct Links<'a, L, E> {
+    /// The link.
+    link: &'a L,
+    /// The earlier one.
+    earlier: &'a E,
+    /// The values of the symbols of the link's objects.
+    symbols: &'a SymbolValues,
 }
 
-/// Adds the fields of a section of an object, where it is in the output.
-fn add_run<L: Known>(
-    alloc: Global,
-    link: &L,
-    values: &[SymbolValue],
-    key: ObjectPlace,
-    object: &Object,
-    index: LinkedIndex,
-    patches: &mut Vec<Patch>,
-    faults: &mut Vec<Fault>,
-    meter: &mut Meter,
-) -> Result<(), NoMemory>
-    requires { index.0 < length object.now.sections }
-    ensures { OnOk result ((l : KnownLink) (o : NamedObject) (x : LinkedSection) → L.knows link.now l
-        → IsRow l o values.now → EndBelow l → named_object l key ≡ Some o → o.object ≡ object.now
-        → slice_get o.object.sections index.0 ≡ Some x
-        → IsRunAdded l (record { object = o; section = x }) patches.old.items patches.new.items faults.old.items
-        faults.new.items meter.old meter.new) }
-{
-    // so that the range of the count is known
-    let _fields = meter.fields();
-    let part = Part::InTable(object.sections()[index.0].number);
-    match link.start(SectionKey { object: key, part }) {
-        None => Ok(()),
-        Some(start) => {
-            add_placed(
-                alloc, values, key, object, index, start, patches, faults, meter,
-            )?;
-            Ok(())
+impl<'a, L: Known, E: Earlier> Links<'a, L, E> {
+    /// Adds the fields of a section that did not stay: none, where it is not in the output.
+    fn add_renewed(
+        &self,
+        alloc: Global,
+        section: &InputSection<'_>,
+        fields: &mut ChangedFields,
+        meter: &mut Meter,
+    ) -> Result<(), NoMemory>
+        ensures { OnOk result ((old : GoodLink) (l : KnownLink) (s : ObjectSection)
+            → AreLinks L.knows E.knows self.now old l → IsAtHand l section.now s
+            → Adds l (IsRenewed l s) (results_of fields.old meter.old) (results_of fields.new meter.new)) }
+    {
+        // so that the range of the count is known
+        let _fields = meter.fields();
+        match section.placed(self.link) {
+            None => Ok(()),
+            Some(section) => {
+                add_fields(
+                    alloc,
+                    &section,
+                    &mut fields.patches,
+                    &mut fields.faults,
+                    meter,
+                )?;
+                Ok(())
+            }
         }
     }
-}
 
-/// Evaluates the relocations of a section of an object that stayed and starts at an address whose symbol has another
-/// value.
-fn add_moved_at<E: Earlier>(
-    earlier: &E,
-    values: &[SymbolValue],
-    key: ObjectPlace,
-    object: &Object,
-    index: LinkedIndex,
-    start: u64,
-    range: FileRange,
-    patches: &mut Vec<Patch>,
-    faults: &mut Vec<Fault>,
-    meter: &mut Meter,
-) -> Result<(), NoMemory>
-    requires { index.0 < length object.now.sections }
-    ensures { OnOk result ((old : GoodLink) (l : KnownLink) (o : NamedObject) (x : LinkedSection)
-        → E.knows earlier.now old l → IsRow l o values.now → EndBelow l → IsKept (E.range earlier.now) key
-        → named_object l key ≡ Some o → o.object ≡ object.now → slice_get o.object.sections index.0 ≡ Some x
-        → (y : PlacedPiece) → placed_part l.layout o.name (InTable x.number) ≡ Some y → y.start ≡ start
-        → IsMoved old l range (sites_at o x start) patches.old.items patches.new.items faults.old.items faults.new.items
-        meter.old meter.new) }
-{
-    let section = object.sections()[index.0];
-    if u64::MAX - start < section.size {
-        // no layout has a section past the end of the address space
-        return Ok(());
-    }
-    let section = PlacedSection::new(key, object, index, start, values);
-    add_moved(earlier, &section, range, patches, faults, meter)?;
-    Ok(())
-}
-
-/// Evaluates the relocations of a section of an object that stayed whose symbol has another value: none, where no
-/// symbol of the object has.
-fn add_retained<L: Known, E: Earlier>(
-    link: &L,
-    earlier: &E,
-    values: &[SymbolValue],
-    key: ObjectPlace,
-    object: &Object,
-    index: LinkedIndex,
-    range: FileRange,
-    patches: &mut Vec<Patch>,
-    faults: &mut Vec<Fault>,
-    meter: &mut Meter,
-) -> Result<(), NoMemory>
-    requires { index.0 < length object.now.sections }
-    ensures { OnOk result ((old : GoodLink) (l : KnownLink) (o : NamedObject) (x : LinkedSection) → L.knows link.now l
-        → E.knows earlier.now old l → IsRow l o values.now → EndBelow l → IsKept (E.range earlier.now) key
-        → named_object l key ≡ Some o → o.object ≡ object.now → slice_get o.object.sections index.0 ≡ Some x
-        → IsMoved old l range (own_sites l (record { object = o; section = x })) patches.old.items patches.new.items
-        faults.old.items faults.new.items meter.old meter.new) }
-{
-    // so that the range of the count is known
-    let _fields = meter.fields();
-    if !earlier.is_marked(key) {
-        return Ok(());
-    }
-    let part = Part::InTable(object.sections()[index.0].number);
-    match link.start(SectionKey { object: key, part }) {
-        None => Ok(()),
-        Some(start) => {
-            add_moved_at(
-                earlier, values, key, object, index, start, range, patches, faults, meter,
-            )?;
-            Ok(())
+    /// Adds what changes in a section that stayed: the fields whose symbol has another value. There are none, where no
+    /// symbol of the object has.
+    fn add_retained(
+        &self,
+        section: &InputSection<'_>,
+        range: FileRange,
+        fields: &mut ChangedFields,
+        meter: &mut Meter,
+    ) -> Result<(), NoMemory>
+        ensures { OnOk result ((old : GoodLink) (l : KnownLink) (s : ObjectSection)
+            → AreLinks L.knows E.knows self.now old l → IsAtHand l section.now s
+            → IsKeptAt old l (E.range self.now.earlier.now) (section_key section.now.key s) range
+            → Adds l (IsRetained old l (section_key section.now.key s) range s) (results_of fields.old meter.old)
+            (results_of fields.new meter.new)) }
+    {
+        // so that the range of the count is known
+        let _fields = meter.fields();
+        if !self.earlier.is_marked(section.key) {
+            return Ok(());
+        }
+        match section.placed(self.link) {
+            None => Ok(()),
+            Some(section) => {
+                let section = StayedSection {
+                    earlier: self.earlier,
+                    section,
+                    range,
+                };
+                section.add_moved(&mut fields.retargeted, &mut fields.faults, meter)?;
+                Ok(())
+            }
         }
     }
-}
 
-/// Evaluates what there is to evaluate of a section of an object: nothing, where it has no relocations.
-fn add_evaluated<L: Known, E: Earlier>(
-    alloc: Global,
-    link: &L,
-    earlier: &E,
-    values: &[SymbolValue],
-    key: ObjectPlace,
-    object: &Object,
-    index: LinkedIndex,
-    patches: &mut Vec<Patch>,
-    retargeted: &mut Vec<Patch>,
-    faults: &mut Vec<Fault>,
-    meter: &mut Meter,
-) -> Result<(), NoMemory>
-    requires { index.0 < length object.now.sections }
-    ensures { OnOk result ((old : GoodLink) (l : KnownLink) (o : NamedObject) (x : LinkedSection) → L.knows link.now l
-        → E.knows earlier.now old l → IsRow l o values.now → EndBelow l → named_object l key ≡ Some o
-        → o.object ≡ object.now → slice_get o.object.sections index.0 ≡ Some x
-        → IsSectionAdded old l (E.range earlier.now) (record { object = o; section = x }) patches.old.items
-        patches.new.items retargeted.old.items retargeted.new.items faults.old.items faults.new.items meter.old
-        meter.new) }
-{
-    // so that the range of the count is known
-    let _fields = meter.fields();
-    if object.relocations(index).is_empty() {
-        return Ok(());
-    }
-    let part = Part::InTable(object.sections()[index.0].number);
-    match earlier.stayed(SectionKey { object: key, part }) {
-        None => {
-            add_run(
-                alloc, link, values, key, object, index, patches, faults, meter,
-            )?;
-            Ok(())
+    /// Adds what there is to evaluate of a section: nothing, where it has no relocations.
+    fn add_evaluated(
+        &self,
+        alloc: Global,
+        section: &InputSection<'_>,
+        fields: &mut ChangedFields,
+        meter: &mut Meter,
+    ) -> Result<(), NoMemory>
+        ensures { OnOk result ((old : GoodLink) (l : KnownLink) (s : ObjectSection)
+            → AreLinks L.knows E.knows self.now old l → IsAtHand l section.now s
+            → Adds l (IsEvaluatedOf old l (E.range self.now.earlier.now) s) (results_of fields.old meter.old)
+            (results_of fields.new meter.new)) }
+    {
+        // so that the range of the count is known
+        let _fields = meter.fields();
+        if section.object.relocations(section.index).is_empty() {
+            return Ok(());
         }
-        Some(range) => {
-            add_retained(
-                link, earlier, values, key, object, index, range, retargeted, faults, meter,
-            )?;
-            Ok(())
+        match self.earlier.stayed(section.section_key()) {
+            None => {
+                self.add_renewed(alloc, section, fields, meter)?;
+                Ok(())
+            }
+            Some(range) => {
+                self.add_retained(section, range, fields, meter)?;
+                Ok(())
+            }
         }
     }
-}
 
-/// Adds the fields of a section of an object, and their end.
-fn add_section<L: Known, E: Earlier>(
-    alloc: Global,
-    link: &L,
-    earlier: &E,
-    values: &[SymbolValue],
-    key: ObjectPlace,
-    object: &Object,
-    index: LinkedIndex,
-    fields: &mut ChangedFields,
-    meter: &mut Meter,
-) -> Result<(), NoMemory>
-    requires { index.0 < length object.now.sections }
-    ensures { OnOk result ((old : GoodLink) (l : KnownLink) (o : NamedObject) (x : LinkedSection) → L.knows link.now l
-        → E.knows earlier.now old l → IsRow l o values.now → EndBelow l → named_object l key ≡ Some o
-        → o.object ≡ object.now → slice_get o.object.sections index.0 ≡ Some x
-        → AreChanged old l (E.range earlier.now) (record { object = o; section = x } ∷ [])
-        (results_of fields.old meter.old) (results_of fields.new meter.new)) }
-{
-    let ChangedFields {
-        patches,
-        ends,
-        retargeted,
-        faults,
-    } = fields;
-    add_evaluated(
-        alloc, link, earlier, values, key, object, index, patches, retargeted, faults, meter,
-    )?;
-    ends.push(patches.len())?;
-    Ok(())
-}
-
-/// Adds the fields of all sections of an object.
-fn add_object<L: Known, E: Earlier>(
-    alloc: Global,
-    link: &L,
-    earlier: &E,
-    symbols: &SymbolValues,
-    key: ObjectPlace,
-    object: &Object,
-    fields: &mut ChangedFields,
-    meter: &mut Meter,
-) -> Result<(), NoMemory>
-    ensures { OnOk result ((old : GoodLink) (l : KnownLink) (o : NamedObject) → L.knows link.now l
-        → E.knows earlier.now old l → HasSymbolValues l symbols.now → EndBelow l → named_object l key ≡ Some o
-        → o.object ≡ object.now
-        → AreChanged old l (E.range earlier.now) (sections_of o object.now.sections) (results_of fields.old meter.old)
-        (results_of fields.new meter.new)) }
-{
-    // so that the range of the count is known
-    let _fields = meter.fields();
-    let values = symbols.row(key, object.symbols().len());
-    for index in 0..object.sections().len() {
-        let index = LinkedIndex(index);
-        add_section(
-            alloc, link, earlier, values, key, object, index, fields, meter,
-        )?;
+    /// Adds what there is to evaluate of a section, and the end of its fields.
+    fn add_section(
+        &self,
+        alloc: Global,
+        section: &InputSection<'_>,
+        fields: &mut ChangedFields,
+        meter: &mut Meter,
+    ) -> Result<(), NoMemory>
+        ensures { OnOk result ((old : GoodLink) (l : KnownLink) (s : ObjectSection)
+            → AreLinks L.knows E.knows self.now old l → IsAtHand l section.now s
+            → AreChanged old l (E.range self.now.earlier.now) (s ∷ []) (results_of fields.old meter.old)
+            (results_of fields.new meter.new)) }
+    {
+        self.add_evaluated(alloc, section, fields, meter)?;
+        let end = fields.patches.len();
+        fields.ends.push(end)?;
+        Ok(())
     }
-    Ok(())
-}
 
-/// Adds the fields of the object of a key.
-fn add_of_key<L: Known, E: Earlier>(
-    alloc: Global,
-    link: &L,
-    earlier: &E,
-    symbols: &SymbolValues,
-    key: ObjectPlace,
-    fields: &mut ChangedFields,
-    meter: &mut Meter,
-) -> Result<(), NoMemory>
-    ensures { OnOk result ((old : GoodLink) (l : KnownLink) (o : NamedObject) → L.knows link.now l
-        → E.knows earlier.now old l → HasSymbolValues l symbols.now → EndBelow l → named_object l key ≡ Some o
-        → AreChanged old l (E.range earlier.now) (sections_of o o.object.sections) (results_of fields.old meter.old)
-        (results_of fields.new meter.new)) }
-{
-    match link.object(key) {
-        None => Ok(()),
-        Some(object) => {
-            add_object(alloc, link, earlier, symbols, key, object, fields, meter)?;
-            Ok(())
+    /// Adds what there is to evaluate of all sections of an object.
+    fn add_object(
+        &self,
+        alloc: Global,
+        key: ObjectPlace,
+        object: &Object,
+        fields: &mut ChangedFields,
+        meter: &mut Meter,
+    ) -> Result<(), NoMemory>
+        ensures { OnOk result ((old : GoodLink) (l : KnownLink) (o : NamedObject)
+            → AreLinks L.knows E.knows self.now old l → named_object l key ≡ Some o → o.object ≡ object.now
+            → AreChanged old l (E.range self.now.earlier.now) (sections_of o object.now.sections)
+            (results_of fields.old meter.old) (results_of fields.new meter.new)) }
+    {
+        // so that the range of the count is known
+        let _fields = meter.fields();
+        let values = self.symbols.row(key, object.symbols().len());
+        for index in 0..object.sections().len() {
+            let section = InputSection::new(key, object, LinkedIndex(index), values);
+            self.add_section(alloc, &section, fields, meter)?;
+        }
+        Ok(())
+    }
+
+    /// Adds what there is to evaluate of the object of a key.
+    fn add_of_key(
+        &self,
+        alloc: Global,
+        key: ObjectPlace,
+        fields: &mut ChangedFields,
+        meter: &mut Meter,
+    ) -> Result<(), NoMemory>
+        ensures { OnOk result ((old : GoodLink) (l : KnownLink) (o : NamedObject)
+            → AreLinks L.knows E.knows self.now old l → named_object l key ≡ Some o
+            → AreChanged old l (E.range self.now.earlier.now) (sections_of o o.object.sections)
+            (results_of fields.old meter.old) (results_of fields.new meter.new)) }
+    {
+        match self.link.object(key) {
+            None => Ok(()),
+            Some(object) => {
+                self.add_object(alloc, key, object, fields, meter)?;
+                Ok(())
+            }
         }
     }
 }
@@ -377,8 +281,13 @@ pub fn changed_fields<L: Known, E: Earlier>(
         retargeted: Vec::new(alloc),
         faults: Vec::new(alloc),
     };
+    let links = Links {
+        link,
+        earlier,
+        symbols,
+    };
     for key in objects {
-        add_of_key(alloc, link, earlier, symbols, *key, &mut fields, meter)?;
+        links.add_of_key(alloc, *key, &mut fields, meter)?;
     }
     Ok(fields)
 }

@@ -1,16 +1,15 @@
 //! The fields of whole input sections, in one flat list, and the faults of their relocations.
 
-ghost use Rattle.std.specs.Prelude.{◌≡◌, ◌+◌, ◌<◌, ◌^◌, ℕ, All, OnOk, Some, [], ◌∷◌, length, slice_get, true};
+ghost use Rattle.std.specs.Prelude.{◌≡◌, ◌+◌, ◌<◌, ◌^◌, All, OnOk, Some, [], ◌∷◌, length, slice_get, true};
 ghost use Rattle.std.specs.Prelude.{vec_capacity, vec_len};
 ghost use Rattle.std.specs.List.Sorted.{IsNonDecreasingBy};
 ghost use Rattle.elfobj.specs.Profile.{AreApart};
 ghost use Rattle.elfobj.specs.Relocations.{field_end};
 ghost use Rattle.elfobj.specs.Sections.{LinkedSection};
-ghost use Rattle.elfobj.specs.declared.relocation.Relocation.{Relocation as RelocationOf};
 ghost use Rattle.ldmodel.specs.Project.{NamedObject};
 ghost use Rattle.emit_relocate.specs.Fields.{AreAdded, IsAdded, IsNext, IsTried, sites_among};
 ghost use Rattle.emit_relocate.specs.KnownLink.{KnownLink};
-ghost use Rattle.emit_relocate.specs.Sites.{IsPlaced};
+ghost use Rattle.emit_relocate.specs.Sites.{AreEntriesFrom, IsPlaced};
 
 use crate::site::{PlacedSection, evaluate, is_evaluated};
 use elfobj::Relocation;
@@ -76,8 +75,7 @@ pub(crate) fn add_sites(
     faults: &mut Vec<Fault>,
     meter: &mut Meter,
 ) -> Result<(), NoMemory>
-    requires entries { (k : ℕ) (r : RelocationOf) → slice_get relocations.now k ≡ Some r
-        → slice_get section.now.relocations.now (first + k) ≡ Some r }
+    requires entries { AreEntriesFrom section.now first relocations.now }
     requires below { All (λ r. section.now.start + r.offset < 2 ^ 64) relocations.now }
     ensures fields { OnOk result
         (AreAdded relocations.now (length relocations.now) fields.old.items fields.new.items) }

@@ -3,8 +3,8 @@
 //!
 //! - `known`, `earlier`: what a linker says of its link and of an earlier one; `symbol`, `value`, `target`: values;
 //! - `symbol_values`: the values of the symbols of all objects, which evaluation reads;
-//! - `site`, `fields`, `moved`, `changed_fields`: fields, all of them or those that an earlier link did not have;
-//!   `law`;
+//! - `site`, `fields`, `moved`, `input_section`, `changed_fields`: fields, all of them or those that an earlier link
+//!   did not have; `law`;
 //! - `index`, `bucket`, `walk`: from targets to relocations.
 #![tactic(auto)]
 
@@ -13,6 +13,7 @@ pub mod changed_fields;
 pub mod earlier;
 pub mod fields;
 pub mod index;
+mod input_section;
 pub mod known;
 pub mod law;
 mod moved;

@@ -3,16 +3,15 @@
 
 ghost use Rattle.std.specs.Prelude.{◌≡◌, ◌++◌, ◌+◌, ◌<◌, ◌^◌, All, OnOk, Some, [], ◌∷◌, nat_le, option_to_list};
 ghost use Rattle.std.specs.Prelude.{slice_get};
-ghost use Rattle.elfobj.specs.Sections.{LinkedSection};
+ghost use Rattle.elfobj.specs.declared.relocation.Relocation.{Relocation as RelocationOf};
 ghost use Rattle.emit_fields.specs.Patches.{patch_end};
-ghost use Rattle.ldmodel.specs.Project.{NamedObject};
-ghost use Rattle.ldmodel.specs.Relocations.{Site};
 ghost use Rattle.ldmodel.specs.Stayed.{GoodLink};
 ghost use Rattle.emit_relocate.specs.Changes.{IsFiled, IsMoved, in_file};
-ghost use Rattle.emit_relocate.specs.Earlier.{IsKept, has_moved, is_same_value};
-ghost use Rattle.emit_relocate.specs.Fields.{sites_among};
+ghost use Rattle.emit_relocate.specs.Earlier.{has_moved, is_same_value};
+ghost use Rattle.emit_relocate.specs.Filled.{ObjectSection};
 ghost use Rattle.emit_relocate.specs.KnownLink.{KnownLink};
-ghost use Rattle.emit_relocate.specs.Sites.{IsPlaced, IsSite};
+ghost use Rattle.emit_relocate.specs.Links.{IsStayedAt, site_at_hand, sites_at_hand};
+ghost use Rattle.emit_relocate.specs.Sites.{IsPlaced};
 ghost use Rattle.emit_relocate.specs.Values.{value_of};
 
 use crate::earlier::{Earlier, FileRange};
@@ -36,21 +35,6 @@ fn is_same_value(one: SymbolValue, other: SymbolValue) -> bool
         (SymbolValue::NotDefined, SymbolValue::NotDefined) => true,
         (SymbolValue::NotInOutput, SymbolValue::NotInOutput) => true,
         _ => false,
-    }
-}
-
-/// Whether the symbol that a relocation of a section names has another value than it had.
-fn has_moved<E: Earlier>(earlier: &E, section: &PlacedSection<'_>, symbol: SymbolIndex) -> bool
-    ensures { (old : GoodLink) (l : KnownLink) → E.knows earlier.now old l
-        → IsKept (E.range earlier.now) section.now.object → (t : Site) → IsSite l section.now t
-        → t.relocation.symbol ≡ symbol → result ≡ has_moved old l t }
-{
-    match section.symbols.get(symbol.0 as usize) {
-        None => false,
-        Some(entry) => {
-            let before = earlier.value(section.object, symbol, entry);
-            !is_same_value(before, site_value(section, symbol))
-        }
     }
 }
 
@@ -82,102 +66,122 @@ fn add_in_file(range: FileRange, field: Patch, patches: &mut Vec<Patch>) -> Resu
     Ok(())
 }
 
-/// Evaluates the relocation of number `entry` of a section that stayed: adds its field in its place in the file, or its
-/// fault.
-#[inline(never)]
-fn add_site_in_file(
-    section: &PlacedSection<'_>,
-    range: FileRange,
-    entry: usize,
-    relocation: &Relocation,
-    patches: &mut Vec<Patch>,
-    faults: &mut Vec<Fault>,
-    meter: &mut Meter,
-) -> Result<(), NoMemory>
-    requires entry_is { slice_get section.now.relocations.now entry ≡ Some relocation.now }
-    requires below { section.now.start + relocation.now.offset < 2 ^ 64 }
-    ensures { OnOk result ((l : KnownLink) (o : NamedObject) (x : LinkedSection) → IsPlaced l section.now o x
-        → IsFiled l range (sites_among o x section.now.start (relocation.now ∷ [])) patches.old.items patches.new.items
-        faults.old.items faults.new.items meter.old meter.new) }
-{
-    let before = patches.len();
-    add_sites(section, entry, from_ref(relocation), patches, faults, meter)?;
-    if patches.len() == before {
-        return Ok(());
-    }
-    match patches.pop() {
-        // A field was added
-        None => Err(impossible()),
-        Some(field) => {
-            add_in_file(range, field, patches)?;
-            Ok(())
+/// A section that stayed, with what tells the values that its relocations' symbols had.
+#[derive_where(Clone, Copy)]
+pub struct StayedSection<'a, E> {
+    /// The earlier link.
+    pub earlier: &'a E,
+    /// The section in its place.
+    pub section: PlacedSection<'a>,
+    /// Where its bytes stand in the file.
+    pub range: FileRange,
+}
+
+impl<'a, E: Earlier> StayedSection<'a, E> {
+    /// Whether the symbol that a relocation of the section names has another value than it had.
+    fn has_moved(&self, symbol: SymbolIndex) -> bool
+        ensures { (old : GoodLink) (l : KnownLink) (s : ObjectSection) (r : RelocationOf)
+            → IsStayedAt E.knows E.range self.now old l s → r.symbol ≡ symbol
+            → result ≡ has_moved old l (site_at_hand self.now.section s r) }
+    {
+        match self.section.symbols.get(symbol.0 as usize) {
+            None => false,
+            Some(entry) => {
+                let before = self.earlier.value(self.section.object, symbol, entry);
+                !is_same_value(before, site_value(&self.section, symbol))
+            }
         }
     }
-}
 
-/// Evaluates the relocation of number `entry` of a section that stayed, if its symbol has another value: adds its field
-/// in its place in the file, or its fault.
-#[inline(always)]
-fn add_moved_site<E: Earlier>(
-    earlier: &E,
-    section: &PlacedSection<'_>,
-    range: FileRange,
-    entry: usize,
-    relocation: &Relocation,
-    patches: &mut Vec<Patch>,
-    faults: &mut Vec<Fault>,
-    meter: &mut Meter,
-) -> Result<(), NoMemory>
-    requires entry_is { slice_get section.now.relocations.now entry ≡ Some relocation.now }
-    requires below { section.now.start + relocation.now.offset < 2 ^ 64 }
-    ensures { OnOk result ((old : GoodLink) (l : KnownLink) → E.knows earlier.now old l
-        → IsKept (E.range earlier.now) section.now.object → (o : NamedObject) (x : LinkedSection)
-        → IsPlaced l section.now o x
-        → IsMoved old l range (sites_among o x section.now.start (relocation.now ∷ [])) patches.old.items
-        patches.new.items faults.old.items faults.new.items meter.old meter.new) }
-{
-    // so that the range of the count is known
-    let _fields = meter.fields();
-    if !is_evaluated(relocation.kind) {
-        return Ok(());
+    /// Evaluates the relocation of number `entry`: adds its field in its place in the file, or its fault.
+    #[inline(never)]
+    fn add_site_in_file(
+        &self,
+        entry: usize,
+        relocation: &Relocation,
+        patches: &mut Vec<Patch>,
+        faults: &mut Vec<Fault>,
+        meter: &mut Meter,
+    ) -> Result<(), NoMemory>
+        requires entry_is { slice_get self.now.section.relocations.now entry ≡ Some relocation.now }
+        requires below { self.now.section.start + relocation.now.offset < 2 ^ 64 }
+        ensures { OnOk result ((l : KnownLink) (s : ObjectSection) → IsPlaced l self.now.section s.object s.section
+            → IsFiled l self.now.range (sites_at_hand self.now.section s (relocation.now ∷ []))
+            patches.old.items patches.new.items faults.old.items faults.new.items meter.old meter.new) }
+    {
+        let before = patches.len();
+        let relocations = from_ref(relocation);
+        add_sites(&self.section, entry, relocations, patches, faults, meter)?;
+        if patches.len() == before {
+            return Ok(());
+        }
+        match patches.pop() {
+            // A field was added
+            None => Err(impossible()),
+            Some(field) => {
+                add_in_file(self.range, field, patches)?;
+                Ok(())
+            }
+        }
     }
-    if !has_moved(earlier, section, relocation.symbol) {
-        return Ok(());
-    }
-    add_site_in_file(section, range, entry, relocation, patches, faults, meter)?;
-    Ok(())
-}
 
-/// Evaluates the relocations of a section that stayed whose symbol has another value, each of which counts as one, in
-/// the order of their table. Adds their fields, in their places in the file, to `patches`, and their faults to
-/// `faults`. `range` says where the section's bytes stand in the file.
-///
-/// # Errors
-///
-/// Where memory runs out; a table of 2^32 relocations or more, which no object has whose length is within the limit,
-/// counts as that.
-pub fn add_moved<E: Earlier>(
-    earlier: &E,
-    section: &PlacedSection<'_>,
-    range: FileRange,
-    patches: &mut Vec<Patch>,
-    faults: &mut Vec<Fault>,
-    meter: &mut Meter,
-) -> Result<(), NoMemory>
-    requires { All (λ r. section.now.start + r.offset < 2 ^ 64) section.now.relocations.now }
-    ensures { OnOk result ((old : GoodLink) (l : KnownLink) → E.knows earlier.now old l
-        → IsKept (E.range earlier.now) section.now.object → (o : NamedObject) (x : LinkedSection)
-        → IsPlaced l section.now o x
-        → IsMoved old l range (sites_among o x section.now.start section.now.relocations.now) patches.old.items
-        patches.new.items faults.old.items faults.new.items meter.old meter.new) }
-{
-    // so that the range of the count is known
-    let _fields = meter.fields();
-    for entry in 0..section.relocations.len() {
-        let relocation = &section.relocations[entry];
-        add_moved_site(
-            earlier, section, range, entry, relocation, patches, faults, meter,
-        )?;
+    /// Evaluates the relocation of number `entry`, if its symbol has another value: adds its field in its place in the
+    /// file, or its fault.
+    #[inline(always)]
+    fn add_moved_site(
+        &self,
+        entry: usize,
+        relocation: &Relocation,
+        patches: &mut Vec<Patch>,
+        faults: &mut Vec<Fault>,
+        meter: &mut Meter,
+    ) -> Result<(), NoMemory>
+        requires entry_is { slice_get self.now.section.relocations.now entry ≡ Some relocation.now }
+        requires below { self.now.section.start + relocation.now.offset < 2 ^ 64 }
+        ensures { OnOk result ((old : GoodLink) (l : KnownLink) (s : ObjectSection)
+            → IsStayedAt E.knows E.range self.now old l s
+            → IsMoved old l self.now.range
+            (sites_at_hand self.now.section s (relocation.now ∷ [])) patches.old.items
+            patches.new.items faults.old.items faults.new.items meter.old meter.new) }
+    {
+        // so that the range of the count is known
+        let _fields = meter.fields();
+        if !is_evaluated(relocation.kind) {
+            return Ok(());
+        }
+        if !self.has_moved(relocation.symbol) {
+            return Ok(());
+        }
+        self.add_site_in_file(entry, relocation, patches, faults, meter)?;
+        Ok(())
     }
-    Ok(())
+
+    /// Evaluates the relocations whose symbol has another value, each of which counts as one, in the order of their
+    /// table. Adds their fields, in their places in the file, to `patches`, and their faults to `faults`.
+    ///
+    /// # Errors
+    ///
+    /// Where memory runs out; a table of 2^32 relocations or more, which no object has whose length is within the
+    /// limit, counts as that.
+    pub fn add_moved(
+        &self,
+        patches: &mut Vec<Patch>,
+        faults: &mut Vec<Fault>,
+        meter: &mut Meter,
+    ) -> Result<(), NoMemory>
+        requires { All (λ r. self.now.section.start + r.offset < 2 ^ 64) self.now.section.relocations.now }
+        ensures { OnOk result ((old : GoodLink) (l : KnownLink) (s : ObjectSection)
+            → IsStayedAt E.knows E.range self.now old l s
+            → IsMoved old l self.now.range
+            (sites_at_hand self.now.section s self.now.section.relocations.now) patches.old.items
+            patches.new.items faults.old.items faults.new.items meter.old meter.new) }
+    {
+        // so that the range of the count is known
+        let _fields = meter.fields();
+        for entry in 0..self.section.relocations.len() {
+            let relocation = &self.section.relocations[entry];
+            self.add_moved_site(entry, relocation, patches, faults, meter)?;
+        }
+        Ok(())
+    }
 }

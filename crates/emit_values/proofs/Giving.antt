@@ -21,7 +21,7 @@ use Rattle.symres.specs.SymbolTable.{SymbolTableState}
 use Rattle.symres.specs.declared.sorted.NamedKey.{NamedKey}
 use Rattle.place.specs.sections.Places.{AreOf, Places}
 use Rattle.place.proofs.TermNumbers.{symbol_at, symbol_named_by}
-use Rattle.place.specs.terms.SymbolValues.{AreValuesOf, value_of}
+use Rattle.place.specs.terms.LayoutSymbols.{AreValuesOf, value_of}
 use Rattle.place.specs.terms.Tables.{entry_under, symbol_number}
 use Rattle.symres.specs.table.State.{AreDistinct, IsNamed, slot}
 use Rattle.emit_values.specs.GivenTable.{HasPlaces, IsGivenTable, IsPut}

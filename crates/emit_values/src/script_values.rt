@@ -7,7 +7,7 @@ ghost use Rattle.ldscript.specs.statements.declared.statement.Statement.{Stateme
 ghost use Rattle.ldmodel.specs.Layout.{Layout, ScriptSymbol};
 ghost use Rattle.ldmodel.specs.Lent.{given_name, name_given_by};
 ghost use Rattle.place.specs.sections.Places.{AreOf};
-ghost use Rattle.place.specs.terms.SymbolValues.{AreValuesOf};
+ghost use Rattle.place.specs.terms.LayoutSymbols.{AreValuesOf};
 ghost use Rattle.emit_values.specs.ScriptValues.{AreScriptValues, value_in};
 
 use ldmodel::impossible::impossible;

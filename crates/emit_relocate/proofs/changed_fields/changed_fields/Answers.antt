@@ -11,7 +11,7 @@ loop-key-preserved g c =
     (slice_get-get_or c.args.objects.now c.loop-key.key-index (record { 0 = 0 }) c.loop-key-test.true) in
     object_at old l (g.E.Earlier.range c.args.earlier.now) _ _ _ l.project.objects c.loop-key.key-index h.0 h.2
     (c.loop-key.invariant old l k e all low order)
-    (c.in_ok-add_of_key.ensures old l h.0 k e all low h.1)
+    (c.in_ok-add_of_key.ensures old l h.0 (record { link = k; earlier = e; symbols = all; below = low }) h.1)
 
 pub returns : goal.returns
 returns g c =

@@ -1,6 +1,6 @@
 use Rattle.std.proofs.Common.{map, take}
 use Rattle.ldmodel.specs.Lent.{symbol_of}
-use Rattle.place.specs.terms.SymbolValues.{AreValuesOf}
+use Rattle.place.specs.terms.LayoutSymbols.{AreValuesOf}
 use Rattle.emit_values.proofs.script_values.ScriptValues.of.Given as goal
 
 -- the symbols before this one are noted

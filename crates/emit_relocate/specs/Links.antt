@@ -1,0 +1,84 @@
+-- What the code has at hand where it goes over the input sections of a link: the link and an earlier one, and an input
+-- section, before its place in the output is known, in its place, and beside the earlier link.
+use Rattle.std.specs.Prelude.{◌≡◌, List, Option, None, Some, slice_get}
+use Rattle.elfobj.specs.declared.relocation.Relocation.{Relocation}
+use Rattle.ldmodel.specs.Layout.{PlacedPiece}
+use Rattle.ldmodel.specs.Relocations.{Site}
+use Rattle.ldmodel.specs.Stayed.{GoodLink}
+use Rattle.ldmodel.specs.SymbolValues.{placed_part}
+use Rattle.ldmodel.specs.declared.sections.Part.TheVariants.{InTable}
+use Rattle.ldmodel.specs.declared.sections.SectionKey.{SectionKey}
+use Rattle.emit_relocate.specs.Earlier.{HasStayedAt, IsKept}
+use Rattle.emit_relocate.specs.Fields.{sites_among}
+use Rattle.emit_relocate.specs.Filled.{EndBelow, ObjectSection}
+use Rattle.emit_relocate.specs.KnownLink.{KnownLink, named_object}
+use Rattle.emit_relocate.specs.Sites.{IsPlaced}
+use Rattle.emit_relocate.specs.SymbolValues.{HasSymbolValues, IsRow}
+use Rattle.emit_relocate.specs.declared.changed_fields.Links.{Links}
+use Rattle.emit_relocate.specs.declared.earlier.FileRange.{FileRange}
+use Rattle.emit_relocate.specs.declared.input_section.InputSection.{InputSection}
+use Rattle.emit_relocate.specs.declared.moved.StayedSection.{StayedSection}
+use Rattle.emit_relocate.specs.declared.site.PlacedSection.{PlacedSection}
+
+-- these may be the links at hand, by what the linker knows of them: `knows` of `Known`, and that of `Earlier`
+pub record AreLinks {L E : Type 0} (knows : L → KnownLink → Type 0) (knows_both : E → GoodLink → KnownLink → Type 0)
+    (m : Links L E) (old : GoodLink) (l : KnownLink) : Type 0 where
+  -- the link whose relocations are evaluated
+  pub link : knows m.link.now l
+  -- the earlier one beside it
+  pub earlier : knows_both m.earlier.now old l
+  -- the values are those of the symbols of the link's objects
+  pub symbols : HasSymbolValues l m.symbols.now
+  -- its layout has no input section past the end of the address space
+  pub below : EndBelow l
+
+-- an input section is that at hand
+pub record IsAtHand (l : KnownLink) (m : InputSection) (s : ObjectSection) : Type 0 where
+  -- the key is that of the section's object
+  pub object_is : named_object l m.key ≡ Some s.object
+  -- which was read
+  pub read_is : s.object.object ≡ m.object.now
+  -- the section has this place among those of its object
+  pub section_is : slice_get s.object.object.sections m.index.0 ≡ Some s.section
+  -- the values are those of the object's symbols
+  pub values_are : IsRow l s.object m.values.now
+
+-- an input section is that at hand, where it is in the output
+pub record IsPlacedAt (l : KnownLink) (s : ObjectSection) (m : PlacedSection) : Type 0 where
+  -- its place in the layout
+  pub piece : PlacedPiece
+  pub piece_is : placed_part l.layout s.object.name (InTable s.section.number) ≡ Some piece
+  pub start_is : m.start ≡ piece.start
+  -- the section itself
+  pub section_is : IsPlaced l m s.object s.section
+
+-- it is there, or not in the output
+abbrev pub IsPlaceOf : KnownLink → ObjectSection → Option PlacedSection → Type 0
+IsPlaceOf l s None = placed_part l.layout s.object.name (InTable s.section.number) ≡ None
+IsPlaceOf l s (Some m) = IsPlacedAt l s m
+
+-- a site of it, and the sites among relocations of it
+abbrev pub site_at_hand : PlacedSection → ObjectSection → Relocation → Site
+site_at_hand m s r = record { object = s.object; section = s.section; start = m.start; relocation = r }
+
+abbrev pub sites_at_hand : PlacedSection → ObjectSection → List Relocation → List Site
+sites_at_hand m s rs = sites_among s.object s.section m.start rs
+
+-- the input section of a key stayed, as is known, with its bytes in this range of the file
+pub record IsKeptAt (old : GoodLink) (l : KnownLink) (range : SectionKey → Option FileRange) (key : SectionKey)
+    (r : FileRange) : Type 0 where
+  -- what is known
+  pub known : Some r ≡ range key
+  -- and is so
+  pub stayed : HasStayedAt old l key r
+
+-- an input section is that at hand, and its symbols may have other values than in the earlier link
+pub record IsStayedAt {E : Type 0} (knows_both : E → GoodLink → KnownLink → Type 0)
+    (range : E → SectionKey → Option FileRange) (m : StayedSection E) (old : GoodLink) (l : KnownLink)
+    (s : ObjectSection) : Type 0 where
+  -- the links
+  pub links : knows_both m.earlier.now old l
+  -- some section of its object is known to have stayed
+  pub kept : IsKept (range m.earlier.now) m.section.object
+  -- the section in its place
+  pub section_is : IsPlaced l m.section s.object s.section

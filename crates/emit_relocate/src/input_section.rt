@@ -1,0 +1,88 @@
+//! Input sections, as they are gone over: each with the object that it is of, before its place in the output is known.
+
+ghost use Rattle.std.specs.Prelude.{◌≡◌, ◌+◌, ◌<◌, ◌^◌, All, IfSome, Some, length, slice_get};
+ghost use Rattle.elfobj.specs.Profile.{AreApart};
+ghost use Rattle.elfobj.specs.Sections.{LinkedSection};
+ghost use Rattle.ldmodel.specs.Project.{NamedObject};
+ghost use Rattle.emit_relocate.specs.KnownLink.{KnownLink, named_object};
+ghost use Rattle.emit_relocate.specs.SymbolValues.{IsRow};
+
+use crate::known::Known;
+use crate::site::PlacedSection;
+use crate::value::SymbolValue;
+use elfobj::Object;
+use elfobj::section::LinkedIndex;
+use ldmodel::names::ObjectPlace;
+use ldmodel::sections::{Part, SectionKey};
+
+/// A section of an object.
+#[derive(Clone, Copy)]
+pub struct InputSection<'a> {
+    /// The key of the object.
+    pub key: ObjectPlace,
+    /// What was read of the object.
+    pub object: &'a Object,
+    /// The place of the section among those of the object.
+    pub index: LinkedIndex,
+    /// The values of the object's symbols, by their numbers.
+    pub values: &'a [SymbolValue],
+    ghost inside: { index.0 < length object.now.sections },
+}
+
+impl<'a> InputSection<'a> {
+    ghost use Rattle.emit_relocate.specs.Changes.{section_key};
+    ghost use Rattle.emit_relocate.specs.Filled.{EndBelow, ObjectSection};
+    ghost use Rattle.emit_relocate.specs.Links.{IsAtHand, IsPlaceOf};
+
+    /// A section of an object. `values` are the values of the object's symbols.
+    pub fn new(
+        key: ObjectPlace,
+        object: &'a Object,
+        index: LinkedIndex,
+        values: &'a [SymbolValue],
+    ) -> InputSection<'a>
+        requires { index.0 < length object.now.sections }
+        ensures { (l : KnownLink) (o : NamedObject) (x : LinkedSection) → named_object l key ≡ Some o
+            → o.object ≡ object.now → slice_get o.object.sections index.0 ≡ Some x → IsRow l o values.now
+            → IsAtHand l result (record { object = o; section = x }) }
+    {
+        InputSection {
+            key,
+            object,
+            index,
+            values,
+        }
+    }
+
+    /// Its key.
+    pub fn section_key(&self) -> SectionKey
+        ensures { (l : KnownLink) (s : ObjectSection) → IsAtHand l self.now s → result ≡ section_key self.now.key s }
+    {
+        let section = self.object.sections()[self.index.0];
+        SectionKey {
+            object: self.key,
+            part: Part::InTable(section.number),
+        }
+    }
+
+    /// Where it is in the output, if it is there.
+    pub fn placed<L: Known>(&self, link: &L) -> Option<PlacedSection<'a>>
+        ensures key { IfSome result (λ m. m.object ≡ self.now.key) }
+        ensures apart { IfSome result (λ m. AreApart m.relocations.now) }
+        ensures below { IfSome result (λ m. All (λ r. m.start + r.offset < 2 ^ 64) m.relocations.now) }
+        ensures place { (l : KnownLink) (s : ObjectSection) → L.knows link.now l → EndBelow l → IsAtHand l self.now s
+            → IsPlaceOf l s result }
+    {
+        let section = self.object.sections()[self.index.0];
+        match link.start(self.section_key()) {
+            None => None,
+            Some(start) => {
+                if u64::MAX - start < section.size {
+                    // no layout has a section past the end of the address space
+                    return None;
+                }
+                Some(PlacedSection::new(self.key, self.object, self.index, start, self.values))
+            }
+        }
+    }
+}
