@@ -87,16 +87,15 @@ at_index xs i d ss are x is =
     (slice_get-map section_of xs i ∙ ap (λ o. option_map section_of o) is)
 
 -- a section that ends below 2^64 has its fields below
-pub below : (xs : List LinkedSection) (i : ℕ) (d : Section) (ss : List Section) → ss ≡ map section_of xs → (start : ℕ)
-    → (rs : List Relocation)
+pub below : (xs : List LinkedSection) (i start : ℕ) (rs : List Relocation)
     → ((x : LinkedSection) → slice_get xs i ≡ Some x → All (λ r. field_end r ≤ x.size) rs)
-    → start + (get_or ss i d).size < 2 ^ 64 → i < length xs → All (λ r. start + r.offset < 2 ^ 64) rs
-below xs i d ss are start rs h short low = λ k e long.
+    → ((x : LinkedSection) → slice_get xs i ≡ Some x → start + x.size < 2 ^ 64) → i < length xs
+    → All (λ r. start + r.offset < 2 ^ 64) rs
+below xs i start rs h short low = λ k e long.
     let own = has xs i low in
-    let size : (get_or ss i d).size ≡ own.section.size =
-    ap (λ (s : Section). s.size) (at_index xs i d ss are own.section own.is) in
     let end = h own.section own.is k e long in
-    omega (arith, size, end, short)
+    let whole = short own.section own.is in
+    omega (arith, end, whole)
 
 -- a section of an object of the link
 pub placed_of : (l : KnownLink) (key : ObjectPlace) (read : ObjectData) (values : List SymbolValue) (m : PlacedSection)

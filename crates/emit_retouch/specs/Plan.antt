@@ -1,6 +1,6 @@
 -- What is written of each section of an object.
-use Rattle.std.specs.Prelude.{◌≡◌, ◌≢◌, ◌+◌, ◌-◌, ◌<◌, ◌≤◌, ◌⊎◌, ℕ, List, [], Some, Contains, length, map, slice_get}
-use Rattle.std.specs.Prelude.{slice_index, flat_map}
+use Rattle.std.specs.Prelude.{◌≡◌, ◌≢◌, ◌+◌, ◌-◌, ◌<◌, ◌≤◌, ◌^◌, ◌⊎◌, ℕ, List, [], Some, Contains, length, map}
+use Rattle.std.specs.Prelude.{flat_map, slice_get, slice_index}
 use Rattle.std.specs.List.{filter_map}
 use Rattle.std.specs.Option.{option_map_or}
 use Rattle.elfobj.specs.Object.{ObjectData}
@@ -42,6 +42,25 @@ count_of w = length w.bytes
 pub record IsWithin (limit : ℕ) (w : Written) : Type 0 where
   pub end : w.at + length w.bytes ≤ limit
   pub order : AreInOrder 0 (length w.bytes) w.run
+
+-- a section of this kind has bytes in a range of the file
+pub record HasBytes (kind : SectionKind) (r : FileRange) : Type 0 where
+  pub some : r.length ≢ 0
+  pub own : kind ≢ Nobits
+
+-- a range of the file has as many bytes as these, and lies below a limit
+pub record IsInFile (limit : ℕ) (bytes : List ℕ) (r : FileRange) : Type 0 where
+  pub long : r.length ≡ length bytes
+  pub end : r.offset + length bytes ≤ limit
+
+-- a spot is that of a section of an object: it ends in the address space there, and all bytes that it has in the file
+-- lie below a limit
+pub record CanStand (object : ObjectData) (limit : ℕ) (t : SectionSpot) : Type 0 where
+  pub index : t.index.0 < length object.sections
+  pub end : (x : LinkedSection) → slice_get object.sections t.index.0 ≡ Some x → t.start + x.size < 2 ^ 64
+  pub in_file :
+      (x : LinkedSection) → slice_get object.sections t.index.0 ≡ Some x → HasBytes x.kind t.range
+      → IsInFile limit x.bytes t.range
 
 -- nothing is written of a section that has no bytes in a range of the file, or none of its own
 pub record IsNothing (kind : SectionKind) (r : FileRange) (w : Written) : Type 0 where

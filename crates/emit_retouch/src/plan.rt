@@ -1,17 +1,20 @@
 //! What is written of each section of an object: its bytes, with its fields in them.
 
-ghost use Rattle.std.specs.Prelude.{◌≡◌, ◌<◌, ℕ, All, IfNone, IfOk, IfSome, Some, length, slice_get, sum_by, true};
+ghost use Rattle.std.specs.Prelude.{◌≡◌, ◌+◌, ◌<◌, ◌^◌, ◌⊎◌, ℕ, All, IfNone, IfOk, IfSome, Some, length};
+ghost use Rattle.std.specs.Prelude.{false, slice_get, sum_by, true};
 ghost use Rattle.std.specs.List.{AllZip};
 ghost use Rattle.elfobj.specs.Raised.{raised};
 ghost use Rattle.elfobj.specs.Sections.{LinkedSection};
 ghost use Rattle.elfobj.specs.declared.meter.Count.TheVariants.{Bytes, Fields};
+ghost use Rattle.elfobj.specs.declared.section.SectionKind.TheVariants.{Nobits};
 ghost use Rattle.emit_fields.specs.Patches.{AreInOrder};
 ghost use Rattle.ldmodel.specs.Project.{NamedObject};
 ghost use Rattle.ldmodel.specs.Relocations.{sites_at};
 ghost use Rattle.emit_relocate.specs.Fields.{evaluations};
 ghost use Rattle.emit_relocate.specs.KnownLink.{KnownLink};
-ghost use Rattle.emit_retouch.specs.Plan.{AreWritten, IsAtHand, IsFaultlessRun, IsPlanned, IsPlannedAt, IsRefused};
-ghost use Rattle.emit_retouch.specs.Plan.{IsWithin, count_of, sites_in_all, sites_there, written, written_all};
+ghost use Rattle.emit_retouch.specs.Plan.{AreWritten, CanStand, HasBytes, IsAtHand, IsFaultlessRun, IsInFile};
+ghost use Rattle.emit_retouch.specs.Plan.{IsPlanned, IsPlannedAt, IsRefused, IsWithin, count_of, sites_in_all};
+ghost use Rattle.emit_retouch.specs.Plan.{sites_there, written, written_all};
 
 use crate::spot::SectionSpot;
 use elfobj::Object;
@@ -37,6 +40,39 @@ pub struct Rewrite<'a> {
     pub bytes: &'a [u8],
     /// Its fields, in the order of their offsets.
     pub fields: Vec<Patch>,
+}
+
+/// Whether nothing is written of a section of this kind, which has no bytes in this range of the file.
+fn is_empty(kind: SectionKind, range: FileRange) -> bool
+    ensures empty { result ≡ true → (range.length ≡ 0) ⊎ (kind ≡ Nobits) }
+    ensures some { result ≡ false → HasBytes kind range }
+{
+    range.length == 0 || matches!(kind, SectionKind::Nobits)
+}
+
+/// Whether these are as many bytes as a range of the file has, and the range ends at a limit at the latest; or nothing
+/// is written of a section of this kind there.
+fn fits(kind: SectionKind, bytes: &[u8], range: FileRange, limit: usize) -> bool
+    ensures { result ≡ true → HasBytes kind range → IsInFile limit bytes.now range }
+{
+    if is_empty(kind, range) {
+        return true;
+    }
+    let length = bytes.len();
+    range.length == length as u64 && length <= limit && range.offset as usize <= limit - length
+}
+
+/// Whether a spot is that of a section of an object, which ends in the address space there, and of which all bytes that
+/// it has in the file lie below a limit. The time is constant.
+fn can_stand(object: &Object, limit: usize, spot: SectionSpot) -> bool
+    ensures { result ≡ true → CanStand object.now limit spot }
+{
+    if spot.index.0 >= object.sections().len() {
+        return false;
+    }
+    let section = object.sections()[spot.index.0];
+    let bytes = object.section_bytes(spot.index);
+    section.size <= u64::MAX - spot.start && fits(section.kind, bytes, spot.range, limit)
 }
 
 /// Whether fields lie one after another, and end at a limit at the latest.
@@ -67,7 +103,8 @@ fn fields_of(
     start: u64,
     meter: &mut Meter,
 ) -> Result<Option<Vec<Patch>>, NoMemory>
-    requires { index.0 < length object.now.sections }
+    requires index { index.0 < length object.now.sections }
+    requires end { (x : LinkedSection) → slice_get object.now.sections index.0 ≡ Some x → start + x.size < 2 ^ 64 }
     ensures some { IfOk result (λ r. IfSome r (λ run. (l : KnownLink) (o : NamedObject) (x : LinkedSection)
         → IsAtHand l key object.now values.now o → slice_get o.object.sections index.0 ≡ Some x
         → IsFaultlessRun l o x start run.items
@@ -78,11 +115,6 @@ fn fields_of(
 {
     // so that the range of the count is known
     let _fields = meter.fields();
-    let section = object.sections()[index.0];
-    if u64::MAX - start < section.size {
-        // No layout has a section that ends past the address space
-        return Err(impossible());
-    }
     let section = PlacedSection::new(key, object, index, start, values);
     let mut fields = Vec::new(alloc);
     let mut faults = Vec::new(alloc);
@@ -103,10 +135,11 @@ fn rewrite_of<'a>(
     range: FileRange,
     limit: usize,
 ) -> Result<Rewrite<'a>, NoMemory>
+    requires { HasBytes kind range → IsInFile limit bytes.now range }
     ensures within { IfOk result (λ w. IsWithin limit (written w)) }
     ensures planned { IfOk result (λ w. IsPlanned kind bytes.now range fields.items (written w)) }
 {
-    if range.length == 0 || matches!(kind, SectionKind::Nobits) {
+    if is_empty(kind, range) {
         return Ok(Rewrite {
             at: 0,
             bytes: &[],
@@ -114,17 +147,9 @@ fn rewrite_of<'a>(
         });
     }
     let at = range.offset as usize;
-    let length = bytes.len();
-    if range.length != length as u64 {
-        // A section that has bytes in the file has all of its own there
-        return Err(impossible());
-    }
-    if length > limit || at > limit - length {
-        // The file has the bytes of all sections
-        return Err(impossible());
-    }
-    if !are_in_order(&fields, length) {
-        // No fields of a section meet, and each ends within the section's bytes
+    if !are_in_order(&fields, bytes.len()) {
+        // No fields of a section meet, and each ends within the section's bytes; but `add_fields` says so only where
+        // the symbols have their values in a link
         return Err(impossible());
     }
     Ok(Rewrite { at, bytes, fields })
@@ -149,8 +174,8 @@ fn plan_section<'a>(
 {
     // so that the range of the count is known
     let _fields = meter.fields();
-    if spot.index.0 >= object.sections().len() {
-        // Each spot is that of a section of the object
+    if !can_stand(object, limit, spot) {
+        // No link has such a spot. Nothing says so of any list of spots, so `retouch` refuses it
         return Err(impossible());
     }
     let kind = object.sections()[spot.index.0].kind;

@@ -2,7 +2,7 @@
 use Rattle.std.proofs.Common.{◌≡◌, ◌∙◌, ℕ, ◌+◌, ◌<◌, ◌≤◌, List, [], ◌∷◌, ◌++◌, length, map, take, get_or, set, ap, sym}
 use Rattle.std.proofs.Common.{subst, refl, arith, suc, zero, ⊎_elim, ◌⊎◌, inl, inr, Bool, true, false}
 use Rattle.std.specs.Prelude.{Option, Some, None, replicate, bytes_eq, slice_get}
-use Rattle.std.specs.Option.{option_map, option_map_or}
+use Rattle.std.specs.Option.{is_some, option_map, option_map_or}
 use Rattle.std.proofs.lemmas.Option.{slice_get-map, slice_get-get_or}
 use Rattle.std.proofs.Math.Seq.{take-suc}
 use Rattle.std.proofs.lemmas.Bool.{cases_eq, cases_lt, true≢false}
@@ -21,7 +21,7 @@ use Rattle.symres.specs.SymbolTable.{SymbolTableState}
 use Rattle.symres.specs.declared.sorted.NamedKey.{NamedKey}
 use Rattle.place.specs.sections.Places.{AreOf, Places}
 use Rattle.place.proofs.TermNumbers.{symbol_at, symbol_named_by}
-use Rattle.place.specs.terms.LayoutSymbols.{AreValuesOf, value_of}
+use Rattle.place.specs.terms.LayoutSymbols.{AreValuesOf, IsFound, value_of}
 use Rattle.place.specs.terms.Tables.{entry_under, symbol_number}
 use Rattle.symres.specs.table.State.{AreDistinct, IsNamed, slot}
 use Rattle.emit_values.specs.GivenTable.{HasPlaces, IsGivenTable, IsPut}
@@ -37,23 +37,31 @@ take_more xs i x within here =
 
 -- one more symbol of a layout
 pub more_values : (script : List Statement) (symbols : List code.ScriptSymbol) (i : ℕ) (x : code.ScriptSymbol)
-    (name : List ℕ) (old new : List (Option ℕ)) → i < length symbols → get_or symbols i x ≡ x
-    → name ≡ name_given_by script x.command.0
-    → ((xs : List ScriptSymbol) → AreValuesOf script old xs
-    → AreValuesOf script new (xs ++ record { name = name; value = x.value } ∷ []))
+    (old new : List (Option ℕ)) → i < length symbols → get_or symbols i x ≡ x
+    → ((xs : List ScriptSymbol) → AreValuesOf script old xs → AreValuesOf script new (xs ++ symbol_of script x ∷ []))
     → AreValuesOf script old (map (symbol_of script) (take i symbols))
     → AreValuesOf script new (map (symbol_of script) (take (i + 1) symbols))
-more_values script symbols i x name old new within here named step h =
+more_values script symbols i x old new within here step h =
     let more : map (symbol_of script) (take (i + 1) symbols)
     ≡ map (symbol_of script) (take i symbols) ++ symbol_of script x ∷ [] =
     ap (map (symbol_of script)) (take_more symbols i x within here)
     ∙ map-append (symbol_of script) (take i symbols) (x ∷ []) in
-    let one : ScriptSymbol = record { name = name; value = x.value } in
-    let same : one ≡ symbol_of script x =
-    ap (λ (n : List ℕ). let y : ScriptSymbol = record { name = n; value = x.value } in y) named in
-    subst (λ (xs : List ScriptSymbol). AreValuesOf script new xs)
-    (ap (λ (y : ScriptSymbol). map (symbol_of script) (take i symbols) ++ y ∷ []) same ∙ sym more)
+    subst (λ (xs : List ScriptSymbol). AreValuesOf script new xs) (sym more)
     (step (map (symbol_of script) (take i symbols)) h)
+
+-- the command that a symbol is found by is one of the script
+pub found_inside : (script : List Statement) (x : code.ScriptSymbol) → IsFound script x
+    → x.command.0 < length (all_directives script)
+found_inside script x found =
+    let f = symbol_at script (name_given_by script x.command.0) x.command.0 found in omega (arith, f.here, f.inside)
+
+pub none_there : (o : Option ℕ) → is_some o ≡ false → o ≡ None
+none_there None e = refl
+none_there (Some v) e = absurd (true≢false e)
+
+pub some_there : (o : Option ℕ) → is_some o ≡ true → (v : ℕ) × (o ≡ Some v)
+some_there None e = absurd (true≢false (sym e))
+some_there (Some v) e = (v, refl)
 
 all_none : (n k : ℕ) → let none : Option ℕ = None in get_or (replicate n none) k none ≡ none
 all_none zero k = refl

@@ -13,4 +13,5 @@ pub mod Looking
 pub mod Failing
 pub mod Searching
 pub mod Merging
+pub mod Ordered
 pub mod MergedNames

@@ -1,5 +1,5 @@
 -- The symbol of a name: where symbols are in byte order of their names, it is the first that is not before that name.
-use Rattle.std.proofs.Common.{◌≡◌, ◌+◌, ◌<◌, ◌≤◌, ◌⊎◌, inl, inr, ℕ, Bool, true, false, refl, sym, ap, ◌∙◌, arith}
+use Rattle.std.proofs.Common.{◌≡◌, ◌<◌, ◌≤◌, ◌⊎◌, inl, inr, ℕ, Bool, true, false, refl, sym, ap, ◌∙◌, arith}
 use Rattle.std.proofs.Common.{List, [], ◌∷◌, length, get_or, bytes_eq, Some, None, Option}
 use Rattle.std.proofs.lemmas.Bool.{cases_lt, true≢false}
 use Rattle.std.proofs.lemmas.List.Folds.{find_at}
@@ -9,9 +9,9 @@ use Rattle.std.proofs.lemmas.List.Sums.{position_or_len_is}
 use Rattle.std.proofs.lemmas.Map.Text.{is_eq-slice_cmp}
 use Rattle.std.proofs.lemmas.Option.{slice_get-get_or, slice_get_past}
 use Rattle.std.specs.Cmp.Lexicographic.{lists_agrees, nat_list_cmp_total, slice_cmp, slice_partial_cmp}
-use Rattle.std.specs.List.{IsAllAdjacentAnswer, slice_get}
+use Rattle.std.specs.List.{slice_get}
 use Rattle.std.specs.List.Sorted.{IsPartitionPoint, IsPartitionedBy}
-use Rattle.std.specs.Ordering.{is_eq, is_le, is_lt, is_some_and, nat_cmp, ordering_reverse}
+use Rattle.std.specs.Ordering.{is_eq, is_lt, is_some_and, nat_cmp, ordering_reverse}
 use Rattle.std.specs.declared.cmp.Ordering.{Ordering}
 use Rattle.std.specs.declared.cmp.Ordering.TheVariants.{Less, Equal, Greater}
 use Rattle.emit_values.specs.AssertedSymbols.{AreInOrder, found_symbol}
@@ -37,9 +37,6 @@ is_named name x = bytes_eq (name_of x) name
 abbrev compared : Name → Name → Option Ordering
 compared a b = slice_partial_cmp (λ (x : ℕ) (y : ℕ). Some (nat_cmp x y)) a b
 
-abbrev at_most : Name → Name → Bool
-at_most a b = is_some_and is_le (compared a b)
-
 abbrev less : Name → Name → Bool
 less a b = is_some_and is_lt (compared a b)
 
@@ -48,23 +45,6 @@ compared_is a b = lists_agrees (λ x y. refl) a b
 
 less_is : (a b : Name) → less a b ≡ is_lt (order a b)
 less_is a b = ap (is_some_and is_lt) (compared_is a b)
-
--- ---- the test of the order
-
-not_after : (o p : Ordering) → p ≡ ordering_reverse o → true ≡ is_le o → is_lt p ≡ false
-not_after Less p e h = ap is_lt e
-not_after Equal p e h = ap is_lt e
-not_after Greater p e h = absurd (true≢false h)
-
-pub ascending : (xs : List OutputSymbol) (r : Bool)
-    → IsAllAdjacentAnswer (λ (x y : OutputSymbol) (b : Bool). b ≡ at_most (name_of x) (name_of y)) xs r → r ≡ true
-    → AreInOrder xs
-ascending xs true h e = λ k d l m.
-    let a : Name = name_of (get_or xs k d) in
-    let b : Name = name_of (get_or xs (k + 1) d) in
-    not_after (order a b) (order b a) (nat_list_cmp_total.antisymm b a)
-    (h k d m ∙ ap (is_some_and is_le) (compared_is a b))
-ascending xs false h e = absurd (true≢false (sym e))
 
 -- ---- the search
 

@@ -1,6 +1,6 @@
 -- The symbols of the output, name by name.
-use Rattle.std.specs.Prelude.{◌≡◌, ℕ, ◌-◌, zero, suc, List, [], ◌∷◌, ◌++◌, map, filter, Bool, ◌&&◌, bytes_eq, nat_lt}
-use Rattle.std.specs.Prelude.{if◌then◌else◌, slice_index_or}
+use Rattle.std.specs.Prelude.{◌≡◌, ℕ, ◌-◌, ◌⊎◌, zero, suc, List, [], ◌∷◌, ◌++◌, map, filter, Bool, ◌&&◌, bytes_eq}
+use Rattle.std.specs.Prelude.{if◌then◌else◌, nat_lt, slice_index_or}
 use Rattle.ldmodel.specs.Layout.{Layout}
 use Rattle.ldmodel.specs.OutputSymbols as model
 use Rattle.ldmodel.specs.OutputSymbols.{is_defined, output_symbol}
@@ -33,6 +33,13 @@ pub record AreSources (p : Project) (s : Layout) (x : Sources) : Type 0 where
 -- the symbols of these names were added
 abbrev pub AddsSymbols : Project → Layout → List (List ℕ) → (old new : List OutputSymbol) → Type 0
 AddsSymbols p s names old new = shown new ≡ shown old ++ defined_symbols p s names
+
+abbrev pub names_in : List OutputSymbol → List (List ℕ)
+names_in xs = map (λ (x : OutputSymbol). x.name.now) xs
+
+-- nothing was added, or one symbol of this name
+abbrev pub AddsAtMost : List ℕ → (old new : List OutputSymbol) → Type 0
+AddsAtMost name old new = (names_in new ≡ names_in old) ⊎ (names_in new ≡ names_in old ++ name ∷ [])
 
 -- the name at a place is that before it
 abbrev pub is_repeat : List (List ℕ) → ℕ → Bool

@@ -1,20 +1,18 @@
 //! The values that a script gives names, by name.
 
-ghost use Rattle.std.specs.Prelude.{◌≡◌, ◌∷◌, ◌++◌, [], List, IfOk, OnOk};
-ghost use Rattle.ldscript.specs.statements.Numbered.{shown_directives};
+ghost use Rattle.std.specs.Prelude.{◌≡◌, ◌∷◌, ◌++◌, [], List, IfOk, length};
 ghost use Rattle.ldscript.specs.statements.Numbering.{all_directives};
 ghost use Rattle.ldscript.specs.statements.declared.statement.Statement.{Statement};
-ghost use Rattle.ldmodel.specs.Layout.{Layout, ScriptSymbol};
-ghost use Rattle.ldmodel.specs.Lent.{given_name, name_given_by};
+ghost use Rattle.ldmodel.specs.Layout as layout;
+ghost use Rattle.ldmodel.specs.Lent.{given_name, symbol_of};
 ghost use Rattle.place.specs.sections.Places.{AreOf};
-ghost use Rattle.place.specs.terms.LayoutSymbols.{AreValuesOf};
+ghost use Rattle.place.specs.terms.LayoutSymbols.{AreValuesOf, IsFound};
 ghost use Rattle.emit_values.specs.ScriptValues.{AreScriptValues, value_in};
 
-use ldmodel::impossible::impossible;
 use ldmodel::memory::NoMemory;
-use ldmodel::script_symbol::DirectiveIndex;
+use ldmodel::script_symbol::ScriptSymbol;
 use ldscript::Script;
-use ldscript::tree::{Directive, DirectiveAt};
+use ldscript::tree::Directive;
 use place::Placement;
 use place::terms::commands::number_in;
 use std::alloc::Global;
@@ -38,41 +36,16 @@ pub(crate) fn given_name(command: &Directive) -> &[u8]
     }
 }
 
-/// The name that the command of a number gives a value to; no bytes where there is none.
-fn name_given<'a>(commands: &[DirectiveAt<'a>], number: DirectiveIndex) -> &'a [u8]
-    ensures { (script : List Statement) → shown_directives commands.now ≡ all_directives script → result.now
-        ≡ name_given_by script number.0 }
+/// Notes the value of a symbol under the number of its command. The first value of a symbol counts.
+fn note_value(symbol: ScriptSymbol, values: &mut Vec<Option<u64>>)
+    ensures long { length values.new.items ≡ length values.old.items }
+    ensures noted { (script : List Statement) (xs : List layout.ScriptSymbol) → IsFound script symbol
+        → length values.old.items ≡ length (all_directives script) → AreValuesOf script values.old.items xs
+        → AreValuesOf script values.new.items (xs ++ symbol_of script symbol ∷ []) }
 {
-    match commands.get(number.0 as usize) {
-        Some(at) => given_name(at.command),
-        None => &[],
-    }
-}
-
-/// Notes that a name is given a value. The first value of a name counts.
-fn note_value(
-    script: &Script,
-    name: &[u8],
-    value: u64,
-    values: &mut Vec<Option<u64>>,
-) -> Result<(), NoMemory>
-    ensures { OnOk result ((xs : List ScriptSymbol) → AreValuesOf script.now values.old.items xs
-        → AreValuesOf script.now values.new.items (xs ++ record { name = name.now; value = value } ∷ [])) }
-{
-    let Some(number) = number_in(script, name) else {
-        // Each name of a layout is one that its script gives a value
-        return Err(impossible());
-    };
-    if number >= values.len() {
-        // There is a place for each command
-        return Err(impossible());
-    }
-    match values[number] {
-        None => {
-            values[number] = Some(value);
-            Ok(())
-        }
-        Some(_) => Ok(()),
+    let number = symbol.command.0 as usize;
+    if number < values.len() && values[number].is_none() {
+        values[number] = Some(symbol.value);
     }
 }
 
@@ -87,13 +60,12 @@ impl<'a> ScriptValues<'a> {
         script: &'a Script,
         placement: &Placement,
     ) -> Result<ScriptValues<'a>, NoMemory>
-        ensures { IfOk result (λ v. (s : Layout) → AreOf script.now s placement.now → AreScriptValues s v) }
+        ensures { IfOk result (λ v. (s : layout.Layout) → AreOf script.now s placement.now → AreScriptValues s v) }
     {
         let commands = script.all_directives(alloc)?;
         let mut values = vec![in alloc; None; commands.len()]?;
         for symbol in placement.symbols() {
-            let name = name_given(&commands, symbol.command);
-            note_value(script, name, symbol.value, &mut values)?;
+            note_value(*symbol, &mut values);
         }
         Ok(ScriptValues { script, values })
     }

@@ -1,6 +1,7 @@
 //! The symbols of the output: names that stand for something, in byte order.
 
 ghost use Rattle.std.specs.Prelude.{◌≡◌, ◌<◌, ◌++◌, ◌∷◌, [], ℕ, List, IfOk, IfSome, OnOk, bytes_eq, length};
+ghost use Rattle.std.specs.Prelude.{slice_index_or};
 ghost use Rattle.ldmodel.specs.HandedOver.{decision_of};
 ghost use Rattle.ldmodel.specs.Layout.{Layout, script_value};
 ghost use Rattle.ldmodel.specs.OutputSymbols.{is_defined, output_symbols};
@@ -8,8 +9,10 @@ ghost use Rattle.ldmodel.specs.Project.{Project};
 ghost use Rattle.ldmodel.specs.SymbolValues.{decided_value};
 ghost use Rattle.emit_relocate.specs.Values.{value_of};
 ghost use Rattle.symres.specs.table.State.{AreDistinct, IsNamed};
+ghost use Rattle.emit_values.specs.AssertedSymbols.{AreInOrder};
 ghost use Rattle.emit_values.specs.Candidates.{names_of, AreCandidates, HasKeyOr};
-ghost use Rattle.emit_values.specs.Symbols.{defined, fresh, is_repeat, shown, AddsSymbols, AreSources};
+ghost use Rattle.emit_values.specs.Symbols.{defined, fresh, is_repeat, shown, AddsAtMost, AddsSymbols};
+ghost use Rattle.emit_values.specs.Symbols.{AreSources};
 ghost use Rattle.emit_values.specs.Values.{shown_symbol};
 
 use crate::candidate::Candidate;
@@ -68,7 +71,9 @@ fn add_if_defined<'a>(
     list: &mut Vec<OutputSymbol<'a>>,
     symbol: OutputSymbol<'a>,
 ) -> Result<(), NoMemory>
-    ensures { OnOk result (shown list.new.items ≡ shown list.old.items ++ defined (shown_symbol symbol.entry ∷ [])) }
+    ensures shown { OnOk result
+        (shown list.new.items ≡ shown list.old.items ++ defined (shown_symbol symbol.entry ∷ [])) }
+    ensures name { OnOk result (AddsAtMost symbol.entry.name.now list.old.items list.new.items) }
 {
     if !is_defined(symbol.case) {
         return Ok(());
@@ -84,9 +89,10 @@ fn add_named<'a>(
     key: NameKey,
     list: &mut Vec<OutputSymbol<'a>>,
 ) -> Result<(), NoMemory>
-    ensures { OnOk result ((p : Project) (s : Layout) → AreSources p s sources.now
+    ensures symbol { OnOk result ((p : Project) (s : Layout) → AreSources p s sources.now
         → IsNamed sources.now.symbol_table.now.names key.0 name.now
         → AddsSymbols p s (name.now ∷ []) list.old.items list.new.items) }
+    ensures name { OnOk result (AddsAtMost name.now list.old.items list.new.items) }
 {
     // Each key of a name has a case and a value, so neither error comes up
     let symbol_table = sources.symbol_table;
@@ -112,8 +118,9 @@ fn add_unnamed<'a>(
     name: &'a [u8],
     list: &mut Vec<OutputSymbol<'a>>,
 ) -> Result<(), NoMemory>
-    ensures { OnOk result ((p : Project) (s : Layout) → AreSources p s sources.now
+    ensures symbol { OnOk result ((p : Project) (s : Layout) → AreSources p s sources.now
         → AddsSymbols p s (name.now ∷ []) list.old.items list.new.items) }
+    ensures name { OnOk result (AddsAtMost name.now list.old.items list.new.items) }
 {
     let symbol_table = sources.symbol_table;
     let given = sources.given;
@@ -131,9 +138,10 @@ fn add_symbol<'a>(
     candidate: &Candidate<'a>,
     list: &mut Vec<OutputSymbol<'a>>,
 ) -> Result<(), NoMemory>
-    ensures { OnOk result ((p : Project) (s : Layout) → AreSources p s sources.now
+    ensures symbol { OnOk result ((p : Project) (s : Layout) → AreSources p s sources.now
         → HasKeyOr sources.now.symbol_table.now candidate.now.name.now candidate.now.key
         → AddsSymbols p s (candidate.now.name.now ∷ []) list.old.items list.new.items) }
+    ensures name { OnOk result (AddsAtMost candidate.now.name.now list.old.items list.new.items) }
 {
     match candidate.key {
         Some(key) => add_named(sources, candidate.name, key, list),
@@ -178,8 +186,10 @@ fn add_unless_repeat<'a>(
 ) -> Result<(), NoMemory>
     requires place { place < length candidates.now }
     requires candidates { AreCandidates sources.now.symbol_table.now sources.now.script.now candidates.now }
-    ensures { OnOk result ((p : Project) (s : Layout) → AreSources p s sources.now
+    ensures symbol { OnOk result ((p : Project) (s : Layout) → AreSources p s sources.now
         → AddsSymbols p s (fresh (names_of candidates.now) place) list.old.items list.new.items) }
+    ensures name { OnOk result
+        (AddsAtMost (slice_index_or (names_of candidates.now) place []) list.old.items list.new.items) }
 {
     if is_repeat(sources, candidates, place) {
         return Ok(());
@@ -187,7 +197,7 @@ fn add_unless_repeat<'a>(
     add_symbol(sources, &candidates[place], list)
 }
 
-/// The symbols of the output.
+/// The symbols of the output, in byte order of their names.
 ///
 /// # Errors
 ///
@@ -198,8 +208,9 @@ pub(crate) fn symbols_of<'a>(
     candidates: &[Candidate<'a>],
 ) -> Result<Vec<OutputSymbol<'a>>, NoMemory>
     requires { AreCandidates sources.now.symbol_table.now sources.now.script.now candidates.now }
-    ensures { IfOk result (λ list. (p : Project) (s : Layout) → AreSources p s sources.now → shown list.items
+    ensures symbols { IfOk result (λ list. (p : Project) (s : Layout) → AreSources p s sources.now → shown list.items
         ≡ output_symbols p s) }
+    ensures order { IfOk result (λ list. AreInOrder list.items) }
 {
     let mut list = Vec::with_capacity(alloc, candidates.len())?;
     for place in 0..candidates.len() {

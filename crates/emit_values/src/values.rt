@@ -6,9 +6,9 @@ ghost use Rattle.symres.specs.SymbolTable.{IsSymbolTable};
 ghost use Rattle.symres.specs.Sorted.{AreSorted};
 ghost use Rattle.ldmodel.specs.SymbolValues.{entry_point};
 ghost use Rattle.emit_relocate.specs.Values.{value_of};
+ghost use Rattle.emit_values.specs.AssertedSymbols.{AreInOrder};
 ghost use Rattle.emit_values.specs.LinkView.{IsLinkView, known_link};
 ghost use Rattle.emit_values.specs.ScriptValues.{AreScriptValues};
-ghost use Rattle.emit_values.specs.Values.{AreValues};
 
 use crate::candidate::candidates;
 use crate::given::GivenValues;
@@ -43,6 +43,7 @@ pub struct Values<'a> {
     pub entry: SymbolValue,
     /// The symbols of the output, in byte order of their names.
     pub symbols: Vec<OutputSymbol<'a>>,
+    ghost ordered: { AreInOrder symbols.items },
 }
 
 /// The value of the entry symbol, which is looked up.
@@ -66,6 +67,8 @@ fn entry_value(
 }
 
 impl<'a> Values<'a> {
+    ghost use Rattle.emit_values.specs.Values.{AreValues};
+
     /// The values of the symbols of a link. The names that the script alone gives, and the entry symbol, are looked up.
     ///
     /// # Errors

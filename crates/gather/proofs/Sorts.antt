@@ -1,7 +1,7 @@
 -- What a stable sort of pieces makes of the pieces that they stand for.
 use Rattle.std.proofs.Common.{◌≡◌, ◌<◌, ◌+◌, ◌⊎◌, inl, inr, Bool, true, false, cond, List, [], ◌∷◌, length, filter}
 use Rattle.std.proofs.Common.{map, get_or, not, ◌&&◌, refl, ap, sym, ◌∙◌, ◌↔◌, arith, Option, Result, Ok, Err}
-use Rattle.std.proofs.Common.{Bor, OnOk, ⊎_elim}
+use Rattle.std.proofs.Common.{Bor, OnOk, ℕ, ⊎_elim}
 use Rattle.std.specs.List.{All}
 use Rattle.std.specs.List.Sorted.{IsPermutation, IsSortedBy, IsStableBy, IsSortedByClosure, IsStableByClosure, ties}
 use Rattle.std.specs.Cmp.{IsStrictWeakOrder}
@@ -15,10 +15,14 @@ use Rattle.std.proofs.lemmas.List.Sorted.{All-permutation}
 use Rattle.ldscript.specs.statements.declared.input.Sort.{Sort}
 use Rattle.ldmodel.specs.Project.{Project}
 use Rattle.ldmodel.specs.Rows.{Piece, below}
+use Rattle.ldmodel.specs.HandedOver.{piece_of}
+use Rattle.ldmodel.specs.NameFaults.{object_name}
 use Rattle.ldmodel.specs.Sorting.{IsOrdered, sort_by}
 use Rattle.ldmodel.specs.declared.rows.Piece as code
 use Rattle.ldmodel_project.specs.ByPlace.{piece_in}
+use Rattle.gather.specs.NamedPieces.{AreNamed, HasName, pieces_of}
 use Rattle.gather.specs.RowPieces.{Orders}
+use Rattle.gather.specs.declared.sorting.NamedPiece.{NamedPiece}
 
 module _ {X Y : Type 0} (f : X → Y) (p : Y → Bool) where
   pub filter_of_map : (xs : List X) → filter p (map f xs) ≡ map f (filter (λ x. p (f x)) xs)
@@ -102,23 +106,52 @@ abbrev pub OneOrder : Type 0
 OneOrder = (sort : Option Sort) (pieces sorted : List Piece) → IsOrdered (below sort) pieces sorted ↔ sorted
     ≡ sort_by (below sort) pieces
 
--- which of two a sort puts first
-abbrev pub below_in : Project → Option Sort → code.Piece → code.Piece → Bool
-below_in p sort x y = below sort (piece_in p x) (piece_in p y)
+-- members that stand for pieces, and a sort of them by a closure that compares as a sort of the pieces does
+module _ {X : Type 0} (f : X → Piece) (law : OneOrder) (sort : Option Sort) (order : IsStrictWeakOrder (below sort)) where
+  -- which of two the sort puts first
+  abbrev pub below_by : X → X → Bool
+  below_by x y = below sort (f x) (f y)
 
--- what a sort by a closure says, where the closure compares by the order
-pub ordered_by : {F : Type 0} {g : Mut F (Bor code.Piece × (Bor code.Piece × Unit {0})) Ordering} {f : F}
-    {T E : Type 0} (r : Result T E) (law : OneOrder) (p : Project) (sort : Option Sort) (xs ys : List code.Piece)
-    → IsStrictWeakOrder (below sort) → ComparesAs g (below_in p sort) f → IsPermutation xs ys
-    → OnOk r (IsSortedByClosure g f ys) → IsStableByClosure g f xs ys → OnOk r (Orders p sort xs ys)
-ordered_by (Ok x) law p sort xs ys order compares moved sorted stable =
-    let own : IsStrictWeakOrder (below_in p sort) = record {
-      one_way = λ x y. order.one_way (piece_in p x) (piece_in p y);
-      chain = λ x y z. order.chain (piece_in p x) (piece_in p y) (piece_in p z);
-    } in
-    (law sort (map (piece_in p) xs) (map (piece_in p) ys)).0
-    (record {
-      sorted = sorted_map (piece_in p) (below sort) ys (sorted (below_in p sort) own compares);
-      stable = stable_map (piece_in p) (below sort) order xs ys moved (stable (below_in p sort) own compares);
-    })
-ordered_by (Err e) law p sort xs ys order compares moved sorted stable = tt
+  -- the pieces are in the order of the sort
+  pub ordered : {F : Type 0} {g : Mut F (Bor X × (Bor X × Unit {0})) Ordering} {c : F} (xs ys : List X)
+      → ComparesAs g below_by c → IsPermutation xs ys → IsSortedByClosure g c ys → IsStableByClosure g c xs ys
+      → map f ys ≡ sort_by (below sort) (map f xs)
+  ordered xs ys compares moved sorted stable =
+      let own : IsStrictWeakOrder below_by = record {
+        one_way = λ x y. order.one_way (f x) (f y);
+        chain = λ x y z. order.chain (f x) (f y) (f z);
+      } in
+      (law sort (map f xs) (map f ys)).0
+      (record {
+        sorted = sorted_map f (below sort) ys (sorted below_by own compares);
+        stable = stable_map f (below sort) order xs ys moved (stable below_by own compares);
+      })
+
+  pub ordered_if : {F : Type 0} {g : Mut F (Bor X × (Bor X × Unit {0})) Ordering} {c : F} {T E : Type 0}
+      (r : Result T E) (xs ys : List X) → ComparesAs g below_by c → IsPermutation xs ys
+      → OnOk r (IsSortedByClosure g c ys) → IsStableByClosure g c xs ys
+      → OnOk r (map f ys ≡ sort_by (below sort) (map f xs))
+  ordered_if (Ok x) xs ys compares moved sorted stable = ordered xs ys compares moved sorted stable
+  ordered_if (Err e) xs ys compares moved sorted stable = tt
+
+-- a piece with a name beside it, as the piece of that name
+abbrev pub named_in : Project → NamedPiece → Piece
+named_in p x = piece_of (object_name p) (λ _. x.name.now) x.piece
+
+-- where the names are right, they are the pieces alone
+pub as_pieces : (p : Project) (xs : List NamedPiece) → All (HasName p) xs
+    → map (named_in p) xs ≡ map (piece_in p) (pieces_of xs)
+as_pieces p [] are = refl
+as_pieces p (x ∷ xs) are =
+    ap (λ (name : List ℕ). piece_of (object_name p) (λ _. name) x.piece ∷ map (named_in p) xs)
+    (All-head (HasName p) x xs are)
+    ∙ ap (λ l. piece_in p x.piece ∷ l) (as_pieces p xs (All-tail (HasName p) x xs are))
+
+-- pieces with their names, put in an order of these pieces and names, are the pieces in that order
+pub ordered_named : (p : Project) (sort : Option Sort) (xs : List code.Piece) (named sorted : List NamedPiece)
+    → AreNamed p xs named → IsPermutation named sorted
+    → map (named_in p) sorted ≡ sort_by (below sort) (map (named_in p) named)
+    → Orders p sort xs (pieces_of sorted)
+ordered_named p sort xs named sorted are moved order =
+    sym (as_pieces p sorted (All-permutation (HasName p) named sorted moved are.names))
+    ∙ (order ∙ ap (sort_by (below sort)) (as_pieces p named are.names ∙ ap (map (piece_in p)) are.pieces))

@@ -9,6 +9,7 @@ pub mod Graphs
 pub mod LiveMarks
 pub mod Apart
 pub mod Gathered
+pub mod NamedPieces
 pub mod RowPieces
 pub mod LeftOut
 pub mod Roots

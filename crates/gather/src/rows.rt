@@ -77,6 +77,7 @@ fn buckets(
 
 /// Adds the pieces that a statement takes, in the order of its sort, to the row of its output section.
 fn add_statement(
+    alloc: Global,
     project: &ProjectView<'_>,
     rows: &mut Vec<Vec<Piece>>,
     place: InputPlace,
@@ -87,7 +88,7 @@ fn add_statement(
 {
     match place {
         InputPlace::InSection(number) => {
-            order(project, pieces, sort)?;
+            order(alloc, project, pieces, sort)?;
             if number < rows.len() {
                 rows[number].append(pieces)?;
             }
@@ -121,7 +122,14 @@ pub fn rows(
     for (number, statement) in statements.iter().enumerate() {
         let place = statement.place;
         let sort = statement.input.sort;
-        add_statement(project, &mut found, place, sort, &mut buckets[number])?;
+        add_statement(
+            alloc,
+            project,
+            &mut found,
+            place,
+            sort,
+            &mut buckets[number],
+        )?;
     }
     Ok(found)
 }

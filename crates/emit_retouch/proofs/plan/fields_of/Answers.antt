@@ -3,7 +3,6 @@ use Rattle.std.specs.Prelude.{slice_get}
 use Rattle.std.proofs.lemmas.Bool.Decides.{nat_tests}
 use Rattle.std.proofs.lemmas.List.{nil_from_length}
 use Rattle.elfobj.specs.Object.{ObjectData}
-use Rattle.elfobj.specs.declared.section.SectionKind.TheVariants.{Progbits}
 use Rattle.emit_relocate.specs.Fields.{IsAdded}
 use Rattle.emit_retouch.proofs.Planning.{below, faultless, placed_of, refused}
 use Rattle.emit_retouch.proofs.plan.fields_of.Goals as goal
@@ -11,11 +10,9 @@ use Rattle.emit_retouch.proofs.plan.fields_of.Goals as goal
 pub add_fields-requires-clause-below : goal.add_fields-requires-clause-below
 add_fields-requires-clause-below c =
     let start = c.new-section.ensures.start in
-    below c.args.object.now.sections c.args.index.0
-    (record { number = record { 0 = 0 }; kind = Progbits; flags = 0; size = 0; alignment = 0 })
-    c.sections.result.now c.sections.ensures.value c.new-section.result.start c.new-section.result.relocations.now
+    below c.args.object.now.sections c.args.index.0 c.new-section.result.start c.new-section.result.relocations.now
     c.new-section.ensures.ends
-    (omega (arith, start, c.if-start-section.false)) c.requires
+    (λ x is. let whole = c.requires.end x is in omega (arith, start, whole)) c.requires.index
 
 pub returns-then-is_empty-clause-some : goal.returns-then-is_empty-clause-some
 returns-then-is_empty-clause-some c = λ l o x h is.

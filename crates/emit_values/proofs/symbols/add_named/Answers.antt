@@ -5,8 +5,8 @@ use Rattle.emit_values.specs.declared.values.OutputSymbol.{OutputSymbol}
 use Rattle.emit_values.proofs.Added.{adds_one, named_symbol}
 use Rattle.emit_values.proofs.symbols.add_named.Goals as goal
 
-pub returns : goal.returns
-returns c =
+pub returns-clause-symbol : goal.returns-clause-symbol
+returns-clause-symbol c =
     let x : OutputSymbol =
     record { name = c.args.name; case = c.in-Some.case; value = c.in-Some-get.value.now } in
     on_ok_weaker c.add_if_defined.result
@@ -15,4 +15,4 @@ returns c =
     (named_symbol p s c.args.sources.now c.args.key.0 x h named c.in-Some.ensures
     (sym (slice_get_read c.args.sources.now.names.now (length c.args.sources.now.names.now) c.args.key.0
     c.in-Some-get.value.now refl c.in-Some-get.ensures.lookup.3.0 c.in-Some-get.ensures.lookup.1))) added)
-    c.add_if_defined.ensures
+    c.add_if_defined.ensures.shown

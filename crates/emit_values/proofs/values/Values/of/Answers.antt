@@ -11,7 +11,7 @@ returns c =
     c.in_ok-names.ensures (known_link c.args.project.now s c.args.symbol_table.now) link in record {
       names = names;
       entry = c.entry_value-entry.ensures s c.requires.symbol_table given link;
-      symbols = c.in_ok-symbols.ensures c.args.project.now s (record {
+      symbols = c.in_ok-symbols.ensures.symbols c.args.project.now s (record {
         symbol_table = c.requires.symbol_table;
         script = sym c.script-script.ensures;
         names = subst (λ (vs : List code.SymbolValue).
