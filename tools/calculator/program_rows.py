@@ -130,7 +130,7 @@ segment 1000 401000
         " 07 00 00 00 00 00 00 00 07 00 00 00 00 00 00 00 00 10 00 00 00 00 00 00\n"
         # 0x401010 - 4 - 0x401001, and a canvas of eight bytes
         "canvas 0b 00 00 00 00 00 00 00\n"
-        "sites 1 0\n"
+        "a site true false\n"
         "counted: objects 1 names 2 pieces 1 relocations 1 bytes 4\n").encode()
 
 

@@ -105,11 +105,7 @@ fn print_failing(
 }
 
 /// Prints what a session answers to the stream, and what comes of it where each call of a device fails.
-pub fn print_devices(
-    task: Task<'_>,
-    longest: Longest,
-    out: &mut String,
-) -> Result<(), AllocError> {
+pub fn print_devices(task: Task<'_>, longest: Longest, out: &mut String) -> Result<(), AllocError> {
     let whole = answer(task, longest, Call::Read, 0)?;
     let (count, sum) = (whole.written.len(), checksum(&whole.written));
     let status = status_of(whole.outcome);

@@ -93,7 +93,11 @@ fn compare(task: Task<'_>, shows: bool, out: &mut String) -> Result<(), AllocErr
 
 /// Prints what comes where a reader and a writer take one byte a call, seven, and all.
 fn print_steps(task: Task<'_>, out: &mut String) -> Result<(), AllocError> {
-    for (step, name) in [(1, "one byte"), (7, "seven bytes"), (usize::MAX, "all bytes")] {
+    for (step, name) in [
+        (1, "one byte"),
+        (7, "seven bytes"),
+        (usize::MAX, "all bytes"),
+    ] {
         writeln!(out, "{name} a call")?;
         let longest = Longest {
             read: step,

@@ -25,6 +25,7 @@ const FILE: &[u8] = b"a.o";
 const NAME: &[u8] = b"f";
 /// The value of each symbol where a field is evaluated, and the place of the field.
 const VALUE: u64 = 0x40_1010;
+
 const PLACE: u64 = 0x40_1001;
 
 /// Prints bytes as numbers.
@@ -180,7 +181,7 @@ fn print_fields(
     print_numbers(canvas.bytes(), out)
 }
 
-/// `Index`: how many sites a target has while an object's are in it, and after.
+/// `Index`: whether a target has a site while an object's are in it, and after.
 fn print_index(alloc: Global, out: &mut String) -> Result<(), AllocError> {
     let object = ObjectPlace(0);
     let target = TargetIndex(2);
@@ -192,10 +193,10 @@ fn print_index(alloc: Global, out: &mut String) -> Result<(), AllocError> {
     let mut index = Index::new(alloc);
     index.reserve(object, &sites)?;
     index.add_reserved(object, &sites);
-    let before = index.sites_of(target).count();
+    let before = index.sites_of(target).next().is_some();
     index.drop_object(object);
-    let after = index.sites_of(target).count();
-    writeln!(out, "sites {before} {after}")
+    let after = index.sites_of(target).next().is_some();
+    writeln!(out, "a site {before} {after}")
 }
 
 /// Reads the script and the object of these bytes, and prints what the calls make of them.
