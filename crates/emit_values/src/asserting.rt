@@ -59,7 +59,7 @@ fn add_unless_holds(
             faults.push(Fault::AssertionFailed(AssertionIndex(number)))?;
             Ok(())
         }
-        // No script has 2^32 assertions
+        // No script is long enough for 2^32 assertions; but no contract says how many a list of them has
         Err(_) => Err(impossible()),
     }
 }

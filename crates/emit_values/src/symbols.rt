@@ -89,17 +89,16 @@ fn add_named<'a>(
     key: NameKey,
     list: &mut Vec<OutputSymbol<'a>>,
 ) -> Result<(), NoMemory>
+    requires { IsNamed sources.now.symbol_table.now.names key.0 name.now }
     ensures symbol { OnOk result ((p : Project) (s : Layout) → AreSources p s sources.now
-        → IsNamed sources.now.symbol_table.now.names key.0 name.now
         → AddsSymbols p s (name.now ∷ []) list.old.items list.new.items) }
     ensures name { OnOk result (AddsAtMost name.now list.old.items list.new.items) }
 {
-    // Each key of a name has a case and a value, so neither error comes up
-    let symbol_table = sources.symbol_table;
-    let Some(case) = symbol_table.case_of(key) else {
-        return Err(impossible());
-    };
+    // so that it is known that each key of a name has a case
+    sources.symbol_table.keys_decided();
+    let case = sources.symbol_table.case_of(key).unwrap();
     let Some(value) = sources.names.get(key.0) else {
+        // Each key of a name has a value; but how many values there are is known of the values of a link alone
         return Err(impossible());
     };
     add_if_defined(
@@ -126,7 +125,7 @@ fn add_unnamed<'a>(
     let given = sources.given;
     let case = symbol_table.case_named(sources.script, name);
     let Some(value) = value_by_script(case, given.value(name)) else {
-        // A name that an object defines has a key
+        // A name that an object defines has a key; that the names with keys are all such names is known of a link alone
         return Err(impossible());
     };
     add_if_defined(list, OutputSymbol { name, case, value })
@@ -138,8 +137,8 @@ fn add_symbol<'a>(
     candidate: &Candidate<'a>,
     list: &mut Vec<OutputSymbol<'a>>,
 ) -> Result<(), NoMemory>
+    requires { HasKeyOr sources.now.symbol_table.now candidate.now.name.now candidate.now.key }
     ensures symbol { OnOk result ((p : Project) (s : Layout) → AreSources p s sources.now
-        → HasKeyOr sources.now.symbol_table.now candidate.now.name.now candidate.now.key
         → AddsSymbols p s (candidate.now.name.now ∷ []) list.old.items list.new.items) }
     ensures name { OnOk result (AddsAtMost candidate.now.name.now list.old.items list.new.items) }
 {

@@ -107,7 +107,8 @@ OneOrder = (sort : Option Sort) (pieces sorted : List Piece) → IsOrdered (belo
     ≡ sort_by (below sort) pieces
 
 -- members that stand for pieces, and a sort of them by a closure that compares as a sort of the pieces does
-module _ {X : Type 0} (f : X → Piece) (law : OneOrder) (sort : Option Sort) (order : IsStrictWeakOrder (below sort)) where
+module _ {X : Type 0} (f : X → Piece) (law : OneOrder) (sort : Option Sort)
+    (order : IsStrictWeakOrder (below sort)) where
   -- which of two the sort puts first
   abbrev pub below_by : X → X → Bool
   below_by x y = below sort (f x) (f y)

@@ -1,8 +1,7 @@
 -- Each input section in the output is of an object of the project.
-use Rattle.std.proofs.Common.{◌≡◌, ◌∙◌, ◌<◌, ℕ, Bool, true, false, cond, not, sym, subst, refl, arith, ◌+◌}
+use Rattle.std.proofs.Common.{◌≡◌, ◌∙◌, ◌<◌, ℕ, Bool, true, false, cond, not, sym, subst, refl, ◌+◌}
 use Rattle.std.proofs.Common.{List, [], ◌∷◌, length, filter, flat_map}
-use Rattle.std.specs.List.{Contains, enumerate_from, list_any, range_with_len}
-use Rattle.std.proofs.lemmas.Bool.{eqb-false, true≢false}
+use Rattle.std.specs.List.{Contains, enumerate_from, range_with_len}
 use Rattle.ldscript.specs.statements.Numbering.{InputStatementAt, input_statements, output_sections}
 use Rattle.ldmodel.specs.Each.{Each}
 use Rattle.ldmodel.specs.Gathering.{candidates, is_out}
@@ -15,11 +14,10 @@ use Rattle.ldmodel.specs.Sections.{InputSection}
 use Rattle.ldmodel.specs.declared.sections.Part.{Part}
 use Rattle.ldmodel.specs.Sorting.{insert_by, sort_by}
 use Rattle.place.proofs.Lists.{each_filter, each_into_map}
-use Rattle.ldmodel_project.specs.Inputs.{shown_input, shown_inputs}
-use Rattle.ldmodel_project.specs.declared.input.InputObject.{InputObject}
+use Rattle.ldmodel_project.specs.Inputs.{AreObjectsNamed}
 use Rattle.gather.specs.sections.OfObjects.{IsOfObject}
-use Rattle.place.specs.InPlace.{IsOwned, has_no_name}
-use Rattle.place.proofs.Members.{Comes, any_in, each_join, got, here, in_map, later}
+use Rattle.place.specs.InPlace.{IsOwned}
+use Rattle.place.proofs.Members.{each_join, got, here, later, member_of}
 
 -- ---- lists
 
@@ -117,19 +115,8 @@ all_inputs p in_order =
 
 -- ---- objects with names
 
-module _ (p : Project) (inputs : List InputObject) (same : shown_inputs inputs ≡ p.objects)
-    (none : list_any has_no_name inputs ≡ false)
+module _ (p : Project) (named : AreObjectsNamed p.objects)
     (of_objects : (s : InputSection) → Contains (input_sections p) s → IsOfObject p s) where
-  named : (o : NamedObject) → Contains p.objects o → 0 < length o.name
-  named o c = some (in_map shown_input inputs o (subst (λ l. Contains l o) (sym same) c))
-    where
-      some : Comes shown_input inputs o → 0 < length o.name
-      some k = subst (λ (x : NamedObject). 0 < length x.name) k.gives (go (has_no_name k.origin) refl)
-        where
-          go : (b : Bool) → has_no_name k.origin ≡ b → 0 < length k.origin.name.now
-          go true e = absurd (true≢false (sym (any_in has_no_name inputs k.origin k.among e) ∙ none))
-          go false e = let other = eqb-false (length k.origin.name.now) 0 e in omega (arith, other)
-
   is_owned : (x : Piece) → IsInput p x.object x.part → IsOwned p x
   is_owned x k =
       let o = of_objects k.section k.among in
@@ -139,7 +126,8 @@ module _ (p : Project) (inputs : List InputObject) (same : shown_inputs inputs �
         object = o.object;
         among = among;
         is = is;
-        some = subst (λ (name : List ℕ). 0 < length name) is (named o.object among);
+        some = subst (λ (name : List ℕ). 0 < length name) is
+            (member_of (λ (y : NamedObject). 0 < length y.name) p.objects o.object named among);
       }
 
   pub all_owned : (xs : List Piece) → Each (λ (x : Piece). IsInput p x.object x.part) xs → Each (IsOwned p) xs

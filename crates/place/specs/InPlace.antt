@@ -1,12 +1,11 @@
 -- Layouts in which each input section stands once.
-use Rattle.std.specs.Prelude.{Bool, ◌≡◌, ◌<◌, ◌==◌, ℕ, List, Contains, flat_map, map, length}
+use Rattle.std.specs.Prelude.{◌≡◌, ◌<◌, ℕ, List, Contains, flat_map, map, length}
 use Rattle.ldmodel.specs.Each.{Each}
 use Rattle.ldmodel.specs.Layout.{Layout}
 use Rattle.ldmodel.specs.Project.{NamedObject, Project}
 use Rattle.ldmodel.specs.Rows.{Piece}
 use Rattle.ldmodel_laws.specs.PlacedOnce.{Differ}
 use Rattle.ldmodel_laws.specs.Spread.{EachLater, IsSpread, entries_in}
-use Rattle.ldmodel_project.specs.declared.input.InputObject.{InputObject}
 
 -- an object of the project has this name, which is not empty
 pub record IsObjectName (p : Project) (name : List ℕ) : Type 0 where
@@ -28,6 +27,3 @@ pub record AreInPlace (p : Project) (s : Layout) : Type 0 where
   pub once : EachLater Differ (entries_of s)
   pub owned : Each (IsOwned p) (entries_of s)
   pub spread : Each IsSpread s.sections
-
-abbrev pub has_no_name : InputObject → Bool
-has_no_name x = length x.name.now == 0

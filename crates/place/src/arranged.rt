@@ -1,13 +1,11 @@
 //! Where everything of a link stands.
 
 ghost use Rattle.std.specs.Prelude.{◌≡◌, IfOk, IfSome, take};
-ghost use Rattle.std.specs.List.{list_any};
 ghost use Rattle.ldmodel.specs.Layout.{Layout};
 ghost use Rattle.ldmodel.specs.Project.{Project};
 ghost use Rattle.place.specs.LinkLayout.{IsLinkLayout};
 ghost use Rattle.ldmodel.specs.Rows as model;
 ghost use Rattle.ldmodel_project.specs.ByPlace.{rows_in};
-ghost use Rattle.place.specs.InPlace.{has_no_name};
 ghost use Rattle.place.specs.Columns.{AreOwners};
 ghost use Rattle.gather.specs.sections.SectionTable.{IsTableOf};
 
@@ -25,7 +23,6 @@ use ldmodel::rows::Piece;
 use ldmodel::sections::{Part, SectionKey};
 use ldmodel_laws::gathering::{live_by_path, once_in_rows};
 use ldmodel_laws::layout::{nothing_meets, placed_are_rows};
-use ldmodel_project::input::InputObject;
 use ldmodel_project::view::ProjectView;
 use std::alloc::Global;
 
@@ -53,13 +50,6 @@ pub struct Arranged {
     entries: Vec<Entry>,
     /// For each number of the table which of the entries is its own; the number of entries where none is.
     owners: Vec<u32>,
-}
-
-/// Whether one of these objects has no name.
-fn has_unnamed(inputs: &[InputObject<'_>]) -> bool
-    ensures { result ≡ list_any has_no_name inputs.now }
-{
-    inputs.iter().any(|input| input.name.is_empty())
 }
 
 /// For each number of a table which entry is the first one of it; the number of entries where none is. Fails where
@@ -112,10 +102,7 @@ impl Arranged {
         live_by_path();
         sections_of_objects();
         are_numbered(project);
-        if has_unnamed(project.inputs()) {
-            // The name of an object has 1 to 255 bytes, but the contract of a project does not say so
-            return Err(impossible());
-        }
+        project.objects_are_named();
         let entries = collect(alloc, &rows, link_layout.placement.pieces())?;
         let owners = owners(alloc, &table, &entries)?;
         Ok(Arranged {

@@ -27,7 +27,7 @@ use Rattle.ldscript.specs.statements.declared.statement.Statement.{Statement}
 use Rattle.relink_link.specs.Counted.{IsImageCount}
 use Rattle.relink_link.specs.Worked.{IsLinkWork, IsWorkBeside}
 use Rattle.relink.specs.Answer.{is_good, shown}
-use Rattle.relink.specs.Last.{HasFollowed, IsCurrent, IsFrom, IsLast, lent, lent_with, origin_of}
+use Rattle.relink.specs.Last.{HasFollowed, IsCurrent, IsEffect, IsFrom, IsLast, lent, lent_with, origin_of}
 use Rattle.relink.specs.Work.{HasWorked, IsCounted, IsReadingWork, IsWholeWork, decided_by}
 use Rattle.relink.specs.declared.answer.Answer.{Answer}
 use Rattle.relink.specs.declared.answer.Answer.TheVariants as answer
@@ -35,7 +35,7 @@ use Rattle.relink.specs.declared.last.Effect.{Effect}
 use Rattle.relink.specs.declared.last.Followed.{Followed}
 use Rattle.relink.specs.declared.last.Followed.TheVariants.{Faulty, Good, Retouched}
 use Rattle.relink.specs.declared.last.LastGood.{LastGood}
-use Rattle.relink.proofs.Lending.{IsEffect, IsFollowing, from_edit, is_last_of, none_of_last}
+use Rattle.relink.proofs.Lending.{IsFollowing, from_edit, is_last_of, none_of_last}
 use Rattle.relink.proofs.Succession.{is_next}
 use Rattle.relink.proofs.FirstChanged.{fewer, same_before}
 use Rattle.relink.proofs.Working.{AreSmall, ReadsObjects, read_alone, rises_by}
@@ -211,11 +211,11 @@ whole_work h s same bytes new a e last from f change m0 m1 m2 given answers orig
     exact leaves reading = (
       reading,
       (λ t u zero zero_too laid laid_too.
-          (between a last from f e.known refl given.effect given.kept answers origins followed worked t u zero zero_too laid
-          laid_too).0),
+          (between a last from f e.known refl given.effect given.kept answers origins followed worked t u zero zero_too
+          laid laid_too).0),
       (λ t u zero zero_too laid laid_too. inr
-          (between a last from f e.known refl given.effect given.kept answers origins followed worked t u zero zero_too laid
-          laid_too).1),
+          (between a last from f e.known refl given.effect given.kept answers origins followed worked t u zero zero_too
+          laid laid_too).1),
     )
   where
     p : Project

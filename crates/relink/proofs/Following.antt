@@ -210,15 +210,6 @@ kept_scripted h s a b ms all arranged touched kept same names matched = record {
   matches = matched;
 }
 
--- and where the old script is decided for again
-pub kept_again : (h : Holding) (a d : SymbolTableState) (ms : List Matches) → IsKept (listing_of h) a ms
-    → d.kept.names ≡ a.kept.names → AreKept h.script d.kept → IsKept (listing_of h) d ms
-kept_again h a d ms kept same names = record {
-  tables = ap (λ n. n.objects) same ∙ kept.tables;
-  names = names;
-  matches = kept.matches;
-}
-
 -- what is kept of no objects
 no_entries : (es : List Entry) → objects_of es ≡ [] → es ≡ []
 no_entries [] h = refl

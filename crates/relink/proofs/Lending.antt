@@ -28,11 +28,11 @@ use Rattle.ldmodel_project.specs.declared.staged.Step.TheVariants.{Put, Remove, 
 use Rattle.ldscript.specs.statements.declared.statement.Statement.{Statement}
 use Rattle.relink_link.specs.Ended.{HasLast, IsGoodEnd}
 use Rattle.relink_link.specs.Retouched.{IsRetouchedEnd}
-use Rattle.relink.specs.Answer.{is_good, shown}
+use Rattle.relink.specs.Answer.{shown}
 use Rattle.relink.specs.Kept.{IsKept}
-use Rattle.relink.specs.Last.{HasFollowed, HasKept, IsAfterFault, IsCurrent, IsEndOf, IsFrom, IsLast, IsRenewed}
-use Rattle.relink.specs.Last.{IsRetouchedBy, IsSince}
-use Rattle.relink.specs.Last.{Knows, PutsByName, PutsNoneOf, PutsSame, lent, lent_with, lost_key}
+use Rattle.relink.specs.Last.{HasFollowed, HasKept, IsAfterFault, IsCurrent, IsEffect, IsEndOf, IsFrom, IsLast}
+use Rattle.relink.specs.Last.{IsRenewed, IsRetouchedBy, IsSince}
+use Rattle.relink.specs.Last.{PutsByName, PutsNoneOf, PutsSame, lent, lent_with, lost_key}
 use Rattle.relink.specs.Last.{origin_of, replaced_by, replaced_in, without}
 use Rattle.relink.specs.declared.answer.Answer.{Answer}
 use Rattle.relink.specs.declared.answer.Answer.TheVariants as answer
@@ -63,16 +63,6 @@ pub record IsKnownEdit (h : Holding) (s : Staged) (same : Bool) : Type 0 where
   pub other : same ≡ false → PutsNoneOf (objects_of h.contents.entries) s.objects.step
   pub named : PutsByName h.contents.entries s.objects.step
 
--- and of what it means to the last link
-pub record IsEffect (h : Holding) (s : Staged) (same : Bool) (a : Answer) (last : Option LastGood) (e : Effect)
-    : Type 0 where
-  pub current : is_good a ≡ true → e.known ≡ true
-  pub knows : is_good a ≡ false → e.known ≡ true → IfSome last (λ x. Knows x h.contents.entries s.objects.step)
-  pub lost : e.gone ≡ lost_key same s.objects.step
-  pub answered : e.is_current ≡ is_good a
-  pub changed : e.same_script ≡ true → s.script ≡ None
-  pub stays : s.script ≡ None → e.same_script ≡ true
-
 -- what is known where an edit is linked over the last link
 pub record IsFollowing (h : Holding) (s : Staged) (same : Bool) (bytes : List ℕ) (a : Answer) (last : Option LastGood)
     (e : Effect) : Type 0 where
@@ -88,13 +78,10 @@ pub following : (before h : Holding) (s : Staged) (same : Bool) (bytes : List �
     → ((es : List Entry) (key : ℕ) → is_some (position (nat_eq key) (keys_of es)) ≡ is_some (found_under es key))
     → (same ≡ true → PutsSame h.contents.entries s.objects.step)
     → (same ≡ false → PutsNoneOf (objects_of h.contents.entries) s.objects.step)
-    → PutsByName h.contents.entries s.objects.step → (is_good a ≡ true → e.known ≡ true)
-    → (is_good a ≡ false → e.known ≡ true → IfSome last (λ x. Knows x h.contents.entries s.objects.step))
-    → e.is_current ≡ is_good a
-    → e.gone ≡ lost_key same s.objects.step → (e.same_script ≡ true → s.script ≡ None)
-    → (s.script ≡ None → e.same_script ≡ true) → IsFollowing h s same bytes a last e
+    → PutsByName h.contents.entries s.objects.step → IsEffect h s same a last e
+    → IsFollowing h s same bytes a last e
 following before h s same bytes a last e l keys more kept fits arranged is found are distinct placed puts other named
-    current knows answered lost changed stays = record {
+    effect = record {
       edit = record {
         found = λ key. sym (ap (λ (x : Listing). found_under x.entries key) is) ∙ found key;
         keys = subst (λ (x : Listing). AreKeysDistinct (keys_of x.entries)) is (subst AreKeysDistinct are distinct);
@@ -105,14 +92,7 @@ following before h s same bytes a last e l keys more kept fits arranged is found
         other = other;
         named = named;
       };
-      effect = record {
-        current = current;
-        knows = knows;
-        lost = lost;
-        answered = answered;
-        changed = changed;
-        stays = stays;
-      };
+      effect = effect;
       kept = subst (λ (x : Listing). IsLast x bytes a last) (same_listing before h more) kept;
     }
 
@@ -360,8 +340,8 @@ renewed_with h s same bytes new (answer.Good m) e x y u v edit are is effect fro
           table = subst (λ g. IsTable (record { project = q; layout = by.end.layout }) g) (sym good_is) by.end.table;
           names = subst (λ (ns : List _). map (λ v. v.items) ns ≡ map (λ (o : NamedObject). o.name) q.objects)
               (sym (ap (λ v. v.items) renewed.1)) (is.kept.names ∙ sym (by.end.names old of_last));
-          since = subst (λ (w : Vec (Option ℕ) Global). IsSince q.objects (origin_of w.items) (next_listing h s).entries)
-              (sym renewed.3) by.since;
+          since = subst (λ (w : Vec (Option ℕ) Global). IsSince q.objects (origin_of w.items)
+              (next_listing h s).entries) (sym renewed.3) by.since;
           options = refl;
           script = λ stays. refl;
           image = by.end.image;

@@ -10,3 +10,4 @@ mod Lending
 mod FirstChanged
 mod Working
 mod Bounding
+mod Followed

@@ -12,12 +12,14 @@ use Rattle.ldmodel.specs.Image.{image}
 use Rattle.ldmodel.specs.Link.{link}
 use Rattle.ldmodel.specs.Project.{NamedObject}
 use Rattle.ldmodel.specs.Stayed.{GoodLink}
-use Rattle.ldmodel_project.specs.Holding.{Listing, project_of}
+use Rattle.ldmodel_project.specs.Holding.{Holding, Listing, project_of}
 use Rattle.ldmodel_project.specs.Listing.{Entry, found_under, objects_of}
 use Rattle.ldmodel_project.specs.Touched.{is_other}
+use Rattle.ldmodel_project.specs.declared.staged.Staged.{Staged}
 use Rattle.ldmodel_project.specs.declared.staged.StagedObjects.{StagedObjects}
 use Rattle.ldmodel_project.specs.declared.staged.Step.{Step}
 use Rattle.ldmodel_project.specs.declared.staged.Step.TheVariants.{Put, Remove, Move, Stay}
+use Rattle.relink.specs.Answer.{is_good}
 use Rattle.relink.specs.declared.answer.Answer.{Answer}
 use Rattle.relink.specs.declared.answer.Answer.TheVariants as answer
 use Rattle.relink.specs.declared.last.Effect.{Effect}
@@ -126,6 +128,22 @@ abbrev pub Knows : LastGood → List Entry → Step → Type 0
 Knows x es step =
     (old : List NamedObject) → map (λ v. v.items) x.names.items ≡ map (λ (o : NamedObject). o.name) old
     → IsSince old (origin_of x.origins.items) es → PutsNoneOf old step
+
+-- what an edit means to the last link, where it puts an object over the same one or another
+pub record IsEffect (h : Holding) (s : Staged) (same : Bool) (a : Answer) (last : Option LastGood) (e : Effect)
+    : Type 0 where
+  -- where the answer has no faults, what comes is known to be none of the last link's objects
+  pub current : is_good a ≡ true → e.known ≡ true
+  -- where it has faults, what is known to be none of them is none of them
+  pub knows : is_good a ≡ false → e.known ≡ true → IfSome last (λ x. Knows x h.contents.entries s.objects.step)
+  -- the key that has no origin any more is the one under which an object comes or goes
+  pub lost : e.gone ≡ lost_key same s.objects.step
+  -- the last link is the one that is answered where the answer has no faults
+  pub answered : e.is_current ≡ is_good a
+  -- where the script is said to stay, the edit leaves it
+  pub changed : e.same_script ≡ true → s.script ≡ None
+  -- where the edit leaves it, it is said to stay
+  pub stays : s.script ≡ None → e.same_script ≡ true
 
 -- an object of the link, and the place of the one that comes in its place, where there are both
 abbrev pub replaced_by : Option ℕ → Option ObjectData → Option ℕ → Option ReplacedState

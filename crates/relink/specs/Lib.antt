@@ -6,3 +6,4 @@ pub mod Kept
 pub mod Work
 pub mod Last
 pub mod Answer
+pub mod Follow

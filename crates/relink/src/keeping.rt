@@ -1,21 +1,12 @@
 //! What a session keeps of a project beside the project and its link, and how it follows an edit.
 
-ghost use Rattle.std.specs.Prelude.{◌≡◌, ◌+◌, ◌≤◌, IfOk, IfSome, List, None, OnErr, OnOk, Some};
-ghost use Rattle.std.specs.Prelude.{vec_capacity, vec_len};
+ghost use Rattle.std.specs.Prelude.{◌≡◌, IfOk, List, None, OnErr, Some};
 ghost use Rattle.relink_link.specs.Stays.{last_of};
-ghost use Rattle.symres.specs.decisions.Change.{Fits as FitsTables, IsReadyFor};
+ghost use Rattle.symres.specs.decisions.Change.{Fits as FitsTables};
 ghost use Rattle.symres.specs.decisions.Decisions.{AreKept};
-ghost use Rattle.ldmodel_project.specs.Holding.{TouchesOne, listing_of, next_listing, project_of};
-ghost use Rattle.ldmodel_project.specs.Listing.{found_under, keys_of};
-ghost use Rattle.ldmodel_project.specs.Next.{Fits, touched_key};
-ghost use Rattle.ldmodel_project.specs.Touched.{IsArranged};
-ghost use Rattle.relink.specs.Change.{names_of_edit};
-ghost use Rattle.relink.specs.Kept.{IsKept};
-ghost use Rattle.relink.specs.Last.{HasFollowed};
-ghost use Rattle.relink.specs.Matches.{IsMatchedOr};
-ghost use Rattle.relink.specs.Work.{Decides, HasWorked};
+ghost use Rattle.ldmodel_project.specs.Next.{touched_key};
+ghost use Rattle.relink.specs.Follow.{CanFollow, HasRoom, IsFollowed, IsPutBack, KeepsObjects};
 ghost use Rattle.ldscript.specs.statements.declared.statement.Statement.{Statement};
-ghost use Rattle.relink_link.specs.Ended.{HasLast};
 
 use crate::change::{object_change, place_of};
 use crate::last::Followed;
@@ -82,14 +73,8 @@ impl LinkTables {
     ) -> Result<Coming, NoMemory>
         requires fits { FitsTables self.old.symbol_table.kept.names.objects change.now }
         requires kept { AreKept next.now.script self.old.symbol_table.kept }
-        ensures tables { self.new.symbol_table.kept.names.objects ≡ self.old.symbol_table.kept.names.objects }
-        ensures names { AreKept next.now.script self.new.symbol_table.kept }
-        ensures matches { self.new.matches.items ≡ self.old.matches.items }
-        ensures room { OnOk result (vec_len self.new.matches + 2 ≤ vec_capacity self.new.matches) }
-        ensures ready { OnOk result (IsReadyFor self.new.symbol_table.kept change.now) }
-        ensures order { IfOk result (λ c. c.order ≡ keys_of next.now.entries) }
-        ensures coming { IfOk result (λ c.
-            IsMatchedOr next.now.script (found_under next.now.entries change.now.key.0) c.matches) }
+        ensures same { KeepsObjects next.now.script self.old self.new }
+        ensures room { IfOk result (HasRoom next.now change.now self.new) }
     {
         let order = Order::of(alloc, next.keys())?;
         let matches = match_under(alloc, next, change.key)?;
@@ -110,35 +95,20 @@ impl LinkTables {
         canvas: &mut Canvas,
         meter: &mut Meter,
     ) -> Result<Followed, NoMemory>
-        requires fits { Fits project.now.contents staged.now.objects }
-        requires arranged { IsArranged project.now.contents.entries staged.now.objects }
-        requires one { TouchesOne staged.now }
+        requires given { CanFollow project.now staged.now self.old (last_of last) canvas.old.bytes }
         requires touched { touched_key staged.now.objects.step ≡ Some key.0 }
-        requires kept { IsKept (listing_of project.now) self.old.symbol_table self.old.matches.items }
-        requires last { IfSome (last_of last)
-            (HasLast (project_of (next_listing project.now staged.now)) canvas.old.bytes) }
-        ensures followed { IfOk result (HasFollowed (next_listing project.now staged.now) (last_of last.entry)
-            canvas.old.bytes canvas.new.bytes) }
-        ensures unchanged { OnErr result (canvas.new.bytes ≡ canvas.old.bytes) }
-        ensures kept { OnOk result (IsKept (next_listing project.now staged.now) self.new.symbol_table
-            self.new.matches.items) }
-        ensures back { OnErr result (IsKept (listing_of project.now) self.new.symbol_table self.new.matches.items) }
-        ensures decides { OnOk result (Decides meter.old meter.new
-            (names_of_edit project.now.contents.entries staged.now.objects)) }
-        ensures worked { IfOk result (HasWorked (project_of (next_listing project.now staged.now))
-            (last_of last.entry) meter.old meter.new) }
+        ensures followed { IfOk result (IsFollowed project.now staged.now (last_of last.entry) self.new
+            canvas.old.bytes canvas.new.bytes meter.old meter.new) }
+        ensures back { OnErr result (IsPutBack project.now self.new canvas.old.bytes canvas.new.bytes) }
     {
-        // so that the range of the count is known
-        let _names = meter.names();
         let next = project.next(staged);
+        let script = next.script();
         let change = object_change(project, &next, staged, key);
         let coming = self.make_room(alloc, &next, &change)?;
         let Coming { order, matches } = coming;
         let out = place_of(change.out);
         let into = place_of(change.into);
-        let order = self
-            .symbol_table
-            .change(next.script(), &change, order, meter);
+        let order = self.symbol_table.change(script, &change, order, meter);
         let gone = exchange(&mut self.matches, out, into, matches);
         match link_next(
             alloc,
@@ -156,7 +126,7 @@ impl LinkTables {
             }
             Err(refused) => {
                 exchange(&mut self.matches, into, out, gone);
-                self.symbol_table.undo(next.script(), &change, order, meter);
+                self.symbol_table.undo(script, &change, order, meter);
                 Err(refused)
             }
         }
@@ -173,25 +143,12 @@ impl LinkTables {
         canvas: &mut Canvas,
         meter: &mut Meter,
     ) -> Result<Followed, NoMemory>
-        requires fits { Fits project.now.contents staged.now.objects }
-        requires arranged { IsArranged project.now.contents.entries staged.now.objects }
+        requires given { CanFollow project.now staged.now self.old (last_of last) canvas.old.bytes }
         requires touched { touched_key staged.now.objects.step ≡ None }
-        requires kept { IsKept (listing_of project.now) self.old.symbol_table self.old.matches.items }
-        requires last { IfSome (last_of last)
-            (HasLast (project_of (next_listing project.now staged.now)) canvas.old.bytes) }
-        ensures followed { IfOk result (HasFollowed (next_listing project.now staged.now) (last_of last.entry)
-            canvas.old.bytes canvas.new.bytes) }
-        ensures unchanged { OnErr result (canvas.new.bytes ≡ canvas.old.bytes) }
-        ensures kept { OnOk result (IsKept (next_listing project.now staged.now) self.new.symbol_table
-            self.new.matches.items) }
-        ensures back { OnErr result (IsKept (listing_of project.now) self.new.symbol_table self.new.matches.items) }
-        ensures decides { OnOk result (Decides meter.old meter.new
-            (names_of_edit project.now.contents.entries staged.now.objects)) }
-        ensures worked { IfOk result (HasWorked (project_of (next_listing project.now staged.now))
-            (last_of last.entry) meter.old meter.new) }
+        ensures followed { IfOk result (IsFollowed project.now staged.now (last_of last.entry) self.new
+            canvas.old.bytes canvas.new.bytes meter.old meter.new) }
+        ensures back { OnErr result (IsPutBack project.now self.new canvas.old.bytes canvas.new.bytes) }
     {
-        // so that the range of the count is known
-        let _names = meter.names();
         let next = project.next(staged);
         let inputs = next.inputs(alloc)?;
         let matches = match_all(alloc, &next.view(&inputs))?;
@@ -230,22 +187,10 @@ impl LinkTables {
         canvas: &mut Canvas,
         meter: &mut Meter,
     ) -> Result<Followed, NoMemory>
-        requires fits { Fits project.now.contents staged.now.objects }
-        requires arranged { IsArranged project.now.contents.entries staged.now.objects }
-        requires one { TouchesOne staged.now }
-        requires kept { IsKept (listing_of project.now) self.old.symbol_table self.old.matches.items }
-        requires last { IfSome (last_of last)
-            (HasLast (project_of (next_listing project.now staged.now)) canvas.old.bytes) }
-        ensures followed { IfOk result (HasFollowed (next_listing project.now staged.now) (last_of last.entry)
-            canvas.old.bytes canvas.new.bytes) }
-        ensures unchanged { OnErr result (canvas.new.bytes ≡ canvas.old.bytes) }
-        ensures kept { OnOk result (IsKept (next_listing project.now staged.now) self.new.symbol_table
-            self.new.matches.items) }
-        ensures back { OnErr result (IsKept (listing_of project.now) self.new.symbol_table self.new.matches.items) }
-        ensures decides { OnOk result (Decides meter.old meter.new
-            (names_of_edit project.now.contents.entries staged.now.objects)) }
-        ensures worked { IfOk result (HasWorked (project_of (next_listing project.now staged.now))
-            (last_of last.entry) meter.old meter.new) }
+        requires { CanFollow project.now staged.now self.old (last_of last) canvas.old.bytes }
+        ensures followed { IfOk result (IsFollowed project.now staged.now (last_of last.entry) self.new
+            canvas.old.bytes canvas.new.bytes meter.old meter.new) }
+        ensures back { OnErr result (IsPutBack project.now self.new canvas.old.bytes canvas.new.bytes) }
     {
         match staged.touched() {
             Some(key) => self.follow_object(alloc, project, staged, key, last, canvas, meter),

@@ -1,12 +1,11 @@
 //! The last link without faults, which outlives edits: what is kept of it, and which of its objects are still there.
 
-ghost use Rattle.std.specs.Prelude.{◌≡◌, ℕ, IfOk, IfSome, List, None, Some, false, map, slice_get, true};
+ghost use Rattle.std.specs.Prelude.{◌≡◌, ℕ, IfOk, IfSome, List, None, Some, map, slice_get, true};
 ghost use Rattle.std.specs.Option.{option_copied, option_map};
 ghost use Rattle.relink_link.specs.Stays.{last_of, replaced_state};
 ghost use Rattle.ldmodel.specs.Project.{NamedObject};
 ghost use Rattle.ldmodel_project.specs.Listing.{keys_of};
-ghost use Rattle.relink.specs.Answer.{is_good};
-ghost use Rattle.relink.specs.Last.{IsAfterFault, IsEndOf, IsFrom, IsNamedAt, IsNoneOf, IsRenewed, IsSince};
+ghost use Rattle.relink.specs.Last.{IsAfterFault, IsEffect, IsEndOf, IsFrom, IsNamedAt, IsNoneOf, IsRenewed, IsSince};
 ghost use Rattle.relink.specs.Last.{Knows, PutsNoneOf, changed_key, lent, lost_key, origin_of, replaced_by};
 ghost use Rattle.relink.specs.Last.{replaced_in, without};
 
@@ -278,13 +277,7 @@ pub(crate) fn effect_of(
     staged: &Staged,
     same: bool,
 ) -> Effect
-    ensures current { is_good answer.now ≡ true → result.known ≡ true }
-    ensures knows { is_good answer.now ≡ false → result.known ≡ true
-        → IfSome last.now (λ x. Knows x project.now.contents.entries staged.now.objects.step) }
-    ensures answered { result.is_current ≡ is_good answer.now }
-    ensures gone { result.gone ≡ lost_key same staged.now.objects.step }
-    ensures changed { result.same_script ≡ true → staged.now.script ≡ None }
-    ensures stays { staged.now.script ≡ None → result.same_script ≡ true }
+    ensures { IsEffect project.now staged.now same answer.now last.now result }
 {
     Effect {
         known: answer.is_good() || is_known(last, project, staged),

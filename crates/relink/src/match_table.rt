@@ -1,6 +1,6 @@
 //! The matches of all objects, in the order of the objects.
 
-ghost use Rattle.std.specs.Prelude.{◌≡◌, ◌+◌, ◌<◌, ◌≤◌, IfOk, IfSome, is_some, vec_capacity, vec_len};
+ghost use Rattle.std.specs.Prelude.{◌≡◌, ◌+◌, ◌<◌, ◌≤◌, IfOk, IfSome, vec_capacity, vec_len};
 ghost use Rattle.ldmodel_project.specs.Listing.{found_under};
 ghost use Rattle.relink.specs.Matches.{IsMatchedOr, exchanged, gone_at, put_at, taken_at};
 

@@ -4,29 +4,29 @@ use Rattle.gather.specs.declared.matches.Matches.{Matches}
 use Rattle.relink_link.specs.Stays.{last_of}
 use Rattle.symres.specs.decisions.Change.{Table, changed_tables}
 use Rattle.symres.specs.decisions.Decisions.{AreKept}
-use Rattle.ldmodel_project.specs.Holding.{Listing, next_listing, project_of}
+use Rattle.ldmodel_project.specs.Holding.{Listing, next_listing}
 use Rattle.ldmodel_project.specs.Listing.{keys_of}
 use Rattle.ldmodel_project.specs.Next.{next_entries}
 use Rattle.ldscript.specs.statements.declared.statement.Statement.{Statement}
 use Rattle.relink.specs.Change.{place_at}
 use Rattle.relink.specs.Kept.{IsKept}
 use Rattle.relink.specs.Matches.{exchanged, gone_at}
-use Rattle.relink.specs.Work.{HasWorked}
-use Rattle.relink.proofs.Bounding.{names_link_nothing, worked_from}
 use Rattle.relink.proofs.Exchanged.{MayStand, Stands, added_within, exchanged_as, gone_as, into_within, may_after}
 use Rattle.relink.proofs.Exchanged.{out_within, stands_after}
 use Rattle.relink.proofs.Following.{both_come, coming_of, kept_after, kept_back, kept_forgetting}
 use Rattle.relink.proofs.Following.{keys_of_tables, may_stand, same_script, stands}
+use Rattle.relink.proofs.Followed.{is_followed, names_of_change}
 use Rattle.relink.proofs.keeping.LinkTables.follow_object.Goals as goal
 
 pub change-order-requires-clause-order : goal.change-order-requires-clause-order
 change-order-requires-clause-order c =
     let x = c.object_change-change.result in
-    c.in_ok-coming.ensures.order
+    c.in_ok-coming.ensures.room.order
     ∙ (ap (λ (l : Listing). keys_of l.entries) c.next-next.ensures.next
     ∙ (sym (keys_of_tables (next_entries c.args.project.now.contents.entries c.args.staged.now.objects))
     ∙ ap (map (λ (t : Table). t.0))
-    (sym (ap (λ (ts : List Table). changed_tables ts x) (c.make_room.ensures.tables ∙ c.requires.kept.tables)
+    (sym (ap (λ (ts : List Table). changed_tables ts x)
+    (c.make_room.ensures.same.objects ∙ c.requires.given.kept.tables)
     ∙ c.object_change-change.ensures.tables))))
 
 pub exchange-gone-requires-clause-out : goal.exchange-gone-requires-clause-out
@@ -34,10 +34,10 @@ exchange-gone-requires-clause-out c =
     let v = c.make_room.new.self.matches in
     let ms : List Matches = c.args.self.now.matches.items in
     let there = stands c.args.project.now c.args.staged.now c.args.key.0 c.object_change-change.result
-    c.args.self.now.symbol_table ms c.object_change-change.ensures c.requires.kept in
+    c.args.self.now.symbol_table ms c.object_change-change.ensures c.requires.given.kept in
     out_within ms c.place_of-out.result (vec_len v)
     (subst (λ (p : Option ℕ). Stands ms p) (sym c.place_of-out.ensures) there)
-    (omega (arith, v.ok.0, v.ok.1, ap (λ (l : List Matches). length l) c.make_room.ensures.matches))
+    (omega (arith, v.ok.0, v.ok.1, ap (λ (l : List Matches). length l) c.make_room.ensures.same.matches))
 
 pub exchange-gone-requires-clause-into : goal.exchange-gone-requires-clause-into
 exchange-gone-requires-clause-into c =
@@ -45,15 +45,15 @@ exchange-gone-requires-clause-into c =
     let ms : List Matches = c.args.self.now.matches.items in
     let x = c.object_change-change.result in
     let there = stands c.args.project.now c.args.staged.now c.args.key.0 x
-    c.args.self.now.symbol_table ms c.object_change-change.ensures c.requires.kept in
+    c.args.self.now.symbol_table ms c.object_change-change.ensures c.requires.given.kept in
     let may = may_stand c.args.project.now c.args.staged.now c.args.key.0 x
-    c.args.self.now.symbol_table ms c.requires.arranged c.requires.touched c.object_change-change.ensures
-    c.requires.kept in
+    c.args.self.now.symbol_table ms c.requires.given.arranged c.requires.touched c.object_change-change.ensures
+    c.requires.given.kept in
     into_within ms c.place_of-out.result c.place_of-into.result (vec_len v)
     (subst (λ (p : Option ℕ). Stands ms p) (sym c.place_of-out.ensures) there)
     (subst (λ (p : Option ℕ). MayStand ms p c.place_of-into.result) (sym c.place_of-out.ensures)
     (subst (λ (q : Option ℕ). MayStand ms (place_at x.out) q) (sym c.place_of-into.ensures) may))
-    (omega (arith, v.ok.0, v.ok.1, ap (λ (l : List Matches). length l) c.make_room.ensures.matches))
+    (omega (arith, v.ok.0, v.ok.1, ap (λ (l : List Matches). length l) c.make_room.ensures.same.matches))
 
 pub exchange-gone-requires-clause-added : goal.exchange-gone-requires-clause-added
 exchange-gone-requires-clause-added c =
@@ -61,13 +61,13 @@ exchange-gone-requires-clause-added c =
     let ms : List Matches = c.args.self.now.matches.items in
     let x = c.object_change-change.result in
     let there = stands c.args.project.now c.args.staged.now c.args.key.0 x
-    c.args.self.now.symbol_table ms c.object_change-change.ensures c.requires.kept in
+    c.args.self.now.symbol_table ms c.object_change-change.ensures c.requires.given.kept in
     let may = may_stand c.args.project.now c.args.staged.now c.args.key.0 x
-    c.args.self.now.symbol_table ms c.requires.arranged c.requires.touched c.object_change-change.ensures
-    c.requires.kept in
+    c.args.self.now.symbol_table ms c.requires.given.arranged c.requires.touched c.object_change-change.ensures
+    c.requires.given.kept in
     added_within ms (place_at x.out) c.place_of-into.result (vec_len v) there
     (subst (λ (q : Option ℕ). MayStand ms (place_at x.out) q) (sym c.place_of-into.ensures) may)
-    (omega (arith, v.ok.0, v.ok.1, ap (λ (l : List Matches). length l) c.make_room.ensures.matches))
+    (omega (arith, v.ok.0, v.ok.1, ap (λ (l : List Matches). length l) c.make_room.ensures.same.matches))
 
 pub link_next-requires-clause-kept : goal.link_next-requires-clause-kept
 link_next-requires-clause-kept c =
@@ -78,14 +78,16 @@ link_next-requires-clause-kept c =
     let coming = c.in_ok-coming.coming.matches in
     let items = c.exchange-gone.ensures.items
     ∙ exchanged_as c.make_room.new.self.matches.items ms c.place_of-out.result (place_at x.out) c.place_of-into.result
-    (place_at x.into) coming coming c.make_room.ensures.matches c.place_of-out.ensures c.place_of-into.ensures refl in
+    (place_at x.into) coming coming c.make_room.ensures.same.matches c.place_of-out.ensures c.place_of-into.ensures refl
+    in
     let after = kept_after h s c.args.key.0 x c.args.self.now.symbol_table c.change-order.new.self ms coming
-    c.requires.arranged c.requires.one c.requires.touched c.object_change-change.ensures c.requires.kept
-    (c.change-order.ensures.objects ∙ ap (λ (ts : List Table). changed_tables ts x) c.make_room.ensures.tables)
+    c.requires.given.arranged c.requires.given.one c.requires.touched c.object_change-change.ensures
+    c.requires.given.kept
+    (c.change-order.ensures.objects ∙ ap (λ (ts : List Table). changed_tables ts x) c.make_room.ensures.same.objects)
     (subst (λ (t : List Statement). AreKept t c.change-order.new.self.kept)
-    (c.script.ensures ∙ ap (λ (l : Listing). l.script) c.next-next.ensures.next) c.change-order.ensures.kept)
+    (c.script-script.ensures ∙ ap (λ (l : Listing). l.script) c.next-next.ensures.next) c.change-order.ensures.kept)
     (coming_of h s c.args.key.0 c.next-next.result x coming c.next-next.ensures.next c.object_change-change.ensures.is
-    c.in_ok-coming.ensures.coming) in
+    c.in_ok-coming.ensures.room.coming) in
     subst (λ (l : Listing). IsKept l c.change-order.new.self c.deref.result.now) (sym c.next-next.ensures.next)
     (subst (λ (l : List Matches). IsKept (next_listing h s) c.change-order.new.self l)
     (sym (c.deref.ensures.value ∙ items)) after)
@@ -100,12 +102,13 @@ exchange-requires-clause-out c =
     let coming = c.in_ok-coming.coming.matches in
     let items = c.exchange-gone.ensures.items
     ∙ exchanged_as c.make_room.new.self.matches.items ms c.place_of-out.result (place_at x.out) c.place_of-into.result
-    (place_at x.into) coming coming c.make_room.ensures.matches c.place_of-out.ensures c.place_of-into.ensures refl in
-    let may = may_stand h s c.args.key.0 x c.args.self.now.symbol_table ms c.requires.arranged c.requires.touched
-    c.object_change-change.ensures c.requires.kept in
+    (place_at x.into) coming coming c.make_room.ensures.same.matches c.place_of-out.ensures c.place_of-into.ensures refl
+    in
+    let may = may_stand h s c.args.key.0 x c.args.self.now.symbol_table ms c.requires.given.arranged
+    c.requires.touched c.object_change-change.ensures c.requires.given.kept in
     let both = both_come h s c.args.key.0 x coming c.object_change-change.ensures
     (coming_of h s c.args.key.0 c.next-next.result x coming c.next-next.ensures.next c.object_change-change.ensures.is
-    c.in_ok-coming.ensures.coming) in
+    c.in_ok-coming.ensures.room.coming) in
     let last : List Matches = exchanged ms (place_at x.out) (place_at x.into) coming in
     out_within last c.place_of-into.result (vec_len v)
     (subst (λ (q : Option ℕ). Stands last q) (sym c.place_of-into.ensures)
@@ -122,14 +125,15 @@ exchange-requires-clause-into c =
     let coming = c.in_ok-coming.coming.matches in
     let items = c.exchange-gone.ensures.items
     ∙ exchanged_as c.make_room.new.self.matches.items ms c.place_of-out.result (place_at x.out) c.place_of-into.result
-    (place_at x.into) coming coming c.make_room.ensures.matches c.place_of-out.ensures c.place_of-into.ensures refl in
-    let there = stands h s c.args.key.0 x c.args.self.now.symbol_table ms c.object_change-change.ensures c.requires.kept
+    (place_at x.into) coming coming c.make_room.ensures.same.matches c.place_of-out.ensures c.place_of-into.ensures refl
     in
-    let may = may_stand h s c.args.key.0 x c.args.self.now.symbol_table ms c.requires.arranged c.requires.touched
-    c.object_change-change.ensures c.requires.kept in
+    let there = stands h s c.args.key.0 x c.args.self.now.symbol_table ms c.object_change-change.ensures
+    c.requires.given.kept in
+    let may = may_stand h s c.args.key.0 x c.args.self.now.symbol_table ms c.requires.given.arranged
+    c.requires.touched c.object_change-change.ensures c.requires.given.kept in
     let both = both_come h s c.args.key.0 x coming c.object_change-change.ensures
     (coming_of h s c.args.key.0 c.next-next.result x coming c.next-next.ensures.next c.object_change-change.ensures.is
-    c.in_ok-coming.ensures.coming) in
+    c.in_ok-coming.ensures.room.coming) in
     let last : List Matches = exchanged ms (place_at x.out) (place_at x.into) coming in
     into_within last c.place_of-into.result c.place_of-out.result (vec_len v)
     (subst (λ (q : Option ℕ). Stands last q) (sym c.place_of-into.ensures)
@@ -149,14 +153,15 @@ exchange-requires-clause-added c =
     let coming = c.in_ok-coming.coming.matches in
     let items = c.exchange-gone.ensures.items
     ∙ exchanged_as c.make_room.new.self.matches.items ms c.place_of-out.result (place_at x.out) c.place_of-into.result
-    (place_at x.into) coming coming c.make_room.ensures.matches c.place_of-out.ensures c.place_of-into.ensures refl in
-    let there = stands h s c.args.key.0 x c.args.self.now.symbol_table ms c.object_change-change.ensures c.requires.kept
+    (place_at x.into) coming coming c.make_room.ensures.same.matches c.place_of-out.ensures c.place_of-into.ensures refl
     in
-    let may = may_stand h s c.args.key.0 x c.args.self.now.symbol_table ms c.requires.arranged c.requires.touched
-    c.object_change-change.ensures c.requires.kept in
+    let there = stands h s c.args.key.0 x c.args.self.now.symbol_table ms c.object_change-change.ensures
+    c.requires.given.kept in
+    let may = may_stand h s c.args.key.0 x c.args.self.now.symbol_table ms c.requires.given.arranged
+    c.requires.touched c.object_change-change.ensures c.requires.given.kept in
     let both = both_come h s c.args.key.0 x coming c.object_change-change.ensures
     (coming_of h s c.args.key.0 c.next-next.result x coming c.next-next.ensures.next c.object_change-change.ensures.is
-    c.in_ok-coming.ensures.coming) in
+    c.in_ok-coming.ensures.room.coming) in
     let last : List Matches = exchanged ms (place_at x.out) (place_at x.into) coming in
     added_within last (place_at x.into) c.place_of-out.result (vec_len v)
     (stands_after ms (place_at x.out) (place_at x.into) coming may both)
@@ -164,13 +169,8 @@ exchange-requires-clause-added c =
     (may_after ms (place_at x.out) (place_at x.into) coming there may both))
     (omega (arith, v.ok.0, v.ok.1, ap (λ (l : List Matches). length l) items))
 
-pub undo-requires-clause-kept : goal.undo-requires-clause-kept
-undo-requires-clause-kept c =
-    subst (λ (t : List Statement). AreKept t c.change-order.new.self.kept)
-    (c.script.ensures ∙ sym c.script-in-Err.ensures) c.change-order.ensures.kept
-
-pub returns-in-Ok-clause-kept : goal.returns-in-Ok-clause-kept
-returns-in-Ok-clause-kept c =
+pub returns-in-Ok-clause-followed : goal.returns-in-Ok-clause-followed
+returns-in-Ok-clause-followed c =
     let h = c.args.project.now in
     let s = c.args.staged.now in
     let x = c.object_change-change.result in
@@ -178,28 +178,26 @@ returns-in-Ok-clause-kept c =
     let coming = c.in_ok-coming.coming.matches in
     let items = c.exchange-gone.ensures.items
     ∙ exchanged_as c.make_room.new.self.matches.items ms c.place_of-out.result (place_at x.out) c.place_of-into.result
-    (place_at x.into) coming coming c.make_room.ensures.matches c.place_of-out.ensures c.place_of-into.ensures refl in
+    (place_at x.into) coming coming c.make_room.ensures.same.matches c.place_of-out.ensures c.place_of-into.ensures refl
+    in
     let last : List Matches = exchanged ms (place_at x.out) (place_at x.into) coming in
-    subst (λ (l : List Matches). IsKept (next_listing h s) c.put_in_order_if.new.symbol_table l) (sym items)
+    let kept = subst (λ (l : List Matches). IsKept (next_listing h s) c.put_in_order_if.new.symbol_table l) (sym items)
     (kept_forgetting (next_listing h s) c.change-order.new.self c.put_in_order_if.new.symbol_table last
     (c.put_in_order_if.ensures.tables ∙ c.forget_if.ensures.tables)
     (λ script kept. c.put_in_order_if.ensures.kept script (c.forget_if.ensures.kept script kept))
     (kept_after h s c.args.key.0 x c.args.self.now.symbol_table c.change-order.new.self ms coming
-    c.requires.arranged c.requires.one c.requires.touched c.object_change-change.ensures c.requires.kept
-    (c.change-order.ensures.objects ∙ ap (λ (ts : List Table). changed_tables ts x) c.make_room.ensures.tables)
+    c.requires.given.arranged c.requires.given.one c.requires.touched c.object_change-change.ensures
+    c.requires.given.kept
+    (c.change-order.ensures.objects ∙ ap (λ (ts : List Table). changed_tables ts x) c.make_room.ensures.same.objects)
     (subst (λ (t : List Statement). AreKept t c.change-order.new.self.kept)
-    (c.script.ensures ∙ ap (λ (l : Listing). l.script) c.next-next.ensures.next) c.change-order.ensures.kept)
+    (c.script-script.ensures ∙ ap (λ (l : Listing). l.script) c.next-next.ensures.next) c.change-order.ensures.kept)
     (coming_of h s c.args.key.0 c.next-next.result x coming c.next-next.ensures.next c.object_change-change.ensures.is
-    c.in_ok-coming.ensures.coming)))
-
-pub returns-in-Ok-clause-worked : goal.returns-in-Ok-clause-worked
-returns-in-Ok-clause-worked c =
-    subst (λ (l : Listing). HasWorked (project_of l) (last_of c.args.last) c.args.meter.now c.link_next.new.meter
-    c.in-Ok.followed) c.next-next.ensures.next
-    (worked_from (project_of c.next-next.result) (last_of c.args.last) c.args.meter.now c.change-order.new.meter
-    c.link_next.new.meter c.in-Ok.followed
-    (names_link_nothing c.args.meter.now c.change-order.new.meter _ c.change-order.ensures.counted)
-    c.in-Ok.ensures.worked)
+    c.in_ok-coming.ensures.room.coming))) in
+    is_followed h s (last_of c.args.last) _ c.args.canvas.now.bytes c.link_next.new.canvas.bytes c.args.meter.now
+    c.change-order.new.meter c.link_next.new.meter c.in-Ok.followed c.next-next.result _ c.next-next.ensures.next kept
+    c.change-order.ensures.counted
+    (names_of_change h.contents.entries s.objects c.args.key.0 x c.requires.touched c.object_change-change.ensures)
+    c.in-Ok.ensures.followed c.in-Ok.ensures.reads c.in-Ok.ensures.worked
 
 pub returns-in-Err-clause-back : goal.returns-in-Err-clause-back
 returns-in-Err-clause-back c =
@@ -211,23 +209,28 @@ returns-in-Err-clause-back c =
     let old : List Matches = c.make_room.new.self.matches.items in
     let items = c.exchange-gone.ensures.items
     ∙ exchanged_as old ms c.place_of-out.result (place_at x.out) c.place_of-into.result
-    (place_at x.into) coming coming c.make_room.ensures.matches c.place_of-out.ensures c.place_of-into.ensures refl in
+    (place_at x.into) coming coming c.make_room.ensures.same.matches c.place_of-out.ensures c.place_of-into.ensures refl
+    in
     let gone = c.exchange-gone.ensures.gone
-    ∙ gone_as old ms c.place_of-out.result (place_at x.out) c.make_room.ensures.matches c.place_of-out.ensures in
+    ∙ gone_as old ms c.place_of-out.result (place_at x.out) c.make_room.ensures.same.matches c.place_of-out.ensures in
     let last = c.exchange.ensures.items
     ∙ exchanged_as c.exchange-gone.new.list.items (exchanged ms (place_at x.out) (place_at x.into) coming)
     c.place_of-into.result (place_at x.into) c.place_of-out.result (place_at x.out) c.exchange-gone.result
     (gone_at ms (place_at x.out)) items c.place_of-into.ensures c.place_of-out.ensures gone in
-    kept_back h s c.args.key.0 x c.args.self.now.symbol_table c.change-order.new.self c.undo.new.self ms
-    c.exchange.new.list.items coming c.requires.arranged c.requires.touched c.object_change-change.ensures
-    c.requires.kept
-    (c.change-order.ensures.objects ∙ ap (λ (ts : List Table). changed_tables ts x) c.make_room.ensures.tables)
-    c.undo.ensures.objects
-    (subst (λ (t : List Statement). AreKept t c.undo.new.self.kept)
-    (c.script-in-Err.ensures
-    ∙ (ap (λ (l : Listing). l.script) c.next-next.ensures.next
-    ∙ same_script h s c.args.key.0 c.requires.one c.requires.touched))
-    c.undo.ensures.kept)
-    (coming_of h s c.args.key.0 c.next-next.result x coming c.next-next.ensures.next c.object_change-change.ensures.is
-    c.in_ok-coming.ensures.coming)
-    last
+    record {
+      kept = kept_back h s c.args.key.0 x c.args.self.now.symbol_table c.change-order.new.self c.undo.new.self ms
+          c.exchange.new.list.items coming c.requires.given.arranged c.requires.touched c.object_change-change.ensures
+          c.requires.given.kept
+          (c.change-order.ensures.objects
+          ∙ ap (λ (ts : List Table). changed_tables ts x) c.make_room.ensures.same.objects)
+          c.undo.ensures.objects
+          (subst (λ (t : List Statement). AreKept t c.undo.new.self.kept)
+          (c.script-script.ensures
+          ∙ (ap (λ (l : Listing). l.script) c.next-next.ensures.next
+          ∙ same_script h s c.args.key.0 c.requires.given.one c.requires.touched))
+          c.undo.ensures.kept)
+          (coming_of h s c.args.key.0 c.next-next.result x coming c.next-next.ensures.next
+          c.object_change-change.ensures.is c.in_ok-coming.ensures.room.coming)
+          last;
+      canvas = c.in-Err.ensures.unchanged;
+    }

@@ -1,14 +1,32 @@
-use Rattle.std.proofs.Common.{subst}
+use Rattle.std.proofs.Common.{◌∙◌, List, ap, subst, sym}
+use Rattle.gather.specs.ProjectMatches.{AreMatched}
 use Rattle.relink_link.specs.Stays.{last_of}
+use Rattle.symres.specs.decisions.Counted.{declared_names}
+use Rattle.symres.specs.decisions.Decisions.{AreKept}
+use Rattle.ldmodel.specs.Project.{Project}
 use Rattle.ldmodel_project.specs.Holding.{Listing, project_of}
-use Rattle.relink.specs.Work.{HasWorked}
-use Rattle.relink.proofs.Bounding.{names_link_nothing, worked_from}
+use Rattle.ldscript.specs.statements.declared.statement.Statement.{Statement}
+use Rattle.relink.specs.Change.{names_of_step}
+use Rattle.relink.proofs.Followed.{is_followed}
+use Rattle.relink.proofs.Following.{kept_scripted}
 use Rattle.relink.proofs.keeping.LinkTables.follow_script.Goals as goal
 
-pub returns-in-Ok-clause-worked : goal.returns-in-Ok-clause-worked
-returns-in-Ok-clause-worked c =
-    subst (λ (l : Listing). HasWorked (project_of l) (last_of c.args.last) c.args.meter.now c.link_next.new.meter
-    c.in-Ok.followed) c.next-next.ensures.next
-    (worked_from (project_of c.next-next.result) (last_of c.args.last) c.args.meter.now c.redecide.new.meter
-    c.link_next.new.meter c.in-Ok.followed
-    (names_link_nothing c.args.meter.now c.redecide.new.meter _ c.redecide.ensures.counted) c.in-Ok.ensures.worked)
+pub returns-in-Ok-clause-followed : goal.returns-in-Ok-clause-followed
+returns-in-Ok-clause-followed c =
+    let h = c.args.project.now in
+    let s = c.args.staged.now in
+    let before = c.args.self.now.symbol_table in
+    let after = c.redecide.new.self in
+    let all = c.in_ok-matches.matches.items in
+    let kept = kept_scripted h s before after c.args.self.now.matches.items all c.requires.given.arranged
+    c.requires.touched c.requires.given.kept c.redecide.ensures.names
+    (subst (λ (t : List Statement). AreKept t after.kept)
+    (c.script.ensures ∙ ap (λ (l : Listing). l.script) c.next-next.ensures.next) c.redecide.ensures.kept)
+    (subst (λ (p : Project). AreMatched p all)
+    (c.view.ensures ∙ ap project_of c.next-next.ensures.next) c.in_ok-matches.ensures) in
+    is_followed h s (last_of c.args.last) _ c.args.canvas.now.bytes c.link_next.new.canvas.bytes c.args.meter.now
+    c.redecide.new.meter c.link_next.new.meter c.in-Ok.followed c.next-next.result _ c.next-next.ensures.next kept
+    c.redecide.ensures.counted
+    (ap declared_names c.requires.given.kept.tables
+    ∙ ap (names_of_step h.contents.entries s.objects) (sym c.requires.touched))
+    c.in-Ok.ensures.followed c.in-Ok.ensures.reads c.in-Ok.ensures.worked

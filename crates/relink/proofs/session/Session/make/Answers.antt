@@ -12,6 +12,7 @@ use Rattle.ldmodel_project.specs.declared.staged.Staged.{Staged}
 use Rattle.relink_link.specs.Ended.{HasLast}
 use Rattle.relink.specs.Answer.{shown}
 use Rattle.relink.specs.Change.{names_of_edit}
+use Rattle.relink.specs.Kept.{IsKept}
 use Rattle.relink.specs.Last.{HasFollowed, IsFrom, IsLast}
 use Rattle.relink.specs.Work.{HasWorked, IsWholeWork}
 use Rattle.relink.specs.declared.answer.Answer.{Answer}
@@ -47,8 +48,8 @@ returns-then-is_unchanged-clause-counted c =
     (change_of c.args.edit) c.args.meter.now c.stage.new.meter is is small read
     (c.self.invariant.0 ∙ ap link c.self.view_is) kept
 
-pub follow-requires-clause-last : goal.follow-requires-clause-last
-follow-requires-clause-last c =
+pub follow-requires : goal.follow-requires
+follow-requires c =
     let h : Holding = c.stage.new.self in
     let s : Staged = c.in-Ok.staged in
     let same = c.puts_same-same.result in
@@ -61,14 +62,21 @@ follow-requires-clause-last c =
     c.in-Ok.ensures.same c.self.invariant.2 c.in-Ok.ensures.staged.0 c.in-Ok.ensures.staged.2
     c.next-next.ensures.next c.next-next.ensures.found c.keys-keys.ensures.value c.keys-keys.ensures.distinct
     c.found_where_placed.ensures c.puts_same-same.ensures.same c.puts_same-same.ensures.other
-    c.puts_same-same.ensures.named c.effect_of-effect.ensures.current c.effect_of-effect.ensures.knows
-    c.effect_of-effect.ensures.answered c.effect_of-effect.ensures.gone c.effect_of-effect.ensures.changed c.effect_of-effect.ensures.stays in
+    c.puts_same-same.ensures.named c.effect_of-effect.ensures in
     let next : Listing = next_listing h s in
     let from : IsFrom last e.known e.gone (keys_of next.entries) c.in-Ok-origins_for.from =
     subst (λ (l : Listing). IsFrom last e.known e.gone (keys_of l.entries) c.in-Ok-origins_for.from)
     c.next-next.ensures.next c.in-Ok-origins_for.ensures in
-    subst (λ (x : Option LastState). IfSome x (HasLast (project_of next) bytes)) (sym c.lend-last.ensures)
-    (last_lent h s same bytes a e given.edit last e.known c.in-Ok-origins_for.from refl given.kept given.effect from)
+    record {
+      fits = c.in-Ok.ensures.staged.0;
+      arranged = c.in-Ok.ensures.staged.2;
+      one = c.in-Ok.ensures.staged.3;
+      kept = subst (λ (l : Listing). IsKept l c.self.inside.kept.symbol_table c.self.inside.kept.matches.items)
+          (same_listing c.self.inside.project h c.in-Ok.ensures.same) c.self.invariant.1;
+      last = subst (λ (x : Option LastState). IfSome x (HasLast (project_of next) bytes)) (sym c.lend-last.ensures)
+          (last_lent h s same bytes a e given.edit last e.known c.in-Ok-origins_for.from refl given.kept given.effect
+          from);
+    }
 
 pub invariant_of-self-in-Ok-follow : goal.invariant_of-self-in-Ok-follow
 invariant_of-self-in-Ok-follow c =
@@ -84,8 +92,7 @@ invariant_of-self-in-Ok-follow c =
     c.in-Ok.ensures.same c.self.invariant.2 c.in-Ok.ensures.staged.0 c.in-Ok.ensures.staged.2
     c.next-next.ensures.next c.next-next.ensures.found c.keys-keys.ensures.value c.keys-keys.ensures.distinct
     c.found_where_placed.ensures c.puts_same-same.ensures.same c.puts_same-same.ensures.other
-    c.puts_same-same.ensures.named c.effect_of-effect.ensures.current c.effect_of-effect.ensures.knows
-    c.effect_of-effect.ensures.answered c.effect_of-effect.ensures.gone c.effect_of-effect.ensures.changed c.effect_of-effect.ensures.stays in
+    c.puts_same-same.ensures.named c.effect_of-effect.ensures in
     let next : Listing = next_listing h s in
     let from : IsFrom last e.known e.gone (keys_of next.entries) c.in-Ok-origins_for.from =
     subst (λ (l : Listing). IsFrom last e.known e.gone (keys_of l.entries) c.in-Ok-origins_for.from)
@@ -93,10 +100,10 @@ invariant_of-self-in-Ok-follow c =
     let answers : shown bytes a ≡ link (held h) =
     c.self.invariant.0 ∙ ap link (sym (same_held c.self.inside.project h c.in-Ok.ensures.same)) in
     let followed = subst (λ (x : Option LastState). HasFollowed next x bytes c.follow.new.canvas.bytes
-    c.in-Ok-follow.followed) c.lend-last.ensures c.in-Ok-follow.ensures.followed in
+    c.in-Ok-follow.followed) c.lend-last.ensures c.in-Ok-follow.ensures.followed.link in
     ended_after h s same bytes c.follow.new.canvas.bytes a c.end.new.answer e last c.end.new.last
     c.in-Ok-origins_for.from c.in-Ok-follow.followed c.commit.new.self c.follow.new.self.symbol_table
-    c.follow.new.self.matches.items given from answers followed c.end.ensures c.in-Ok-follow.ensures.kept
+    c.follow.new.self.matches.items given from answers followed c.end.ensures c.in-Ok-follow.ensures.followed.kept
     c.commit.ensures.next
 
 pub invariant_of-self-in-Ok-follow-2 : goal.invariant_of-self-in-Ok-follow-2
@@ -113,8 +120,7 @@ invariant_of-self-in-Ok-follow-2 c =
     c.in-Ok.ensures.same c.self.invariant.2 c.in-Ok.ensures.staged.0 c.in-Ok.ensures.staged.2
     c.next-next.ensures.next c.next-next.ensures.found c.keys-keys.ensures.value c.keys-keys.ensures.distinct
     c.found_where_placed.ensures c.puts_same-same.ensures.same c.puts_same-same.ensures.other
-    c.puts_same-same.ensures.named c.effect_of-effect.ensures.current c.effect_of-effect.ensures.knows
-    c.effect_of-effect.ensures.answered c.effect_of-effect.ensures.gone c.effect_of-effect.ensures.changed c.effect_of-effect.ensures.stays in
+    c.puts_same-same.ensures.named c.effect_of-effect.ensures in
     let next : Listing = next_listing h s in
     let from : IsFrom last e.known e.gone (keys_of next.entries) c.in-Ok-origins_for.from =
     subst (λ (l : Listing). IsFrom last e.known e.gone (keys_of l.entries) c.in-Ok-origins_for.from)
@@ -122,10 +128,10 @@ invariant_of-self-in-Ok-follow-2 c =
     let answers : shown bytes a ≡ link (held h) =
     c.self.invariant.0 ∙ ap link (sym (same_held c.self.inside.project h c.in-Ok.ensures.same)) in
     let followed = subst (λ (x : Option LastState). HasFollowed next x bytes c.follow.new.canvas.bytes
-    c.in-Ok-follow.followed) c.lend-last.ensures c.in-Ok-follow.ensures.followed in
+    c.in-Ok-follow.followed) c.lend-last.ensures c.in-Ok-follow.ensures.followed.link in
     ended_after h s same bytes c.follow.new.canvas.bytes a c.end.new.answer e last c.end.new.last
     c.in-Ok-origins_for.from c.in-Ok-follow.followed c.commit.new.self c.follow.new.self.symbol_table
-    c.follow.new.self.matches.items given from answers followed c.end.ensures c.in-Ok-follow.ensures.kept
+    c.follow.new.self.matches.items given from answers followed c.end.ensures c.in-Ok-follow.ensures.followed.kept
     c.commit.ensures.next
 
 pub returns-in-Ok-follow-clause-counted : goal.returns-in-Ok-follow-clause-counted
@@ -142,8 +148,7 @@ returns-in-Ok-follow-clause-counted c =
     c.in-Ok.ensures.same c.self.invariant.2 c.in-Ok.ensures.staged.0 c.in-Ok.ensures.staged.2
     c.next-next.ensures.next c.next-next.ensures.found c.keys-keys.ensures.value c.keys-keys.ensures.distinct
     c.found_where_placed.ensures c.puts_same-same.ensures.same c.puts_same-same.ensures.other
-    c.puts_same-same.ensures.named c.effect_of-effect.ensures.current c.effect_of-effect.ensures.knows
-    c.effect_of-effect.ensures.answered c.effect_of-effect.ensures.gone c.effect_of-effect.ensures.changed c.effect_of-effect.ensures.stays in
+    c.puts_same-same.ensures.named c.effect_of-effect.ensures in
     let next : Listing = next_listing h s in
     let from : IsFrom last e.known e.gone (keys_of next.entries) c.in-Ok-origins_for.from =
     subst (λ (l : Listing). IsFrom last e.known e.gone (keys_of l.entries) c.in-Ok-origins_for.from)
@@ -162,19 +167,20 @@ returns-in-Ok-follow-clause-counted c =
     } in
     let read = objects_of_edit change c.args.meter.now c.stage.new.meter small.objects c.in-Ok.ensures.read in
     let exact = decided_from (held h) change (project_of next) c.args.meter.now c.stage.new.meter c.follow.new.meter
-    (names_of_edit h.contents.entries s.objects) read c.in-Ok-follow.ensures.decides touched in
+    (names_of_edit h.contents.entries s.objects) read c.in-Ok-follow.ensures.followed.decides touched in
     let reading = is_work (held h) change (project_of next) c.args.meter.now c.stage.new.meter c.follow.new.meter
-    (names_of_edit h.contents.entries s.objects) small read c.in-Ok-follow.ensures.decides exact
+    (names_of_edit h.contents.entries s.objects) small read c.in-Ok-follow.ensures.followed.decides exact
     c.distinct_more.ensures in
     let answers : shown bytes a ≡ link (held h) =
     c.self.invariant.0 ∙ ap link (sym (same_held c.self.inside.project h c.in-Ok.ensures.same)) in
     let worked = subst (λ (x : Option LastState). HasWorked (project_of next) x c.stage.new.meter c.follow.new.meter
-    c.in-Ok-follow.followed) c.lend-last.ensures c.in-Ok-follow.ensures.worked in
+    c.in-Ok-follow.followed) c.lend-last.ensures c.in-Ok-follow.ensures.followed.worked in
     let followed = subst (λ (x : Option LastState). HasFollowed next x bytes c.follow.new.canvas.bytes
-    c.in-Ok-follow.followed) c.lend-last.ensures c.in-Ok-follow.ensures.followed in
+    c.in-Ok-follow.followed) c.lend-last.ensures c.in-Ok-follow.ensures.followed.link in
     let work : IsWholeWork (held h) change (project_of next) c.args.meter.now c.follow.new.meter =
     whole_work h s same bytes c.follow.new.canvas.bytes a e last c.in-Ok-origins_for.from c.in-Ok-follow.followed change
-    c.args.meter.now c.stage.new.meter c.follow.new.meter given answers from followed worked small read c.in-Ok-follow.ensures.decides.objects exact
+    c.args.meter.now c.stage.new.meter c.follow.new.meter given answers from followed worked small read
+    c.in-Ok-follow.ensures.followed.decides.objects exact
     (leaves_script h change s c.in-Ok.ensures.staged.3 c.in-Ok.ensures.named) reading in
     let counted = subst (λ (p : Project). IsWholeWork p change (held c.commit.new.self) c.args.meter.now
     c.follow.new.meter) (same_held c.self.inside.project h c.in-Ok.ensures.same ∙ c.self.view_is)

@@ -1,0 +1,45 @@
+-- An edit has been followed: its link, what is kept, and the counts.
+use Rattle.std.proofs.Common.{◌≡◌, ◌∙◌, ◌++◌, ℕ, List, Option, Some, ap, subst, sym}
+use Rattle.elfobj.specs.Counts.{Counts}
+use Rattle.relink_link.specs.Reads.{ReadsNothing}
+use Rattle.relink_link.specs.Stays.{LastState}
+use Rattle.symres.specs.decisions.Change.{declared_by}
+use Rattle.symres.specs.decisions.Counted.{CountsNames}
+use Rattle.symres.specs.decisions.declared.change.ObjectChange.{ObjectChange}
+use Rattle.ldmodel_project.specs.Holding.{Holding, Listing, next_listing, project_of}
+use Rattle.ldmodel_project.specs.Listing.{Entry}
+use Rattle.ldmodel_project.specs.Next.{touched_key}
+use Rattle.ldmodel_project.specs.declared.staged.Staged.{Staged}
+use Rattle.ldmodel_project.specs.declared.staged.StagedObjects.{StagedObjects}
+use Rattle.relink.specs.Change.{IsChange, names_at, names_of_edit, names_of_step}
+use Rattle.relink.specs.Follow.{IsFollowed}
+use Rattle.relink.specs.Kept.{IsKept}
+use Rattle.relink.specs.Last.{HasFollowed}
+use Rattle.relink.specs.Work.{Decides, HasWorked}
+use Rattle.relink.specs.declared.keeping.LinkTables.{LinkTables}
+use Rattle.relink.specs.declared.last.Followed.{Followed}
+use Rattle.relink.proofs.Bounding.{names_link_nothing, worked_from}
+use Rattle.relink.proofs.Working.{decides}
+
+-- what a change of an object declares is what the edit touches
+pub names_of_change : (entries : List Entry) (s : StagedObjects) (key : ℕ) (x : ObjectChange)
+    → touched_key s.step ≡ Some key → IsChange entries s key x
+    → (declared_by x.out ++ declared_by x.into) ≡ names_of_edit entries s
+names_of_change entries s key x touched is =
+    ap (λ (names : List (List ℕ)). names ++ declared_by x.into) is.out
+    ∙ (ap (λ (names : List (List ℕ)). names_at s.places.before entries key ++ names) is.into
+    ∙ ap (names_of_step entries s) (sym touched))
+
+-- a link of the next project follows, over what is kept of that, after its names are decided
+pub is_followed : (h : Holding) (s : Staged) (lent : Option LastState) (t : LinkTables) (old new : List ℕ)
+    (m0 m1 m2 : Counts) (f : Followed) (l : Listing) (names : List (List ℕ)) → l ≡ next_listing h s
+    → IsKept (next_listing h s) t.symbol_table t.matches.items → CountsNames m0 m1 names
+    → names ≡ names_of_edit h.contents.entries s.objects → HasFollowed l lent old new f → ReadsNothing m1 m2
+    → HasWorked (project_of l) lent m1 m2 f → IsFollowed h s lent t old new m0 m2 f
+is_followed h s lent t old new m0 m1 m2 f l names is kept counted touched followed reads worked = record {
+  link = subst (λ (x : Listing). HasFollowed x lent old new f) is followed;
+  kept = kept;
+  decides = subst (λ (ns : List (List ℕ)). Decides m0 m2 ns) touched (decides m0 m1 m2 names counted reads);
+  worked = subst (λ (x : Listing). HasWorked (project_of x) lent m0 m2 f) is
+      (worked_from (project_of l) lent m0 m1 m2 f (names_link_nothing m0 m1 names counted) worked);
+}
