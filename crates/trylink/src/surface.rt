@@ -6,7 +6,7 @@ use crate::printing::{IN_LINE, print_bytes};
 use crate::task::Task;
 use elfobj::relocation::SymbolIndex;
 use elfobj::section::{LinkedIndex, SectionIndex};
-use elfobj::{Meter, Object};
+use elfobj::{Meter, Object, Relocation};
 use emit::relocate::index::{TargetIndex, TargetSite};
 use emit::{Canvas, Index, field, headers};
 use gather::Matcher;
@@ -21,9 +21,13 @@ use symres::Names;
 
 /// What the object is called.
 const FILE: &[u8] = b"a.o";
+/// The name of a section.
+const SECTION: &[u8] = b".text";
+/// The first section of an object.
+const FIRST: LinkedIndex = LinkedIndex(0);
 /// The name that is decided.
 const NAME: &[u8] = b"f";
-/// The value of each symbol where a field is evaluated, and the place of the field.
+/// The value of the symbol where a field is evaluated, and the place of the field.
 const VALUE: u64 = 0x40_1010;
 
 const PLACE: u64 = 0x40_1001;
@@ -36,46 +40,29 @@ fn print_numbers(bytes: &[u8], out: &mut String) -> Result<(), AllocError> {
     out.push('\n')
 }
 
-/// `Object`: its sections, each with its bytes, and how many symbols and relocations it has.
+/// `Object`: the name and the bytes of a section, the number of its relocations, and the name of the last symbol.
 fn print_object(object: &Object, out: &mut String) -> Result<(), AllocError> {
-    for (i, _section) in object.sections().iter().enumerate() {
-        let section = LinkedIndex(i);
-        out.push_str("section ")?;
-        print_bytes(out, object.section_name(section), IN_LINE)?;
-        print_numbers(object.section_bytes(section), out)?;
-        writeln!(out, "relocations {}", object.relocations(section).len())?;
+    let symbols = object.symbols().len() as u32;
+    if object.sections().is_empty() || symbols == 0 {
+        return out.push_str("nothing to see\n");
     }
-    for (i, _symbol) in object.symbols().iter().enumerate() {
-        out.push_str("symbol ")?;
-        print_bytes(out, object.name_of(SymbolIndex(i as u32)), IN_LINE)?;
-        out.push('\n')?;
-    }
-    Ok(())
+    print_bytes(out, object.section_name(FIRST), IN_LINE)?;
+    print_numbers(object.section_bytes(FIRST), out)?;
+    print_bytes(out, object.name_of(SymbolIndex(symbols - 1)), IN_LINE)?;
+    writeln!(out, " is symbol {}", symbols - 1)
 }
 
-/// `matches` and `Matcher`: whether the words of the input statements match the names of sections, and which statement
-/// takes each.
-fn print_matches(
-    alloc: Global,
-    script: &Script,
-    object: &Object,
-    out: &mut String,
-) -> Result<(), AllocError> {
-    let matcher = Matcher::new(alloc, script)?;
-    let statements = script.input_statements(alloc)?;
-    for (i, _section) in object.sections().iter().enumerate() {
-        let name = object.section_name(LinkedIndex(i));
-        for statement in &statements {
-            for word in statement.input.sections.as_slice() {
-                writeln!(out, "matches {}", matches(&word.pattern, name))?;
-            }
-        }
-        match matcher.first_match(FILE, name) {
-            Some(InputIndex(number)) => writeln!(out, "taken by {number}")?,
-            None => out.push_str("taken by none\n")?,
-        }
+/// `matches` and `Matcher`: whether the files of the input statements match the name of the object, and which statement
+/// takes a section.
+fn print_matches(alloc: Global, script: &Script, out: &mut String) -> Result<(), AllocError> {
+    for statement in script.input_statements(alloc)? {
+        writeln!(out, "matches {}", matches(&statement.input.file, FILE))?;
     }
-    Ok(())
+    let matcher = Matcher::new(alloc, script)?;
+    match matcher.first_match(FILE, SECTION) {
+        Some(InputIndex(number)) => writeln!(out, "taken by {number}"),
+        None => out.push_str("taken by none\n"),
+    }
 }
 
 /// `Names`: what a name stands for while the object is entered, and when it is withdrawn.
@@ -130,13 +117,7 @@ fn print_placement(
         let (start, size, load) = (placed.start, placed.size, placed.load);
         writeln!(out, "placed {start:x} {size:x} {load:x}")?;
     }
-    for start in placement.pieces() {
-        writeln!(out, "piece {start:x}")?;
-    }
     let segments = segments(alloc, placement.view())?;
-    for segment in &segments {
-        writeln!(out, "segment {:x} {:x}", segment.offset, segment.start)?;
-    }
     let headers = headers(alloc, PLACE, &segments, 0, 1)?;
     print_numbers(&headers, out)
 }
@@ -157,27 +138,29 @@ fn print_layout(
     }
 }
 
-/// `field`: the bytes of the relocations of the object, written into a `Canvas`.
-fn print_fields(
+/// The first relocation of the first section.
+fn first_relocation(object: &Object) -> Option<&Relocation> {
+    if object.sections().is_empty() {
+        return None;
+    }
+    object.relocations(FIRST).first()
+}
+
+/// `field`: the bytes of a relocation, written into a `Canvas`.
+fn print_field(
     alloc: Global,
-    object: &Object,
+    relocation: &Relocation,
     meter: &mut Meter,
     out: &mut String,
 ) -> Result<(), AllocError> {
+    let Ok(found) = field(relocation, VALUE, PLACE, meter) else {
+        return out.push_str("overflow\n");
+    };
+    let bytes = found.bytes();
     let mut canvas = Canvas::new(alloc);
-    canvas.reserve(8)?;
-    canvas.resize_reserved(8);
-    for (i, _section) in object.sections().iter().enumerate() {
-        for relocation in object.relocations(LinkedIndex(i)) {
-            match field(relocation, VALUE, PLACE, meter) {
-                Ok(found) if found.bytes().len() <= canvas.len() => {
-                    canvas.write(0, found.bytes(), meter);
-                }
-                _ => out.push_str("no field\n")?,
-            }
-        }
-    }
-    out.push_str("canvas")?;
+    canvas.reserve(bytes.len())?;
+    canvas.resize_reserved(bytes.len());
+    canvas.write(0, bytes, meter);
     print_numbers(canvas.bytes(), out)
 }
 
@@ -216,10 +199,12 @@ pub fn print_surface(task: Task<'_>, out: &mut String) -> Result<(), AllocError>
         return out.push_str("object refused\n");
     };
     print_object(&object, out)?;
-    print_matches(alloc, &script, &object, out)?;
+    print_matches(alloc, &script, out)?;
     print_names(task, &script, &object, &mut meter, out)?;
     print_layout(alloc, &script, &object, &mut meter, out)?;
-    print_fields(alloc, &object, &mut meter, out)?;
+    if let Some(relocation) = first_relocation(&object) {
+        print_field(alloc, relocation, &mut meter, out)?;
+    }
     print_index(alloc, out)?;
     print_meter(&meter, out)
 }
