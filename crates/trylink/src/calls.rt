@@ -67,32 +67,37 @@ impl Calls {
             Command::Ask(query) => Ok(self.asked(query)),
         }
     }
+
+    /// The answers to a stream, each printed as it comes, after its command.
+    fn answer_all(&mut self, stream: &[u8], out: &mut String) -> Result<Answered, AllocError> {
+        let alloc = self.alloc;
+        let mut answers = Vec::new(alloc);
+        let mut rest = stream;
+        // a command takes a byte at least
+        for _ in 0..=stream.len() {
+            if rest.is_empty() {
+                break;
+            }
+            let Some((command, others)) = split_command(alloc, rest)? else {
+                print_command(out, rest)?;
+                Answer::Malformed.spell(alloc, &mut answers)?;
+                Answer::Malformed.print(alloc, out)?;
+                let status = MALFORMED;
+                return Ok(Answered { answers, status });
+            };
+            print_command(out, &rest[..rest.len().saturating_sub(others.len())])?;
+            rest = others;
+            let answer = self.answer(command)?;
+            answer.spell(alloc, &mut answers)?;
+            answer.print(alloc, out)?;
+        }
+        let status = self.output.status();
+        Ok(Answered { answers, status })
+    }
 }
 
 /// The answers to a stream by calls, each printed as it comes, after its command.
 pub fn answer_by_calls(task: Task<'_>, out: &mut String) -> Result<Answered, AllocError> {
-    let alloc = task.alloc;
-    let mut calls = Calls::new(alloc, task.seed, task.own_options()?)?;
-    let mut answers = Vec::new(alloc);
-    let mut rest = task.bytes;
-    // a command takes a byte at least
-    for _ in 0..=task.bytes.len() {
-        if rest.is_empty() {
-            break;
-        }
-        let Some((command, others)) = split_command(alloc, rest)? else {
-            print_command(out, rest)?;
-            Answer::Malformed.spell(alloc, &mut answers)?;
-            Answer::Malformed.print(alloc, out)?;
-            let status = MALFORMED;
-            return Ok(Answered { answers, status });
-        };
-        print_command(out, &rest[..rest.len().saturating_sub(others.len())])?;
-        rest = others;
-        let answer = calls.answer(command)?;
-        answer.spell(alloc, &mut answers)?;
-        answer.print(alloc, out)?;
-    }
-    let status = calls.output.status();
-    Ok(Answered { answers, status })
+    let mut calls = Calls::new(task.alloc, task.seed, task.own_options()?)?;
+    calls.answer_all(task.bytes, out)
 }

@@ -19,14 +19,14 @@ pub fn print_meter(meter: &Meter, out: &mut String) -> Result<(), AllocError> {
 }
 
 /// Makes an edit, and prints its answer, and what it counts if it is accepted.
-fn print_edit(
+fn print_edit<L: Linker>(
     alloc: Global,
-    session: &mut Session,
+    linker: &mut L,
     edit: Edit<'_>,
     out: &mut String,
 ) -> Result<(), AllocError> {
     let mut meter = Meter::new();
-    match session.apply(edit, &mut meter) {
+    match linker.apply(edit, &mut meter) {
         Err(refusal) => Answer::Refused(refusal).print(alloc, out),
         Ok(linked) => {
             Answer::Linked(linked).print(alloc, out)?;
@@ -35,13 +35,16 @@ fn print_edit(
     }
 }
 
-/// Makes the edits of a stream in a session, and prints the answer and the counts of each.
-pub fn print_counts(task: Task<'_>, out: &mut String) -> Result<(), AllocError> {
-    let alloc = task.alloc;
-    let mut session = Session::new(alloc, task.seed, task.own_options()?)?;
-    let mut rest = task.bytes;
+/// Makes the edits of a stream, and prints the answer and the counts of each.
+fn print_edits<L: Linker>(
+    alloc: Global,
+    linker: &mut L,
+    stream: &[u8],
+    out: &mut String,
+) -> Result<(), AllocError> {
+    let mut rest = stream;
     // a command takes a byte at least
-    for _ in 0..=task.bytes.len() {
+    for _ in 0..=stream.len() {
         if rest.is_empty() {
             break;
         }
@@ -52,8 +55,14 @@ pub fn print_counts(task: Task<'_>, out: &mut String) -> Result<(), AllocError> 
         rest = others;
         if let Command::Make(edit) = command {
             print_command(out, bytes)?;
-            print_edit(alloc, &mut session, edit, out)?;
+            print_edit(alloc, linker, edit, out)?;
         }
     }
     Ok(())
+}
+
+/// Makes the edits of a stream in a session, and prints the answer and the counts of each.
+pub fn print_counts(task: Task<'_>, out: &mut String) -> Result<(), AllocError> {
+    let mut session = Session::new(task.alloc, task.seed, task.own_options()?)?;
+    print_edits(task.alloc, &mut session, task.bytes, out)
 }

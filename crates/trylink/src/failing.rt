@@ -3,12 +3,9 @@
 
 use crate::answer::checksum;
 use crate::devices::{ShortReader, ShortWriter};
-use crate::session::status_of;
+use crate::session::{Ended, run_session, status_of};
 use crate::task::Task;
-use ldi_stream::devices::{AnswerWriter, CommandReader};
 use ldi_stream::fault::RunFault;
-use ldi_stream::{Status, run};
-use relink::Session;
 use std::alloc::AllocError;
 
 /// A call of a reader or of a writer.
@@ -26,13 +23,6 @@ pub struct Longest {
     pub read: usize,
     /// Of a write.
     pub write: usize,
-}
-
-/// How a session ended, and what it had written.
-#[derive(Drop)]
-struct Ended {
-    outcome: Result<Status, RunFault>,
-    written: Vec<u8>,
 }
 
 /// The fault of a run in which such a call fails.
@@ -59,15 +49,9 @@ fn answer(task: Task<'_>, longest: Longest, call: Call, number: u64) -> Result<E
         Call::Write => (0, number, 0),
         Call::Flush => (0, 0, number),
     };
-    let alloc = task.alloc;
     let reader = ShortReader::new(task.bytes, longest.read, read);
-    let writer = ShortWriter::new(alloc, longest.write, write, flush);
-    let mut source = CommandReader::new(alloc, reader)?;
-    let mut sink = AnswerWriter::new(alloc, writer)?;
-    let mut linker = Session::new(alloc, task.seed, task.own_options()?)?;
-    let outcome = run(alloc, &mut source, &mut sink, &mut linker);
-    let written = sink.into_writer().written;
-    Ok(Ended { outcome, written })
+    let writer = ShortWriter::new(task.alloc, longest.write, write, flush);
+    run_session(task, reader, writer)
 }
 
 /// Answers the stream with the first call failing, with the second, and so on until none fails, and prints how many

@@ -65,7 +65,30 @@ fn print_matches(alloc: Global, script: &Script, out: &mut String) -> Result<(),
     }
 }
 
-/// `Names`: what a name stands for while the object is entered, and when it is withdrawn.
+/// What a name stands for while the object is entered, and when it is withdrawn.
+fn print_decisions(
+    names: &mut Names,
+    script: &Script,
+    object: &Object,
+    meter: &mut Meter,
+    out: &mut String,
+) -> Result<(), AllocError> {
+    let key = ObjectKey(0);
+    names.reserve(object)?;
+    if !names.contains(key) {
+        names.enter(key, 0, object);
+    }
+    let entered = names.decide(script, NAME, meter);
+    if names.contains(key) {
+        names.withdraw(key);
+    }
+    let withdrawn = names.decide(script, NAME, meter);
+    names.forget();
+    writeln!(out, "{:?}\n{:?}", entered.case(), withdrawn.case())?;
+    writeln!(out, "known {}", names.known())
+}
+
+/// `Names`, by an empty table.
 fn print_names(
     task: Task<'_>,
     script: &Script,
@@ -73,19 +96,8 @@ fn print_names(
     meter: &mut Meter,
     out: &mut String,
 ) -> Result<(), AllocError> {
-    let key = ObjectKey(0);
     let mut names = Names::new(task.alloc, task.seed);
-    names.reserve(object)?;
-    if !names.contains(key) {
-        names.enter(key, 0, object);
-    }
-    writeln!(out, "{:?}", names.decide(script, NAME, meter).case())?;
-    if names.contains(key) {
-        names.withdraw(key);
-    }
-    writeln!(out, "{:?}", names.decide(script, NAME, meter).case())?;
-    names.forget();
-    writeln!(out, "known {}", names.known())
+    print_decisions(&mut names, script, object, meter, out)
 }
 
 /// The sections of the object, all taken by the first input statement.
