@@ -53,14 +53,24 @@ def link_files(given, options):
         script, objects = contents(given.T), [(word, contents(word)) for word in given.objects]
     except OSError:
         return ended("device", DEVICE)
+    found = link_contents(script, objects, options)
+    if isinstance(found, tuple):
+        word, refusal = found
+        return ended(f"{word}: refused {refusal.number} {refusal.inner}", REFUSED)
+    return write_files(given, found)
+
+
+def link_contents(script, objects, options):
+    """The link of a script and of objects, each under its word; or the word of the file whose edit is the first one
+    refused, and the refusal."""
     project = edits.Project(options=options)
     steps = [("script", edits.Script(script))]
     steps += [(word, edits.Add(name(word), at, data)) for at, (word, data) in enumerate(objects)]
     for word, edit in steps:
         project = edits.after(project, edit)
         if isinstance(project, edits.Refusal):
-            return ended(f"{word}: refused {project.number} {project.inner}", REFUSED)
-    return write_files(given, link(project))
+            return word, project
+    return link(project)
 
 
 def write_files(given, linked):

@@ -9,7 +9,7 @@ import subprocess
 import sys
 import tempfile
 
-from . import choices, edge_rows, elf, image_rows, objects, patterns, relocation, rows
+from . import choices, edge_rows, elf, image_rows, objects, patterns, program_rows, relocation, rows
 from .build import DATA, Rel, Sec, Sym, build, changed, object_a, object_b
 from .edits import Options
 from .rows import (FAULTS, IMAGE, MAP, Result, Row, add, at, has_lines, lacks, length, linked, move, refused, remove,
@@ -483,13 +483,13 @@ def main(folders):
     result, count = Result(), 0
     for folder in folders:
         os.makedirs(folder, exist_ok=True)
-    for row in itertools.chain(rows_with_images(), edge_rows.all_rows()):
+    for row in itertools.chain(rows_with_images(), edge_rows.all_rows(), program_rows.all_rows()):
         rows.run(row, result)
         for folder in folders:
             if len(rows.stream(row)) < 2 ** 21:
                 rows.store(folder, f"{count:03}", row.options, rows.stream(row))
         count += 1
-    for cases in (field_cases, pattern_cases, object_cases, program_cases):
+    for cases in (field_cases, pattern_cases, object_cases, program_cases, program_rows.link_cases):
         cases(result)
     for line in result.differences:
         print(line)

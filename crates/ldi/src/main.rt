@@ -24,16 +24,8 @@ use std::process::ExitCode;
 use std::{env, io};
 
 mod files;
-#[cfg(test)]
-mod link_tests;
 mod linking;
 mod session;
-#[cfg(test)]
-mod surface_tests;
-#[cfg(test)]
-mod testing;
-#[cfg(test)]
-mod tests;
 
 /// The words of the command line are refused.
 const REFUSED: u8 = 2;

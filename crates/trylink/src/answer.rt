@@ -1,12 +1,11 @@
 //! Answers to commands: as a session spells them, and as they are printed here.
 
-use crate::printing::print_bytes;
+use crate::printing::{AS_LINES, print_bytes};
 use relink::{EditRefusal, Linked};
-use std::io;
-use std::io::Write;
+use std::alloc::{AllocError, Global};
 
 /// An answer.
-#[derive(Clone, Copy, Debug)]
+#[derive(Clone, Copy)]
 pub enum Answer<'a> {
     /// An edit was made.
     Linked(Linked),
@@ -29,51 +28,46 @@ pub fn checksum(bytes: &[u8]) -> u64 {
     sum
 }
 
-/// Prints a text of lines. A byte that isn't printable ASCII is printed as `<XX>`.
-fn print_text<W: Write>(out: &mut W, text: &[u8]) -> io::Result<()> {
-    for byte in text {
-        if *byte == b'\n' {
-            out.write_all(b"\n")?;
-        } else {
-            print_bytes(out, &[*byte])?;
-        }
-    }
-    Ok(())
-}
-
-impl Answer<'_> {
-    /// Writes the answer as `ldi session` does.
-    pub fn spell<W: Write>(self, out: &mut W) -> io::Result<()> {
+impl<'a> Answer<'a> {
+    /// The first line of the answer as `ldi session` writes it, without its line feed.
+    fn line(self, alloc: Global) -> Result<String, AllocError> {
         match self {
             Answer::Linked(linked) => {
-                writeln!(out, "linked {} {}", linked.status, linked.length)
+                format!(in alloc; "linked {} {}", linked.status, linked.length)
             }
-            Answer::Refused(refusal) => writeln!(
-                out,
-                "refused {} {}",
-                refusal.number(),
-                refusal.inner_number()
-            ),
+            Answer::Refused(refusal) => {
+                let (number, inner) = (refusal.number(), refusal.inner_number());
+                format!(in alloc; "refused {number} {inner}")
+            }
             Answer::Image(bytes) | Answer::Text(bytes) => {
-                writeln!(out, "bytes {}", bytes.len())?;
-                out.write_all(bytes)
+                format!(in alloc; "bytes {}", bytes.len())
             }
-            Answer::Malformed => out.write_all(b"stream\n"),
+            Answer::Malformed => String::from_str(alloc, "stream"),
+        }
+    }
+
+    /// What follows that line.
+    fn content(self) -> &'a [u8] {
+        match self {
+            Answer::Image(bytes) | Answer::Text(bytes) => bytes,
+            _ => &[],
         }
     }
 
     /// Prints the answer: of an image its length and checksum.
-    pub fn print<W: Write>(self, out: &mut W) -> io::Result<()> {
-        match self {
-            Answer::Image(bytes) => {
-                let sum = checksum(bytes);
-                writeln!(out, "bytes {} sum {sum:016x}", bytes.len())
-            }
-            Answer::Text(text) => {
-                writeln!(out, "bytes {}", text.len())?;
-                print_text(out, text)
-            }
-            _ => self.spell(out),
+    pub fn print(self, alloc: Global, out: &mut String) -> Result<(), AllocError> {
+        out.push_str(self.line(alloc)?.as_str())?;
+        if let Answer::Image(bytes) = self {
+            return writeln!(out, " sum {:016x}", checksum(bytes));
         }
+        out.push('\n')?;
+        print_bytes(out, self.content(), AS_LINES)
+    }
+
+    /// Writes the answer as `ldi session` does.
+    pub fn spell(self, alloc: Global, answers: &mut Vec<u8>) -> Result<(), AllocError> {
+        answers.extend_from_slice(self.line(alloc)?.as_bytes())?;
+        answers.push(b'\n')?;
+        answers.extend_from_slice(self.content())
     }
 }

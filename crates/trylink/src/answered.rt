@@ -1,8 +1,7 @@
 //! What a whole stream is answered, and whether the ways agree.
 
-use crate::printing::print_bytes;
-use std::io;
-use std::io::Write;
+use crate::printing::{IN_LINE, print_bytes};
+use std::alloc::AllocError;
 
 /// The status after bytes that no command begins.
 pub const MALFORMED: u8 = 2;
@@ -10,7 +9,7 @@ pub const MALFORMED: u8 = 2;
 const SHOWN: usize = 64;
 
 /// The answers to a stream, and the status of the run.
-#[derive(Debug, Drop)]
+#[derive(Drop)]
 pub struct Answered {
     /// All answers, as a session writes them.
     pub answers: Vec<u8>,
@@ -24,18 +23,12 @@ fn common_length(a: &[u8], b: &[u8]) -> usize {
 }
 
 /// Prints the bytes from a place on, and the status.
-fn print_from<W: Write>(label: &str, run: &Answered, at: usize, out: &mut W) -> io::Result<()> {
-    writeln!(
-        out,
-        "  {label}: status {}, {} bytes",
-        run.status,
-        run.answers.len()
-    )?;
-    out.write_all(b"    ")?;
-    for byte in run.answers.iter().skip(at).take(SHOWN) {
-        print_bytes(out, &[*byte])?;
-    }
-    out.write_all(b"\n")
+fn print_from(label: &str, run: &Answered, at: usize, out: &mut String) -> Result<(), AllocError> {
+    let (status, count) = (run.status, run.answers.len());
+    write!(out, "  {label}: status {status}, {count} bytes\n    ")?;
+    let end = run.answers.len().min(at.saturating_add(SHOWN));
+    print_bytes(out, &run.answers[at.min(end)..end], IN_LINE)?;
+    out.push('\n')
 }
 
 /// Whether two ways gave the same answers and one status.
@@ -44,12 +37,12 @@ fn are_same(a: &Answered, b: &Answered) -> bool {
 }
 
 /// Prints where two ways differ.
-fn print_difference<W: Write>(
+fn print_difference(
     labels: [&str; 2],
     a: &Answered,
     b: &Answered,
-    out: &mut W,
-) -> io::Result<()> {
+    out: &mut String,
+) -> Result<(), AllocError> {
     let at = common_length(&a.answers, &b.answers);
     writeln!(out, "DIFFERENT from byte {at} of the answers on")?;
     print_from(labels[0], a, at, out)?;
@@ -57,12 +50,12 @@ fn print_difference<W: Write>(
 }
 
 /// Prints the status, and whether a session, the plain linker and the calls gave the same.
-pub fn print_agreement<W: Write>(
+pub fn print_agreement(
     by_session: &Answered,
     by_plain: &Answered,
     by_calls: &Answered,
-    out: &mut W,
-) -> io::Result<()> {
+    out: &mut String,
+) -> Result<(), AllocError> {
     writeln!(out, "status {}", by_session.status)?;
     if !are_same(by_session, by_calls) {
         return print_difference(["session", "calls"], by_session, by_calls, out);
@@ -70,5 +63,5 @@ pub fn print_agreement<W: Write>(
     if !are_same(by_session, by_plain) {
         return print_difference(["session", "plain"], by_session, by_plain, out);
     }
-    out.write_all(b"same\n")
+    out.push_str("same\n")
 }

@@ -4,14 +4,13 @@ use crate::answer::Answer;
 use crate::answered::{Answered, MALFORMED};
 use crate::command::{Command, split_command};
 use crate::printing::print_command;
+use crate::task::Task;
 use ldi_stream::head::Query;
 use ldmodel::memory::NoMemory;
 use ldmodel::meter::Meter;
 use relink::{Edit, Options, Output, Project};
-use std::alloc::Global;
+use std::alloc::{AllocError, Global};
 use std::hash::RandomState;
-use std::io;
-use std::io::Write;
 
 /// A project and its link.
 #[derive(Drop)]
@@ -68,37 +67,37 @@ impl Calls {
             Command::Ask(query) => Ok(self.asked(query)),
         }
     }
+
+    /// The answers to a stream, each printed as it comes, after its command.
+    fn answer_all(&mut self, stream: &[u8], out: &mut String) -> Result<Answered, AllocError> {
+        let alloc = self.alloc;
+        let mut answers = Vec::new(alloc);
+        let mut rest = stream;
+        // a command takes a byte at least
+        for _ in 0..=stream.len() {
+            if rest.is_empty() {
+                break;
+            }
+            let Some((command, others)) = split_command(alloc, rest)? else {
+                print_command(out, rest)?;
+                Answer::Malformed.spell(alloc, &mut answers)?;
+                Answer::Malformed.print(alloc, out)?;
+                let status = MALFORMED;
+                return Ok(Answered { answers, status });
+            };
+            print_command(out, &rest[..rest.len().saturating_sub(others.len())])?;
+            rest = others;
+            let answer = self.answer(command)?;
+            answer.spell(alloc, &mut answers)?;
+            answer.print(alloc, out)?;
+        }
+        let status = self.output.status();
+        Ok(Answered { answers, status })
+    }
 }
 
 /// The answers to a stream by calls, each printed as it comes, after its command.
-pub fn answer_by_calls<W: Write>(
-    alloc: Global,
-    seed: RandomState,
-    options: Options,
-    stream: &[u8],
-    out: &mut W,
-) -> io::Result<Answered> {
-    let mut calls = Calls::new(alloc, seed, options)?;
-    let mut answers = Vec::new(alloc);
-    let mut rest = stream;
-    // a command takes a byte at least
-    for _ in 0..=stream.len() {
-        if rest.is_empty() {
-            break;
-        }
-        let Some((command, others)) = split_command(alloc, rest)? else {
-            print_command(out, rest)?;
-            Answer::Malformed.spell(&mut answers)?;
-            Answer::Malformed.print(out)?;
-            let status = MALFORMED;
-            return Ok(Answered { answers, status });
-        };
-        print_command(out, &rest[..rest.len().saturating_sub(others.len())])?;
-        rest = others;
-        let answer = calls.answer(command)?;
-        answer.spell(&mut answers)?;
-        answer.print(out)?;
-    }
-    let status = calls.output.status();
-    Ok(Answered { answers, status })
+pub fn answer_by_calls(task: Task<'_>, out: &mut String) -> Result<Answered, AllocError> {
+    let mut calls = Calls::new(task.alloc, task.seed, task.own_options()?)?;
+    calls.answer_all(task.bytes, out)
 }

@@ -1,5 +1,6 @@
 //! The commands of a stream, cut from its bytes.
 
+use crate::printing::split_line;
 use ldi_stream::head::{Aim, CommandHead, EditHead, Query, read_head};
 use relink::Edit;
 use std::alloc::{AllocError, Global};
@@ -33,10 +34,9 @@ pub fn split_command(
     alloc: Global,
     stream: &[u8],
 ) -> Result<Option<(Command<'_>, &[u8])>, AllocError> {
-    let Some(end) = stream.iter().position(|b| *b == b'\n') else {
+    let Some((line, rest)) = split_line(stream) else {
         return Ok(None);
     };
-    let (line, rest) = (&stream[..end], &stream[end + 1..]);
     match read_head(line) {
         None => Ok(None),
         Some(CommandHead::Ask(query)) => Ok(Some((Command::Ask(query), rest))),

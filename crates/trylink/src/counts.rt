@@ -3,47 +3,45 @@
 use crate::answer::Answer;
 use crate::command::{Command, split_command};
 use crate::printing::print_command;
+use crate::task::Task;
 use ldmodel::meter::Meter;
-use relink::{Edit, Linker, Options, Session};
-use std::alloc::Global;
-use std::hash::RandomState;
-use std::io;
-use std::io::Write;
+use relink::{Edit, Linker, Session};
+use std::alloc::{AllocError, Global};
 
 /// Prints what a meter has counted.
-fn print_meter<W: Write>(meter: &Meter, out: &mut W) -> io::Result<()> {
+pub fn print_meter(meter: &Meter, out: &mut String) -> Result<(), AllocError> {
+    let (objects, names, pieces) = (meter.objects(), meter.names(), meter.pieces());
+    let (fields, bytes) = (meter.fields(), meter.bytes());
     writeln!(
         out,
-        "counted: objects {} names {} pieces {} relocations {} bytes {}",
-        meter.objects(),
-        meter.names(),
-        meter.pieces(),
-        meter.fields(),
-        meter.bytes()
+        "counted: objects {objects} names {names} pieces {pieces} relocations {fields} bytes {bytes}"
     )
 }
 
 /// Makes an edit, and prints its answer, and what it counts if it is accepted.
-fn print_edit<W: Write>(session: &mut Session, edit: Edit<'_>, out: &mut W) -> io::Result<()> {
+fn print_edit<L: Linker>(
+    alloc: Global,
+    linker: &mut L,
+    edit: Edit<'_>,
+    out: &mut String,
+) -> Result<(), AllocError> {
     let mut meter = Meter::new();
-    match session.apply(edit, &mut meter) {
-        Err(refusal) => Answer::Refused(refusal).print(out),
+    match linker.apply(edit, &mut meter) {
+        Err(refusal) => Answer::Refused(refusal).print(alloc, out),
         Ok(linked) => {
-            Answer::Linked(linked).print(out)?;
+            Answer::Linked(linked).print(alloc, out)?;
             print_meter(&meter, out)
         }
     }
 }
 
-/// Makes the edits of a stream in a session, and prints the answer and the counts of each.
-pub fn print_counts<W: Write>(
+/// Makes the edits of a stream, and prints the answer and the counts of each.
+fn print_edits<L: Linker>(
     alloc: Global,
-    seed: RandomState,
-    options: Options,
+    linker: &mut L,
     stream: &[u8],
-    out: &mut W,
-) -> io::Result<()> {
-    let mut session = Session::new(alloc, seed, options)?;
+    out: &mut String,
+) -> Result<(), AllocError> {
     let mut rest = stream;
     // a command takes a byte at least
     for _ in 0..=stream.len() {
@@ -51,14 +49,20 @@ pub fn print_counts<W: Write>(
             break;
         }
         let Some((command, others)) = split_command(alloc, rest)? else {
-            return Answer::Malformed.print(out);
+            return Answer::Malformed.print(alloc, out);
         };
         let bytes = &rest[..rest.len().saturating_sub(others.len())];
         rest = others;
         if let Command::Make(edit) = command {
             print_command(out, bytes)?;
-            print_edit(&mut session, edit, out)?;
+            print_edit(alloc, linker, edit, out)?;
         }
     }
     Ok(())
+}
+
+/// Makes the edits of a stream in a session, and prints the answer and the counts of each.
+pub fn print_counts(task: Task<'_>, out: &mut String) -> Result<(), AllocError> {
+    let mut session = Session::new(task.alloc, task.seed, task.own_options()?)?;
+    print_edits(task.alloc, &mut session, task.bytes, out)
 }

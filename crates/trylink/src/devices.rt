@@ -1,14 +1,11 @@
-//! A reader that gives one byte a call and a writer that takes few, both of which fail at a call.
+//! A reader and a writer that take a few bytes a call, and that fail at a call.
 
 use std::alloc::Global;
 use std::io;
 use std::io::{ErrorKind, Read, Write};
 
-/// How many bytes a write takes at most.
-const LONGEST_WRITE: usize = 100;
-
 /// How many calls were made, and the number of the one that fails, counted from 1; 0 for none.
-#[derive(Clone, Copy, Debug)]
+#[derive(Drop)]
 struct Calls {
     made: u64,
     fails_at: u64,
@@ -23,45 +20,42 @@ impl Calls {
         }
     }
 
-    /// Makes a call.
-    fn make(&mut self) -> io::Result<()> {
+    /// Makes a call, and says whether it goes well.
+    fn make(&mut self) -> bool {
         self.made = self.made.saturating_add(1);
-        if self.made == self.fails_at {
-            return Err(ErrorKind::Other.into());
-        }
-        Ok(())
+        self.made != self.fails_at
     }
 }
 
-/// A reader of given bytes, one a call.
+/// A reader of given bytes.
 #[derive(Drop)]
-pub struct ByteReader<'a> {
+pub struct ShortReader<'a> {
     rest: &'a [u8],
+    longest: usize,
     reads: Calls,
 }
 
-impl<'a> ByteReader<'a> {
-    /// The read with this number is to fail, counted from 1; 0 for none.
-    pub fn new(bytes: &'a [u8], failing_read: u64) -> ByteReader<'a> {
-        ByteReader {
+impl<'a> ShortReader<'a> {
+    /// Gives at most `longest` bytes a call. The read with the last number is to fail, counted from 1; 0 for none.
+    pub fn new(bytes: &'a [u8], longest: usize, failing_read: u64) -> ShortReader<'a> {
+        ShortReader {
             rest: bytes,
+            longest,
             reads: Calls::failing_at(failing_read),
         }
     }
 }
 
-impl<'a> Read for ByteReader<'a> {
+impl<'a> Read for ShortReader<'a> {
     fn read(&mut self, buf: &mut [u8]) -> io::Result<usize> {
-        self.reads.make()?;
-        let Some((byte, rest)) = self.rest.split_first() else {
-            return Ok(0);
-        };
-        if buf.is_empty() {
-            return Ok(0);
+        if !self.reads.make() {
+            return Err(ErrorKind::Other.into());
         }
-        buf[0] = *byte;
+        let count = self.rest.len().min(buf.len()).min(self.longest);
+        let (bytes, rest) = self.rest.split_at(count);
+        buf[..count].copy_from_slice(bytes);
         self.rest = rest;
-        Ok(1)
+        Ok(count)
     }
 }
 
@@ -70,15 +64,23 @@ impl<'a> Read for ByteReader<'a> {
 pub struct ShortWriter {
     /// What was written.
     pub written: Vec<u8>,
+    longest: usize,
     writes: Calls,
     flushes: Calls,
 }
 
 impl ShortWriter {
-    /// The write and the flush with these numbers are to fail, counted from 1; 0 for none.
-    pub fn new(alloc: Global, failing_write: u64, failing_flush: u64) -> ShortWriter {
+    /// Takes at most `longest` bytes a call. The write and the flush with the last two numbers are to fail, counted
+    /// from 1; 0 for none.
+    pub fn new(
+        alloc: Global,
+        longest: usize,
+        failing_write: u64,
+        failing_flush: u64,
+    ) -> ShortWriter {
         ShortWriter {
             written: Vec::new(alloc),
+            longest,
             writes: Calls::failing_at(failing_write),
             flushes: Calls::failing_at(failing_flush),
         }
@@ -87,13 +89,18 @@ impl ShortWriter {
 
 impl Write for ShortWriter {
     fn write(&mut self, buf: &[u8]) -> io::Result<usize> {
-        self.writes.make()?;
-        let count = buf.len().min(LONGEST_WRITE);
+        if !self.writes.make() {
+            return Err(ErrorKind::Other.into());
+        }
+        let count = buf.len().min(self.longest);
         self.written.extend_from_slice(&buf[..count])?;
         Ok(count)
     }
 
     fn flush(&mut self) -> io::Result<()> {
-        self.flushes.make()
+        if !self.flushes.make() {
+            return Err(ErrorKind::Other.into());
+        }
+        Ok(())
     }
 }

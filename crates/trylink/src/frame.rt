@@ -1,5 +1,6 @@
-//! Frames: a stream of commands with its name and the words of its session.
+//! Frames: bytes with a name, what is asked of them, and the words of a command line.
 
+use crate::printing::split_line;
 use ldi_words::call::Call;
 use ldi_words::fault::WordsFault;
 use ldi_words::words;
@@ -7,47 +8,56 @@ use relink::Options;
 use std::alloc::{AllocError, Global};
 use std::str;
 
-/// What is asked of a stream of commands.
-#[derive(Clone, Copy, Debug, PartialEq, Eq)]
+/// What is asked of the bytes of a frame.
+#[derive(Clone, Copy)]
 pub enum Kind {
-    /// Each answer.
+    /// Each answer to a stream of commands.
     Answers,
     /// A checksum of all answers.
     Sum,
     /// What each edit counts in a session.
     Counts,
-    /// The answers where a call of a device fails.
+    /// The answers where a call of a device fails, which gives one byte or takes some.
     Devices,
+    /// The same of devices that take a byte a call, a few, and all.
+    Steps,
+    /// What `ldi link` makes of files.
+    Files,
+    /// What the calls of single crates make of a script and an object.
+    Surface,
 }
 
-/// A stream of commands, and the session that is to answer it.
-#[derive(Clone, Copy, Debug)]
+/// Bytes, and what is asked of them.
+#[derive(Clone, Copy)]
 pub struct Frame<'a> {
-    /// What the stream is called.
-    pub name: &'a str,
+    /// What is asked.
+    pub kind: Kind,
+    /// What the frame's line begins with: the word for that, and the name.
+    pub title: (&'a str, &'a str),
     /// The words after `ldi session`, one space between each two; `None` where there is none.
     pub words: Option<&'a str>,
-    /// The stream, but for what `repeats` adds.
-    commands: &'a [u8],
-    /// How often the last byte of the stream stands once more.
+    /// The bytes, but for what `repeats` adds.
+    stored: &'a [u8],
+    /// How often the last byte stands once more.
     repeats: usize,
-    /// What is asked of it.
-    pub kind: Kind,
 }
 
-/// The words of a frame's line that say what is asked, with what they say.
-const KINDS: [(&str, Kind); 4] = [
-    ("stream ", Kind::Answers),
-    ("list ", Kind::Sum),
-    ("counts ", Kind::Counts),
-    ("devices ", Kind::Devices),
+/// The words that a frame's line begins with, and what they ask.
+const KINDS: [(&str, Kind); 7] = [
+    ("stream", Kind::Answers),
+    ("list", Kind::Sum),
+    ("counts", Kind::Counts),
+    ("devices", Kind::Devices),
+    ("steps", Kind::Steps),
+    ("files", Kind::Files),
+    ("surface", Kind::Surface),
 ];
 
-/// What a frame's line asks, and what comes after that.
-fn read_kind(line: &str) -> Option<(Kind, &str)> {
-    for (word, kind) in KINDS {
-        if let Some(rest) = line.strip_prefix(word) {
-            return Some((kind, rest));
+/// What the first word of a frame's line asks.
+fn kind_of(word: &str) -> Option<Kind> {
+    for (name, kind) in KINDS {
+        if name == word {
+            return Some(kind);
         }
     }
     None
@@ -61,55 +71,46 @@ fn read_length(word: &str) -> Option<(usize, usize)> {
     }
 }
 
-/// What it says after that: the name, the length of the stream, and the words.
-fn read_line(line: &str) -> Option<(&str, &str, Option<&str>)> {
-    let (name, rest) = line.split_once(' ')?;
-    match rest.split_once(' ') {
-        Some((length, words)) => Some((name, length, Some(words))),
-        None => Some((name, rest, None)),
-    }
-}
-
 /// The first frame of these bytes, and the bytes after it; `None` where they begin with none.
 pub fn split_frame(input: &[u8]) -> Option<(Frame<'_>, &[u8])> {
-    let end = input.iter().position(|b| *b == b'\n')?;
-    let line = str::from_utf8(&input[..end]).ok()?;
-    let (kind, line) = read_kind(line)?;
-    let (name, length, words) = read_line(line)?;
+    let (line, rest) = split_line(input)?;
+    let (word, line) = str::from_utf8(line).ok()?.split_once(' ')?;
+    let (name, line) = line.split_once(' ')?;
+    let (length, words) = match line.split_once(' ') {
+        Some((length, words)) => (length, Some(words)),
+        None => (line, None),
+    };
     let (length, repeats) = read_length(length)?;
-    let (commands, rest) = input[end + 1..].split_at_checked(length)?;
-    Some((
-        Frame {
-            name,
-            words,
-            commands,
-            repeats,
-            kind,
-        },
-        rest,
-    ))
+    let (stored, rest) = rest.split_at_checked(length)?;
+    let frame = Frame {
+        kind: kind_of(word)?,
+        title: (word, name),
+        words,
+        stored,
+        repeats,
+    };
+    Some((frame, rest))
 }
 
 impl Frame<'_> {
-    /// The stream.
-    pub fn stream(&self, alloc: Global) -> Result<Vec<u8>, AllocError> {
-        let mut stream = Vec::from_slice(alloc, self.commands)?;
-        if let Some(last) = self.commands.last() {
-            stream.resize(stream.len().saturating_add(self.repeats), *last)?;
+    /// The bytes.
+    pub fn bytes(&self, alloc: Global) -> Result<Vec<u8>, AllocError> {
+        let mut bytes = Vec::from_slice(alloc, self.stored)?;
+        if let Some(last) = self.stored.last() {
+            bytes.resize(bytes.len().saturating_add(self.repeats), *last)?;
         }
-        Ok(stream)
+        Ok(bytes)
     }
 
     /// All words of the command line.
     fn command_line(&self, alloc: Global) -> Result<Vec<String>, AllocError> {
+        let line = match self.words {
+            Some(words) => format!(in alloc; "ldi session {words}")?,
+            None => String::from_str(alloc, "ldi session")?,
+        };
         let mut args = Vec::new(alloc);
-        for word in ["ldi", "session"] {
+        for word in line.as_str().split(' ') {
             args.push(String::from_str(alloc, word)?)?;
-        }
-        if let Some(words) = self.words {
-            for word in words.split(' ') {
-                args.push(String::from_str(alloc, word)?)?;
-            }
         }
         Ok(args)
     }

@@ -10,7 +10,10 @@
 //! `ldi session`. `LEN+COUNT` in place of `LEN` says that the last byte of the stream stands COUNT times more.
 //!
 //! `list` in place of `stream` asks for a checksum in place of the answers, `counts` for what each edit counts in a
-//! session, and `devices` for what comes where a reader or a writer fails.
+//! session, `devices` for what comes where a reader or a writer fails, and `steps` for the same of readers and writers
+//! that take one byte, seven, and all bytes a call. The bytes of a frame of `files` and of `surface` are files, the
+//! script first: a line of a file's word and its length, and then what it holds. `files` asks what `ldi link` makes of
+//! them, and `surface` what the public calls of single crates do (`surface`).
 //!
 //! For each frame it prints `stream NAME WORDS..`, and then each command (`printing::print_command`) and under it its
 //! answer. That of a map or of fault lines has the text; that of an image goes on with a checksum
@@ -24,7 +27,11 @@
 //! takes at most 100. It prints `bytes LENGTH sum CHECKSUM` of all answers and `status S`. Then sessions answer it with
 //! the first read failing, with the second, and so on until none fails; the same for writes and for flushes. It prints
 //! for each of the three how many of these sessions had a call that failed, how many ended with another fault than the
-//! device's or had written what is no beginning of the answers, and how many bytes all of them had written.
+//! device's or had written what is no beginning of the answers, and how many bytes all of them had written. A frame of
+//! `steps` has these lines three times.
+//!
+//! For a frame of `files` it prints the word and the length of each file, `status S`, what stands on standard error,
+//! and after a link the image and the map as a stream answers them.
 #![tactic(auto)]
 
 mod answer;
@@ -34,22 +41,27 @@ mod command;
 mod counts;
 mod devices;
 mod failing;
+mod files;
 mod frame;
 mod printing;
 mod session;
+mod surface;
+mod task;
 
 use crate::answer::checksum;
 use crate::answered::print_agreement;
 use crate::calls::answer_by_calls;
 use crate::counts::print_counts;
-use crate::failing::print_failing;
+use crate::failing::{Longest, print_devices};
+use crate::files::print_link;
 use crate::frame::{Frame, Kind, split_frame};
-use crate::printing::print_bytes;
 use crate::session::{answer_by_plain, answer_by_session};
-use std::alloc::Global;
+use crate::surface::print_surface;
+use crate::task::Task;
+use std::alloc::{AllocError, Global};
 use std::hash::RandomState;
 use std::io;
-use std::io::{BufWriter, Read, Write};
+use std::io::{Read, Write};
 use std::process::ExitCode;
 
 /// All frames were answered.
@@ -59,102 +71,99 @@ const CUT: u8 = 1;
 /// A device failed, or memory was refused.
 const FAILED: u8 = 3;
 
-/// The word that begins a frame's line and what is printed of it.
-fn word_of(kind: Kind) -> &'static str {
-    match kind {
-        Kind::Answers => "stream ",
-        Kind::Sum => "list ",
-        Kind::Counts => "counts ",
-        Kind::Devices => "devices ",
-    }
-}
+/// What the devices of a frame of `devices` take.
+const DEVICES: Longest = Longest {
+    read: 1,
+    write: 100,
+};
 
-/// Answers the stream of a frame in all ways, and compares the answers.
-fn compare<W: Write>(
-    alloc: Global,
-    seed: RandomState,
-    frame: &Frame<'_>,
-    out: &mut W,
-) -> io::Result<()> {
-    let (Some(first), Some(second), Some(third)) = (
-        frame.options(alloc)?,
-        frame.options(alloc)?,
-        frame.options(alloc)?,
-    ) else {
-        return out.write_all(b"bad words\n");
-    };
-    let stream = frame.stream(alloc)?;
-    let by_session = answer_by_session(alloc, seed, first, &stream)?;
-    let by_plain = answer_by_plain(alloc, seed, second, &stream)?;
-    let by_calls = if frame.kind == Kind::Answers {
-        answer_by_calls(alloc, seed, third, &stream, out)?
+/// Answers a stream in all ways, and compares the answers. They are shown, or a checksum of them.
+fn compare(task: Task<'_>, shows: bool, out: &mut String) -> Result<(), AllocError> {
+    let mut shown = String::new(task.alloc);
+    let by_calls = answer_by_calls(task, &mut shown)?;
+    if shows {
+        out.push_str(shown.as_str())?;
     } else {
-        let mut unseen = Vec::new(alloc);
-        let run = answer_by_calls(alloc, seed, third, &stream, &mut unseen)?;
-        writeln!(out, "sum {:016x}", checksum(&run.answers))?;
-        run
-    };
+        writeln!(out, "sum {:016x}", checksum(&by_calls.answers))?;
+    }
+    let by_session = answer_by_session(task)?;
+    let by_plain = answer_by_plain(task)?;
     print_agreement(&by_session, &by_plain, &by_calls, out)
 }
 
-/// Prints what a session does with the stream of a frame: what its edits count, or what comes where a device fails.
-fn observe<W: Write>(
-    alloc: Global,
-    seed: RandomState,
-    frame: &Frame<'_>,
-    out: &mut W,
-) -> io::Result<()> {
-    let Some(options) = frame.options(alloc)? else {
-        return out.write_all(b"bad words\n");
-    };
-    let stream = frame.stream(alloc)?;
-    if frame.kind == Kind::Counts {
-        print_counts(alloc, seed, options, &stream, out)
-    } else {
-        print_failing(alloc, seed, &options, &stream, out)
+/// Prints what comes where a reader and a writer take one byte a call, seven, and all.
+fn print_steps(task: Task<'_>, out: &mut String) -> Result<(), AllocError> {
+    for (step, name) in [
+        (1, "one byte"),
+        (7, "seven bytes"),
+        (usize::MAX, "all bytes"),
+    ] {
+        writeln!(out, "{name} a call")?;
+        let longest = Longest {
+            read: step,
+            write: step,
+        };
+        print_devices(task, longest, out)?;
+    }
+    Ok(())
+}
+
+/// Prints what a frame asks of its bytes.
+fn answer_frame(kind: Kind, task: Task<'_>, out: &mut String) -> Result<(), AllocError> {
+    match kind {
+        Kind::Answers => compare(task, true, out),
+        Kind::Sum => compare(task, false, out),
+        Kind::Counts => print_counts(task, out),
+        Kind::Devices => print_devices(task, DEVICES, out),
+        Kind::Steps => print_steps(task, out),
+        Kind::Files => print_link(task, out),
+        Kind::Surface => print_surface(task, out),
     }
 }
 
 /// Prints the name of a frame, and what it asks.
-fn try_frame<W: Write>(
+fn try_frame(
     alloc: Global,
     seed: RandomState,
-    frame: &Frame<'_>,
-    out: &mut W,
-) -> io::Result<()> {
-    out.write_all(word_of(frame.kind).as_bytes())?;
-    print_bytes(out, frame.name.as_bytes())?;
+    frame: Frame<'_>,
+    out: &mut String,
+) -> Result<(), AllocError> {
+    let (word, name) = frame.title;
+    write!(out, "{word} {name}")?;
     if let Some(words) = frame.words {
-        out.write_all(b" ")?;
-        print_bytes(out, words.as_bytes())?;
+        write!(out, " {words}")?;
     }
-    out.write_all(b"\n")?;
-    match frame.kind {
-        Kind::Counts | Kind::Devices => observe(alloc, seed, frame, out),
-        Kind::Answers | Kind::Sum => compare(alloc, seed, frame, out),
-    }
+    out.push('\n')?;
+    let Some(options) = frame.options(alloc)? else {
+        return out.push_str("bad words\n");
+    };
+    let bytes = frame.bytes(alloc)?;
+    let task = Task {
+        alloc,
+        seed,
+        options: &options,
+        bytes: &bytes,
+    };
+    answer_frame(frame.kind, task, out)
 }
 
 /// Tries all frames, and gives the status to end with.
-fn try_frames<W: Write>(
+fn try_frames(
     alloc: Global,
     seed: RandomState,
     input: &[u8],
-    out: &mut W,
-) -> io::Result<u8> {
+    out: &mut String,
+) -> Result<u8, AllocError> {
     let mut rest = input;
     // a frame takes a byte at least
-    for _ in 0..=input.len() {
-        if rest.is_empty() {
-            break;
-        }
+    for _ in 0..input.len() {
         let Some((frame, others)) = split_frame(rest) else {
-            return Ok(CUT);
+            break;
         };
         rest = others;
-        try_frame(alloc, seed, &frame, out)?;
+        try_frame(alloc, seed, frame, out)?;
     }
-    Ok(DONE)
+    Ok(if rest.is_empty() { DONE } else { CUT })
 }
 
 /// Reads standard input, prints, and gives the status to end with.
@@ -162,9 +171,9 @@ fn show(rt: &HostRuntime) -> io::Result<u8> {
     let alloc = rt.alloc();
     let mut input = Vec::new(alloc);
     rt.reader().read_to_end(&mut input)?;
-    let mut out = BufWriter::new(alloc, io::writer(rt))?;
+    let mut out = String::new(alloc);
     let status = try_frames(alloc, RandomState::new(rt)?, &input, &mut out)?;
-    out.flush()?;
+    io::writer(rt).write_all(out.as_bytes())?;
     Ok(status)
 }
 

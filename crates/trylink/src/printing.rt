@@ -1,55 +1,52 @@
-//! Bytes and commands, as they are printed.
+//! Bytes and commands, as they are printed, and lines, as they are read.
 
-use std::io;
-use std::io::Write;
+use std::alloc::AllocError;
 
 /// How many bytes of a command's line are shown.
 const LONGEST_LINE: usize = 100;
 /// Of what length a script is shown at most.
 const LONGEST_SCRIPT: usize = 2000;
 
-/// Printable ASCII as it is, any other byte as `<XX>`.
-pub fn print_bytes<W: Write>(out: &mut W, bytes: &[u8]) -> io::Result<()> {
+/// A line feed where bytes are shown in one line.
+pub const IN_LINE: &str = "<0a>";
+/// A line feed where lines are shown as lines.
+pub const AS_LINES: &str = "\n";
+/// A line feed where each line is shown after a bar.
+const AFTER_BARS: &str = "\n| ";
+
+/// The first line of these bytes, and what follows its line feed; `None` where they have none.
+pub fn split_line(bytes: &[u8]) -> Option<(&[u8], &[u8])> {
+    let end = bytes.iter().position(|b| *b == b'\n')?;
+    Some((&bytes[..end], &bytes[end + 1..]))
+}
+
+/// Prints printable ASCII as it is, a line feed as `feed`, and any other byte as `<XX>`.
+pub fn print_bytes(out: &mut String, bytes: &[u8], feed: &str) -> Result<(), AllocError> {
     for byte in bytes {
-        if matches!(*byte, b' '..=b'~') {
-            out.write_all(&[*byte])?;
-        } else {
-            write!(out, "<{:02x}>", *byte)?;
+        match *byte {
+            b' '..=b'~' => out.push(char::from(*byte))?,
+            b'\n' => out.push_str(feed)?,
+            other => write!(out, "<{other:02x}>")?,
         }
     }
     Ok(())
 }
 
-/// A script with `| ` before each of its lines.
-fn print_script<W: Write>(out: &mut W, text: &[u8]) -> io::Result<()> {
-    for line in text.split(|b| *b == b'\n') {
-        out.write_all(b"| ")?;
-        print_bytes(out, line)?;
-        out.write_all(b"\n")?;
-    }
-    Ok(())
-}
-
-/// A command: its line after `> `, of which at most 100 bytes are shown, and under it the text of a script of at most
-/// 2,000 bytes. What is left of a stream that no command begins is shown in the same way.
-pub fn print_command<W: Write>(out: &mut W, bytes: &[u8]) -> io::Result<()> {
-    let end = bytes
-        .iter()
-        .position(|b| *b == b'\n')
-        .unwrap_or(bytes.len());
-    let (line, rest) = bytes.split_at(end);
-    out.write_all(b"> ")?;
-    print_bytes(out, &line[..line.len().min(LONGEST_LINE)])?;
-    out.write_all(if line.len() > LONGEST_LINE {
-        b"..\n"
+/// Prints a command: its line after `> `, of which at most 100 bytes are shown, and under it the text of a script of at
+/// most 2,000 bytes. What is left of a stream that no command begins is shown in the same way.
+pub fn print_command(out: &mut String, bytes: &[u8]) -> Result<(), AllocError> {
+    let (line, text) = split_line(bytes).unwrap_or((bytes, &[]));
+    out.push_str("> ")?;
+    print_bytes(out, &line[..line.len().min(LONGEST_LINE)], IN_LINE)?;
+    out.push_str(if line.len() > LONGEST_LINE {
+        "..\n"
     } else {
-        b"\n"
+        "\n"
     })?;
-    let is_script = line.starts_with(b"script ");
-    match rest.strip_prefix(b"\n") {
-        Some(text) if is_script && !text.is_empty() && text.len() <= LONGEST_SCRIPT => {
-            print_script(out, text)
-        }
-        _ => Ok(()),
+    if line.starts_with(b"script ") && !text.is_empty() && text.len() <= LONGEST_SCRIPT {
+        out.push_str("| ")?;
+        print_bytes(out, text, AFTER_BARS)?;
+        out.push('\n')?;
     }
+    Ok(())
 }

@@ -2,12 +2,13 @@
 //! from link to link.
 
 use crate::answered::{Answered, MALFORMED};
+use crate::devices::{ShortReader, ShortWriter};
+use crate::task::Task;
 use ldi_stream::devices::{AnswerWriter, CommandReader};
 use ldi_stream::fault::RunFault;
 use ldi_stream::{Status, run};
-use relink::{Linker, Options, Plain, Session};
+use relink::{Linker, Plain, Session};
 use std::alloc::{AllocError, Global};
-use std::hash::RandomState;
 
 /// The status after a device failed.
 const DEVICE: u8 = 3;
@@ -21,37 +22,61 @@ pub fn status_of(outcome: Result<Status, RunFault>) -> u8 {
     }
 }
 
-/// The answers of a linker to a stream.
+/// How a run ended, and what it had written.
+#[derive(Drop)]
+pub struct Ended {
+    /// How it ended.
+    pub outcome: Result<Status, RunFault>,
+    /// What it had written.
+    pub written: Vec<u8>,
+}
+
+impl Ended {
+    /// The answers, and the status.
+    fn answered(self) -> Answered {
+        let status = status_of(self.outcome);
+        Answered {
+            answers: self.written,
+            status,
+        }
+    }
+}
+
+/// What a linker answers to the stream of a reader.
 fn answer_by<L: Linker>(
     alloc: Global,
     linker: &mut L,
-    stream: &[u8],
-) -> Result<Answered, AllocError> {
-    let mut source = CommandReader::new(alloc, stream)?;
-    let mut sink = AnswerWriter::new(alloc, Vec::new(alloc))?;
-    let status = status_of(run(alloc, &mut source, &mut sink, linker));
-    let answers = sink.into_writer();
-    Ok(Answered { answers, status })
+    reader: ShortReader<'_>,
+    writer: ShortWriter,
+) -> Result<Ended, AllocError> {
+    let mut source = CommandReader::new(alloc, reader)?;
+    let mut sink = AnswerWriter::new(alloc, writer)?;
+    let outcome = run(alloc, &mut source, &mut sink, linker);
+    let written = sink.into_writer().written;
+    Ok(Ended { outcome, written })
+}
+
+/// What a new session answers to the stream of a reader.
+pub fn run_session(
+    task: Task<'_>,
+    reader: ShortReader<'_>,
+    writer: ShortWriter,
+) -> Result<Ended, AllocError> {
+    let mut linker = Session::new(task.alloc, task.seed, task.own_options()?)?;
+    answer_by(task.alloc, &mut linker, reader, writer)
 }
 
 /// The answers of a session to a stream.
-pub fn answer_by_session(
-    alloc: Global,
-    seed: RandomState,
-    options: Options,
-    stream: &[u8],
-) -> Result<Answered, AllocError> {
-    let mut linker = Session::new(alloc, seed, options)?;
-    answer_by(alloc, &mut linker, stream)
+pub fn answer_by_session(task: Task<'_>) -> Result<Answered, AllocError> {
+    let reader = ShortReader::new(task.bytes, usize::MAX, 0);
+    let writer = ShortWriter::new(task.alloc, usize::MAX, 0, 0);
+    Ok(run_session(task, reader, writer)?.answered())
 }
 
 /// The answers of the plain linker to a stream.
-pub fn answer_by_plain(
-    alloc: Global,
-    seed: RandomState,
-    options: Options,
-    stream: &[u8],
-) -> Result<Answered, AllocError> {
-    let mut linker = Plain::new(alloc, seed, options)?;
-    answer_by(alloc, &mut linker, stream)
+pub fn answer_by_plain(task: Task<'_>) -> Result<Answered, AllocError> {
+    let reader = ShortReader::new(task.bytes, usize::MAX, 0);
+    let writer = ShortWriter::new(task.alloc, usize::MAX, 0, 0);
+    let mut linker = Plain::new(task.alloc, task.seed, task.own_options()?)?;
+    Ok(answer_by(task.alloc, &mut linker, reader, writer)?.answered())
 }
