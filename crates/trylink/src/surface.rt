@@ -4,7 +4,7 @@ use crate::counts::print_meter;
 use crate::files::split_file;
 use crate::printing::{IN_LINE, print_bytes};
 use crate::task::Task;
-use elfobj::relocation::SymbolIndex;
+use elfobj::relocation::{RelocationKind, SymbolIndex};
 use elfobj::section::{LinkedIndex, SectionIndex};
 use elfobj::{Meter, Object, Relocation};
 use emit::relocate::index::{TargetIndex, TargetSite};
@@ -165,6 +165,9 @@ fn print_field(
     meter: &mut Meter,
     out: &mut String,
 ) -> Result<(), AllocError> {
+    if relocation.kind == RelocationKind::None {
+        return out.push_str("no field\n");
+    }
     let Ok(found) = field(relocation, VALUE, PLACE, meter) else {
         return out.push_str("overflow\n");
     };
