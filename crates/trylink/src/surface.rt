@@ -4,7 +4,7 @@ use crate::counts::print_meter;
 use crate::files::split_file;
 use crate::printing::{IN_LINE, print_bytes};
 use crate::task::Task;
-use elfobj::relocation::SymbolIndex;
+use elfobj::relocation::{RelocationKind, SymbolIndex};
 use elfobj::section::{LinkedIndex, SectionIndex};
 use elfobj::{Meter, Object, Relocation};
 use emit::relocate::index::{TargetIndex, TargetSite};
@@ -165,6 +165,9 @@ fn print_field(
     meter: &mut Meter,
     out: &mut String,
 ) -> Result<(), AllocError> {
+    if relocation.kind == RelocationKind::None {
+        return out.push_str("no field\n");
+    }
     let Ok(found) = field(relocation, VALUE, PLACE, meter) else {
         return out.push_str("overflow\n");
     };
@@ -194,29 +197,51 @@ fn print_index(alloc: Global, out: &mut String) -> Result<(), AllocError> {
     writeln!(out, "a site {before} {after}")
 }
 
-/// Reads the script and the object of these bytes, and prints what the calls make of them.
-pub fn print_surface(task: Task<'_>, out: &mut String) -> Result<(), AllocError> {
+/// Prints what the calls make of a script and an object, which was read with this meter.
+fn print_calls(
+    task: Task<'_>,
+    script: &Script,
+    object: &Object,
+    meter: &mut Meter,
+    out: &mut String,
+) -> Result<(), AllocError> {
     let alloc = task.alloc;
+    print_object(object, out)?;
+    print_matches(alloc, script, out)?;
+    print_names(task, script, object, meter, out)?;
+    print_layout(alloc, script, object, meter, out)?;
+    if let Some(relocation) = first_relocation(object) {
+        print_field(alloc, relocation, meter, out)?;
+    }
+    print_index(alloc, out)?;
+    print_meter(meter, out)
+}
+
+/// `Object::read`: the object of these bytes.
+fn print_with_object(
+    task: Task<'_>,
+    script: &Script,
+    bytes: &[u8],
+    out: &mut String,
+) -> Result<(), AllocError> {
+    let mut meter = Meter::new();
+    let bytes = Vec::from_slice(task.alloc, bytes)?;
+    match Object::read(task.alloc, bytes, &mut meter) {
+        Ok(object) => print_calls(task, script, &object, &mut meter, out),
+        Err(_) => out.push_str("object refused\n"),
+    }
+}
+
+/// Reads the script and the object of a frame, and prints what the calls make of them.
+pub fn print_surface(task: Task<'_>, out: &mut String) -> Result<(), AllocError> {
     let Some((_script, text, rest)) = split_file(task.bytes) else {
         return out.push_str("no script\n");
     };
     let Some((_object, bytes, _rest)) = split_file(rest) else {
         return out.push_str("no object\n");
     };
-    let Ok(script) = Script::read(alloc, text) else {
-        return out.push_str("script refused\n");
-    };
-    let mut meter = Meter::new();
-    let Ok(object) = Object::read(alloc, Vec::from_slice(alloc, bytes)?, &mut meter) else {
-        return out.push_str("object refused\n");
-    };
-    print_object(&object, out)?;
-    print_matches(alloc, &script, out)?;
-    print_names(task, &script, &object, &mut meter, out)?;
-    print_layout(alloc, &script, &object, &mut meter, out)?;
-    if let Some(relocation) = first_relocation(&object) {
-        print_field(alloc, relocation, &mut meter, out)?;
+    match Script::read(task.alloc, text) {
+        Ok(script) => print_with_object(task, &script, bytes, out),
+        Err(_) => out.push_str("script refused\n"),
     }
-    print_index(alloc, out)?;
-    print_meter(&meter, out)
 }
