@@ -1,5 +1,6 @@
 -- What the readers of the parts of a script answer, and the parts that one reader reads at once.
-use Rattle.std.specs.Prelude.{◌≡◌, ◌<◌, ◌≤◌, ℕ, List, codes, length, Bool, true, false, Option, Some, None, IfOk, Result}
+use Rattle.std.specs.Prelude.{◌≡◌, ◌<◌, ◌≤◌, ℕ, List, codes, length, Bool, true, false, Option}
+use Rattle.std.specs.Prelude.{Some, None, IfOk, Result}
 use Rattle.ldscript_tokens.specs.Tokens.{Lexeme, Discard}
 use Rattle.ldscript_tokens.specs.declared.token.Mark.TheVariants.{OpenParenthesis, CloseParenthesis, OpenBrace, Colon}
 use Rattle.ldscript_tokens.specs.declared.token.Mark.TheVariants.{Greater}
