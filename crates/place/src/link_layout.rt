@@ -5,12 +5,12 @@ ghost use Rattle.ldmodel.specs.Names.{provided};
 ghost use Rattle.ldmodel.specs.Project.{Project};
 ghost use Rattle.ldmodel.specs.Rows as model;
 ghost use Rattle.place.specs.LinkLayout.{HasLayout, HasPlaces, IsOne, IsWhy};
-ghost use Rattle.symres.specs.SymbolTable.{IsSymbolTable};
 ghost use Rattle.ldmodel_project.specs.ByPlace.{rows_in};
 ghost use Rattle.elfobj.specs.Raised.{raised};
 ghost use Rattle.elfobj.specs.declared.meter.Count.TheVariants.{Pieces};
 ghost use Rattle.place_sections.specs.Counted.{CountsPieces, entries, first_of, placed_from};
 ghost use Rattle.place_sections.specs.Kept.{IsKept};
+ghost use Rattle.place_terms.specs.ProvidedTable.{provided_names};
 ghost use Rattle.place_sections.specs.Outcomes as outcomes;
 
 use crate::offsets::offsets;
@@ -18,6 +18,7 @@ use crate::segments::segments;
 use elfobj::Meter;
 use ldmodel::fault::Fault;
 use ldmodel::rows::Piece;
+use ldmodel::script_symbol::DirectiveIndex;
 use ldmodel::segment::Segment;
 use ldmodel_project::view::ProjectView;
 use place_sections::fault::PlaceFault;
@@ -25,7 +26,6 @@ use place_sections::law::outputs_are_of_script;
 use place_sections::place::place;
 use place_sections::placement::Placement;
 use std::alloc::{AllocError, Global};
-use symres::SymbolTable;
 
 /// Where everything of a project stands.
 #[derive(Drop)]
@@ -85,14 +85,14 @@ fn reported(alloc: Global, fault: PlaceFault) -> LayoutFault
 fn place_rows(
     alloc: Global,
     project: &ProjectView<'_>,
-    symbol_table: &SymbolTable,
+    in_force: &[DirectiveIndex],
     rows: &[Vec<Piece>],
     kept: Option<(&Placement, usize)>,
     meter: &mut Meter,
 ) -> Result<Placement, LayoutFault>
     ghost lent: { Project }
     requires project { project.now ≡ lent }
-    requires symbol_table { IsSymbolTable lent symbol_table.now }
+    requires in_force { provided_names lent.script in_force.now ≡ provided lent }
     requires rows { rows_in lent rows.now ≡ model.rows lent }
     requires kept { IfSome kept (λ k. IsKept lent.script (model.rows lent) k.0.now k.1) }
     ensures good { IfOk result (λ l. HasPlaces lent l) }
@@ -102,17 +102,16 @@ fn place_rows(
         CountsPieces meter.old meter.new (entries k.1 (map (λ v. v.items) rows.now)))) }
     ensures exact { IfOk result (λ p. meter.new ≡ raised meter.old Pieces (placed_from (first_of kept.entry) p.counts)) }
 {
-    let script = project.script();
-    let provided = symbol_table.provided(alloc, script)?;
-    match place(alloc, script, rows, &provided, kept, meter) {
+    match place(alloc, project.script(), rows, in_force, kept, meter) {
         Ok(placement) => Ok(placement),
         Err(fault) => Err(reported(alloc, fault)),
     }
 }
 
 impl LinkLayout {
-    /// Lays out the rows of a project whose names are decided. The length of the image isn't looked at: it is known
-    /// only when the symbols have their values. The entries of the rows are counted as placed.
+    /// Lays out the rows of a project. `in_force` are the numbers of the PROVIDEs that are in force. The length of the
+    /// image isn't looked at: it is known only when the symbols have their values. The entries of the rows are counted
+    /// as placed.
     ///
     /// With `kept`, an earlier placement of the script and the number of a row before which no row differs from the
     /// earlier ones, the layout is the same, and the entries of the rows from that one on are counted.
@@ -124,12 +123,12 @@ impl LinkLayout {
     pub fn of(
         alloc: Global,
         project: &ProjectView<'_>,
-        symbol_table: &SymbolTable,
+        in_force: &[DirectiveIndex],
         rows: &[Vec<Piece>],
         kept: Option<(&Placement, usize)>,
         meter: &mut Meter,
     ) -> Result<LinkLayout, LayoutFault>
-        requires symbol_table { IsSymbolTable project.now symbol_table.now }
+        requires in_force { provided_names project.now.script in_force.now ≡ provided project.now }
         requires rows { rows_in project.now rows.now ≡ model.rows project.now }
         requires kept { IfSome kept (λ k. IsKept project.now.script (model.rows project.now) k.0.now k.1) }
         ensures good { IfOk result (λ l. HasLayout project.now l) }
@@ -143,7 +142,7 @@ impl LinkLayout {
         outputs_are_of_script();
         // so that what a script says of its statements is known
         let _statements = project.script().statements();
-        let placement = place_rows(alloc, project, symbol_table, rows, kept, meter)?;
+        let placement = place_rows(alloc, project, in_force, rows, kept, meter)?;
         let segments = segments(alloc, placement.view())?;
         let offsets = offsets(alloc, placement.sections(), &segments)?;
         Ok(LinkLayout {

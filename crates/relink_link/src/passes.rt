@@ -109,11 +109,14 @@ pub(crate) fn laid(
     placed_are_rows();
     // so that the range of the count is known
     let _pieces = meter.pieces();
+    let in_force = lent
+        .symbol_table
+        .provided(lent.alloc, lent.project.script())?;
     let kept = resumed(lent.last, lent.project, rows);
     match LinkLayout::of(
         lent.alloc,
         lent.project,
-        lent.symbol_table,
+        &in_force,
         rows,
         kept,
         meter,
