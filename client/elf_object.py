@@ -19,6 +19,7 @@ from client.object_file import (
     ENTRY_SIZE,
     FUNCTION,
     HEADER,
+    LINKED,
     LOCAL,
     NOBITS,
     OBJECT,
@@ -33,7 +34,6 @@ from client.object_file import (
     Symbol,
 )
 
-LINKED_TYPES = frozenset({1, 7, 8, 14, 15, 16, 0x70000001})
 ELFCOMPRESS_ZLIB = 1
 
 R_X86_64_NONE = 0
@@ -100,7 +100,7 @@ class ElfObject:
         """The numbers of the linked sections of each name."""
         found: dict[str, list[int]] = {}
         for number, section in enumerate(self.sections):
-            if number and section.flags & ALLOC and section.kind in LINKED_TYPES:
+            if number and section.flags & ALLOC and section.kind in LINKED:
                 found.setdefault(self.section_name(number), []).append(number)
         return found
 

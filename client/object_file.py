@@ -10,8 +10,10 @@ from collections.abc import Iterator
 from functools import cached_property
 from typing import NamedTuple
 
-ALLOC, EXECUTABLE, COMPRESSED = 2, 4, 0x800
+WRITABLE, ALLOC, EXECUTABLE, COMPRESSED = 1, 2, 4, 0x800
 PROGBITS, SYMTAB, STRTAB, RELA, NOTE, NOBITS = 1, 2, 3, 4, 7, 8
+LINKED = frozenset((PROGBITS, NOTE, NOBITS, 14, 15, 16, 0x70000001))
+"""The kinds of sections that are linked; the last four are INIT_ARRAY, FINI_ARRAY, PREINIT_ARRAY and X86_64_UNWIND."""
 LOCAL, GLOBAL, WEAK = 0, 1, 2
 NOTYPE, OBJECT, FUNCTION, SECTION, FILE = range(5)
 UNDEFINED, ABSOLUTE, COMMON = 0, 0xFFF1, 0xFFF2
@@ -85,6 +87,10 @@ class ObjectFile:
     def headers(self) -> list[Header]:
         """The section headers."""
         return [Header._make(header) for header in HEADER.iter_unpack(self._table())]
+
+    def rows(self) -> list[tuple[int, ...]]:
+        """The section headers as plain tuples, which take less time where there are very many."""
+        return list(HEADER.iter_unpack(self._table()))
 
     def kinds(self) -> list[int]:
         """The kinds of the sections."""

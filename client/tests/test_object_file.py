@@ -4,6 +4,7 @@ from __future__ import annotations
 import struct
 import unittest
 
+from client.adapt.objects import Objects
 from client.elf_object import ElfObject
 from client.ld.linkage import Linkage, read_linkage
 from client.object_file import FUNCTION, GLOBAL, LOCAL, SECTION, NotElf, ObjectFile
@@ -51,6 +52,7 @@ class HeadersTest(unittest.TestCase):
         """The headers, names and contents of sections."""
         file = ObjectFile(written())
         self.assertEqual(file.headers, HEADERS)
+        self.assertEqual(file.rows(), HEADERS)
         self.assertEqual(file.kinds(), [0, 1, 2, 3, 3])
         self.assertEqual([file.section_name(number) for number in range(5)],
                          [b"", b".text", b".symtab", b".strtab", b".shstrtab"])
@@ -81,9 +83,19 @@ class HeadersTest(unittest.TestCase):
         self.assertEqual((elf.definitions("main"), elf.definitions("other")), ([2], []))
         self.assertEqual(elf.contents(1), TEXT)
 
+    def test_rules(self) -> None:
+        """What the rules of `ldi-adapt` take of them."""
+        objects = Objects({"a.o": written()})
+        self.assertEqual([(item.name, item.type, item.flags, item.size, item.align) for item in objects.sections()],
+                         [(".text", 1, 6, 3, 1)])
+        main = objects.definition("main")
+        self.assertIsNotNone(main)
+        self.assertEqual(main and (main.object, main.section, main.value, main.weak), ("a.o", ".text", 2, False))
+        self.assertEqual(objects.undefined(), {"other"})
+
 
 class NoObjectTest(unittest.TestCase):
-    """Bytes without section headers: the programs are told, messages go without names."""
+    """Bytes without section headers: the programs are told, messages and rules go without names."""
 
     def refused(self, data: bytes, reason: str) -> None:
         """Bytes that are refused for this reason."""
@@ -91,6 +103,7 @@ class NoObjectTest(unittest.TestCase):
             ObjectFile(data)
         self.assertEqual(str(caught.exception), reason)
         self.without_names(data)
+        self.without_rules(data)
         self.assertEqual(read_linkage(data), Linkage())
 
     def without_names(self, data: bytes) -> None:
@@ -98,6 +111,11 @@ class NoObjectTest(unittest.TestCase):
         elf = ElfObject(data)
         self.assertEqual((elf.sections, elf.symbols, elf.linked, elf.numbers), ([], [], {}, {}))
         self.assertEqual((elf.section_name(1), elf.symbol_name(1), elf.contents(1)), ("", "", b""))
+
+    def without_rules(self, data: bytes) -> None:
+        """Bytes that the rules of `ldi-adapt` pass over."""
+        objects = Objects({"a.o": data})
+        self.assertEqual((objects.sections(), objects.unloaded(), objects.undefined()), ([], {}, set()))
 
     def test_beginnings(self) -> None:
         """All beginnings of the object."""
@@ -122,6 +140,7 @@ class NoObjectTest(unittest.TestCase):
         file = ObjectFile(written(count=0))
         self.assertEqual((file.headers, file.kinds(), file.symbol_table(), list(file.symbols())), ([], [], None, []))
         self.without_names(file.data)
+        self.without_rules(file.data)
 
     def test_other_size(self) -> None:
         """Section headers that are said to have another size: messages have no names, the programs go by 64 bytes."""
