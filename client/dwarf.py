@@ -25,8 +25,9 @@ else:
     HAS_ELFTOOLS = True
 
 from client import line_program
-from client.elf_object import FIELD_BYTES, R_X86_64_64, SHF_ALLOC, SHF_COMPRESSED, SHN_ABS, ElfObject, plain
+from client.elf_object import FIELD_BYTES, R_X86_64_64, ElfObject, plain
 from client.line_program import DW_FORM_LINE_STRP, Header, Odd, Sequence
+from client.object_file import ABSOLUTE, ALLOC, COMPRESSED
 
 MOST_PROGRAM_BYTES = 1 << 24
 """An object with more bytes of line programs has no lines: they would take seconds."""
@@ -136,7 +137,7 @@ class SourceLines:
         found = {}
         for offset, relocation in self.elf.relocations(self.elf.numbers.get(name, 0)).items():
             target = self._target(relocation.symbol)
-            if target and relocation.kind == R_X86_64_64 and self.elf.sections[target[0]].flags & SHF_ALLOC:
+            if target and relocation.kind == R_X86_64_64 and self.elf.sections[target[0]].flags & ALLOC:
                 found[offset] = (target[0], target[1] + relocation.addend)
         return found
 
@@ -145,9 +146,9 @@ class SourceLines:
         if not 0 < number < len(self.elf.symbols):
             return None
         symbol = self.elf.symbols[number]
-        if not 0 < symbol.place < min(SHN_ABS, len(self.elf.sections)):
+        if not 0 < symbol.section < min(ABSOLUTE, len(self.elf.sections)):
             return None
-        return symbol.place, symbol.value
+        return symbol.section, symbol.value
 
     def _path(self, header: Header, number: int) -> str:
         """The path of a file: from the working folder where it lies there, else the whole path as the compiler had it;
@@ -207,7 +208,7 @@ class SourceLines:
             return None
         try:
             return ELFFile(io.BytesIO(self._relocated_file())).get_dwarf_info(
-                relocate_dwarf_sections=bool(self.elf.sections[number].flags & SHF_COMPRESSED)
+                relocate_dwarf_sections=bool(self.elf.sections[number].flags & COMPRESSED)
             )
         except Exception:
             return None
@@ -216,7 +217,7 @@ class SourceLines:
         data = bytearray(self.elf.data)
         for name, number in self.elf.numbers.items():
             section = self.elf.sections[number]
-            if name.startswith(".debug_") and not section.flags & SHF_COMPRESSED:
+            if name.startswith(".debug_") and not section.flags & COMPRESSED:
                 data[section.offset : section.offset + section.size] = self._relocated(name)
         return bytes(data)
 

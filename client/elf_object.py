@@ -1,7 +1,7 @@
 """The names in an object: its sections, symbols and relocations, by their numbers.
 
 Only what messages need, and quick: tables are read at once, names when they are asked for. Whatever the bytes are,
-there is an answer; what is not in the file is left out.
+there is an answer; what is not in the file is left out. Headers and symbols are those of `client/object_file.py`.
 """
 from __future__ import annotations
 
@@ -12,23 +12,29 @@ from collections.abc import Iterator
 from functools import cached_property
 from typing import NamedTuple
 
-SHT_SYMTAB = 2
-SHT_RELA = 4
-SHT_NOBITS = 8
-LINKED_TYPES = frozenset({1, 7, 8, 14, 15, 16, 0x70000001})
-SHF_ALLOC = 2
-SHF_COMPRESSED = 0x800
-ELFCOMPRESS_ZLIB = 1
+from client.object_file import (
+    ABSOLUTE,
+    ALLOC,
+    COMPRESSED,
+    ENTRY_SIZE,
+    FUNCTION,
+    HEADER,
+    LINKED,
+    LOCAL,
+    NOBITS,
+    OBJECT,
+    RELA,
+    SECTION,
+    SYMBOL,
+    SYMTAB,
+    UNDEFINED,
+    Header,
+    NotElf,
+    ObjectFile,
+    Symbol,
+)
 
-SHN_UNDEF = 0
-SHN_ABS = 0xFFF1
-SHN_COMMON = 0xFFF2
-STB_LOCAL = 0
-STB_GLOBAL = 1
-STB_WEAK = 2
-STT_OBJECT = 1
-STT_FUNC = 2
-STT_SECTION = 3
+ELFCOMPRESS_ZLIB = 1
 
 R_X86_64_NONE = 0
 R_X86_64_64 = 1
@@ -40,47 +46,6 @@ LONGEST_NAME = 4096
 
 LONGEST_DEBUG_SECTION = 1 << 28
 """A compressed section that would be longer is left out."""
-
-
-class Section(NamedTuple):
-    """A section header."""
-
-    name: int
-    kind: int
-    flags: int
-    address: int
-    offset: int
-    size: int
-    link: int
-    info: int
-    alignment: int
-    entry_size: int
-
-
-class Symbol(NamedTuple):
-    """An entry of the symbol table."""
-
-    name: int
-    info: int
-    other: int
-    place: int
-    value: int
-    size: int
-
-    @property
-    def binding(self) -> int:
-        """LOCAL, GLOBAL or WEAK."""
-        return self.info >> 4
-
-    @property
-    def kind(self) -> int:
-        """NOTYPE, OBJECT, FUNC, SECTION, FILE or COMMON."""
-        return self.info & 15
-
-    @property
-    def is_defined(self) -> bool:
-        """Whether the object has what the symbol stands for; a common block counts."""
-        return self.place != SHN_UNDEF
 
 
 class Relocation(NamedTuple):
@@ -104,37 +69,38 @@ class ElfObject:
 
     def __init__(self, data: bytes) -> None:
         self.data = data
-        self.sections = _section_headers(data)
+        self._file = _opened(data)
+        self.sections: list[Header] = self._file.headers if self._file else []
 
     def contents(self, number: int) -> bytes:
         """The bytes of a section, out of their compression; empty where the file has none."""
-        if not 0 < number < len(self.sections) or self.sections[number].kind == SHT_NOBITS:
+        if not 0 < number < len(self.sections) or self.sections[number].kind == NOBITS:
             return b""
         section = self.sections[number]
         data = self.data[section.offset : section.offset + section.size]
-        return _decompressed(data) if section.flags & SHF_COMPRESSED else data
+        return _decompressed(data) if section.flags & COMPRESSED else data
 
     def section_name(self, number: int) -> str:
         """The name of a section; empty where it has none."""
         if not 0 < number < len(self.sections):
             return ""
-        return plain(_text_at(self._section_names, self.sections[number].name))
+        return plain(_text_at(self._section_names, self.sections[number].name_at))
 
     def symbol_name(self, number: int) -> str:
         """The name of a symbol, that of its section for a section's symbol; empty where it has none."""
         if not 0 < number < len(self.symbols):
             return ""
         symbol = self.symbols[number]
-        if symbol.kind == STT_SECTION:
-            return self.section_name(symbol.place)
-        return plain(_text_at(self._symbol_names, symbol.name))
+        if symbol.kind == SECTION:
+            return self.section_name(symbol.section)
+        return plain(_text_at(self._symbol_names, symbol.name_at))
 
     @cached_property
     def linked(self) -> dict[str, list[int]]:
         """The numbers of the linked sections of each name."""
         found: dict[str, list[int]] = {}
         for number, section in enumerate(self.sections):
-            if number and section.flags & SHF_ALLOC and section.kind in LINKED_TYPES:
+            if number and section.flags & ALLOC and section.kind in LINKED:
                 found.setdefault(self.section_name(number), []).append(number)
         return found
 
@@ -142,8 +108,8 @@ class ElfObject:
     def symbols(self) -> list[Symbol]:
         """The entries of the symbol table."""
         table = self.contents(self._symbol_table)
-        table = table[: len(table) - len(table) % 24]
-        return [Symbol._make(entry) for entry in struct.iter_unpack("<IBBHQQ", table)]
+        table = table[: len(table) - len(table) % ENTRY_SIZE]
+        return [Symbol._make(entry) for entry in SYMBOL.iter_unpack(table)]
 
     def relocations(self, section: int) -> dict[int, Relocation]:
         """The relocations of a section, but for NONE, by the offsets of their fields."""
@@ -159,7 +125,7 @@ class ElfObject:
     def _definitions(self) -> dict[str, list[int]]:
         found: dict[str, list[int]] = {}
         for number, symbol in enumerate(self.symbols):
-            if number and symbol.info >> 4 != STB_LOCAL and symbol.place != SHN_UNDEF:
+            if number and symbol.info >> 4 != LOCAL and symbol.section != UNDEFINED:
                 found.setdefault(self.symbol_name(number), []).append(number)
         return found
 
@@ -181,8 +147,8 @@ class ElfObject:
     def _spans(self) -> dict[int, list[tuple[int, int]]]:
         found: dict[int, list[tuple[int, int]]] = {}
         for number, symbol in enumerate(self.symbols):
-            if number and symbol.size and symbol.kind in (STT_OBJECT, STT_FUNC) and symbol.place < SHN_ABS:
-                found.setdefault(symbol.place, []).append((symbol.value, number))
+            if number and symbol.size and symbol.kind in (OBJECT, FUNCTION) and symbol.section < ABSOLUTE:
+                found.setdefault(symbol.section, []).append((symbol.value, number))
         for spans in found.values():
             spans.sort()
         return found
@@ -202,13 +168,13 @@ class ElfObject:
     def _relocation_tables(self) -> dict[int, list[int]]:
         found: dict[int, list[int]] = {}
         for number, section in enumerate(self.sections):
-            if section.kind == SHT_RELA:
+            if section.kind == RELA:
                 found.setdefault(section.info, []).append(number)
         return found
 
     @cached_property
     def _symbol_table(self) -> int:
-        return next((n for n, section in enumerate(self.sections) if section.kind == SHT_SYMTAB), 0)
+        return next((n for n, section in enumerate(self.sections) if section.kind == SYMTAB), 0)
 
     @cached_property
     def _symbol_names(self) -> bytes:
@@ -216,7 +182,7 @@ class ElfObject:
 
     @cached_property
     def _section_names(self) -> bytes:
-        return self.contents(struct.unpack_from("<H", self.data, 62)[0]) if self.sections else b""
+        return self.contents(self._file.names_in) if self._file else b""
 
     @cached_property
     def numbers(self) -> dict[str, int]:
@@ -227,16 +193,13 @@ class ElfObject:
         return found
 
 
-def _section_headers(data: bytes) -> list[Section]:
-    """The section headers; none where the bytes are no ELF-64 file with the lowest byte first."""
-    if len(data) < 64 or data[:6] != b"\x7fELF\x02\x01":
-        return []
-    (first,) = struct.unpack_from("<Q", data, 40)
-    size, count = struct.unpack_from("<HH", data, 58)
-    if size != 64 or first + 64 * count > len(data):
-        return []
-    table = data[first : first + 64 * count]
-    return [Section._make(header) for header in struct.iter_unpack("<IIQQQQIIQQ", table)]
+def _opened(data: bytes) -> ObjectFile | None:
+    """The file; None where it has no section headers, or says that they have another size."""
+    try:
+        file = ObjectFile(data)
+    except NotElf:
+        return None
+    return file if file.header_size == HEADER.size else None
 
 
 def _text_at(table: bytes, start: int) -> bytes:

@@ -7,18 +7,8 @@ from dataclasses import dataclass
 from functools import cached_property
 
 from client.dwarf import Source, SourceLines
-from client.elf_object import (
-    SHN_ABS,
-    SHN_COMMON,
-    SHN_UNDEF,
-    STB_GLOBAL,
-    STB_LOCAL,
-    STT_FUNC,
-    STT_SECTION,
-    ElfObject,
-    Relocation,
-    Symbol,
-)
+from client.elf_object import ElfObject, Relocation
+from client.object_file import ABSOLUTE, COMMON, FUNCTION, GLOBAL, LOCAL, SECTION, UNDEFINED, Symbol
 from client.slim_lto import is_slim, slim_definitions
 
 SLIM = "is an object of slim LTO and has no code: compile it with -fno-lto"
@@ -59,7 +49,7 @@ class ObjectNames:
 
     def is_in_section(self, symbol: Symbol) -> bool:
         """Whether the symbol is defined in a section."""
-        return SHN_UNDEF < symbol.place < min(SHN_ABS, len(self.elf.sections))
+        return UNDEFINED < symbol.section < min(ABSOLUTE, len(self.elf.sections))
 
 
 class RecentObjects:
@@ -133,7 +123,7 @@ class LinkNames:
             return f"{source}: ({names.name} {place})"
         enclosing = names.elf.enclosing(section, offset)
         symbol = names.symbol(enclosing)
-        if symbol is not None and symbol.kind != STT_FUNC:
+        if symbol is not None and symbol.kind != FUNCTION:
             source = self._variable(names, section, symbol.value)
         if source is not None:
             return f"{source}: ({names.name} {place})"
@@ -156,9 +146,9 @@ class LinkNames:
         symbol = names.elf.symbols[numbers[0]]
         if not names.is_in_section(symbol):
             return None
-        place = f"{names.name} {names.elf.section_name(symbol.place)}+{symbol.value:#x}"
-        source = names.lines.of_code(symbol.place, symbol.value, is_start=True)
-        source = source or self._variable(names, symbol.place, symbol.value)
+        place = f"{names.name} {names.elf.section_name(symbol.section)}+{symbol.value:#x}"
+        source = names.lines.of_code(symbol.section, symbol.value, is_start=True)
+        source = source or self._variable(names, symbol.section, symbol.value)
         return Site(f"{source}: ({place})" if source else f"{names.name}: ({place.partition(' ')[2]})")
 
     def definers(self, symbol_name: str) -> list[str]:
@@ -178,7 +168,7 @@ class LinkNames:
         """The section, and its object, that a symbol of an object stands for, where that is certain: a local symbol, or
         the one strong definition of its name."""
         symbol = names.elf.symbols[number]
-        if symbol.binding != STB_LOCAL and not is_strong(symbol):
+        if symbol.binding != LOCAL and not is_strong(symbol):
             name = names.elf.symbol_name(number)
             definers = [(self.object(other), other) for other in self.definers(name)]
             strong = [(found, k) for found, _ in definers if found for k in strong_definitions(found, name)]
@@ -187,7 +177,7 @@ class LinkNames:
             names, symbol = strong[0][0], strong[0][0].elf.symbols[strong[0][1]]
         if not names.is_in_section(symbol):
             return None
-        return f"`{names.elf.section_name(symbol.place)}' of {names.name}"
+        return f"`{names.elf.section_name(symbol.section)}' of {names.name}"
 
     def slim_hint(self, symbol_name: str) -> str:
         """That a name is defined in an object of slim LTO; empty where it is not."""
@@ -209,7 +199,7 @@ class LinkNames:
 
 def is_strong(symbol: Symbol) -> bool:
     """Whether a symbol is a strong definition."""
-    return symbol.binding == STB_GLOBAL and symbol.place not in (SHN_UNDEF, SHN_COMMON)
+    return symbol.binding == GLOBAL and symbol.section not in (UNDEFINED, COMMON)
 
 
 def strong_definitions(names: ObjectNames, symbol_name: str) -> list[int]:
@@ -219,4 +209,4 @@ def strong_definitions(names: ObjectNames, symbol_name: str) -> list[int]:
 
 def is_section(symbol: Symbol) -> bool:
     """Whether a symbol stands for its section."""
-    return symbol.kind == STT_SECTION
+    return symbol.kind == SECTION

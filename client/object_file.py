@@ -1,4 +1,8 @@
-"""Section headers and symbols of an ELF-64 file, as far as the client looks at them."""
+"""Section headers and symbols of an ELF-64 file, as far as the client looks at them.
+
+A file that cannot be read is NotElf; `client/elf_object.py`, for messages, goes by what is here and leaves out what
+cannot be read.
+"""
 from __future__ import annotations
 
 import struct
@@ -6,8 +10,10 @@ from collections.abc import Iterator
 from functools import cached_property
 from typing import NamedTuple
 
-ALLOC, EXECUTABLE = 2, 4
-PROGBITS, SYMTAB, STRTAB, NOTE, NOBITS = 1, 2, 3, 7, 8
+WRITABLE, ALLOC, EXECUTABLE, COMPRESSED = 1, 2, 4, 0x800
+PROGBITS, SYMTAB, STRTAB, RELA, NOTE, NOBITS = 1, 2, 3, 4, 7, 8
+LINKED = frozenset((PROGBITS, NOTE, NOBITS, 14, 15, 16, 0x70000001))
+"""The kinds of sections that are linked; the last four are INIT_ARRAY, FINI_ARRAY, PREINIT_ARRAY and X86_64_UNWIND."""
 LOCAL, GLOBAL, WEAK = 0, 1, 2
 NOTYPE, OBJECT, FUNCTION, SECTION, FILE = range(5)
 UNDEFINED, ABSOLUTE, COMMON = 0, 0xFFF1, 0xFFF2
@@ -44,12 +50,21 @@ class Symbol(NamedTuple):
     """An entry of the symbol table."""
 
     name_at: int
-    binding: int
-    kind: int
+    info: int
     other: int
     section: int
     value: int
     size: int
+
+    @property
+    def binding(self) -> int:
+        """LOCAL, GLOBAL or WEAK."""
+        return self.info >> 4
+
+    @property
+    def kind(self) -> int:
+        """NOTYPE, OBJECT, FUNCTION, SECTION, FILE, or another number."""
+        return self.info & 15
 
 
 class ObjectFile:
@@ -63,8 +78,8 @@ class ObjectFile:
             raise NotElf("its section headers are past its end")
         self.data = data
         (self.headers_at,) = struct.unpack_from("<Q", data, 40)
-        self.count, self.names_in = struct.unpack_from("<HH", data, 60)
-        """e_shoff, e_shnum and e_shstrndx."""
+        self.header_size, self.count, self.names_in = struct.unpack_from("<HHH", data, 58)
+        """e_shoff, e_shentsize, e_shnum and e_shstrndx."""
         if self.headers_at + HEADER.size * self.count > len(data):
             raise NotElf("its section headers are past its end")
 
@@ -72,6 +87,10 @@ class ObjectFile:
     def headers(self) -> list[Header]:
         """The section headers."""
         return [Header._make(header) for header in HEADER.iter_unpack(self._table())]
+
+    def rows(self) -> list[tuple[int, ...]]:
+        """The section headers as plain tuples, which take less time where there are very many."""
+        return list(HEADER.iter_unpack(self._table()))
 
     def kinds(self) -> list[int]:
         """The kinds of the sections."""
@@ -109,11 +128,11 @@ class ObjectFile:
         table = self.content(index)
         end = len(table) // ENTRY_SIZE
         end = end if last is None else min(end, last)
-        for name, info, other, section, value, size in SYMBOL.iter_unpack(table[ENTRY_SIZE * first : ENTRY_SIZE * end]):
-            stop = names.find(b"\0", name)
+        for symbol in map(Symbol._make, SYMBOL.iter_unpack(table[ENTRY_SIZE * first : ENTRY_SIZE * end])):
+            stop = names.find(b"\0", symbol.name_at)
             if stop < 0:
                 raise NotElf("the name of a symbol is past its table")
-            yield names[name:stop], Symbol(name, info >> 4, info & 15, other, section, value, size)
+            yield names[symbol.name_at : stop], symbol
 
     def first_global(self) -> int:
         """The number of the first symbol that is not local."""

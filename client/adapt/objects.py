@@ -1,15 +1,22 @@
 """What the rules need to know of the objects of a link: sections, and names that are not local."""
 from __future__ import annotations
 
-import struct
 from collections.abc import Iterable, Iterator, Mapping
 
-LINKED = frozenset((1, 7, 8, 14, 15, 16, 0x70000001))
-NOBITS = 8
-WRITE, ALLOC, EXEC = 1, 2, 4
-_ABS, _COMMON = 0xFFF1, 0xFFF2
-_HEADER = struct.Struct("<IIQQQQIIQQ")
-_SYMBOL = struct.Struct("<IBBHQQ")
+from client.object_file import (
+    ABSOLUTE,
+    ALLOC,
+    COMMON,
+    LINKED,
+    NOBITS,
+    SYMBOL,
+    SYMTAB,
+    UNDEFINED,
+    WEAK,
+    WRITABLE,
+    NotElf,
+    ObjectFile,
+)
 
 
 class InputSection:
@@ -98,11 +105,11 @@ class Objects:
         definitions = self._definitions
         for tables in self._read_tables():
             for symbol, shndx, value, weak in tables.symbols():
-                if shndx == 0:
+                if shndx == UNDEFINED:
                     self._undefined.add(symbol)
                     continue
                 old = definitions.get(symbol)
-                if old is None or old.weak and not weak or old.section == "COMMON" and shndx != _COMMON:
+                if old is None or old.weak and not weak or old.section == "COMMON" and shndx != COMMON:
                     definitions[symbol] = Definition(tables.name, tables.section_name(shndx), value, weak)
 
 
@@ -119,23 +126,27 @@ class _Tables:
         """The entries of the symbol table that are not local."""
         self._names = 0
         """Where the names of symbols stand."""
-        headers = _headers(data)
+        try:
+            file = ObjectFile(data)
+        except NotElf:
+            return
+        headers = file.rows()
         if not headers:
             return
-        names = headers[struct.unpack_from("<H", data, 62)[0]][4]
+        names = headers[file.names_in][4]
         for number, (word, kind, flags, _, _, size, _, _, align, _) in enumerate(headers):
             if kind in LINKED:
                 self.sections[number] = InputSection(name, _text(data, names + word), kind, flags, size, max(align, 1))
-        header = next((header for header in headers if header[1] == 2), None)
+        header = next((header for header in headers if header[1] == SYMTAB), None)
         if header is not None:
-            self._table = data[header[4] + _SYMBOL.size * header[7]:header[4] + header[5]]
+            self._table = data[header[4] + SYMBOL.size * header[7]:header[4] + header[5]]
             self._names = headers[header[6]][4]
 
     def section_name(self, shndx: int) -> str:
         """The name of a symbol's section."""
-        if shndx == _ABS:
+        if shndx == ABSOLUTE:
             return ""
-        if shndx == _COMMON:
+        if shndx == COMMON:
             return "COMMON"
         section = self.sections.get(shndx)
         return "?" if section is None else section.name
@@ -143,24 +154,13 @@ class _Tables:
     def symbols(self) -> Iterator[tuple[str, int, int, bool]]:
         """The entries that are not local: name, section number, value, weak."""
         data, names = self.data, self._names
-        for name, info, _, shndx, value, _ in _SYMBOL.iter_unpack(self._table):
-            yield _text(data, names + name), shndx, value, info >> 4 == 2
+        for name, info, _, shndx, value, _ in SYMBOL.iter_unpack(self._table):
+            yield _text(data, names + name), shndx, value, info >> 4 == WEAK
 
     def commons(self) -> list[InputSection]:
         """The common blocks as sections."""
-        return [InputSection(self.name, "COMMON", NOBITS, ALLOC | WRITE, size, max(value, 1))
-                for _, _, _, shndx, value, size in _SYMBOL.iter_unpack(self._table) if shndx == _COMMON]
-
-
-def _headers(data: bytes) -> list[tuple[int, ...]]:
-    """The section headers of an object."""
-    if data[:6] != b"\x7fELF\x02\x01" or len(data) < 64:
-        return []
-    offset, = struct.unpack_from("<Q", data, 40)
-    count, = struct.unpack_from("<H", data, 60)
-    if offset + _HEADER.size * count > len(data):
-        return []
-    return list(_HEADER.iter_unpack(data[offset:offset + _HEADER.size * count]))
+        return [InputSection(self.name, "COMMON", NOBITS, ALLOC | WRITABLE, size, max(value, 1))
+                for _, _, _, shndx, value, size in SYMBOL.iter_unpack(self._table) if shndx == COMMON]
 
 
 def _text(data: bytes, at: int) -> str:

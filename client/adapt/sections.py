@@ -6,12 +6,12 @@ from client.adapt.heads import Heads
 from client.adapt.loads import Loads
 from client.adapt.model import Model, Step
 from client.adapt.notes import CHANGED, DROPPED, LEFT, REWRITTEN, SEGMENTS, Left
-from client.adapt.objects import NOBITS
 from client.adapt.patterns import is_name
 from client.adapt.statements import needs_writing
 from client.adapt.taking import OWN_ALIGN, flags_of, inputs, row, takes_others, takes_own
 from client.adapt.tree import Assert, Assign, Command, Data, Expr, Input, Node, Part, Region, Section
 from client.adapt.values import Place
+from client.object_file import NOBITS
 
 
 class Sections(Heads):

@@ -5,9 +5,10 @@ import re
 from collections.abc import Sequence
 
 from client.adapt.model import Model
-from client.adapt.objects import EXEC, NOBITS, WRITE, InputSection
+from client.adapt.objects import InputSection
 from client.adapt.patterns import has_wildcard, matcher
 from client.adapt.tree import Input, Node, Pattern, Section
+from client.object_file import EXECUTABLE, NOBITS, WRITABLE
 
 _OUTSIDE = (".debug", ".zdebug", ".comment", ".stab", ".line", ".gnu.linkonce.wi.", ".symtab", ".strtab", ".shstrtab",
             ".gnu.build.attributes", ".note.GNU-stack", ".GCC.command.line", ".mdebug", ".gnu.attributes", ".SUNW_",
@@ -203,7 +204,7 @@ def flags_of(model: Model, section: Section) -> tuple[bool, bool, bool]:
         flags = 0
         for item in items:
             flags |= item.flags
-        return bool(flags & WRITE), bool(flags & EXEC), all(item.type == NOBITS for item in items)
+        return bool(flags & WRITABLE), bool(flags & EXECUTABLE), all(item.type == NOBITS for item in items)
     names = words(section) or [section.name]
     code = any(name.startswith((".text", ".init", ".fini", ".plt")) and not name.startswith((".init_a", ".fini_a"))
                for name in names)

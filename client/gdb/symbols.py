@@ -169,6 +169,5 @@ def with_local_names(data: bytes, map_text: bytes, read_object: Callable[[bytes]
             table.add(local.name, local.kind, local.section, local.value, local.size)
     first_global = len(table)
     for text, symbol in image.symbols(1):
-        info = symbol.binding << 4 | symbol.kind
-        table.add(text, info, symbol.section, symbol.value, symbol.size, symbol.other)
+        table.add(text, symbol.info, symbol.section, symbol.value, symbol.size, symbol.other)
     return _with_table(image, table, first_global), first_global - 1

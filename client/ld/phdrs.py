@@ -12,11 +12,9 @@ from itertools import pairwise
 
 from client.adapt.segments import PT_LOAD, PT_PHDR, Segments, Wanted
 from client.ld.page_size import (ELF_HEADER, GREATEST, PAGE, PROGRAM_HEADER, Segment, segments_of, with_tail)
-from client.object_file import ALLOC, EXECUTABLE, NOBITS, Header, ObjectFile
+from client.object_file import ALLOC, EXECUTABLE, NOBITS, WRITABLE, Header, ObjectFile
 
 READ, WRITE, EXECUTE = 4, 2, 1
-WRITABLE = 1
-"""SHF_WRITE."""
 GREATEST_COUNT = 0xFFFE
 """The program headers that a file has at most."""
 WORD = 8

@@ -17,13 +17,12 @@ from client.ld.inputs import Object
 from client.ld.link import Opened, options_of
 from client.ld.script import Script, Source, write_script
 from client.link_map import symbol_values
-from client.object_file import HEADER, PROGBITS, NotElf, ObjectFile
+from client.object_file import HEADER, PROGBITS, RELA, NotElf, ObjectFile
 from client.protocol import Linked
 
 ROUNDS = 8
 """Links after which values that still change are given up."""
 
-RELA = 4
 KIND_AT = 4
 """Where the kind of a section stands in its header."""
 

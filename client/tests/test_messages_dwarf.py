@@ -135,7 +135,7 @@ class VariableLinesTest(unittest.TestCase):
                 lines = SourceLines(elf)
                 found = {}
                 for number, symbol in enumerate(elf.symbols):
-                    source = lines.of_variable(symbol.place, symbol.value) if symbol.kind == 1 else None
+                    source = lines.of_variable(symbol.section, symbol.value) if symbol.kind == 1 else None
                     if source is not None:
                         found[elf.symbol_name(number).split(".")[-1]] = str(source).removeprefix("/project/text.c:")
                 found = {"inside" if name.isdigit() else name: line for name, line in found.items()}
