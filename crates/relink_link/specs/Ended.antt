@@ -1,7 +1,12 @@
 -- How a link over an earlier one ends.
-use Rattle.std.specs.Prelude.{◌≡◌, ℕ, List, [], Option}
+use Rattle.std.specs.Prelude.{◌≡◌, ℕ, List, [], Ok, Option}
+use Rattle.place.specs.LinkLayout.{IsLinkLayout}
+use Rattle.place.specs.declared.arranged.Arranged.{Arranged}
+use Rattle.ldmodel_laws.specs.Untouched.{IsGood}
+use Rattle.ldmodel.specs.Edits.{AreNamesDistinct}
 use Rattle.ldmodel.specs.Image.{image}
 use Rattle.ldmodel.specs.Layout.{Layout}
+use Rattle.ldmodel.specs.Link as model
 use Rattle.ldmodel.specs.Link.{link}
 use Rattle.ldmodel.specs.Project.{Project}
 use Rattle.ldmodel.specs.Stayed.{GoodLink}
@@ -17,6 +22,17 @@ pub record HasLast (new : Project) (bytes : List ℕ) (x : LastState) : Type 0 w
   pub old : GoodLink
   pub is : IsLastOf old new x
   pub image : bytes ≡ image old.project old.layout
+
+-- a link without faults at the layout of these tables, whose image and map these are
+pub record IsPutOut (p : Project) (a : Arranged) (bytes map : List ℕ) : Type 0 where
+  pub layout : Layout
+  pub link_layout : IsLinkLayout p layout a.link_layout
+  pub good : IsGood (record { project = p; layout = layout })
+  pub names : AreNamesDistinct p.objects
+  pub is : model.layout p ≡ Ok layout
+  pub rest : link p ≡ model.good p layout
+  pub link : link p ≡ record { status = 0; image = bytes; map = map; faults = [] }
+  pub image : bytes ≡ image p layout
 
 -- a link without faults, whose image these bytes are
 pub record IsGoodEnd (p : Project) (bytes : List ℕ) (g : LinkState) (map : List ℕ) : Type 0 where

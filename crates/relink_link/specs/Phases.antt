@@ -23,6 +23,7 @@ use Rattle.emit.specs.Beside.{new_link}
 use Rattle.emit.specs.Runs.{AreRunsUnless}
 use Rattle.emit.specs.declared.relocated.Relocated.{Relocated}
 use Rattle.place.specs.Arranged.{IsArranged}
+use Rattle.place.specs.declared.arranged.Arranged.{Arranged}
 use Rattle.emit.specs.values.LinkView.{IsLinkView, known_link}
 use Rattle.emit.specs.values.Values.{AreValues}
 use Rattle.emit.specs.values.declared.link_view.LinkView.{LinkView}
@@ -32,6 +33,13 @@ use Rattle.emit.specs.values.declared.values.Values.{Values}
 pub record HasOld (new : Project) (x : LastState) : Type 0 where
   pub old : GoodLink
   pub is : IsLastOf old new x
+
+-- everything has its place, and the layout has no fault but perhaps the length of the image
+pub record IsLaidOut (p : Project) (a : Arranged) : Type 0 where
+  pub layout : Layout
+  pub link_layout : IsLinkLayout p layout a.link_layout
+  pub arranged : (s : Layout) → IsLinkLayout p s a.link_layout → IsArranged p s a
+  pub rest : link p ≡ placed p (model.layout p)
 
 -- a link whose parts have their places is known
 pub record IsKnown (p : Project) (a : SymbolTableState) (l : LinkLayout) (w : LinkView) : Type 0 where

@@ -3,10 +3,15 @@
 ghost use Rattle.std.specs.Prelude.{◌≡◌, IfErr, IfOk, IfSome, OnErr, OnOk, map};
 ghost use Rattle.gather.specs.ProjectMatches.{AreMatched};
 ghost use Rattle.relink_link.specs.Stays.{last_of};
+ghost use Rattle.ldmodel.specs.Layout.{Layout};
 ghost use Rattle.ldmodel.specs.Link.{link};
+ghost use Rattle.place.specs.LinkLayout.{IsLinkLayout};
 ghost use Rattle.symres.specs.SymbolTable.{IsSymbolTable};
-ghost use Rattle.relink_link.specs.Ended.{HasEnded, HasLast};
+ghost use Rattle.emit.specs.relocate.SymbolValues.{AreSymbolValues};
+ghost use Rattle.relink_link.specs.Counted.{AreDrawn, ArePlaced};
+ghost use Rattle.relink_link.specs.Ended.{HasEnded, HasLast, IsPutOut};
 ghost use Rattle.relink_link.specs.Lent.{IsLent, project_of};
+ghost use Rattle.relink_link.specs.Phases.{HasOld, IsLaidOut, IsShort};
 ghost use Rattle.relink_link.specs.Reads.{EndsReadingNothing, ReadsNothing};
 ghost use Rattle.relink_link.specs.Stops.{IsStop};
 ghost use Rattle.relink_link.specs.Worked.{HasWorked};
@@ -18,9 +23,10 @@ use crate::passes::{asserted, drawn, gathered, laid, named, relocated, valued};
 use crate::retouch::retouched;
 use crate::stays::{Last, Stays};
 use crate::stop::Stop;
-use crate::symbol_values::symbol_values;
+use crate::symbol_values::{SymbolValues, symbol_values};
 use emit::values::given::GivenValues;
 use emit::values::link_view::LinkView;
+use emit::values::values::Values;
 use emit::{Canvas, map_text};
 use gather::Gathering;
 use gather::matches::Matches;
@@ -43,6 +49,69 @@ pub enum Ended {
     Retouched,
 }
 
+/// Where everything stands: the phases of a link up to its layout. Without faults, that is.
+fn arranged(lent: Lent<'_, '_>, meter: &mut Meter) -> Result<Arranged, Stop>
+    requires lent { IsLent lent }
+    requires last { IfSome (last_of lent.last) (HasOld (project_of lent)) }
+    ensures good { IfOk result (λ a. IsLaidOut (project_of lent.entry) a) }
+    ensures stop { IfErr result (λ stop. IsStop (link (project_of lent.entry)) stop) }
+    ensures reads { ReadsNothing meter.old meter.new }
+    ensures counted { OnOk result
+        (ArePlaced (project_of lent.entry) (last_of lent.entry.last) meter.old meter.new) }
+{
+    named(lent)?;
+    let Gathering { table, rows, .. } = gathered(lent)?;
+    let link_layout = laid(lent, &rows, meter)?;
+    match Arranged::of(lent.alloc, lent.project, table, rows, link_layout) {
+        Ok(arranged) => Ok(arranged),
+        Err(_) => Err(Stop::NoMemory),
+    }
+}
+
+/// What is put out at a layout whose symbols have their values: the image, drawn over that of the earlier link, and the
+/// map.
+fn put_out(
+    lent: Lent<'_, '_>,
+    arranged: &Arranged,
+    view: &LinkView<'_, '_>,
+    values: &Values<'_>,
+    symbols: &SymbolValues,
+    canvas: &mut Canvas,
+    meter: &mut Meter,
+) -> Result<Vec<u8>, Stop>
+    requires arranged { IsLaidOut (project_of lent) arranged.now }
+    requires short { IsShort (project_of lent) arranged.now.link_layout view.now values.now }
+    requires symbols { (s : Layout) → IsLinkLayout (project_of lent) s arranged.now.link_layout
+        → AreSymbolValues (project_of lent) s symbols.now }
+    requires last { IfSome (last_of lent.last) (HasLast (project_of lent) canvas.old.bytes) }
+    ensures good { IfOk result (λ map. IsPutOut (project_of lent.entry) arranged.now canvas.new.bytes map.items) }
+    ensures stop { IfErr result (λ stop. IsStop (link (project_of lent.entry)) stop) }
+    ensures reads { OnOk result (ReadsNothing meter.old meter.new) }
+    ensures counted { OnOk result
+        (AreDrawn (project_of lent.entry) (last_of lent.entry.last) meter.old meter.new) }
+    ensures early { IfErr result (λ stop. EndsReadingNothing meter.old meter.new stop) }
+    ensures unchanged { OnErr result (canvas.new.bytes ≡ canvas.old.bytes) }
+{
+    let marks = marks_of(lent.alloc, lent.project, lent.last, symbols)?;
+    let stays = Stays {
+        last: lent.last,
+        arranged,
+        marks: &marks,
+    };
+    let fields = relocated(lent, &stays, view, values, symbols, meter)?;
+    asserted(lent, &stays, values, &fields)?;
+    let map = map_text(
+        lent.alloc,
+        lent.project,
+        &arranged.rows,
+        &arranged.link_layout,
+        values,
+    )?;
+    // the last pass that may fail, since it changes the canvas
+    drawn(lent, canvas, &stays, values, &fields, meter)?;
+    Ok(map)
+}
+
 /// The passes of a link over an earlier one, in their order.
 fn relinked(lent: Lent<'_, '_>, canvas: &mut Canvas, meter: &mut Meter) -> Result<Ended, Stop>
     requires lent { IsLent lent }
@@ -59,34 +128,14 @@ fn relinked(lent: Lent<'_, '_>, canvas: &mut Canvas, meter: &mut Meter) -> Resul
         alloc,
         project,
         symbol_table,
-        last,
         ..
     } = lent;
-    named(lent)?;
-    let Gathering { table, rows, .. } = gathered(lent)?;
-    let link_layout = laid(lent, &rows, meter)?;
-    let arranged = Arranged::of(alloc, project, table, rows, link_layout)?;
+    let arranged = arranged(lent, meter)?;
     let given = GivenValues::of(alloc, &*project, &*symbol_table, &arranged.link_layout)?;
     let view = LinkView::new(alloc, &*project, &*symbol_table, &arranged, &given)?;
     let values = valued(lent, &arranged.link_layout, &view, &given)?;
     let symbols = symbol_values(alloc, project, &view, &values.names)?;
-    let marks = marks_of(alloc, project, last, &symbols)?;
-    let stays = Stays {
-        last,
-        arranged: &arranged,
-        marks: &marks,
-    };
-    let fields = relocated(lent, &stays, &view, &values, &symbols, meter)?;
-    asserted(lent, &stays, &values, &fields)?;
-    let map = map_text(
-        alloc,
-        project,
-        &arranged.rows,
-        &arranged.link_layout,
-        &values,
-    )?;
-    // the last pass that may fail, since it changes the canvas
-    drawn(lent, canvas, &stays, &values, &fields, meter)?;
+    let map = put_out(lent, &arranged, &view, &values, &symbols, canvas, meter)?;
     // what lends a table goes before the table is kept
     drop(view);
     Ok(Ended::Good(LinkState { arranged, symbols }, map))
