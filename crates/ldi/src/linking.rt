@@ -3,6 +3,7 @@
 use crate::files::{MAP_MODE, read_file, read_objects, write_file, write_image};
 use crate::{DEVICE, NO_MEMORY};
 use relink::link::ending::{exit_status, message};
+use relink::link::fault::LinkFault;
 use relink::link::files_link::link;
 use relink::{Options, Output};
 use std::hash::RandomState;
@@ -32,22 +33,40 @@ fn write_output(rt: &HostRuntime, names: &FileNames, output: &Output) -> io::Res
     write_image(rt, names.image.as_str(), output.image())
 }
 
-/// Reads all files, links, and writes the image and the map of a good link, or what else there is to say on standard
-/// error. Gives the status to end with.
-fn link_named(rt: &HostRuntime, names: &FileNames, options: Options) -> io::Result<u8> {
+/// Reads all files, the script first, and links.
+fn link_read(
+    rt: &HostRuntime,
+    names: &FileNames,
+    options: Options,
+) -> io::Result<Result<Output, LinkFault>> {
     let script = read_file(rt, names.script.as_str())?;
     let objects = read_objects(rt, names.objects.as_slice())?;
     let seed = RandomState::new(rt)?;
-    let outcome = link(rt.alloc(), seed, script, objects, options);
-    let status = exit_status(&outcome);
-    match &outcome {
+    Ok(link(rt.alloc(), seed, script, objects, options))
+}
+
+/// Writes the image and the map of a good link, or what else there is to say on standard error. Gives the status to end
+/// with.
+fn end_with(
+    rt: &HostRuntime,
+    names: &FileNames,
+    outcome: &Result<Output, LinkFault>,
+) -> io::Result<u8> {
+    let status = exit_status(outcome);
+    match outcome {
         Ok(output) if status == GOOD => write_output(rt, names, output)?,
         _ => {
-            let text = message(rt.alloc(), names.objects.as_slice(), &outcome)?;
+            let text = message(rt.alloc(), names.objects.as_slice(), outcome)?;
             let _ = rt.stderr().write_all(&text);
         }
     }
     Ok(status)
+}
+
+/// Links files, and gives the status to end with.
+fn link_named(rt: &HostRuntime, names: &FileNames, options: Options) -> io::Result<u8> {
+    let outcome = link_read(rt, names, options)?;
+    end_with(rt, names, &outcome)
 }
 
 /// Links files, and gives the status to end with: 0 where the image and the map are written, 1 after fault lines, 2

@@ -5,13 +5,13 @@ ghost use Rattle.std.specs.Io.KnownBytes.{Appends};
 ghost use Rattle.ldmodel.specs.Answers.{Answers};
 ghost use Rattle.ldmodel.specs.Project.{Project, empty_project};
 ghost use Rattle.ldi_stream.specs.Ran.{status_of};
-ghost use Rattle.ldi.specs.Session.{Leaves};
+ghost use Rattle.ldi.specs.Session.{HasAnswered, Leaves};
 
 use ldi_stream::devices::{AnswerWriter, CommandReader};
 use ldi_stream::fault::RunFault;
 use ldi_stream::{Status, run};
 use ldmodel::memory::NoMemory;
-use relink::{Options, Session};
+use relink::{Linker, Options, Session};
 use std::alloc::Global;
 use std::hash::RandomState;
 use std::io::{Read, Write};
@@ -23,6 +23,29 @@ pub struct SessionEnd<W: Drop> {
     pub outcome: Result<Status, RunFault>,
     /// The writer that the answers were written to.
     pub writer: W,
+}
+
+/// Answers the commands of `reader` in `writer` by a linker, from the project that it holds on.
+///
+/// # Errors
+///
+/// Where there is no memory to begin. Nothing is read or written then.
+fn answer<R: Read + Drop, W: Write + Drop, L: Linker>(
+    alloc: Global,
+    linker: &mut L,
+    reader: R,
+    writer: W,
+) -> Result<SessionEnd<W>, NoMemory>
+    ensures answers { IfOk result (λ ended. HasAnswered (L.project linker.old) (R.remaining reader)
+        (W.contents writer) (W.contents ended.writer) ended.outcome) }
+    ensures ran { IfOk result (λ ended. Leaves (L.project linker.old) (R.remaining reader)
+        (W.contents writer) (W.contents ended.writer) ended.outcome) }
+{
+    let mut source = CommandReader::new(alloc, reader)?;
+    let mut sink = AnswerWriter::new(alloc, writer)?;
+    let outcome = run(alloc, &mut source, &mut sink, linker);
+    let writer = sink.into_writer();
+    Ok(SessionEnd { outcome, writer })
 }
 
 /// Answers the commands of `reader` in `writer`, from the empty project with these options on. `seed` is for hash
@@ -44,13 +67,10 @@ pub fn session<R: Read + Drop, W: Write + Drop>(
         × Appends (W.contents writer) (W.contents ended.writer) out
         × Answers (empty_project options) stream out last (status_of status)))) }
     // What stands after each outcome.
-    ensures ran { IfOk result (λ ended. Leaves options (R.remaining reader)
+    ensures ran { IfOk result (λ ended. Leaves (empty_project options) (R.remaining reader)
         (W.contents writer) (W.contents ended.writer) ended.outcome) }
 {
-    let mut source = CommandReader::new(alloc, reader)?;
-    let mut sink = AnswerWriter::new(alloc, writer)?;
+    // the linker is made here and lent, so that few values are in hand at each end
     let mut linker = Session::new(alloc, seed, options)?;
-    let outcome = run(alloc, &mut source, &mut sink, &mut linker);
-    let writer = sink.into_writer();
-    Ok(SessionEnd { outcome, writer })
+    answer(alloc, &mut linker, reader, writer)
 }

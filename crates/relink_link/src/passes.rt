@@ -113,14 +113,7 @@ pub(crate) fn laid(
         .symbol_table
         .provided(lent.alloc, lent.project.script())?;
     let kept = resumed(lent.last, lent.project, rows);
-    match LinkLayout::of(
-        lent.alloc,
-        lent.project,
-        &in_force,
-        rows,
-        kept,
-        meter,
-    ) {
+    match LinkLayout::of(lent.alloc, lent.project, &in_force, rows, kept, meter) {
         Ok(link_layout) => Ok(link_layout),
         Err(LayoutFault::NoMemory) => Err(Stop::NoMemory),
         Err(LayoutFault::Faulty(faults)) => {
