@@ -5,8 +5,8 @@ use Rattle.place_terms.specs.ProvidedTable.{provided_names}
 use Rattle.place.proofs.Layouts.{places_of_project, why_of_project}
 use Rattle.place.proofs.link_layout.place_rows.Goals as goal
 
-pub returns-clause-faulty : goal.returns-clause-faulty
-returns-clause-faulty g c =
+pub returns-in-Err-clause-faulty : goal.returns-in-Err-clause-faulty
+returns-in-Err-clause-faulty g c =
     let script : c.script.result.now ≡ g.lent.script = cc in
     let names : provided_names c.script.result.now c.args.in_force.now ≡ provided g.lent =
     ap (λ (ss : List Statement). provided_names ss c.args.in_force.now) script ∙ c.requires.1.0 in
