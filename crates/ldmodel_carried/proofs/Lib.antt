@@ -1,0 +1,3 @@
+pub mod CarriedBytes
+pub mod CarriedGaps
+pub mod InPlace
