@@ -11,8 +11,8 @@ use Rattle.emit_image.specs.declared.section.ImagePiece.{ImagePiece}
 use Rattle.ldmodel_laws.specs.PlacedOnce.{Differ}
 use Rattle.ldmodel_laws.specs.Spread.{EachLater, entries_in}
 use Rattle.ldmodel.specs.Each.{Each}
-use Rattle.ldmodel.specs.Layout.{Layout, PlacedPiece, PlacedSection}
-use Rattle.ldmodel.specs.Lent.{starts_of}
+use Rattle.ldmodel.specs.Layout.{Layout, PlacedPiece, PlacedOutput}
+use Rattle.ldmodel.specs.PlacementView.{starts_of}
 use Rattle.ldmodel.specs.Project.{Project}
 use Rattle.ldmodel.specs.Rows.{Piece}
 use Rattle.ldmodel.specs.Sections.{is_same_part}
@@ -20,7 +20,7 @@ use Rattle.ldmodel.specs.SymbolValues.{placed_part, placed_pieces}
 use Rattle.ldmodel.specs.declared.sections.Part.{Part}
 use Rattle.ldmodel.specs.declared.sections.Part.TheVariants.{InTable, InCommon}
 use Rattle.ldmodel.specs.declared.sections.SectionKey.{SectionKey}
-use Rattle.place.specs.declared.arranged.Arranged.{Arranged}
+use Rattle.place.specs.declared.indexed_layout.IndexedLayout.{IndexedLayout}
 use Rattle.emit.specs.declared.relocated.Relocated.{Relocated}
 use Rattle.emit_relocate.specs.KnownLink.{KnownLink}
 use Rattle.place.proofs.Lists.{each_at, find_at, later_of_map}
@@ -43,12 +43,12 @@ own x =
     ap (λ b. b && is_same_part x.piece.part x.piece.part) ((bytes_eq-Decides x.piece.object x.piece.object).1 refl)
     ∙ own_part x.piece.part
 
-entries_flat : (qs : List PlacedSection) → flat_map (λ r. r) (map entries_in qs)
-    ≡ map (λ (x : PlacedPiece). x.piece) (flat_map (λ (q : PlacedSection). q.pieces) qs)
+entries_flat : (qs : List PlacedOutput) → flat_map (λ r. r) (map entries_in qs)
+    ≡ map (λ (x : PlacedPiece). x.piece) (flat_map (λ (q : PlacedOutput). q.pieces) qs)
 entries_flat [] = refl
 entries_flat (q ∷ qs) =
     ap (λ l. entries_in q ++ l) (entries_flat qs)
-    ∙ sym (map-append (λ (x : PlacedPiece). x.piece) q.pieces (flat_map (λ (r : PlacedSection). r.pieces) qs))
+    ∙ sym (map-append (λ (x : PlacedPiece). x.piece) q.pieces (flat_map (λ (r : PlacedOutput). r.pieces) qs))
 
 each_by : {X : Type 0} (P : X → Type 0) (xs : List X) → ((k : ℕ) (x : X) → slice_get xs k ≡ Some x → P x) → Each P xs
 each_by P [] h = tt
@@ -58,15 +58,15 @@ each_split : {X : Type 0} (P : X → Type 0) (xs ys : List X) → Each P (xs ++ 
 each_split P [] ys h = (tt, h)
 each_split P (x ∷ xs) ys h = let k = each_split P xs ys h.1 in ((h.0, k.0), k.1)
 
-each_part : (P : PlacedPiece → Type 0) (qs : List PlacedSection)
-    → Each P (flat_map (λ (q : PlacedSection). q.pieces) qs) → Each (λ (q : PlacedSection). Each P q.pieces) qs
+each_part : (P : PlacedPiece → Type 0) (qs : List PlacedOutput)
+    → Each P (flat_map (λ (q : PlacedOutput). q.pieces) qs) → Each (λ (q : PlacedOutput). Each P q.pieces) qs
 each_part P [] h = tt
 each_part P (q ∷ qs) h =
-    let k = each_split P q.pieces (flat_map (λ (r : PlacedSection). r.pieces) qs) h in (k.0, each_part P qs k.1)
+    let k = each_split P q.pieces (flat_map (λ (r : PlacedOutput). r.pieces) qs) h in (k.0, each_part P qs k.1)
 
 pub all_found : (s : Layout) (rows : List (List Piece)) → map entries_in s.sections ≡ rows
     → EachLater Differ (flat_map (λ r. r) rows)
-    → Each (λ (q : PlacedSection).
+    → Each (λ (q : PlacedOutput).
     Each (λ (w : PlacedPiece). placed_part s w.piece.object w.piece.part ≡ Some w) q.pieces) s.sections
 all_found s rows placed differ =
     let apart : EachLater (λ (x y : PlacedPiece). same_part x y ≡ false) (placed_pieces s) =
@@ -79,12 +79,13 @@ all_found s rows placed differ =
 
 -- ---- row by row
 
-module _ (p : Project) (stays : SectionKey → Bool) (arranged : Arranged) (r : Relocated) (rows : List (List Piece))
+module _ (p : Project) (stays : SectionKey → Bool) (indexed_layout : IndexedLayout) (r : Relocated)
+    (rows : List (List Piece))
     (starts : List ℕ) where
   -- the rows before a number are drawn, and the others begin at the addresses that are left
   pub record RowsSoFar (k at : ℕ) (ys : List (List ImagePiece)) : Type 0 where
     pub within : at ≤ length starts
-    pub drawn : (l : KnownLink) → l.project ≡ p → AreSources l stays arranged r → AreRowsAt p l.layout rows starts
+    pub drawn : (l : KnownLink) → l.project ≡ p → AreSources l stays indexed_layout r → AreRowsAt p l.layout rows starts
         → AllZip (IsJoinedRow l.project l.layout stays) (take k l.layout.sections) ys
     pub rest : (l : KnownLink) → AreRowsAt p l.layout rows starts
         → drop at starts ≡ flat_map starts_of (drop k l.layout.sections)
@@ -110,7 +111,7 @@ module _ (p : Project) (stays : SectionKey → Bool) (arranged : Arranged) (r : 
 
   -- the output section of a row
   record Placed (s : Layout) (k at : ℕ) (row : List Piece) : Type 0 where
-    pub section : PlacedSection
+    pub section : PlacedOutput
     pub here : slice_get s.sections k ≡ Some section
     pub entry : slice_get rows k ≡ Some row
     pub entries : row ≡ entries_in section
@@ -151,7 +152,7 @@ module _ (p : Project) (stays : SectionKey → Bool) (arranged : Arranged) (r : 
           start_is = same_Some _ _ (sym own_start ∙ at_start);
           found = each_at (λ (x : PlacedPiece). placed_part l.layout x.piece.object x.piece.part ≡ Some x)
               q.section.pieces j w
-              (each_at (λ (z : PlacedSection).
+              (each_at (λ (z : PlacedOutput).
               Each (λ (x : PlacedPiece). placed_part l.layout x.piece.object x.piece.part ≡ Some x) z.pieces)
               l.layout.sections k q.section h.found q.here)
               there;
@@ -162,7 +163,7 @@ module _ (p : Project) (stays : SectionKey → Bool) (arranged : Arranged) (r : 
 
   pub one_row : (k at : ℕ) (row : List Piece) (y : List ImagePiece) (old new : List (List ImagePiece))
       → slice_get rows k ≡ Some row → k < length rows → at + length row ≤ length starts
-      → ((l : KnownLink) (q : PlacedSection) → l.project ≡ p → AreSources l stays arranged r
+      → ((l : KnownLink) (q : PlacedOutput) → l.project ≡ p → AreSources l stays indexed_layout r
       → IsRowAt p l.layout row (drop at starts) q → IsJoinedRow l.project l.layout stays q y) → new ≡ old ++ y ∷ []
       → RowsSoFar k at old → RowsSoFar (k + 1) (at + length row) new
   one_row k at row y old new e below fits make pushed so_far = record {
@@ -186,7 +187,7 @@ module _ (p : Project) (stays : SectionKey → Bool) (arranged : Arranged) (r : 
   }
 
   pub all_rows : (l : KnownLink) (k at : ℕ) (ys : List (List ImagePiece)) → length rows ≤ k → l.project ≡ p
-      → AreSources l stays arranged r → AreRowsAt p l.layout rows starts → RowsSoFar k at ys
+      → AreSources l stays indexed_layout r → AreRowsAt p l.layout rows starts → RowsSoFar k at ys
       → AllZip (IsJoinedRow l.project l.layout stays) l.layout.sections ys
   all_rows l k at ys past same sources h so_far =
       let many : length l.layout.sections ≡ length rows =

@@ -10,7 +10,7 @@ use Rattle.emit_relocate.specs.Changes.{AreChanged, Evaluated, IsEvaluatedAt, Is
 use Rattle.emit_relocate.specs.Changes.{section_key}
 use Rattle.emit_relocate.specs.Filled.{ObjectSection, ends_of, sections_in}
 use Rattle.emit_relocate.specs.KnownLink.{KnownLink}
-use Rattle.emit_relocate.specs.declared.earlier.FileRange.{FileRange}
+use Rattle.emit_relocate.specs.declared.previous_link_info.FileRange.{FileRange}
 use Rattle.emit.specs.Runs.{AreRunsUnless, IsRunUnless, key_in}
 
 abbrev pub run_of : Evaluated → List Patch

@@ -10,14 +10,14 @@ use Rattle.ldmodel_laws.specs.Traces.{BodyEffect, dot_noted, inputs_counted, sym
 use Rattle.ldmodel_laws.specs.Traces.{data_added, BodyEffects, no_effect, effect_then, AddsSection, Trace, all_added}
 use Rattle.ldmodel_laws.specs.Traces.{nothing_added, region_added, section_added}
 use Rattle.ldmodel.specs.Placement.{Body}
-use Rattle.ldmodel.specs.Layout.{Layout, PlacedPiece, PlacedSection, nothing_placed}
+use Rattle.ldmodel.specs.Layout.{Layout, PlacedPiece, PlacedOutput, nothing_placed}
 use Rattle.ldmodel.specs.Placement.{opened, placed_section}
 
 -- an input section ends at an address
 abbrev pub EndsBelow : PlacedPiece → Type 0
 EndsBelow x = x.start + x.piece.size < 2 ^ 64
 
-abbrev pub AreBelow : PlacedSection → Type 0
+abbrev pub AreBelow : PlacedOutput → Type 0
 AreBelow q = All EndsBelow q.pieces
 
 -- those of a body do

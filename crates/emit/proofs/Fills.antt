@@ -6,12 +6,12 @@ use Rattle.ldscript.specs.statements.declared.section.OutputSection.{OutputSecti
 use Rattle.ldscript.specs.statements.declared.statement.Region.{Region}
 use Rattle.ldscript.specs.statements.declared.statement.Statement.{Statement}
 use Rattle.ldmodel_laws.specs.Traces.{AddsSection, Trace, all_added, nothing_added, region_added, section_added}
-use Rattle.ldmodel.specs.Layout.{Layout, PlacedSection, nothing_placed}
+use Rattle.ldmodel.specs.Layout.{Layout, PlacedOutput, nothing_placed}
 use Rattle.ldmodel.specs.Placement.{placed_section}
 
 -- the fills of the output sections so far
 abbrev fills : Layout → List (Option (List ℕ))
-fills s = map (λ (q : PlacedSection). q.fill) s.sections
+fills s = map (λ (q : PlacedOutput). q.fill) s.sections
 
 abbrev fills_of : List OutputSectionAt → List (Option (List ℕ))
 fills_of os = map (λ (o : OutputSectionAt). o.section.fill) os
@@ -20,7 +20,7 @@ fills_of os = map (λ (o : OutputSectionAt). o.section.fill) os
 fill_added : (s : Layout) (o : OutputSection) (t : Layout) → AddsSection s o t → fills s ++ o.fill ∷ [] ≡ fills t
 unfolding placed_section
 fill_added s o t h =
-    let fill : PlacedSection → Option (List ℕ) = λ q. q.fill in
+    let fill : PlacedOutput → Option (List ℕ) = λ q. q.fill in
     ap (λ l. map fill l ++ o.fill ∷ []) (sym h.nothing.sections)
     ∙ sym (map-append fill h.last.layout.sections (placed_section o h.head h.last ∷ []))
     ∙ ap fills h.after
@@ -30,7 +30,7 @@ fills_traced : (s u : Layout) (rs : List Region) (os : List OutputSectionAt) →
     → fills s ++ fills_of os ≡ fills u
 fills_traced s u [] [] all_added = append-nil (fills s)
 fills_traced s u rs os (nothing_added {t = t} h more) =
-    ap (λ l. map (λ (q : PlacedSection). q.fill) l ++ fills_of os) (sym h.sections) ∙ fills_traced t u rs os more
+    ap (λ l. map (λ (q : PlacedOutput). q.fill) l ++ fills_of os) (sym h.sections) ∙ fills_traced t u rs os more
 fills_traced s u (r ∷ rs) os (region_added origin extent more) = fills_traced _ u rs os more
 fills_traced s u rs (o ∷ os) (section_added {t = t} h more) =
     sym (append_assoc (fills s) (o.section.fill ∷ []) (fills_of os))

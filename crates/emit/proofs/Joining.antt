@@ -17,8 +17,8 @@ use Rattle.ldmodel_laws.specs.ImageBytes.{AreNamed}
 use Rattle.place.proofs.Walking.{in_file_are}
 use Rattle.place.specs.Offsets.{IsOffset}
 use Rattle.ldmodel_laws.specs.FileLayout.{IsFileLayout}
-use Rattle.ldmodel.specs.Layout.{Layout, PlacedSection}
-use Rattle.ldmodel.specs.Lent.{placed_of}
+use Rattle.ldmodel.specs.Layout.{Layout, PlacedOutput}
+use Rattle.ldmodel.specs.PlacementView.{placed_of}
 use Rattle.ldmodel.specs.Project.{Project}
 use Rattle.ldmodel.specs.Segments.{SectionInFile, nonempty, segments}
 use Rattle.ldmodel.specs.declared.placed.Placed.{Placed}
@@ -48,7 +48,7 @@ module _ (p : Project) (s : Layout) (stays : SectionKey → Bool) (places : List
     (offsets : List ℕ) (rows : List (List ImagePiece)) (runs : List (List PlacedData)) where
   -- the output section of a number
   pub record Joint (k : ℕ) (place : Placed) : Type 0 where
-    pub member : PlacedSection
+    pub member : PlacedOutput
     pub taken : take (k + 1) s.sections ≡ take k s.sections ++ member ∷ []
     pub is : IsAt p s stays member k place os offsets rows runs
 
@@ -65,11 +65,11 @@ module _ (p : Project) (s : Layout) (stays : SectionKey → Bool) (places : List
         is = record {
           placed = next.is;
           name = λ o at.
-              same_at (λ (r : PlacedSection). r.name) (λ (x : OutputSectionAt). x.section.name) s.sections os k q o
+              same_at (λ (r : PlacedOutput). r.name) (λ (x : OutputSectionAt). x.section.name) s.sections os k q o
               h.names
               next.at at;
           fill = λ o at.
-              same_at (λ (r : PlacedSection). r.fill) (λ (x : OutputSectionAt). x.section.fill) s.sections os k q o
+              same_at (λ (r : PlacedOutput). r.fill) (λ (x : OutputSectionAt). x.section.fill) s.sections os k q o
               h.fills
               next.at at;
           offset = λ n at. at_zip (IsOffset s) s.sections offsets k q n h.begun next.at at;
@@ -81,7 +81,7 @@ module _ (p : Project) (s : Layout) (stays : SectionKey → Bool) (places : List
   -- one output section more
   pub one_joined : (k : ℕ) (place : Placed) (x : OutputDrawing) (old new : List OutputDrawing)
       → AreJoined p s stays places os offsets rows runs → k < length places → get_or places k place ≡ place
-      → ((q : PlacedSection) → IsAt p s stays q k place os offsets rows runs → IsOutput p s stays q x)
+      → ((q : PlacedOutput) → IsAt p s stays q k place os offsets rows runs → IsOutput p s stays q x)
       → new ≡ old ++ x ∷ []
       → AllZip (IsOutput p s stays) (take k s.sections) old
       → AllZip (IsOutput p s stays) (take (k + 1) s.sections) new
@@ -102,17 +102,17 @@ module _ (p : Project) (s : Layout) (stays : SectionKey → Bool) (places : List
 abbrev loads : SectionInFile → Bool
 loads x = x.section.has_file_bytes
 
-with_append : (s : Layout) (qs rs : List PlacedSection) → with_bytes s (qs ++ rs) ≡ with_bytes s qs ++ with_bytes s rs
+with_append : (s : Layout) (qs rs : List PlacedOutput) → with_bytes s (qs ++ rs) ≡ with_bytes s qs ++ with_bytes s rs
 with_append s qs rs =
-    ap (λ l. filter loads (map (in_file_at s) l)) (filter-append (λ (q : PlacedSection). not (q.size == 0)) qs rs)
+    ap (λ l. filter loads (map (in_file_at s) l)) (filter-append (λ (q : PlacedOutput). not (q.size == 0)) qs rs)
     ∙ ap (filter loads) (map-append (in_file_at s) (nonempty qs) (nonempty rs))
     ∙ filter-append loads (map (in_file_at s) (nonempty qs)) (map (in_file_at s) (nonempty rs))
 
-abbrev one_of : Layout → PlacedSection → Bool → Bool → List SectionInFile
+abbrev one_of : Layout → PlacedOutput → Bool → Bool → List SectionInFile
 one_of s q empty loaded =
     cond empty [] (cond loaded (in_file_at s q ∷ []) [])
 
-with_one : (s : Layout) (q : PlacedSection) → with_bytes s (q ∷ []) ≡ one_of s q (q.size == 0) q.has_file_bytes
+with_one : (s : Layout) (q : PlacedOutput) → with_bytes s (q ∷ []) ≡ one_of s q (q.size == 0) q.has_file_bytes
 with_one s q = go (q.size == 0)
   where
     go : (b : Bool) → filter loads (map (in_file_at s) (cond (not b) (q ∷ []) []))
@@ -120,7 +120,7 @@ with_one s q = go (q.size == 0)
     go true = refl
     go false = refl
 
-pub drawn_same : (p : Project) (s : Layout) (stays : SectionKey → Bool) (qs : List PlacedSection) (q : PlacedSection)
+pub drawn_same : (p : Project) (s : Layout) (stays : SectionKey → Bool) (qs : List PlacedOutput) (q : PlacedOutput)
     (ys : List ImageSection) (b c : Bool) → (q.size == 0) ≡ b → q.has_file_bytes ≡ c → one_of s q b c ≡ []
     → AreDrawnOf p s stays qs ys → AreDrawnOf p s stays (qs ++ q ∷ []) ys
 drawn_same p s stays qs q ys b c e f none h =
@@ -135,7 +135,7 @@ drawn_same p s stays qs q ys b c e f none h =
       joined = h.joined;
     }
 
-pub drawn_more : (p : Project) (s : Layout) (stays : SectionKey → Bool) (qs : List PlacedSection) (q : PlacedSection)
+pub drawn_more : (p : Project) (s : Layout) (stays : SectionKey → Bool) (qs : List PlacedOutput) (q : PlacedOutput)
     (old new : List ImageSection) (y : ImageSection) → (q.size == 0) ≡ false → q.has_file_bytes ≡ true
     → IsDrawn p s stays q y → new ≡ old ++ y ∷ []
     → AreDrawnOf p s stays qs old → AreDrawnOf p s stays (qs ++ q ∷ []) new

@@ -19,7 +19,7 @@ use Rattle.emit_relocate.specs.Filled.{ObjectSection, ends_of, sections_in, sect
 use Rattle.emit_relocate.specs.KnownLink.{KnownLink}
 use Rattle.emit.specs.Numbers.{HaveNumbers}
 use Rattle.emit.specs.Runs.{AreRunsUnless, IsRunUnless}
-use Rattle.place.specs.Arranged.{linked_in}
+use Rattle.place.specs.IndexedLayout.{linked_in}
 use Rattle.place.proofs.Lists.{later_of_map}
 use Rattle.emit.proofs.Lists.{get_left, get_right, pairs_later}
 

@@ -23,7 +23,7 @@ use Rattle.emit_image.specs.declared.section.ImagePiece.{ImagePiece}
 use Rattle.ldmodel.specs.Edits.{AreNamesDistinct, has_name}
 use Rattle.ldmodel_laws.specs.ByteCases.{object_byte, part_byte, section_byte}
 use Rattle.ldmodel.specs.Image.{object_named, section_numbered}
-use Rattle.ldmodel.specs.Layout.{Layout, PlacedPiece, PlacedSection}
+use Rattle.ldmodel.specs.Layout.{Layout, PlacedPiece, PlacedOutput}
 use Rattle.ldmodel.specs.NameFaults.{object_name}
 use Rattle.ldmodel.specs.Project.{NamedObject, Project}
 use Rattle.ldmodel.specs.Rows.{Piece}
@@ -289,7 +289,7 @@ row_kept p s stays x start w y at stayed h = record {
   };
 }
 
-pub whole_row : (p : Project) (s : Layout) (stays : SectionKey → Bool) (q : PlacedSection) (ys : List ImagePiece)
+pub whole_row : (p : Project) (s : Layout) (stays : SectionKey → Bool) (q : PlacedOutput) (ys : List ImagePiece)
     → AllZip (IsRowPiece p s stays) q.pieces ys → IsRow p s stays q ys
 whole_row p s stays q ys z = record {
   pieces = zip_each (IsRowPiece p s stays) (IsImagePiece p s) q.pieces ys (λ w y c h. h.piece) z;
@@ -313,7 +313,7 @@ pub no_entries : (p : Project) (s : Layout) (stays : SectionKey → Bool) → Ar
 no_entries p s stays = record { whole = []; pieces = tt; joined = stand_none }
 
 -- one entry more
-pub one_entry : (own p : Project) (s : Layout) (stays : SectionKey → Bool) (q : PlacedSection) (row : List Piece)
+pub one_entry : (own p : Project) (s : Layout) (stays : SectionKey → Bool) (q : PlacedOutput) (row : List Piece)
     (starts : List ℕ) (k : ℕ)
     (piece : Piece) (start : ℕ) (old new : List ImagePiece) → IsRowAt own s row starts q
     → k < length row
@@ -331,7 +331,7 @@ one_entry own p s stays q row starts k piece start old new h l at_row at_start m
       joined = more.2;
     })
 
-pub all_entries : (own p : Project) (s : Layout) (stays : SectionKey → Bool) (q : PlacedSection) (row : List Piece)
+pub all_entries : (own p : Project) (s : Layout) (stays : SectionKey → Bool) (q : PlacedOutput) (row : List Piece)
     (starts : List ℕ) (k : ℕ)
     (ys : List ImagePiece) → IsRowAt own s row starts q → length row ≤ k
     → AreDrawnAs p s stays (take k q.pieces) ys → IsJoinedRow p s stays q ys

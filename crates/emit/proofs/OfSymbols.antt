@@ -13,7 +13,7 @@ use Rattle.elfobj.specs.Object.{ObjectData}
 use Rattle.elfobj.specs.Symbols.{NamedSymbol}
 use Rattle.ldmodel.specs.Each.{Each}
 use Rattle.ldmodel.specs.HandedOver.{decision_of}
-use Rattle.ldmodel.specs.Layout.{Layout, PlacedPiece, PlacedSection}
+use Rattle.ldmodel.specs.Layout.{Layout, PlacedPiece, PlacedOutput}
 use Rattle.ldmodel.specs.Names.{Entry, Strong, Weak}
 use Rattle.ldmodel.specs.Project.{NamedObject, Project}
 use Rattle.ldmodel.specs.SymbolValues.{is_part, placed_part, symbol_of_entry}
@@ -39,11 +39,11 @@ find_split t (x ∷ xs) ys e = go (t x) e (find_split t xs ys)
     go true f rest = absurd (let none : ⊥ = cc in none)
     go false f rest = rest f
 
-none_in : (t : PlacedPiece → Bool) (qs : List PlacedSection) → find t (flat_map (λ (q : PlacedSection). q.pieces) qs)
-    ≡ None → Each (λ (q : PlacedSection). list_any t q.pieces ≡ false) qs
+none_in : (t : PlacedPiece → Bool) (qs : List PlacedOutput) → find t (flat_map (λ (q : PlacedOutput). q.pieces) qs)
+    ≡ None → Each (λ (q : PlacedOutput). list_any t q.pieces ≡ false) qs
 none_in t [] e = tt
 none_in t (q ∷ qs) e =
-    let split = find_split t q.pieces (flat_map (λ (r : PlacedSection). r.pieces) qs) e in
+    let split = find_split t q.pieces (flat_map (λ (r : PlacedOutput). r.pieces) qs) e in
     (split.0, none_in t qs split.1)
 
 each_get : {X : Type 0} (P : X → Type 0) (xs : List X) (k : ℕ) (d : X) → Each P xs → k < length xs → P (get_or xs k d)
@@ -51,21 +51,21 @@ each_get P [] k d h l = absurd (omega (arith, l))
 each_get P (x ∷ xs) zero d h l = h.0
 each_get P (x ∷ xs) (suc k) d h l = each_get P xs k d h.1 (omega (arith, l))
 
-first_of : (qs : List PlacedSection) (i : ℕ) → i < length qs → PlacedSection
+first_of : (qs : List PlacedOutput) (i : ℕ) → i < length qs → PlacedOutput
 first_of [] i l = absurd (omega (arith, l))
 first_of (q ∷ qs) i l = q
 
-no_position : (t : PlacedPiece → Bool) (qs : List PlacedSection)
-    → find t (flat_map (λ (q : PlacedSection). q.pieces) qs) ≡ None
-    → position (λ (q : PlacedSection). list_any t q.pieces) qs ≡ None
+no_position : (t : PlacedPiece → Bool) (qs : List PlacedOutput)
+    → find t (flat_map (λ (q : PlacedOutput). q.pieces) qs) ≡ None
+    → position (λ (q : PlacedOutput). list_any t q.pieces) qs ≡ None
 no_position t [] e = refl
-no_position t (q ∷ qs) e = go (position (λ (r : PlacedSection). list_any t r.pieces) (q ∷ qs)) refl
+no_position t (q ∷ qs) e = go (position (λ (r : PlacedOutput). list_any t r.pieces) (q ∷ qs)) refl
   where
-    go : (o : Option ℕ) → position (λ (r : PlacedSection). list_any t r.pieces) (q ∷ qs) ≡ o → o ≡ None
+    go : (o : Option ℕ) → position (λ (r : PlacedOutput). list_any t r.pieces) (q ∷ qs) ≡ o → o ≡ None
     go None at = refl
     go (Some i) at =
-        let found = position-Some (λ (r : PlacedSection). list_any t r.pieces) (q ∷ qs) i q at in
-        let missed = each_get (λ (r : PlacedSection). list_any t r.pieces ≡ false) (q ∷ qs) i q (none_in t (q ∷ qs) e)
+        let found = position-Some (λ (r : PlacedOutput). list_any t r.pieces) (q ∷ qs) i q at in
+        let missed = each_get (λ (r : PlacedOutput). list_any t r.pieces ≡ false) (q ∷ qs) i q (none_in t (q ∷ qs) e)
         found.0 in
         let yes : list_any t ((get_or (q ∷ qs) i q).pieces) ≡ true = found.1 in
         absurd (let none : ⊥ = cc in none)
@@ -75,7 +75,7 @@ pub header_none : (s : Layout) (o : List ℕ) (part : Part) → placed_part s o 
 header_none s o part e = ap (λ n. option_map_or (λ k. k + 1) n SHN_ABS) (no_position (is_part o part) s.sections e)
 
 pub header_some : (s : Layout) (o : List ℕ) (part : Part) (n : ℕ)
-    → position (λ (q : PlacedSection). list_any (is_part o part) q.pieces) s.sections ≡ Some n
+    → position (λ (q : PlacedOutput). list_any (is_part o part) q.pieces) s.sections ≡ Some n
     → header_of_part s o part ≡ n + 1
 header_some s o part n e = ap (λ k. option_map_or (λ i. i + 1) k SHN_ABS) e
 

@@ -8,9 +8,9 @@ use Rattle.std.proofs.lemmas.Bool.{eqb-true, false_from_ne_true}
 use Rattle.std.proofs.lemmas.List.{length-drop, length-take-le, take_all}
 use Rattle.emit_image.specs.OfLink.{IsImageData}
 use Rattle.ldmodel.specs.Each.{Each}
-use Rattle.ldmodel.specs.Layout.{PlacedSection}
+use Rattle.ldmodel.specs.Layout.{PlacedOutput}
 use Rattle.ldmodel.specs.Layout as layout
-use Rattle.ldmodel.specs.Lent.{NumberedData, data_of, numbered}
+use Rattle.ldmodel.specs.PlacementView.{NumberedData, data_of, numbered}
 use Rattle.ldmodel.specs.declared.placed.PlacedData.{PlacedData}
 use Rattle.emit.proofs.Lists.{zip_more}
 use Rattle.emit.specs.DataRuns.{AreDataFrom, AreDataOf, run_length}
@@ -18,9 +18,9 @@ use Rattle.emit.specs.DataRuns.{AreDataFrom, AreDataOf, run_length}
 -- the output sections before a number have their data commands, and the others are those of what is left
 pub record Runs (commands : List PlacedData) (count section at : ℕ) (runs : List (List PlacedData)) : Type 0 where
   pub within : at ≤ length commands
-  pub so_far : (qs : List PlacedSection) → AreDataFrom 0 qs commands → count ≡ length qs
+  pub so_far : (qs : List PlacedOutput) → AreDataFrom 0 qs commands → count ≡ length qs
       → AllZip AreDataOf (take section qs) runs
-  pub rest : (qs : List PlacedSection) → AreDataFrom 0 qs commands → count ≡ length qs
+  pub rest : (qs : List PlacedOutput) → AreDataFrom 0 qs commands → count ≡ length qs
       → AreDataFrom section (drop section qs) (drop at commands)
 
 abbrev Other : ℕ → NumberedData → Type 0
@@ -38,7 +38,7 @@ others_in k m l [] = tt
 others_in k m l (d ∷ ds) =
     (false_from_ne_true (m == k) (λ t. absurd (omega (arith, l, eqb-true m k t))), others_in k m l ds)
 
-others : (k m : ℕ) → k < m → (qs : List PlacedSection) → Each (Other k) (flat_map numbered (enumerate_from m qs))
+others : (k m : ℕ) → k < m → (qs : List PlacedOutput) → Each (Other k) (flat_map numbered (enumerate_from m qs))
 others k m l [] = tt
 others k m l (q ∷ qs) =
     each_join (Other k) (map (with_number m) q.data_commands) (flat_map numbered (enumerate_from (m + 1) qs))
@@ -115,11 +115,11 @@ one_run commands count k at n runs l is end h = record {
   suc_is : k + 1 ≡ suc k
   suc_is = omega arith
 
-  front : (qs : List PlacedSection) → count ≡ length qs → PlacedSection
+  front : (qs : List PlacedOutput) → count ≡ length qs → PlacedOutput
   front [] long = absurd (omega (arith, l, long))
   front (q ∷ qs) long = q
 
-  cut_at : (qs : List PlacedSection) (e : AreDataFrom 0 qs commands) (long : count ≡ length qs)
+  cut_at : (qs : List PlacedOutput) (e : AreDataFrom 0 qs commands) (long : count ≡ length qs)
       → Cut k ((get_or qs k (front qs long)).data_commands)
       (flat_map numbered (enumerate_from (k + 1) (drop (k + 1) qs))) (drop at commands)
   cut_at qs e long =

@@ -17,11 +17,11 @@ use Rattle.elfobj.specs.declared.section.Section.{Section}
 use Rattle.elfobj.specs.declared.section.SectionIndex.{SectionIndex}
 use Rattle.ldscript.specs.statements.Numbering.{InputStatementAt, input_statements, output_sections}
 use Rattle.ldmodel.specs.Edits.{AreNamesDistinct, has_name}
-use Rattle.ldmodel.specs.Gathering.{candidates, is_out}
+use Rattle.ldmodel.specs.Gathering.{candidates, is_discarded}
 use Rattle.ldmodel.specs.Image.{object_named, section_numbered}
 use Rattle.ldmodel.specs.InputSections.{block_at, block_of, common_block, common_blocks, input_sections, is_same_entry}
 use Rattle.ldmodel.specs.InputSections.{linked_input, object_inputs}
-use Rattle.ldmodel.specs.Layout.{Layout, PlacedPiece, PlacedSection}
+use Rattle.ldmodel.specs.Layout.{Layout, PlacedPiece, PlacedOutput}
 use Rattle.ldmodel.specs.Live.{live}
 use Rattle.ldmodel.specs.Names.{Entry, Decision, Strong, Script, Common, Weak, Provided, Undefined, Duplicate, decision}
 use Rattle.ldmodel.specs.Project.{NamedObject, Project}
@@ -150,7 +150,7 @@ module _ (p : Project) (names : AreNamesDistinct p.objects)
   abbrev IsSizedLinked : LinkedPiece → Type 0
   IsSizedLinked x = (t : Site) → Contains (sites_in p x) t → x.size ≡ t.section.size
 
-  module _ (s : Layout) (q : PlacedSection) (z : PlacedPiece) (h : IsSizedPlace z) (t : Site) where
+  module _ (s : Layout) (q : PlacedOutput) (z : PlacedPiece) (h : IsSizedPlace z) (t : Site) where
     abbrev linked : LinkedPiece
     linked = linked_piece p (segments s.sections) q z
 
@@ -189,7 +189,7 @@ module _ (p : Project) (names : AreNamesDistinct p.objects)
     live_sized =
         All-same IsSized (live p) (filter order.0 (candidates p)) order.1
         (All-filter order.0 IsSized (candidates p)
-        (All-filter (λ s. not (is_out p s)) IsSized (input_sections p) inputs_sized))
+        (All-filter (λ s. not (is_discarded p s)) IsSized (input_sections p) inputs_sized))
 
     in_pieces : (k : ℕ) (i : ℕ × InputStatementAt) → All IsSizedPiece (pieces_in p k i)
     in_pieces k i = go (is_in_section k i.1.place)
@@ -213,27 +213,27 @@ module _ (p : Project) (names : AreNamesDistinct p.objects)
         (λ j d l. row_sized (get_or (range_with_len 0 (length (output_sections p.script))) j d))
 
     sections_sized : (s : Layout) → map entries_in s.sections ≡ rows p
-        → All (λ (q : PlacedSection). All IsSizedPlace q.pieces) s.sections
+        → All (λ (q : PlacedOutput). All IsSizedPlace q.pieces) s.sections
     sections_sized s placed =
-        (All-weaker (λ (q : PlacedSection). All IsSizedPiece (entries_in q))
-        (λ (q : PlacedSection). All IsSizedPlace q.pieces)
+        (All-weaker (λ (q : PlacedOutput). All IsSizedPiece (entries_in q))
+        (λ (q : PlacedOutput). All IsSizedPlace q.pieces)
         (λ q h. all_of_map IsSizedPiece (λ (x : PlacedPiece). x.piece) q.pieces h) s.sections
         (all_of_map (All IsSizedPiece) entries_in s.sections
         (All-same (All IsSizedPiece) (map entries_in s.sections) (rows p) placed rows_sized)))
 
     places_sized : (s : Layout) → map entries_in s.sections ≡ rows p → All IsSizedPlace (placed_pieces s)
     places_sized s placed =
-        all_flat_map IsSizedPlace (λ (q : PlacedSection). q.pieces) s.sections (sections_sized s placed)
+        all_flat_map IsSizedPlace (λ (q : PlacedOutput). q.pieces) s.sections (sections_sized s placed)
 
     pub pieces_sized : (s : Layout) → map entries_in s.sections ≡ rows p
         → AreSized (record { project = p; layout = s })
     unfolding linked_pieces
     pieces_sized s placed = λ x t c d.
         All-contains IsSizedLinked (linked_pieces p s) x
-        (all_flat_map IsSizedLinked (λ (q : PlacedSection). map (linked_piece p (segments s.sections) q) q.pieces)
+        (all_flat_map IsSizedLinked (λ (q : PlacedOutput). map (linked_piece p (segments s.sections) q) q.pieces)
         s.sections
-        (All-weaker (λ (q : PlacedSection). All IsSizedPlace q.pieces)
-        (λ (q : PlacedSection). All IsSizedLinked (map (linked_piece p (segments s.sections) q) q.pieces))
+        (All-weaker (λ (q : PlacedOutput). All IsSizedPlace q.pieces)
+        (λ (q : PlacedOutput). All IsSizedLinked (map (linked_piece p (segments s.sections) q) q.pieces))
         (λ q h. All-map IsSizedLinked (linked_piece p (segments s.sections) q) q.pieces
         (All-weaker IsSizedPlace (λ z. IsSizedLinked (linked_piece p (segments s.sections) q z))
         (λ z k t d. linked_sized s q z k t d) q.pieces h)) s.sections (sections_sized s placed))) c t d
@@ -250,5 +250,5 @@ module _ (p : Project) (names : AreNamesDistinct p.objects)
         (and_right (bytes_eq y.piece.object o.name) (is_same_part y.piece.part (InTable x.number)) part) in
         let under : EndsBelow y =
         found EndsBelow (is_part o.name (InTable x.number)) (placed_pieces s) y
-        (all_flat_map EndsBelow (λ (q : PlacedSection). q.pieces) s.sections below) g in
+        (all_flat_map EndsBelow (λ (q : PlacedOutput). q.pieces) s.sections below) g in
         omega (arith, under, size)

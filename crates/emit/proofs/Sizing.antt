@@ -4,7 +4,7 @@ use Rattle.std.specs.Prelude.{filter_map, codes}
 use Rattle.std.specs.List.{cons_option}
 use Rattle.std.proofs.lemmas.List.{length-append, length-map}
 use Rattle.std.proofs.lemmas.List.Sums.{sum_by-append, sum_by-cons}
-use Rattle.ldmodel.specs.Layout.{Layout, PlacedSection}
+use Rattle.ldmodel.specs.Layout.{Layout, PlacedOutput}
 use Rattle.ldmodel.specs.OutputSymbols as model
 use Rattle.ldmodel.specs.Project.{Project}
 use Rattle.ldmodel.specs.SectionHeaders.{header_name_table}
@@ -113,23 +113,23 @@ sizes_of_tail p s a v t z os outputs values shown sum symbols symbol_names heade
     let count : z.count ≡ 0 + length (valued_in v.symbols.items) = ap (λ (y : SymbolSizes). y.count) total in
     let size : z.names ≡ 0 + names_size (names_of (valued_in v.symbols.items)) =
     ap (λ (y : SymbolSizes). y.names) total in
-    let tree : tree_names os ≡ map (λ (q : PlacedSection). q.name) s.sections =
+    let tree : tree_names os ≡ map (λ (q : PlacedOutput). q.name) s.sections =
     ap (map (λ (o : OutputSectionAt). o.section.name)) shown ∙ sym outputs in
     let long : length (table_symbols p s) ≡ length (valued_in v.symbols.items) = ap length all in
     let strings : length (string_table (tail.symbol_names p s))
     ≡ 1 + names_size (names_of (valued_in v.symbols.items)) =
     length_strings (tail.symbol_names p s) ∙ ap (λ xs. 1 + names_size (names_of xs)) all in
     let headings : length (string_table (headings.header_names s))
-    ≡ 1 + (names_size (map (λ (q : PlacedSection). q.name) s.sections) + 26) =
+    ≡ 1 + (names_size (map (λ (q : PlacedOutput). q.name) s.sections) + 26) =
     length_strings (headings.header_names s)
     ∙ ap (λ n. 1 + n) (sum_by-append (λ name. length name + 1)
-    (map (λ (q : PlacedSection). q.name) s.sections) own_names
-    ∙ ap (λ n. names_size (map (λ (q : PlacedSection). q.name) s.sections) + n) own_size) in
-    let named : names_size (tree_names os) ≡ names_size (map (λ (q : PlacedSection). q.name) s.sections) =
+    (map (λ (q : PlacedOutput). q.name) s.sections) own_names
+    ∙ ap (λ n. names_size (map (λ (q : PlacedOutput). q.name) s.sections) + n) own_size) in
+    let named : names_size (tree_names os) ≡ names_size (map (λ (q : PlacedOutput). q.name) s.sections) =
     ap names_size tree in
     let many : length os ≡ length s.sections =
     sym (length-map (shown_sections os) (λ (o : OutputSectionAt). o.section.name)
-    ∙ length-map os _) ∙ ap length tree ∙ length-map s.sections (λ (q : PlacedSection). q.name) in
+    ∙ length-map os _) ∙ ap length tree ∙ length-map s.sections (λ (q : PlacedOutput). q.name) in
     record {
       symbols = omega (arith, symbols, count, long);
       symbol_names = omega (arith, symbol_names, size, strings);

@@ -8,15 +8,15 @@ use Rattle.emit_image.specs.Kept.{HasStayed, IsKept, linked_in}
 use Rattle.emit_image.specs.OfLink.{loaded}
 use Rattle.emit_image.specs.declared.section.ImagePiece.{ImagePiece}
 use Rattle.emit_image.specs.declared.section.ImageSection.{ImageSection}
-use Rattle.ldmodel.specs.Layout.{Layout, PlacedPiece, PlacedSection}
+use Rattle.ldmodel.specs.Layout.{Layout, PlacedPiece, PlacedOutput}
 use Rattle.ldmodel.specs.Project.{Project}
 use Rattle.ldmodel.specs.Segments.{SectionInFile, in_file, nonempty, segments}
 use Rattle.ldmodel.specs.Stayed.{GoodLink, LinkedPiece, has_stayed, linked_piece, link_pieces}
 use Rattle.ldmodel.specs.declared.sections.SectionKey.{SectionKey}
 use Rattle.symres.specs.SymbolTable.{SymbolTableState}
-use Rattle.emit_relocate.specs.Earlier.{HasStayedAt, IsComplete, IsPieceOf}
+use Rattle.emit_relocate.specs.PreviousLinkInfo.{HasStayedAt, IsComplete, IsPieceOf}
 use Rattle.emit_relocate.specs.KnownLink.{KnownLink}
-use Rattle.emit_relocate.specs.declared.earlier.FileRange.{FileRange}
+use Rattle.emit_relocate.specs.declared.previous_link_info.FileRange.{FileRange}
 use Rattle.emit_values.specs.LinkView.{known_link}
 use Rattle.emit.proofs.Lists.{zip_each, zip_right}
 use Rattle.emit.specs.Kept.{AreKept, HaveStayed, IsKeptBy, IsKeyed, IsSound}
@@ -51,15 +51,15 @@ mapped f (y ∷ ys) x c = go c.0 c.1 c.2 (mapped f ys x)
 
 -- the laws of links that are used
 pub record Laws : Type 0 where
-  pub linked : (l : GoodLink) (q : PlacedSection) (z : PlacedPiece) → Contains l.layout.sections q
+  pub linked : (l : GoodLink) (q : PlacedOutput) (z : PlacedPiece) → Contains l.layout.sections q
       → Contains q.pieces z → Contains (link_pieces l) (linked_piece l.project (segments l.layout.sections) q z)
-  pub all : (sections : List PlacedSection)
+  pub all : (sections : List PlacedOutput)
       → map (λ (x : SectionInFile). x.section) (in_file (segments sections)) ≡ nonempty sections
 
 -- an output section with bytes in the file is one of the layout
 in_layout : Laws → (s : Layout) (x : SectionInFile) → Contains (loaded s) x → Contains s.sections x.section
 in_layout laws s x c =
-    filtered (λ (q : PlacedSection). not (q.size == 0)) s.sections x.section
+    filtered (λ (q : PlacedOutput). not (q.size == 0)) s.sections x.section
     (subst (λ qs. Contains qs x.section) (laws.all s.sections)
     (mapped (λ (y : SectionInFile). y.section) (in_file (segments s.sections)) x
     (filtered (λ (y : SectionInFile). y.section.has_file_bytes) (in_file (segments s.sections)) x c)))
@@ -75,13 +75,13 @@ none_stays p s stays ys none z =
     (λ w v k. k.is ∙ none k.section) h) z
 
 -- the input sections of output sections with bytes in the file, and those that are drawn, are related one by one
-abbrev EachDrawn : (PlacedSection → PlacedPiece → ImagePiece → Type 0) → Layout → List ImageSection → Type 0
+abbrev EachDrawn : (PlacedOutput → PlacedPiece → ImagePiece → Type 0) → Layout → List ImageSection → Type 0
 EachDrawn R s ys =
     AllZip (λ (x : SectionInFile) (y : ImageSection). AllZip (R x.section) x.section.pieces y.pieces.now) (loaded s) ys
 
 module _ (laws : Laws) (old new : GoodLink) (stays : SectionKey → Bool) (ys : List ImageSection)
     (kept : AllZip (IsSectionKept new.project stays) (loaded new.layout) ys) where
-  by_piece : (R : PlacedSection → PlacedPiece → ImagePiece → Type 0)
+  by_piece : (R : PlacedOutput → PlacedPiece → ImagePiece → Type 0)
       → ((x : SectionInFile) (w : PlacedPiece) (y : ImagePiece) (k : IsKeptBy new.project stays w y)
       → IsKeyed new k.section (linked_in new x.section w) → R x.section w y) → EachDrawn R new.layout ys
   by_piece R f =
@@ -104,7 +104,7 @@ module _ (laws : Laws) (old new : GoodLink) (stays : SectionKey → Bool) (ys : 
   are_kept h =
       by_piece (IsKept old new) (λ x w y k is e. k.is ∙ h k.section (linked_in new x.section w) is e)
 
--- ---- what an earlier link says
+-- ---- what an previous link says
 
 abbrev link_at : GoodLink → SymbolTableState → KnownLink
 link_at new a = known_link new.project new.layout a

@@ -16,9 +16,9 @@ use Rattle.ldmodel.specs.WorkBound.{retargeted_bytes, sites_outside}
 use Rattle.ldmodel.specs.declared.sections.SectionKey.{SectionKey}
 use Rattle.symres.specs.SymbolTable.{SymbolTableState}
 use Rattle.ldmodel_project.specs.ByPlace.{faults_in}
-use Rattle.emit_relocate.specs.Earlier.{IsComplete}
+use Rattle.emit_relocate.specs.PreviousLinkInfo.{IsComplete}
 use Rattle.emit_relocate.specs.Fields.{evaluations}
-use Rattle.emit_relocate.specs.declared.earlier.FileRange.{FileRange}
+use Rattle.emit_relocate.specs.declared.previous_link_info.FileRange.{FileRange}
 use Rattle.emit_values.specs.LinkView.{known_link}
 use Rattle.emit.specs.Relocated.{IsRelocated}
 use Rattle.emit.specs.Runs.{AreRunsUnless}
@@ -27,11 +27,11 @@ use Rattle.emit.specs.declared.relocated.Relocated.{Relocated}
 abbrev pub new_link : Project → Layout → GoodLink
 new_link p s = record { project = p; layout = s }
 
--- the fields of input sections that are not known to have stayed; the faults of all relocations, where the earlier link
--- is good; and patches of what stayed. Where each section that stayed is known to have stayed, these are the fields of
--- its sites whose symbol has another value, and what is counted are these sites and those outside of what stayed. Where
--- nothing is known to have stayed, all is evaluated, and each site counted whose symbol has a value. Nothing else is
--- counted in any case
+-- the fields of input sections that are not known to have stayed; the faults of all relocations, where the previous
+-- link is good; and patches of what stayed. Where each section that stayed is known to have stayed, these are the
+-- fields of its sites whose symbol has another value, and what is counted are these sites and those outside of what
+-- stayed. Where nothing is known to have stayed, all is evaluated, and each site counted whose symbol has a value.
+-- Nothing else is counted in any case
 pub record IsRelocatedBeside (old : GoodLink) (range : SectionKey → Option FileRange) (p : Project) (s : Layout)
     (a : SymbolTableState) (r : Relocated) (before after : Counts) : Type 0 where
   pub fields : AreRunsUnless (known_link p s a) (λ k. is_some (range k)) r.patches.items r.ends.items

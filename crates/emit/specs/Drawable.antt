@@ -8,8 +8,8 @@ use Rattle.ldmodel.specs.SectionHeaders.{image_length}
 use Rattle.ldmodel.specs.declared.sections.SectionKey.{SectionKey}
 use Rattle.symres.specs.SymbolTable.{SymbolTableState}
 use Rattle.emit.specs.declared.relocated.Relocated.{Relocated}
-use Rattle.place.specs.Arranged.{IsArranged}
-use Rattle.place.specs.declared.arranged.Arranged.{Arranged}
+use Rattle.place.specs.IndexedLayout.{IsIndexedLayout}
+use Rattle.place.specs.declared.indexed_layout.IndexedLayout.{IndexedLayout}
 use Rattle.emit_values.specs.LinkView.{known_link}
 use Rattle.emit_values.specs.Values.{AreValues}
 use Rattle.emit_values.specs.declared.values.Values.{Values}
@@ -18,31 +18,32 @@ use Rattle.emit.specs.Runs.{AreRunsUnless}
 use Rattle.emit.specs.declared.output.OutputDrawing.{OutputDrawing}
 
 -- the places, the values, and the fields of what does not stay, of a project at a layout whose image is not too long
-pub record IsDrawableAt (p : Project) (s : Layout) (a : SymbolTableState) (x : Arranged) (v : Values) (r : Relocated)
+pub record IsDrawableAt (p : Project) (s : Layout) (a : SymbolTableState) (x : IndexedLayout) (v : Values)
+    (r : Relocated)
     (stays : SectionKey → Bool) : Type 0 where
-  pub arranged : IsArranged p s x
+  pub indexed_layout : IsIndexedLayout p s x
   pub values : AreValues p s a v
   pub fields : AreRunsUnless (known_link p s a) stays r.patches.items r.ends.items
   pub short : image_length p s ≤ max_image_length
 
 -- the project has such a layout
-pub record IsDrawable (p : Project) (x : Arranged) (v : Values) (r : Relocated)
+pub record IsDrawable (p : Project) (x : IndexedLayout) (v : Values) (r : Relocated)
     (stays : SectionKey → Bool) : Type 0 where
   pub layout : Layout
   pub names : SymbolTableState
   pub is : IsDrawableAt p layout names x v r stays
 
 -- the same, and these are its output sections, of which these input sections stay
-pub record AreOutputs (p : Project) (x : Arranged) (v : Values) (s : Layout) (stays : SectionKey → Bool)
+pub record AreOutputs (p : Project) (x : IndexedLayout) (v : Values) (s : Layout) (stays : SectionKey → Bool)
     (xs : List OutputDrawing) : Type 0 where
   pub names : SymbolTableState
-  pub arranged : IsArranged p s x
+  pub indexed_layout : IsIndexedLayout p s x
   pub values : AreValues p s names v
   pub short : image_length p s ≤ max_image_length
   pub outputs : AllZip (IsOutput p s stays) s.sections xs
 
 -- it has a layout with these output sections
-pub record HasOutputs (p : Project) (x : Arranged) (v : Values) (xs : List OutputDrawing) : Type 0 where
+pub record HasOutputs (p : Project) (x : IndexedLayout) (v : Values) (xs : List OutputDrawing) : Type 0 where
   pub layout : Layout
   pub stays : SectionKey → Bool
   pub are : AreOutputs p x v layout stays xs

@@ -3,8 +3,8 @@ use Rattle.std.specs.Prelude.{◌≡◌, Bool, ℕ, List, Some, map, slice_get}
 use Rattle.std.specs.List.{AllZip}
 use Rattle.emit_image.specs.declared.section.ImagePiece.{ImagePiece}
 use Rattle.place.specs.Offsets.{IsOffset}
-use Rattle.ldmodel.specs.Layout.{Layout, PlacedSection}
-use Rattle.ldmodel.specs.Lent.{placed_of}
+use Rattle.ldmodel.specs.Layout.{Layout, PlacedOutput}
+use Rattle.ldmodel.specs.PlacementView.{placed_of}
 use Rattle.ldmodel.specs.Project.{Project}
 use Rattle.ldmodel.specs.declared.placed.Placed.{Placed}
 use Rattle.ldmodel.specs.declared.placed.PlacedData.{PlacedData}
@@ -14,7 +14,7 @@ use Rattle.emit.specs.DataRuns.{AreDataOf}
 use Rattle.emit.specs.Output.{IsJoinedRow}
 
 -- those of a number are of an output section
-pub record IsAt (p : Project) (s : Layout) (stays : SectionKey → Bool) (q : PlacedSection) (k : ℕ) (place : Placed)
+pub record IsAt (p : Project) (s : Layout) (stays : SectionKey → Bool) (q : PlacedOutput) (k : ℕ) (place : Placed)
     (os : List OutputSectionAt) (offsets : List ℕ) (rows : List (List ImagePiece)) (runs : List (List PlacedData))
     : Type 0 where
   pub placed : place ≡ placed_of q
@@ -29,8 +29,8 @@ pub record AreJoined (p : Project) (s : Layout) (stays : SectionKey → Bool) (p
     (os : List OutputSectionAt) (offsets : List ℕ) (rows : List (List ImagePiece)) (runs : List (List PlacedData))
     : Type 0 where
   pub placed : map placed_of s.sections ≡ places
-  pub names : map (λ (q : PlacedSection). q.name) s.sections ≡ map (λ (o : OutputSectionAt). o.section.name) os
-  pub fills : map (λ (q : PlacedSection). q.fill) s.sections ≡ map (λ (o : OutputSectionAt). o.section.fill) os
+  pub names : map (λ (q : PlacedOutput). q.name) s.sections ≡ map (λ (o : OutputSectionAt). o.section.name) os
+  pub fills : map (λ (q : PlacedOutput). q.fill) s.sections ≡ map (λ (o : OutputSectionAt). o.section.fill) os
   pub begun : AllZip (IsOffset s) s.sections offsets
   pub pieces : AllZip (IsJoinedRow p s stays) s.sections rows
   pub data_commands : AllZip AreDataOf s.sections runs

@@ -1,4 +1,4 @@
--- Which input sections of an image stay where an earlier link has them.
+-- Which input sections of an image stay where an previous link has them.
 use Rattle.std.specs.Prelude.{◌≡◌, Bool, Contains, IfSome, Option, true}
 use Rattle.emit_image.specs.declared.section.ImagePiece.{ImagePiece}
 use Rattle.ldmodel.specs.Layout.{PlacedPiece}
@@ -6,9 +6,9 @@ use Rattle.ldmodel.specs.NameFaults.{object_name}
 use Rattle.ldmodel.specs.Project.{Project}
 use Rattle.ldmodel.specs.Stayed.{GoodLink, LinkedPiece, has_stayed, link_pieces}
 use Rattle.ldmodel.specs.declared.sections.SectionKey.{SectionKey}
-use Rattle.emit_relocate.specs.Earlier.{HasStayedAt}
+use Rattle.emit_relocate.specs.PreviousLinkInfo.{HasStayedAt}
 use Rattle.emit_relocate.specs.KnownLink.{KnownLink}
-use Rattle.emit_relocate.specs.declared.earlier.FileRange.{FileRange}
+use Rattle.emit_relocate.specs.declared.previous_link_info.FileRange.{FileRange}
 
 -- an input section stays if its key does
 pub record IsKeptBy (p : Project) (stays : SectionKey → Bool) (w : PlacedPiece) (y : ImagePiece) : Type 0 where

@@ -1,7 +1,7 @@
 pub use Rattle.emit_fields.specs as fields
 pub use Rattle.emit_image.specs as image
 pub use Rattle.emit_relocate.specs as relocate
-pub use Rattle.emit_retouch.specs as retouch
+pub use Rattle.emit_in_place.specs as in_place
 pub use Rattle.emit_text.specs as text
 pub use Rattle.emit_values.specs as values
 pub mod Relocated

@@ -2,8 +2,8 @@
 use Rattle.std.specs.Prelude.{◌≡◌, Bool, ℕ, ◌%◌, ◌<◌, ◌≤◌, List, filter, length, map, slice_index}
 use Rattle.std.specs.List.{All, AllZip}
 use Rattle.ldmodel.specs.Image.{fill_byte}
-use Rattle.ldmodel.specs.Layout.{Layout, PlacedSection}
-use Rattle.ldmodel.specs.Lent.{placed_of}
+use Rattle.ldmodel.specs.Layout.{Layout, PlacedOutput}
+use Rattle.ldmodel.specs.PlacementView.{placed_of}
 use Rattle.ldmodel.specs.Project.{Project}
 use Rattle.ldmodel.specs.Segments.{SectionInFile, file_offset, nonempty, segments}
 use Rattle.ldmodel.specs.declared.sections.SectionKey.{SectionKey}
@@ -18,21 +18,21 @@ use Rattle.emit.specs.Kept.{IsKeptBy}
 use Rattle.emit.specs.declared.output.OutputDrawing.{OutputDrawing}
 
 -- the input sections of an output section, each of which stays if its key does; bytes and fields fill each
-pub record IsRow (p : Project) (s : Layout) (stays : SectionKey → Bool) (q : PlacedSection) (ys : List ImagePiece)
+pub record IsRow (p : Project) (s : Layout) (stays : SectionKey → Bool) (q : PlacedOutput) (ys : List ImagePiece)
     : Type 0 where
   pub pieces : AllZip (IsImagePiece p s) q.pieces ys
   pub filled : All IsFilled ys
   pub kept : AllZip (IsKeptBy p stays) q.pieces ys
 
 -- the same, where those that stay may be joined
-pub record IsJoinedRow (p : Project) (s : Layout) (stays : SectionKey → Bool) (q : PlacedSection)
+pub record IsJoinedRow (p : Project) (s : Layout) (stays : SectionKey → Bool) (q : PlacedOutput)
     (ys : List ImagePiece) : Type 0 where
   pub whole : List ImagePiece
   pub row : IsRow p s stays q whole
   pub joined : StandFor whole ys
 
 -- all that is drawn of an output section
-pub record IsOutput (p : Project) (s : Layout) (stays : SectionKey → Bool) (q : PlacedSection) (x : OutputDrawing)
+pub record IsOutput (p : Project) (s : Layout) (stays : SectionKey → Bool) (q : PlacedOutput) (x : OutputDrawing)
     : Type 0 where
   pub name : x.name.now ≡ q.name
   pub placed : x.placed ≡ placed_of q
@@ -48,11 +48,11 @@ abbrev pub IsSectionKept : Project → (SectionKey → Bool) → SectionInFile �
 IsSectionKept p stays x y = AllZip (IsKeptBy p stays) x.section.pieces y.pieces.now
 
 -- an output section, and where it begins in the file
-abbrev pub in_file_at : Layout → PlacedSection → SectionInFile
+abbrev pub in_file_at : Layout → PlacedOutput → SectionInFile
 in_file_at s q = record { offset = file_offset (segments s.sections) q; section = q }
 
 -- an output section as it is drawn, of whose input sections those that stay may be joined
-pub record IsDrawn (p : Project) (s : Layout) (stays : SectionKey → Bool) (q : PlacedSection) (y : ImageSection)
+pub record IsDrawn (p : Project) (s : Layout) (stays : SectionKey → Bool) (q : PlacedOutput) (y : ImageSection)
     : Type 0 where
   pub whole : ImageSection
   pub section : IsImageSection p s (in_file_at s q) whole
@@ -61,10 +61,10 @@ pub record IsDrawn (p : Project) (s : Layout) (stays : SectionKey → Bool) (q :
   pub joined : IsJoinedSection whole y
 
 -- those of some output sections that have bytes in the file
-abbrev pub with_bytes : Layout → List PlacedSection → List SectionInFile
+abbrev pub with_bytes : Layout → List PlacedOutput → List SectionInFile
 with_bytes s qs = filter (λ (x : SectionInFile). x.section.has_file_bytes) (map (in_file_at s) (nonempty qs))
 
-pub record AreDrawnOf (p : Project) (s : Layout) (stays : SectionKey → Bool) (qs : List PlacedSection)
+pub record AreDrawnOf (p : Project) (s : Layout) (stays : SectionKey → Bool) (qs : List PlacedOutput)
     (ys : List ImageSection) : Type 0 where
   pub wholes : List ImageSection
   pub sections : AllZip (IsImageSection p s) (with_bytes s qs) wholes

@@ -10,8 +10,8 @@ use Rattle.ldmodel_laws.specs.Spread.{entries_in}
 use Rattle.ldmodel.specs.Each.{Each}
 use Rattle.ldmodel.specs.Image.{object_named, section_numbered}
 use Rattle.ldmodel_laws.specs.ByteCases.{section_byte}
-use Rattle.ldmodel.specs.Layout.{Layout, PlacedPiece, PlacedSection}
-use Rattle.ldmodel.specs.Lent.{starts_of}
+use Rattle.ldmodel.specs.Layout.{Layout, PlacedPiece, PlacedOutput}
+use Rattle.ldmodel.specs.PlacementView.{starts_of}
 use Rattle.ldmodel.specs.Project.{NamedObject, Project}
 use Rattle.ldmodel.specs.Rows.{Piece}
 use Rattle.ldmodel.specs.SymbolValues.{placed_part}
@@ -20,13 +20,13 @@ use Rattle.ldmodel.specs.declared.sections.SectionKey.{SectionKey}
 use Rattle.emit.specs.declared.relocated.Relocated.{Relocated}
 use Rattle.emit_relocate.specs.KnownLink.{KnownLink}
 use Rattle.emit.specs.Kept.{IsKeptBy}
-use Rattle.place.specs.Arranged.{IsArranged}
-use Rattle.place.specs.declared.arranged.Arranged.{Arranged}
+use Rattle.place.specs.IndexedLayout.{IsIndexedLayout}
+use Rattle.place.specs.declared.indexed_layout.IndexedLayout.{IndexedLayout}
 use Rattle.emit.specs.Runs.{AreRunsUnless}
 
 -- where everything stands, and the fields of the sections that do not stay, are those of a link
-pub record AreSources (l : KnownLink) (stays : SectionKey → Bool) (a : Arranged) (r : Relocated) : Type 0 where
-  pub arranged : IsArranged l.project l.layout a
+pub record AreSources (l : KnownLink) (stays : SectionKey → Bool) (a : IndexedLayout) (r : Relocated) : Type 0 where
+  pub indexed_layout : IsIndexedLayout l.project l.layout a
   pub runs : AreRunsUnless l stays r.patches.items r.ends.items
 
 -- a section of an object at an address
@@ -65,7 +65,7 @@ pub record IsPlacedAt (p : Project) (s : Layout) (piece : Piece) (start : ℕ) (
   pub sized : IsSized p piece
 
 -- the entries of a row at the first of some addresses
-pub record IsRowAt (p : Project) (s : Layout) (row : List Piece) (starts : List ℕ) (q : PlacedSection) : Type 0 where
+pub record IsRowAt (p : Project) (s : Layout) (row : List Piece) (starts : List ℕ) (q : PlacedOutput) : Type 0 where
   pub long : length row ≡ length q.pieces
   pub each : (k : ℕ) (piece : Piece) (start : ℕ) (w : PlacedPiece) → slice_get q.pieces k ≡ Some w
       → slice_get row k ≡ Some piece → slice_get starts k ≡ Some start → IsPlacedAt p s piece start w
@@ -75,6 +75,6 @@ pub record AreRowsAt (p : Project) (s : Layout) (rows : List (List Piece)) (star
   pub placed : map entries_in s.sections ≡ rows
   pub begun : starts ≡ flat_map starts_of s.sections
   pub found :
-      Each (λ (q : PlacedSection).
+      Each (λ (q : PlacedOutput).
       Each (λ (w : PlacedPiece). placed_part s w.piece.object w.piece.part ≡ Some w) q.pieces) s.sections
   pub sized : Each (Each (IsSized p)) rows

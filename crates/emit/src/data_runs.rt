@@ -2,7 +2,7 @@
 
 ghost use Rattle.std.specs.Prelude.{◌≡◌, ◌≤◌, IfOk, List, length, map};
 ghost use Rattle.std.specs.List.{AllZip};
-ghost use Rattle.ldmodel.specs.Layout.{PlacedSection};
+ghost use Rattle.ldmodel.specs.Layout.{PlacedOutput};
 ghost use Rattle.emit.specs.DataRuns.{AreDataFrom, AreDataOf, run_length};
 
 use ldmodel::memory::NoMemory;
@@ -32,7 +32,7 @@ pub(crate) fn data_runs<'a>(
     commands: &'a [PlacedData],
     sections: usize,
 ) -> Result<Vec<&'a [PlacedData]>, NoMemory>
-    ensures { IfOk result (λ v. (qs : List PlacedSection) → AreDataFrom 0 qs commands.now → sections ≡ length qs
+    ensures { IfOk result (λ v. (qs : List PlacedOutput) → AreDataFrom 0 qs commands.now → sections ≡ length qs
         → AllZip AreDataOf qs (map (λ run. run.now) v.items)) }
 {
     let mut runs = Vec::with_capacity(alloc, sections)?;

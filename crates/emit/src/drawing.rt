@@ -9,7 +9,7 @@ ghost use Rattle.emit_image.specs.Kept.{ArePatchesOf};
 ghost use Rattle.emit_image.specs.OfLink.{IsImagePart};
 ghost use Rattle.emit_image.specs.Stretches.{EndsBy, patch_bytes};
 ghost use Rattle.ldmodel_laws.specs.Untouched.{IsGood};
-ghost use Rattle.place.specs.Arranged.{IsArranged};
+ghost use Rattle.place.specs.IndexedLayout.{IsIndexedLayout};
 ghost use Rattle.ldmodel.specs.Image as definition;
 ghost use Rattle.ldmodel.specs.Layout.{Layout};
 ghost use Rattle.ldmodel.specs.SectionHeaders.{image_length};
@@ -17,7 +17,7 @@ ghost use Rattle.ldmodel.specs.Stayed.{GoodLink};
 ghost use Rattle.ldmodel.specs.WorkBound.{bytes_stayed, retargeted_bytes};
 ghost use Rattle.ldmodel.specs.declared.sections.SectionKey.{SectionKey};
 ghost use Rattle.symres.specs.SymbolTable.{SymbolTableState};
-ghost use Rattle.emit_relocate.specs.Earlier.{IsComplete};
+ghost use Rattle.emit_relocate.specs.PreviousLinkInfo.{IsComplete};
 ghost use Rattle.emit_values.specs.LinkView.{known_link};
 ghost use Rattle.emit.specs.Drawable.{AreOutputs, HasOutputs, IsDrawable, IsDrawableAt};
 ghost use Rattle.emit.specs.Kept.{AreKept, HaveStayed, IsSound};
@@ -33,13 +33,13 @@ use emit_image::law::{drawing_is_image, drawing_stands, joined_is_whole, placeme
 use emit_image::redraw::redraw;
 use emit_image::section::{Drawing, ImagePart, ImagePiece};
 use emit_image::tail::{TailPart, TailParts};
-use emit_relocate::earlier::Earlier;
+use emit_relocate::previous_link_info::PreviousLinkInfo;
 use emit_values::values::Values;
 use ldmodel::memory::NoMemory;
 use ldmodel_laws::segments::sections_in_file;
 use ldmodel_laws::stayed::stayed_in_both;
 use ldmodel_project::view::ProjectView;
-use place::arranged::Arranged;
+use place::indexed_layout::IndexedLayout;
 use std::alloc::Global;
 
 /// A part of the tail, lent.
@@ -71,30 +71,30 @@ fn draw_outputs(
     alloc: Global,
     canvas: &mut Canvas,
     project: &ProjectView<'_>,
-    arranged: &Arranged,
+    indexed_layout: &IndexedLayout,
     values: &Values<'_>,
     outputs: &[OutputDrawing<'_>],
     patches: &[Patch],
     meter: &mut Meter,
 ) -> Result<(), NoMemory>
-    requires outputs { HasOutputs project.now arranged.now values.now outputs.now }
-    requires patches { (s : Layout) → IsArranged project.now s arranged.now
+    requires outputs { HasOutputs project.now indexed_layout.now values.now outputs.now }
+    requires patches { (s : Layout) → IsIndexedLayout project.now s indexed_layout.now
         → All (EndsBy (image_length project.now s)) patches.now }
     ensures image { OnOk result ((s : Layout) (stays : SectionKey → Bool)
-        → AreOutputs project.now arranged.now values.now s stays outputs.now
+        → AreOutputs project.now indexed_layout.now values.now s stays outputs.now
         → ((k : SectionKey) → stays k ≡ false) → canvas.new.bytes ≡ definition.image project.now s) }
     ensures redrawn { OnOk result ((old new : GoodLink) (stays : SectionKey → Bool) → new.project ≡ project.now
-        → AreOutputs project.now arranged.now values.now new.layout stays outputs.now → IsGood old
+        → AreOutputs project.now indexed_layout.now values.now new.layout stays outputs.now → IsGood old
         → IsGood new → HaveStayed old new stays → ArePatchesOf old new patches.now
         → canvas.old.bytes ≡ definition.image old.project old.layout
         → canvas.new.bytes ≡ definition.image new.project new.layout) }
     ensures work { OnOk result ((old new : GoodLink) (stays : SectionKey → Bool) → new.project ≡ project.now
-        → AreOutputs project.now arranged.now values.now new.layout stays outputs.now → IsGood new
+        → AreOutputs project.now indexed_layout.now values.now new.layout stays outputs.now → IsGood new
         → AreKept old new stays → patch_bytes patches.now ≤ retargeted_bytes old new
         → meter.new.bytes + bytes_stayed old new
         ≤ meter.old.bytes + (image_length new.project new.layout + retargeted_bytes old new)) }
     ensures spent { OnOk result ((old new : GoodLink) (stays : SectionKey → Bool) → new.project ≡ project.now
-        → AreOutputs project.now arranged.now values.now new.layout stays outputs.now → IsGood new
+        → AreOutputs project.now indexed_layout.now values.now new.layout stays outputs.now → IsGood new
         → AreKept old new stays → HaveStayed old new stays → meter.new ≡ raised meter.old counts.Bytes
         (patch_bytes patches.now + (image_length new.project new.layout - bytes_stayed old new))) }
     ensures counted { OnOk result ((n : ℕ) × (meter.new ≡ raised meter.old counts.Bytes n)) }
@@ -106,7 +106,7 @@ fn draw_outputs(
     placement_is_in_memory();
     stayed_in_both();
     sections_in_file();
-    let parts = drawing_parts(alloc, project, arranged, values, outputs)?;
+    let parts = drawing_parts(alloc, project, indexed_layout, values, outputs)?;
     let tail = image_parts(&parts.tail);
     let drawing = Drawing {
         headers: &parts.headers,
@@ -117,50 +117,51 @@ fn draw_outputs(
 }
 
 /// Draws the image of a link without faults onto a canvas, and counts the bytes that it writes: all but those of the
-/// input sections of which an earlier link says that they stayed. In these only the patches are written, whose offsets
+/// input sections of which an previous link says that they stayed. In these only the patches are written, whose offsets
 /// are places in the file.
 ///
-/// Where nothing stays, the canvas may hold anything before. Where the canvas holds the image of the earlier link, each
-/// input section that is said to have stayed has, and the patches are the fields of the sites in these whose symbol has
-/// another value, the canvas holds the image of the new link after the call. Where, besides, each input section that
-/// stayed is said to have, as many bytes are written as the image has outside of these and the patched fields have.
+/// Where nothing stays, the canvas may hold anything before. Where the canvas holds the image of the previous link,
+/// each input section that is said to have stayed has, and the patches are the fields of the sites in these whose
+/// symbol has another value, the canvas holds the image of the new link after the call. Where, besides, each input
+/// section that stayed is said to have, as many bytes are written as the image has outside of these and the patched
+/// fields have.
 ///
 /// # Errors
 ///
 /// Where memory runs out. Then the canvas is as it was.
-pub fn draw_image<'a, E: Earlier>(
+pub fn draw_image<'a, E: PreviousLinkInfo>(
     alloc: Global,
     canvas: &mut Canvas,
     project: &'a ProjectView<'_>,
-    arranged: &'a Arranged,
+    indexed_layout: &'a IndexedLayout,
     values: &Values<'_>,
     relocated: &'a Relocated,
     earlier: &E,
     patches: &[Patch],
     meter: &mut Meter,
 ) -> Result<(), NoMemory>
-    requires drawable { IsDrawable project.now arranged.now values.now relocated.now
+    requires drawable { IsDrawable project.now indexed_layout.now values.now relocated.now
         (λ k. is_some (E.range earlier.now k)) }
-    requires patches { (s : Layout) → IsArranged project.now s arranged.now
+    requires patches { (s : Layout) → IsIndexedLayout project.now s indexed_layout.now
         → All (EndsBy (image_length project.now s)) patches.now }
     ensures image { OnOk result ((s : Layout) (a : SymbolTableState)
-        → IsDrawableAt project.now s a arranged.now values.now relocated.now
+        → IsDrawableAt project.now s a indexed_layout.now values.now relocated.now
         (λ k. is_some (E.range earlier.now k)) → ((k : SectionKey) → E.range earlier.now k ≡ None)
         → canvas.new.bytes ≡ definition.image project.now s) }
     ensures redrawn { OnOk result ((old new : GoodLink) (a : SymbolTableState) → new.project ≡ project.now
-        → IsDrawableAt project.now new.layout a arranged.now values.now relocated.now
+        → IsDrawableAt project.now new.layout a indexed_layout.now values.now relocated.now
         (λ k. is_some (E.range earlier.now k)) → IsGood old → IsGood new
         → IsSound (E.range earlier.now) old (known_link new.project new.layout a)
         → ArePatchesOf old new patches.now → canvas.old.bytes ≡ definition.image old.project old.layout
         → canvas.new.bytes ≡ definition.image new.project new.layout) }
     ensures work { OnOk result ((old new : GoodLink) (a : SymbolTableState) → new.project ≡ project.now
-        → IsDrawableAt project.now new.layout a arranged.now values.now relocated.now
+        → IsDrawableAt project.now new.layout a indexed_layout.now values.now relocated.now
         (λ k. is_some (E.range earlier.now k)) → IsGood new
         → IsComplete (E.range earlier.now) old (known_link new.project new.layout a)
         → patch_bytes patches.now ≤ retargeted_bytes old new → meter.new.bytes + bytes_stayed old new
         ≤ meter.old.bytes + (image_length new.project new.layout + retargeted_bytes old new)) }
     ensures spent { OnOk result ((old new : GoodLink) (a : SymbolTableState) → new.project ≡ project.now
-        → IsDrawableAt project.now new.layout a arranged.now values.now relocated.now
+        → IsDrawableAt project.now new.layout a indexed_layout.now values.now relocated.now
         (λ k. is_some (E.range earlier.now k)) → IsGood new
         → IsComplete (E.range earlier.now) old (known_link new.project new.layout a)
         → IsSound (E.range earlier.now) old (known_link new.project new.layout a)
@@ -171,10 +172,21 @@ pub fn draw_image<'a, E: Earlier>(
 {
     // the borrow checker wants its lifetime named
     let pieces: Vec<Vec<ImagePiece<'a>>> = image_pieces(
-        alloc, project, arranged, relocated, earlier,
+        alloc,
+        project,
+        indexed_layout,
+        relocated,
+        earlier,
     )?;
-    let outputs = outputs(alloc, project, &arranged.link_layout, &pieces)?;
+    let outputs = outputs(alloc, project, &indexed_layout.link_layout, &pieces)?;
     draw_outputs(
-        alloc, canvas, project, arranged, values, &outputs, patches, meter,
+        alloc,
+        canvas,
+        project,
+        indexed_layout,
+        values,
+        &outputs,
+        patches,
+        meter,
     )
 }

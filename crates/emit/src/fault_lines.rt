@@ -39,5 +39,5 @@ pub fn fault_text(
         mentioned: &mentioned,
         entry: project.entry_symbol(),
     };
-    faults::fault_text(alloc, faults, &names, &ByPlace { project })
+    faults::render_faults(alloc, faults, &names, &ByPlace { project })
 }

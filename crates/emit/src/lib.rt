@@ -1,11 +1,11 @@
 //! What a link puts out: the fields of its relocations, its image, and its texts. Takes the layout and values of a
-//! project, and perhaps an earlier link; gives fields or their faults, the bytes drawn, the map and the fault lines.
+//! project, and perhaps an previous link; gives fields or their faults, the bytes drawn, the map and the fault lines.
 //!
 //! - `relocated` over `keys`: the fields of all relocations, or their faults; `law`;
 //! - `drawing` over `output`, `parts`, `pieces`, `data_runs`, `section_fields`, `symbols`: the image; `length`;
 //! - `good`: a link without faults is one that the laws on two links speak of;
 //! - `map`, `fault_lines` over `by_place`: the texts;
-//! - the parts `fields`, `relocate`, `values`, `image`, `retouch`, `text`. Other families name this crate alone.
+//! - the parts `fields`, `relocate`, `values`, `image`, `in_place`, `text`. Other families name this crate alone.
 #![tactic(auto)]
 
 mod by_place;
@@ -32,8 +32,8 @@ pub use emit_fields::field::evaluate::field;
 pub use emit_fields::field::{Field, Overflow};
 pub use emit_image as image;
 pub use emit_image::headers::headers;
+pub use emit_in_place as in_place;
 pub use emit_relocate as relocate;
 pub use emit_relocate::index::Index;
-pub use emit_retouch as retouch;
 pub use emit_text as text;
 pub use emit_values as values;

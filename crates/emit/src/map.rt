@@ -69,5 +69,5 @@ pub fn map_text(
         rows,
         symbols: &symbols,
     };
-    maps::map_text(alloc, &parts, &ByPlace { project })
+    maps::render_map(alloc, &parts, &ByPlace { project })
 }

@@ -5,7 +5,7 @@ ghost use Rattle.std.specs.List.{AllZip};
 ghost use Rattle.std.specs.Vec.{vec_items};
 ghost use Rattle.place.specs.LinkLayout.{IsLinkLayout};
 ghost use Rattle.ldmodel.specs.Image.{fill_byte};
-ghost use Rattle.ldmodel.specs.Layout.{Layout, PlacedSection};
+ghost use Rattle.ldmodel.specs.Layout.{Layout, PlacedOutput};
 ghost use Rattle.ldmodel.specs.Project.{Project};
 ghost use Rattle.ldmodel.specs.declared.sections.SectionKey.{SectionKey};
 ghost use Rattle.ldscript.specs.statements.Numbered.{shown_sections};
@@ -66,7 +66,7 @@ fn output_at<'a>(
     pieces: &'a [Vec<ImagePiece<'a>>],
     runs: &[&'a [PlacedData]],
 ) -> Option<OutputDrawing<'a>>
-    ensures { IfSome result (λ x. (p : Project) (s : Layout) (stays : SectionKey → Bool) (q : PlacedSection)
+    ensures { IfSome result (λ x. (p : Project) (s : Layout) (stays : SectionKey → Bool) (q : PlacedOutput)
         → IsAt p s stays q number placed.now (shown_sections sections.now) offsets.now (map vec_items pieces.now)
         (map (λ run. run.now) runs.now) → IsOutput p s stays q x) }
 {

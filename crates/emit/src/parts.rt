@@ -3,7 +3,7 @@
 ghost use Rattle.std.specs.Prelude.{◌≡◌, ◌++◌, ◌∷◌, [], Bool, IfOk, OnOk, List};
 ghost use Rattle.std.specs.List.{AllZip};
 ghost use Rattle.ldmodel_laws.specs.ImageBytes.{AreNamed};
-ghost use Rattle.ldmodel.specs.Layout.{Layout, PlacedSection};
+ghost use Rattle.ldmodel.specs.Layout.{Layout, PlacedOutput};
 ghost use Rattle.ldmodel.specs.Project.{Project};
 ghost use Rattle.ldmodel.specs.declared.sections.SectionKey.{SectionKey};
 ghost use Rattle.emit_image.specs.Tables.{IsTableSection};
@@ -22,7 +22,7 @@ use ldmodel::impossible::impossible;
 use ldmodel::memory::NoMemory;
 use ldmodel_laws::segments::segments_by_neighbours;
 use ldmodel_project::view::ProjectView;
-use place::arranged::Arranged;
+use place::indexed_layout::IndexedLayout;
 use std::alloc::Global;
 
 /// One more than the greatest offset that a section header can state.
@@ -30,7 +30,7 @@ const PAST_OFFSETS: u128 = 1 << 64;
 
 /// An output section, with what its header is made of.
 fn table_section<'a>(output: &OutputDrawing<'a>) -> TableSection<'a>
-    ensures { (p : Project) (s : Layout) (stays : SectionKey → Bool) (q : PlacedSection)
+    ensures { (p : Project) (s : Layout) (stays : SectionKey → Bool) (q : PlacedOutput)
         → IsOutput p s stays q output.now → IsTableSection s q result }
 {
     TableSection {
@@ -57,7 +57,7 @@ fn table_sections<'a>(
 
 /// An output section as it is drawn. Fails where it begins past any file.
 fn image_section<'a>(output: &OutputDrawing<'a>) -> Result<ImageSection<'a>, NoMemory>
-    ensures { IfOk result (λ y. (p : Project) (s : Layout) (stays : SectionKey → Bool) (q : PlacedSection)
+    ensures { IfOk result (λ y. (p : Project) (s : Layout) (stays : SectionKey → Bool) (q : PlacedOutput)
         → IsOutput p s stays q output.now → IsDrawn p s stays q y) }
 {
     match u64::try_from(output.offset) {
@@ -79,8 +79,8 @@ fn add_section<'a>(
     sections: &mut Vec<ImageSection<'a>>,
     output: &OutputDrawing<'a>,
 ) -> Result<(), NoMemory>
-    ensures { OnOk result ((p : Project) (s : Layout) (stays : SectionKey → Bool) (q : PlacedSection)
-        (qs : List PlacedSection) → IsOutput p s stays q output.now → AreDrawnOf p s stays qs sections.old.items
+    ensures { OnOk result ((p : Project) (s : Layout) (stays : SectionKey → Bool) (q : PlacedOutput)
+        (qs : List PlacedOutput) → IsOutput p s stays q output.now → AreDrawnOf p s stays qs sections.old.items
         → AreDrawnOf p s stays (qs ++ q ∷ []) sections.new.items) }
 {
     if output.placed.size == 0 || !output.placed.has_file_bytes {
@@ -126,16 +126,16 @@ pub(crate) struct ImageParts<'a> {
 pub(crate) fn drawing_parts<'a>(
     alloc: Global,
     project: &ProjectView<'_>,
-    arranged: &Arranged,
+    indexed_layout: &IndexedLayout,
     values: &Values<'_>,
     outputs: &[OutputDrawing<'a>],
 ) -> Result<ImageParts<'a>, NoMemory>
     ensures { IfOk result (λ x. (s : Layout) (stays : SectionKey → Bool)
-        → AreOutputs project.now arranged.now values.now s stays outputs.now
+        → AreOutputs project.now indexed_layout.now values.now s stays outputs.now
         → ArePartsOf project.now s stays x) }
 {
-    let segments = arranged.link_layout.segments.as_slice();
-    let symbols = table_symbols(alloc, project, arranged, values)?;
+    let segments = indexed_layout.link_layout.segments.as_slice();
+    let symbols = table_symbols(alloc, project, indexed_layout, values)?;
     let headings = table_sections(alloc, outputs)?;
     let end = loaded_end(segments)?;
     let tail = tail(alloc, end, &symbols, &headings)?;

@@ -7,8 +7,8 @@ ghost use Rattle.std.specs.Vec.{vec_items};
 ghost use Rattle.emit_image.specs.Joined.{StandFor};
 ghost use Rattle.emit_image.specs.declared.section.ImagePiece.{ImagePiece as Drawn};
 ghost use Rattle.elfobj.specs.Sections.{LinkedSection, section_of};
-ghost use Rattle.place.specs.Arranged.{IsArranged};
-ghost use Rattle.ldmodel.specs.Layout.{Layout, PlacedPiece, PlacedSection};
+ghost use Rattle.place.specs.IndexedLayout.{IsIndexedLayout};
+ghost use Rattle.ldmodel.specs.Layout.{Layout, PlacedPiece, PlacedOutput};
 ghost use Rattle.ldmodel.specs.Project.{NamedObject};
 ghost use Rattle.ldmodel.specs.SymbolValues.{placed_part};
 ghost use Rattle.ldmodel.specs.declared.sections.Part.TheVariants as part;
@@ -28,7 +28,7 @@ use elfobj::Object;
 use elfobj::section::{LinkedIndex, Section, SectionKind};
 use emit_image::row::{add_drawn, add_kept};
 use emit_image::section::ImagePiece;
-use emit_relocate::earlier::Earlier;
+use emit_relocate::previous_link_info::PreviousLinkInfo;
 use ldmodel::impossible::impossible;
 use ldmodel::memory::NoMemory;
 use ldmodel::names::ObjectPlace;
@@ -37,7 +37,7 @@ use ldmodel::sections::Part;
 use ldmodel_laws::gathering::{live_by_path, once_in_rows};
 use ldmodel_laws::layout::placed_are_rows;
 use ldmodel_project::view::ProjectView;
-use place::arranged::Arranged;
+use place::indexed_layout::IndexedLayout;
 use place::numbered::are_numbered;
 use std::alloc::Global;
 
@@ -67,7 +67,7 @@ fn section_at(object: &Object, index: LinkedIndex) -> Section
 /// among those whose fields are known.
 fn section_piece<'a>(
     relocated: &'a Relocated,
-    arranged: &Arranged,
+    indexed_layout: &IndexedLayout,
     key: ObjectPlace,
     object: &'a Object,
     index: LinkedIndex,
@@ -77,7 +77,7 @@ fn section_piece<'a>(
     requires { index.0 < length object.now.sections }
     ensures { IfOk result (λ y. (l : KnownLink) (stays : KeyOf → Bool) (o : NamedObject) (x : LinkedSection)
         (w : PlacedPiece)
-        → AreSources l stays arranged.now relocated.now → slice_get l.project.objects key.0 ≡ Some o
+        → AreSources l stays indexed_layout.now relocated.now → slice_get l.project.objects key.0 ≡ Some o
         → o.object ≡ object.now
         → slice_get o.object.sections index.0 ≡ Some x
         → stays (record { object = key; part = part.InTable x.number }) ≡ false
@@ -91,7 +91,7 @@ fn section_piece<'a>(
     let bytes = object.section_bytes(index);
     match section.kind {
         SectionKind::Nobits => Ok(zeros(size, start)),
-        _ => match fields_of(relocated, arranged, key, index) {
+        _ => match fields_of(relocated, indexed_layout, key, index) {
             // Each object that an entry names is one of the project
             None => Err(impossible()),
             Some(fields) => Ok(ImagePiece {
@@ -109,12 +109,13 @@ fn section_piece<'a>(
 fn drawn_piece<'a>(
     project: &'a ProjectView<'_>,
     relocated: &'a Relocated,
-    arranged: &Arranged,
+    indexed_layout: &IndexedLayout,
     piece: &Piece,
     start: u64,
 ) -> Result<ImagePiece<'a>, NoMemory>
     ensures { IfOk result (λ y. (l : KnownLink) (stays : KeyOf → Bool) (w : PlacedPiece)
-        → l.project ≡ project.now → AreSources l stays arranged.now relocated.now → stays piece.now.section ≡ false
+        → l.project ≡ project.now → AreSources l stays indexed_layout.now relocated.now → stays piece.now.section
+        ≡ false
         → IsPlacedAt project.now l.layout (piece_in project.now piece.now) start w
         → IsDrawnPiece l.project l.layout w y) }
 {
@@ -131,7 +132,15 @@ fn drawn_piece<'a>(
                 Some(index) => {
                     // so that what an object says of its sections is known
                     let _sections = object.sections();
-                    section_piece(relocated, arranged, key, object, index, piece.size, start)
+                    section_piece(
+                        relocated,
+                        indexed_layout,
+                        key,
+                        object,
+                        index,
+                        piece.size,
+                        start,
+                    )
                 }
             },
         },
@@ -140,17 +149,17 @@ fn drawn_piece<'a>(
 
 /// Adds an entry of a row at an address: one that stays is joined to the one before it, where that stays too and no gap
 /// lies between. Fails where the entry is of no object.
-fn add_entry<'a, E: Earlier>(
+fn add_entry<'a, E: PreviousLinkInfo>(
     pieces: &mut Vec<ImagePiece<'a>>,
     project: &'a ProjectView<'_>,
     relocated: &'a Relocated,
-    arranged: &Arranged,
+    indexed_layout: &IndexedLayout,
     earlier: &E,
     piece: &Piece,
     start: u64,
 ) -> Result<(), NoMemory>
     ensures { OnOk result ((l : KnownLink) (w : PlacedPiece) (whole : List Drawn) → l.project ≡ project.now
-        → AreSources l (λ k. is_some (E.range earlier.now k)) arranged.now relocated.now
+        → AreSources l (λ k. is_some (E.range earlier.now k)) indexed_layout.now relocated.now
         → IsPlacedAt project.now l.layout (piece_in project.now piece.now) start w → StandFor whole pieces.old.items
         → (y : Drawn) × IsRowPiece l.project l.layout (λ k. is_some (E.range earlier.now k)) w y
         × StandFor (whole ++ y ∷ []) pieces.new.items) }
@@ -158,7 +167,7 @@ fn add_entry<'a, E: Earlier>(
     match earlier.stayed(piece.section) {
         Some(_) => add_kept(pieces, piece.size, start),
         None => {
-            let drawn = drawn_piece(project, relocated, arranged, piece, start)?;
+            let drawn = drawn_piece(project, relocated, indexed_layout, piece, start)?;
             add_drawn(pieces, drawn)
         }
     }
@@ -166,17 +175,17 @@ fn add_entry<'a, E: Earlier>(
 
 /// The entries of a row at these addresses, of which those that stay are joined where no gap lies between. Fails where
 /// memory runs out.
-fn image_row<'a, E: Earlier>(
+fn image_row<'a, E: PreviousLinkInfo>(
     alloc: Global,
     project: &'a ProjectView<'_>,
     relocated: &'a Relocated,
-    arranged: &Arranged,
+    indexed_layout: &IndexedLayout,
     earlier: &E,
     row: &[Piece],
     starts: &[u64],
 ) -> Result<Vec<ImagePiece<'a>>, NoMemory>
-    ensures { IfOk result (λ v. (l : KnownLink) (q : PlacedSection) → l.project ≡ project.now
-        → AreSources l (λ k. is_some (E.range earlier.now k)) arranged.now relocated.now
+    ensures { IfOk result (λ v. (l : KnownLink) (q : PlacedOutput) → l.project ≡ project.now
+        → AreSources l (λ k. is_some (E.range earlier.now k)) indexed_layout.now relocated.now
         → IsRowAt project.now l.layout (map (piece_in project.now) row.now) starts.now q
         → IsJoinedRow l.project l.layout (λ k. is_some (E.range earlier.now k)) q v.items) }
 {
@@ -190,7 +199,7 @@ fn image_row<'a, E: Earlier>(
                     &mut pieces,
                     project,
                     relocated,
-                    arranged,
+                    indexed_layout,
                     earlier,
                     piece,
                     *start,
@@ -202,23 +211,23 @@ fn image_row<'a, E: Earlier>(
 }
 
 /// The entries of all rows, row by row. Fails where memory runs out.
-fn image_rows<'a, E: Earlier>(
+fn image_rows<'a, E: PreviousLinkInfo>(
     alloc: Global,
     project: &'a ProjectView<'_>,
     relocated: &'a Relocated,
-    arranged: &Arranged,
+    indexed_layout: &IndexedLayout,
     earlier: &E,
     starts: &[u64],
 ) -> Result<Vec<Vec<ImagePiece<'a>>>, NoMemory>
     ensures { IfOk result (λ v. (l : KnownLink) → l.project ≡ project.now
-        → AreSources l (λ k. is_some (E.range earlier.now k)) arranged.now relocated.now
-        → AreRowsAt project.now l.layout (rows_in project.now arranged.now.rows.items) starts.now
+        → AreSources l (λ k. is_some (E.range earlier.now k)) indexed_layout.now relocated.now
+        → AreRowsAt project.now l.layout (rows_in project.now indexed_layout.now.rows.items) starts.now
         → AllZip (IsJoinedRow l.project l.layout (λ k. is_some (E.range earlier.now k))) l.layout.sections
         (map vec_items v.items)) }
 {
-    let mut pieces = Vec::with_capacity(alloc, arranged.rows.len())?;
+    let mut pieces = Vec::with_capacity(alloc, indexed_layout.rows.len())?;
     let mut at: usize = 0;
-    for row in &arranged.rows {
+    for row in &indexed_layout.rows {
         let row = row.as_slice();
         if starts.len() - at < row.len() {
             // The starts are those of all rows
@@ -228,7 +237,7 @@ fn image_rows<'a, E: Earlier>(
             alloc,
             project,
             relocated,
-            arranged,
+            indexed_layout,
             earlier,
             row,
             &starts[at..],
@@ -239,20 +248,20 @@ fn image_rows<'a, E: Earlier>(
     Ok(pieces)
 }
 
-/// The input sections of each output section, in their order; those that an earlier link says have stayed stay, and are
-/// joined where no gap lies between.
+/// The input sections of each output section, in their order; those that an previous link says have stayed stay, and
+/// are joined where no gap lies between.
 ///
 /// # Errors
 ///
 /// Where memory runs out.
-pub(crate) fn image_pieces<'a, E: Earlier>(
+pub(crate) fn image_pieces<'a, E: PreviousLinkInfo>(
     alloc: Global,
     project: &'a ProjectView<'_>,
-    arranged: &Arranged,
+    indexed_layout: &IndexedLayout,
     relocated: &'a Relocated,
     earlier: &E,
 ) -> Result<Vec<Vec<ImagePiece<'a>>>, NoMemory>
-    ensures { IfOk result (λ v. (s : Layout) (a : SymbolTableState) → IsArranged project.now s arranged.now
+    ensures { IfOk result (λ v. (s : Layout) (a : SymbolTableState) → IsIndexedLayout project.now s indexed_layout.now
         → AreRunsUnless (known_link project.now s a) (λ k. is_some (E.range earlier.now k))
         relocated.now.patches.items relocated.now.ends.items
         → AllZip (IsJoinedRow project.now s (λ k. is_some (E.range earlier.now k))) s.sections
@@ -263,6 +272,6 @@ pub(crate) fn image_pieces<'a, E: Earlier>(
     placed_are_rows();
     are_numbered(project);
     let _inputs = project.inputs();
-    let starts = arranged.link_layout.placement.pieces();
-    image_rows(alloc, project, relocated, arranged, earlier, starts)
+    let starts = indexed_layout.link_layout.placement.pieces();
+    image_rows(alloc, project, relocated, indexed_layout, earlier, starts)
 }

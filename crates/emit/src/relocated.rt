@@ -22,11 +22,11 @@ use elfobj::Meter;
 use emit_fields::patch::Patch;
 use emit_image::law::patches_are_few;
 use emit_relocate::changed_fields::{ChangedFields, changed_fields};
-use emit_relocate::earlier::Earlier;
 use emit_relocate::law::{
     all_is_evaluated, due_sites_count, no_fault_is_missed, patches_are_fields,
     patches_are_those_retargeted,
 };
+use emit_relocate::previous_link_info::PreviousLinkInfo;
 use emit_relocate::symbol::entry_fault;
 use emit_relocate::symbol_values::SymbolValues;
 use emit_relocate::value::SymbolValue;
@@ -68,12 +68,12 @@ fn with_entry_fault(value: SymbolValue, mut faults: Vec<Fault>) -> Result<Vec<Fa
 
 impl Relocated {
     /// Evaluates the relocations of input sections that did not stay, and those of sections that stayed whose symbol
-    /// has another value than in the earlier link. Each of them is counted. `symbols` has the values of the symbols.
+    /// has another value than in the previous link. Each of them is counted. `symbols` has the values of the symbols.
     ///
     /// # Errors
     ///
     /// Where memory runs out.
-    pub fn of<E: Earlier>(
+    pub fn of<E: PreviousLinkInfo>(
         alloc: Global,
         project: &ProjectView<'_>,
         link: &LinkView<'_, '_>,

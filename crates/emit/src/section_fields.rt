@@ -4,7 +4,7 @@ ghost use Rattle.std.specs.Prelude.{◌≡◌, ◌∷◌, Bool, IfSome, Some, sl
 ghost use Rattle.elfobj.specs.Sections.{LinkedSection};
 ghost use Rattle.ldmodel.specs.Project.{NamedObject};
 ghost use Rattle.ldmodel.specs.declared.sections.SectionKey.{SectionKey};
-ghost use Rattle.place.specs.Arranged.{IsArranged};
+ghost use Rattle.place.specs.IndexedLayout.{IsIndexedLayout};
 ghost use Rattle.emit_relocate.specs.KnownLink.{KnownLink};
 ghost use Rattle.emit.specs.Runs.{AreRunsUnless, IsRunUnless};
 
@@ -12,7 +12,7 @@ use crate::relocated::Relocated;
 use elfobj::section::LinkedIndex;
 use emit_fields::patch::Patch;
 use ldmodel::names::ObjectPlace;
-use place::arranged::Arranged;
+use place::indexed_layout::IndexedLayout;
 
 /// Where the first `count` of some runs end, of which these are the ends; none where there are fewer.
 fn end_of(ends: &[usize], count: usize) -> Option<usize>
@@ -30,19 +30,19 @@ fn end_of(ends: &[usize], count: usize) -> Option<usize>
 /// The fields of a section of the object at a place, unless it stays; none where there is no such place or section.
 pub(crate) fn fields_of<'a>(
     relocated: &'a Relocated,
-    arranged: &Arranged,
+    indexed_layout: &IndexedLayout,
     place: ObjectPlace,
     section: LinkedIndex,
 ) -> Option<&'a [Patch]>
     ensures { IfSome result (λ run. (l : KnownLink) (stays : SectionKey → Bool) (o : NamedObject) (x : LinkedSection)
-        → IsArranged l.project l.layout arranged.now
+        → IsIndexedLayout l.project l.layout indexed_layout.now
         → AreRunsUnless l stays relocated.now.patches.items relocated.now.ends.items
         → slice_get l.project.objects place.0 ≡ Some o → slice_get o.object.sections section.0 ≡ Some x
         → IsRunUnless l stays (record { object = o; section = x }) run.now) }
 {
     let patches = relocated.patches.as_slice();
     let ends = relocated.ends.as_slice();
-    let first = arranged.linked_before(place)?;
+    let first = indexed_layout.linked_before(place)?;
     let number = first.checked_add(section.0)?;
     let begin = end_of(ends, number)?;
     let end = end_of(ends, number.checked_add(1)?)?;

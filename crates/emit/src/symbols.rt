@@ -10,7 +10,7 @@ ghost use Rattle.ldmodel.specs.SymbolValues.{symbol_of_entry};
 ghost use Rattle.ldmodel.specs.Tail.{ValuedSymbol, header_of_part, header_of_place, table_symbols};
 ghost use Rattle.ldmodel.specs.declared.names.Case.TheVariants as code_case;
 ghost use Rattle.symres.specs.SymbolTable.{SymbolTableState};
-ghost use Rattle.place.specs.Arranged.{IsArranged};
+ghost use Rattle.place.specs.IndexedLayout.{IsIndexedLayout};
 ghost use Rattle.emit_image.specs.Tables.{IsTableSymbol};
 ghost use Rattle.emit_values.specs.Values.{AreValues};
 ghost use Rattle.emit.specs.Sizes.{valued};
@@ -27,7 +27,7 @@ use ldmodel::names::{Case, Entry, ObjectPlace};
 use ldmodel::placed::OutputIndex;
 use ldmodel::sections::{Part, SectionKey};
 use ldmodel_project::view::ProjectView;
-use place::arranged::Arranged;
+use place::indexed_layout::IndexedLayout;
 use std::alloc::{AllocError, Global};
 
 /// What the symbol table says of a name, beside the name and its value.
@@ -59,11 +59,11 @@ fn header_of(section: OutputIndex) -> Result<u32, NoMemory>
 
 /// The number of the header of the output section that an input section stands in. Fails where there are 2^32 output
 /// sections.
-fn header_of_part(arranged: &Arranged, section: SectionKey) -> Result<u32, NoMemory>
-    ensures { IfOk result (λ n. (p : Project) (s : Layout) → IsArranged p s arranged.now
+fn header_of_part(indexed_layout: &IndexedLayout, section: SectionKey) -> Result<u32, NoMemory>
+    ensures { IfOk result (λ n. (p : Project) (s : Layout) → IsIndexedLayout p s indexed_layout.now
         → n ≡ header_of_part s (object_name p section.object.0) section.part) }
 {
-    match arranged.find(section) {
+    match indexed_layout.find(section) {
         Some(place) => header_of(place.section),
         None => Ok(NO_HEADER),
     }
@@ -71,17 +71,17 @@ fn header_of_part(arranged: &Arranged, section: SectionKey) -> Result<u32, NoMem
 
 /// The number of the header of the output section that a symbol of an object stands in, or `SHN_ABS`.
 fn header_of_place(
-    arranged: &Arranged,
+    indexed_layout: &IndexedLayout,
     object: ObjectPlace,
     place: SymbolPlace,
 ) -> Result<u32, NoMemory>
-    ensures { IfOk result (λ n. (p : Project) (s : Layout) → IsArranged p s arranged.now
+    ensures { IfOk result (λ n. (p : Project) (s : Layout) → IsIndexedLayout p s indexed_layout.now
         → n ≡ header_of_place s (object_name p object.0) place) }
 {
     match place {
         SymbolPlace::Section(number) => {
             let part = Part::InTable(number);
-            header_of_part(arranged, SectionKey { object, part })
+            header_of_part(indexed_layout, SectionKey { object, part })
         }
         SymbolPlace::Undefined | SymbolPlace::Absolute | SymbolPlace::Common => Ok(NO_HEADER),
     }
@@ -103,18 +103,18 @@ fn symbol_of(project: &ProjectView<'_>, entry: Entry) -> Option<Symbol>
 /// What is said of a name that an entry defines.
 fn facts_of_entry(
     project: &ProjectView<'_>,
-    arranged: &Arranged,
+    indexed_layout: &IndexedLayout,
     entry: Entry,
     weak: bool,
 ) -> Result<Facts, NoMemory>
-    ensures own { IfOk result (λ f. (s : Layout) → IsArranged project.now s arranged.now
+    ensures own { IfOk result (λ f. (s : Layout) → IsIndexedLayout project.now s indexed_layout.now
         → AreOwn project.now s (entry_of (λ key. key) entry) f) }
     ensures weak { IfOk result (λ f. f.weak ≡ weak) }
 {
     match symbol_of(project, entry) {
         None => Ok(Facts { weak, ..OF_SCRIPT }),
         Some(symbol) => {
-            let section = header_of_place(arranged, ObjectPlace(entry.key), symbol.place)?;
+            let section = header_of_place(indexed_layout, ObjectPlace(entry.key), symbol.place)?;
             Ok(Facts {
                 weak,
                 kind: symbol.kind,
@@ -126,13 +126,17 @@ fn facts_of_entry(
 }
 
 /// What is said of a common block.
-fn facts_of_block(arranged: &Arranged, owner: Entry, size: u64) -> Result<Facts, NoMemory>
-    ensures { IfOk result (λ f. (p : Project) (s : Layout) (align : ℕ) → IsArranged p s arranged.now
+fn facts_of_block(
+    indexed_layout: &IndexedLayout,
+    owner: Entry,
+    size: u64,
+) -> Result<Facts, NoMemory>
+    ensures { IfOk result (λ f. (p : Project) (s : Layout) (align : ℕ) → IsIndexedLayout p s indexed_layout.now
         → AreFacts p s (decision_of (λ key. key) (code_case.Common owner size align)) f) }
 {
     let object = ObjectPlace(owner.key);
     let part = Part::InCommon(SymbolIndex(owner.symbol));
-    let section = header_of_part(arranged, SectionKey { object, part })?;
+    let section = header_of_part(indexed_layout, SectionKey { object, part })?;
     Ok(Facts {
         weak: false,
         kind: SymbolKind::Object,
@@ -142,14 +146,18 @@ fn facts_of_block(arranged: &Arranged, owner: Entry, size: u64) -> Result<Facts,
 }
 
 /// What is said of a name, by what it stands for.
-fn facts_of(project: &ProjectView<'_>, arranged: &Arranged, case: Case) -> Result<Facts, NoMemory>
-    ensures { IfOk result (λ f. (s : Layout) → IsArranged project.now s arranged.now
+fn facts_of(
+    project: &ProjectView<'_>,
+    indexed_layout: &IndexedLayout,
+    case: Case,
+) -> Result<Facts, NoMemory>
+    ensures { IfOk result (λ f. (s : Layout) → IsIndexedLayout project.now s indexed_layout.now
         → AreFacts project.now s (decision_of (λ key. key) case) f) }
 {
     match case {
-        Case::Strong(entry) => facts_of_entry(project, arranged, entry, false),
-        Case::Weak(entry) => facts_of_entry(project, arranged, entry, true),
-        Case::Common { owner, size, .. } => facts_of_block(arranged, owner, size),
+        Case::Strong(entry) => facts_of_entry(project, indexed_layout, entry, false),
+        Case::Weak(entry) => facts_of_entry(project, indexed_layout, entry, true),
+        Case::Common { owner, size, .. } => facts_of_block(indexed_layout, owner, size),
         Case::Script | Case::Provided | Case::Undefined | Case::Duplicate => Ok(OF_SCRIPT),
     }
 }
@@ -158,17 +166,17 @@ fn facts_of(project: &ProjectView<'_>, arranged: &Arranged, case: Case) -> Resul
 fn add_symbol<'a>(
     symbols: &mut Vec<TableSymbol<'a>>,
     project: &ProjectView<'_>,
-    arranged: &Arranged,
+    indexed_layout: &IndexedLayout,
     symbol: &OutputSymbol<'a>,
 ) -> Result<(), NoMemory>
-    ensures { OnOk result ((s : Layout) (xs : List ValuedSymbol) → IsArranged project.now s arranged.now
+    ensures { OnOk result ((s : Layout) (xs : List ValuedSymbol) → IsIndexedLayout project.now s indexed_layout.now
         → AllZip (IsTableSymbol project.now s) xs symbols.old.items
         → AllZip (IsTableSymbol project.now s) (xs ++ cons_option (valued symbol.now) []) symbols.new.items) }
 {
     match symbol.value {
         SymbolValue::NotDefined | SymbolValue::NotInOutput => Ok(()),
         SymbolValue::Number(value) => {
-            let facts = facts_of(project, arranged, symbol.case)?;
+            let facts = facts_of(project, indexed_layout, symbol.case)?;
             symbols.push(TableSymbol {
                 name: symbol.name,
                 weak: facts.weak,
@@ -190,16 +198,16 @@ fn add_symbol<'a>(
 pub(crate) fn table_symbols<'a>(
     alloc: Global,
     project: &ProjectView<'_>,
-    arranged: &Arranged,
+    indexed_layout: &IndexedLayout,
     values: &'a Values<'_>,
 ) -> Result<Vec<TableSymbol<'a>>, NoMemory>
-    ensures { IfOk result (λ v. (s : Layout) (a : SymbolTableState) → IsArranged project.now s arranged.now
+    ensures { IfOk result (λ v. (s : Layout) (a : SymbolTableState) → IsIndexedLayout project.now s indexed_layout.now
         → AreValues project.now s a values.now → AllZip (IsTableSymbol project.now s) (table_symbols project.now s)
         v.items) }
 {
     let mut symbols = Vec::with_capacity(alloc, values.symbols.len())?;
     for symbol in &values.symbols {
-        add_symbol(&mut symbols, project, arranged, symbol)?;
+        add_symbol(&mut symbols, project, indexed_layout, symbol)?;
     }
     Ok(symbols)
 }

@@ -2,6 +2,6 @@
 use Rattle.std.specs.Prelude.{ℕ, List}
 
 -- its bytes, and the length up to which it grows without more memory
-pub record Sheet : Type 0 where
+pub record CanvasState : Type 0 where
   pub bytes : List ℕ
   pub room : ℕ

@@ -33,9 +33,9 @@ pub struct Canvas {
 
 impl Model for Canvas {
     ghost use Rattle.std.specs.Prelude.{vec_capacity};
-    ghost use Rattle.emit_fields.specs.Sheet.{Sheet};
+    ghost use Rattle.emit_fields.specs.Sheet.{CanvasState};
 
-    ghost Value = { Sheet };
+    ghost Value = { CanvasState };
 
     ghost view = { λ c. record { bytes = c.bytes.items; room = vec_capacity c.bytes } };
 }

@@ -6,11 +6,11 @@ use Rattle.emit_image.specs.Grown.{Grown}
 use Rattle.emit_image.specs.Reached.{DataFrom, IsReached, PiecesFrom, place_of, section_image}
 use Rattle.emit_image.specs.Stretches.{Spot}
 use Rattle.emit_image.specs.declared.section.ImageSection.{ImageSection}
-use Rattle.emit_image.specs.declared.stretch.Stretch.{Stretch}
+use Rattle.emit_image.specs.declared.write_span.WriteSpan.{WriteSpan}
 use Rattle.emit_image.proofs.Growing.{grown-as, grown-then}
 use Rattle.emit_image.proofs.InSection.{gap_spot}
 
-pub fill-section : (x : ImageSection) (k j at to : ℕ) (xs ys : List Stretch) → IsReached x k j at → PiecesFrom x k to
+pub fill-section : (x : ImageSection) (k j at to : ℕ) (xs ys : List WriteSpan) → IsReached x k j at → PiecesFrom x k to
     → DataFrom x j to → x.start ≤ to
     → Grown xs ys (place_of x at) (place_of x to) (λ o.
     record { byte = slice_index x.fill.now ((o - place_of x at) % length x.fill.now); stays = false })
@@ -24,7 +24,7 @@ fill-section x k j at to xs ys r ps ds l g =
     ∙ ap (λ (n : ℕ). record { byte = slice_index x.fill.now (n % length x.fill.now); stays = false }) same))
 
 -- a part of an output section that begins at an address
-pub part-section : (x : ImageSection) (start end : ℕ) (image : ℕ → Spot) (xs ys : List Stretch) → x.start ≤ start
+pub part-section : (x : ImageSection) (start end : ℕ) (image : ℕ → Spot) (xs ys : List WriteSpan) → x.start ≤ start
     → ((a : ℕ) → start ≤ a → a < end → section_spot x a ≡ image a)
     → Grown xs ys (place_of x start) (place_of x end) (λ o. image (start + (o - place_of x start)))
     → Grown xs ys (place_of x start) (place_of x end) (section_image x)
@@ -36,7 +36,7 @@ part-section x start end image xs ys l spots g =
     ap image same ∙ sym (spots (x.start + (o - x.offset)) low high))
 
 -- a gap, and a part after it
-pub gap-and-part : (x : ImageSection) (k j at start end : ℕ) (image : ℕ → Spot) (xs ys zs : List Stretch)
+pub gap-and-part : (x : ImageSection) (k j at start end : ℕ) (image : ℕ → Spot) (xs ys zs : List WriteSpan)
     (pf pt pe : ℕ) → IsReached x k j at → at ≤ start → start ≤ end → PiecesFrom x k start → DataFrom x j start
     → ((a : ℕ) → start ≤ a → a < end → section_spot x a ≡ image a)
     → pf ≡ place_of x at → pt ≡ place_of x start → pe ≡ place_of x end

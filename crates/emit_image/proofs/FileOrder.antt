@@ -9,7 +9,7 @@ use Rattle.std.proofs.lemmas.List.Concat.{flat_map-cons}
 use Rattle.std.proofs.lemmas.Bool.Decides.{nat_tests}
 use Rattle.ldmodel_laws.specs.FileLayout.{BeginFrom, IsTogether, Neighbours, Shares}
 use Rattle.ldmodel.specs.Each.{Each}
-use Rattle.ldmodel.specs.Layout.{PlacedSection}
+use Rattle.ldmodel.specs.Layout.{PlacedOutput}
 use Rattle.ldmodel.specs.Segments.{SectionInFile, Segment, end_of, file_end, in_file, in_segment}
 use Rattle.ldmodel.specs.Segments.{group_sections, shares_segment, segment_start}
 
@@ -28,18 +28,18 @@ abbrev pub last_file_end : ℕ → List SectionInFile → ℕ
 last_file_end from [] = from
 last_file_end from (x ∷ xs) = last_file_end (file_end_of x) xs
 
-abbrev Chain : ℕ → List PlacedSection → Type 0
+abbrev Chain : ℕ → List PlacedOutput → Type 0
 Chain low [] = Unit {0}
 Chain low (q ∷ qs) = (low ≤ q.start) × Chain (end_of q) qs
 
-shares-above : (p q : PlacedSection) → shares_segment p q ≡ true → end_of p ≤ q.start
+shares-above : (p q : PlacedOutput) → shares_segment p q ≡ true → end_of p ≤ q.start
 shares-above p q h = grind (arith, nat_tests)
 
-chain-of : (p : PlacedSection) (qs : List PlacedSection) → Neighbours Shares (p ∷ qs) → Chain (end_of p) qs
+chain-of : (p : PlacedOutput) (qs : List PlacedOutput) → Neighbours Shares (p ∷ qs) → Chain (end_of p) qs
 chain-of p [] h = tt
 chain-of p (q ∷ qs) h = (shares-above p q h.0, chain-of q qs h.1)
 
-abbrev Full : PlacedSection → Type 0
+abbrev Full : PlacedOutput → Type 0
 Full q = 0 < q.size
 
 -- where the file bytes end, of which this number are of this segment
@@ -49,17 +49,17 @@ ended end offset n = cond (n == 0) end (offset + n)
 ended-some : (end offset n : ℕ) → 0 < n → ended end offset n ≡ offset + n
 ended-some end offset n h = grind (arith, nat_tests)
 
-abbrev reached : ℕ → ℕ → PlacedSection → ℕ
+abbrev reached : ℕ → ℕ → PlacedOutput → ℕ
 reached start n q = cond q.has_file_bytes (end_of q - start) n
 
-record Walk (end offset start n : ℕ) (qs : List PlacedSection) : Type 0 where
+record Walk (end offset start n : ℕ) (qs : List PlacedOutput) : Type 0 where
   order : InFile (ended end offset n)
-      (filter is_loaded (map (λ (q : PlacedSection). record { offset = offset + (q.start - start); section = q }) qs))
+      (filter is_loaded (map (λ (q : PlacedOutput). record { offset = offset + (q.start - start); section = q }) qs))
   last : last_file_end (ended end offset n)
-      (filter is_loaded (map (λ (q : PlacedSection). record { offset = offset + (q.start - start); section = q }) qs))
+      (filter is_loaded (map (λ (q : PlacedOutput). record { offset = offset + (q.start - start); section = q }) qs))
       ≡ ended end offset (fold (reached start) n qs)
 
-walk : (end offset start low n : ℕ) (qs : List PlacedSection) → start ≤ low
+walk : (end offset start low n : ℕ) (qs : List PlacedOutput) → start ≤ low
     → ended end offset n ≤ offset + (low - start) → Chain low qs → All Full qs → Walk end offset start n qs
 walk end offset start low n [] a b c f = record { order = tt; last = refl }
 walk end offset start low n (q ∷ qs) a b c f =
@@ -71,7 +71,7 @@ walk end offset start low n (q ∷ qs) a b c f =
 
     rest : List SectionInFile
     rest = filter is_loaded
-        (map (λ (q : PlacedSection). record { offset = offset + (q.start - start); section = q }) qs)
+        (map (λ (q : PlacedOutput). record { offset = offset + (q.start - start); section = q }) qs)
 
     here : SectionInFile
     here = record { offset = offset + (q.start - start); section = q }
@@ -124,7 +124,7 @@ pub files : (end : ℕ) (gs : List Segment) → Each IsTogether (map (λ (g : Se
     × (last_file_end end (filter is_loaded (in_file gs)) ≡ fold file_end end gs)
 files end [] t b f = (tt, refl)
 files end (g ∷ gs) t b f =
-    let sections : List PlacedSection = group_sections g.group in
+    let sections : List PlacedOutput = group_sections g.group in
     let others : List Segment = gs in
     let all : All Full (sections ++ flat_map group_sections (map (λ (g : Segment). g.group) gs)) =
     subst (All Full) (flat_map-cons group_sections g.group (map (λ (g : Segment). g.group) gs)) f in

@@ -12,7 +12,7 @@ use Rattle.emit_fields.specs.Patches.{patch_end}
 use Rattle.emit_fields.specs.Patches as patches
 use Rattle.emit_fields.specs.declared.patch.Patch.{Patch}
 use Rattle.ldmodel.specs.Image.{byte_at, image}
-use Rattle.ldmodel.specs.Layout.{Layout, PlacedPiece, PlacedSection}
+use Rattle.ldmodel.specs.Layout.{Layout, PlacedPiece, PlacedOutput}
 use Rattle.ldmodel.specs.Project.{Project}
 use Rattle.ldmodel.specs.Relocations.{Site, site_field}
 use Rattle.ldmodel.specs.SectionHeaders.{image_length}
@@ -44,7 +44,7 @@ pub record Laws : Type 0 where
       → (i : ℕ) → ((t : Site) → Contains (retargeted old new) t → Contains (sites_in new.project x) t → IsOutside i t)
       → i < x.range.length
       → byte_at old.project old.layout (x.range.offset + i) ≡ byte_at new.project new.layout (x.range.offset + i)
-  pub linked : (l : GoodLink) (q : PlacedSection) (z : PlacedPiece) → Contains l.layout.sections q
+  pub linked : (l : GoodLink) (q : PlacedOutput) (z : PlacedPiece) → Contains l.layout.sections q
       → Contains q.pieces z → Contains (link_pieces l) (linked_piece l.project (segments l.layout.sections) q z)
   pub stayed_are : (old new : GoodLink) (x : LinkedPiece)
       → Contains (stayed old new) x ↔ (Contains (link_pieces new) x × (has_stayed old x ≡ true))
@@ -63,9 +63,9 @@ pub record Laws : Type 0 where
       → site_field l.project l.layout t ≡ Ok field → (i : ℕ) → i < length field
       → t.relocation.offset + i < x.range.length
       → byte_at l.project l.layout (x.range.offset + (t.relocation.offset + i)) ≡ slice_index field i
-  pub all : (sections : List PlacedSection)
+  pub all : (sections : List PlacedOutput)
       → map (λ (x : SectionInFile). x.section) (in_file (segments sections)) ≡ nonempty sections
-  pub offset : (sections : List PlacedSection) → AreNamed sections → (x : SectionInFile)
+  pub offset : (sections : List PlacedOutput) → AreNamed sections → (x : SectionInFile)
       → Contains (in_file (segments sections)) x → file_offset (segments sections) x.section ≡ x.offset
 
 image_long : (p : Project) (s : Layout) → length (image p s) ≡ image_length p s
@@ -92,14 +92,14 @@ in_layout laws l good x c =
     let k = filter_member (λ (y : SectionInFile). y.section.has_file_bytes) (in_file (segments s.sections)) x c in
     record {
       bytes = k.1;
-      there = (filter_member (λ (q : PlacedSection). not (q.size == 0)) s.sections x.section
+      there = (filter_member (λ (q : PlacedOutput). not (q.size == 0)) s.sections x.section
           (subst (λ qs. Contains qs x.section) (laws.all s.sections)
           (map_member (λ (y : SectionInFile). y.section) (in_file (segments s.sections)) x k.0))).0;
       offset = laws.offset s.sections good.named x k.0;
     }
 
 -- an input section that isn't empty, in an output section with file bytes, has its bytes in the file
-pub full_range : (gs : List Segment) (q : PlacedSection) (u : PlacedPiece) (k : ℕ) → q.has_file_bytes ≡ true
+pub full_range : (gs : List Segment) (q : PlacedOutput) (u : PlacedPiece) (k : ℕ) → q.has_file_bytes ≡ true
     → k < u.piece.size
     → range_in gs q u ≡ record { offset = file_offset gs q + (u.start - q.start); length = u.piece.size }
 full_range gs q u k e l =

@@ -12,7 +12,7 @@ use Rattle.ldmodel.specs.Image as image
 use Rattle.ldmodel_laws.specs.ByteCases.{byte_past_headers, output_byte, part_byte}
 use Rattle.ldmodel_laws.specs.ByteCases as cases
 use Rattle.ldmodel_laws.proofs.ByteCases.{by_cases}
-use Rattle.ldmodel.specs.Layout.{Layout, PlacedPiece, PlacedSection}
+use Rattle.ldmodel.specs.Layout.{Layout, PlacedPiece, PlacedOutput}
 use Rattle.ldmodel.specs.Layout as layout
 use Rattle.ldmodel.specs.Project.{Project}
 use Rattle.ldmodel.specs.SectionHeaders.{FilePart, end_of_part, image_length, tail}

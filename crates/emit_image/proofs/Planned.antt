@@ -8,13 +8,13 @@ use Rattle.emit_image.specs.Plan.{ImagePlan, IsDrawnFor, IsPlanOf, count_unstaye
 use Rattle.emit_image.specs.Stretches.{IsPatchOf, IsPlanFor, Spot, Stand, is_patched, spot_at, spot_of, stretch_at}
 use Rattle.emit_image.specs.Stretches.{written, written_in}
 use Rattle.emit_image.specs.declared.section.Drawing.{Drawing}
-use Rattle.emit_image.specs.declared.stretch.Stretch.{Stretch}
+use Rattle.emit_image.specs.declared.write_span.WriteSpan.{WriteSpan}
 use Rattle.emit_image.proofs.Walking.{here-cons, later-cons, stand-end}
 
 pub planned : (image : ℕ → ℕ) (d : Drawing) (patches : List Patch) (canvas : List ℕ) (p : ImagePlan)
-    → IsPlanOf d patches p → IsDrawnFor image d patches canvas → IsPlanFor image p.stretches p.end p.patches canvas
+    → IsPlanOf d patches p → IsDrawnFor image d patches canvas → IsPlanFor image p.write_spans p.end p.patches canvas
 planned image d patches canvas p h w =
-    let same : (o : ℕ) → o < p.end → spot_at p.stretches o ≡ drawing_spot d o = λ o l.
+    let same : (o : ℕ) → o < p.end → spot_at p.write_spans o ≡ drawing_spot d o = λ o l.
     h.drawn.own o (omega arith) (omega (arith, h.end, l)) in
     record {
       drawn = λ o l e. (let s = same o l in ap (λ (x : Spot). x.byte) s
@@ -53,7 +53,7 @@ run f from (suc n) b h =
     ∙ (let m = one_more b n in let t : count_unstayed f from + unless b n + unless b 1
     ≡ count_unstayed f from + unless b (suc n) = omega (arith, m) in t)
 
-counted : (f : ℕ → Spot) (from end : ℕ) (xs : List Stretch) → Stand from end xs
+counted : (f : ℕ → Spot) (from end : ℕ) (xs : List WriteSpan) → Stand from end xs
     → ((o : ℕ) → from ≤ o → o < end → f o ≡ spot_of o (stretch_at from xs o)) → count_unstayed f end
     ≡ count_unstayed f from + written from xs
 counted f from end [] h s = ap (count_unstayed f) (sym h)
@@ -71,10 +71,10 @@ counted f from end (x ∷ xs) h s =
     omega (arith, there, rest)
 
 -- the bytes that a plan writes are those that do not stay
-pub written_all : (d : Drawing) (patches : List Patch) (p : ImagePlan) → IsPlanOf d patches p → written 0 p.stretches
+pub written_all : (d : Drawing) (patches : List Patch) (p : ImagePlan) → IsPlanOf d patches p → written 0 p.write_spans
     ≡ count_unstayed (drawing_spot d) (drawing_end d)
 written_all d patches p h =
-    let e = counted (drawing_spot d) 0 (drawing_end d) p.stretches h.drawn.stand (λ o a l. sym (h.drawn.own o a l)) in
+    let e = counted (drawing_spot d) 0 (drawing_end d) p.write_spans h.drawn.stand (λ o a l. sym (h.drawn.own o a l)) in
     omega (arith, e)
 
 -- all bytes, where none stays

@@ -12,8 +12,8 @@ use Rattle.ldmodel.specs.Image.{file_headers}
 use Rattle.ldmodel.specs.Project.{Project}
 use Rattle.ldmodel.specs.SectionHeaders.{header_part}
 use Rattle.ldmodel.specs.SymbolValues.{entry_point, number_or_0}
-use Rattle.ldmodel.specs.Layout.{Layout, PlacedSection}
-use Rattle.ldmodel.specs.Lent.{IsSegment, AreSegments}
+use Rattle.ldmodel.specs.Layout.{Layout, PlacedOutput}
+use Rattle.ldmodel.specs.PlacementView.{IsSegment, AreSegments}
 use Rattle.ldmodel.specs.Segments.{Segment, file_end, loaded_end, segments, segment_start}
 use Rattle.ldmodel.specs.Sorting.{insert_by, sort_by}
 use Rattle.ldmodel.specs.declared.segment.Segment as code
@@ -33,11 +33,11 @@ less a b = go (nat_lt a b)
         last true = refl
         last false = refl
 
-same_test : (sections : List PlacedSection) (g h : Segment) (x y : code.Segment) → IsSegment sections g x
+same_test : (sections : List PlacedOutput) (g h : Segment) (x y : code.Segment) → IsSegment sections g x
     → IsSegment sections h y → starts_before x y ≡ lower g h
 same_test sections g h x y a b = rw (a.start, b.start) (less (segment_start g) (segment_start h))
 
-module _ (sections : List PlacedSection) where
+module _ (sections : List PlacedOutput) where
   inserted : (g : Segment) (x : code.Segment) (gs : List Segment) (xs : List code.Segment) → IsSegment sections g x
       → AllZip (IsSegment sections) gs xs
       → AllZip (IsSegment sections) (insert_by lower g gs) (insert_by starts_before x xs)
@@ -93,7 +93,7 @@ headers_are p s entry table count xs segs e t n =
     (length s.sections + 4) (length s.sections + 3) ++ z)
     (program_headers_of s.sections (segments s.sections) xs segs))
 
-folded : (sections : List PlacedSection) (end : ℕ) (gs : List Segment) (xs : List code.Segment)
+folded : (sections : List PlacedOutput) (end : ℕ) (gs : List Segment) (xs : List code.Segment)
     → AllZip (IsSegment sections) gs xs → fold file_end_of end xs ≡ fold file_end end gs
 folded sections end [] [] h = refl
 folded sections end [] (x ∷ xs) h = absurd h
@@ -103,7 +103,7 @@ folded sections end (g ∷ gs) (x ∷ xs) h =
     ap (λ (n : ℕ). fold file_end_of n xs) own ∙ folded sections (file_end end g) gs xs h.1
 
 -- where the loaded part of the file ends
-pub loaded_end_is : (sections : List PlacedSection) (gs : List Segment) (xs : List code.Segment) (k end : ℕ)
+pub loaded_end_is : (sections : List PlacedOutput) (gs : List Segment) (xs : List code.Segment) (k end : ℕ)
     → AllZip (IsSegment sections) gs xs → length xs ≤ k → end ≡ fold file_end_of (64 + 56 * length xs) (take k xs)
     → end ≡ loaded_end gs
 loaded_end_is sections gs xs k end h l e =

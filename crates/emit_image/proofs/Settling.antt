@@ -15,7 +15,7 @@ use Rattle.ldmodel_laws.specs.Traces.{data_added, BodyEffects, no_effect, effect
 use Rattle.ldmodel_laws.specs.Traces.{nothing_added, region_added, section_added}
 use Rattle.ldmodel.specs.Placement.{Body}
 use Rattle.ldmodel.specs.Each.{Each}
-use Rattle.ldmodel.specs.Layout.{Layout, PlacedData, PlacedPiece, PlacedSection, nothing_placed}
+use Rattle.ldmodel.specs.Layout.{Layout, PlacedData, PlacedPiece, PlacedOutput, nothing_placed}
 use Rattle.ldmodel.specs.Placement.{opened, placed_section}
 use Rattle.ldmodel.specs.Segments.{end_of, nonempty}
 use Rattle.emit_image.specs.InMemory.{DataInOrder, IsInMemory, PiecesInOrder}
@@ -73,7 +73,7 @@ effects_go start b c no_effect h = h
 effects_go start b c (effect_then {c = d} one more) h = effects_go start d c more (effect_goes start b d one h)
 
 -- an output section that is not empty ends at an address
-abbrev EndsBelow : PlacedSection → Type 0
+abbrev EndsBelow : PlacedOutput → Type 0
 EndsBelow q = not (q.size == 0) ≡ true → end_of q < 2 ^ 64
 
 abbrev EndBelow : Layout → Type 0
@@ -104,7 +104,7 @@ traced_below s u rs (o ∷ os) (section_added {t = t} h more) all =
     traced_below t u rs os more (section_below s o.section t h all)
 
 -- the output sections that are not empty
-one_in_memory : (q : PlacedSection) → IsSpread q → end_of q < 2 ^ 64 → IsInMemory q
+one_in_memory : (q : PlacedOutput) → IsSpread q → end_of q < 2 ^ 64 → IsInMemory q
 one_in_memory q h l = record {
   end = l;
   pieces = pieces_in_order q.start (end_of q) q.pieces (omega arith) h.pieces_inside h.pieces_ascend;
@@ -114,7 +114,7 @@ one_in_memory q h l = record {
       (each_at (λ (y : PlacedPiece). Each (AreApart y) q.data_commands) q.pieces h.apart i x a) j d b;
 }
 
-all_in_memory : (qs : List PlacedSection) → Each IsSpread qs → Each EndsBelow qs → All IsInMemory (nonempty qs)
+all_in_memory : (qs : List PlacedOutput) → Each IsSpread qs → Each EndsBelow qs → All IsInMemory (nonempty qs)
 all_in_memory [] h k = All-nil IsInMemory
 all_in_memory (q ∷ qs) h k = go (not (q.size == 0)) refl (all_in_memory qs h.1 k.1)
   where

@@ -11,7 +11,7 @@ use Rattle.std.specs.List.Sorted.{IsPermutation}
 use Rattle.elfobj.specs.RelocationKinds.{width}
 use Rattle.emit_fields.specs.declared.patch.Patch.{Patch}
 use Rattle.ldmodel.specs.Each.{Each}
-use Rattle.ldmodel.specs.Layout.{Layout, PlacedPiece, PlacedSection}
+use Rattle.ldmodel.specs.Layout.{Layout, PlacedPiece, PlacedOutput}
 use Rattle.ldmodel.specs.SectionHeaders.{image_length}
 use Rattle.ldmodel.specs.Segments.{SectionInFile, Segment, file_offset, in_file, nonempty, segments}
 use Rattle.ldmodel.specs.Stayed.{FileRange, GoodLink, LinkedPiece, has_stayed, linked_piece, linked_pieces}
@@ -299,25 +299,25 @@ module _ (old new : GoodLink) where
   counted x = cond (has_stayed old x) x.range.length 0
 
   -- the bytes of those of an output section that stayed
-  abbrev pub stayed_in : PlacedSection → ℕ
+  abbrev pub stayed_in : PlacedOutput → ℕ
   stayed_in q = sum_by (λ u. counted (linked_in new q u)) q.pieces
 
   by_section : bytes_stayed old new ≡ sum_by stayed_in s.sections
   unfolding stayed linked_pieces
   by_section =
       sum_filter (λ (x : LinkedPiece). x.range.length) (has_stayed old)
-      (flat_map (λ (q : PlacedSection). map (linked_piece new.project gs q) q.pieces) s.sections)
-      ∙ sum_joined counted (λ (q : PlacedSection). map (linked_piece new.project gs q) q.pieces) s.sections
+      (flat_map (λ (q : PlacedOutput). map (linked_piece new.project gs q) q.pieces) s.sections)
+      ∙ sum_joined counted (λ (q : PlacedOutput). map (linked_piece new.project gs q) q.pieces) s.sections
       ∙ mapped s.sections
     where
-      mapped : (qs : List PlacedSection)
-          → sum_by (λ (q : PlacedSection). sum_by counted (map (linked_piece new.project gs q) q.pieces)) qs
+      mapped : (qs : List PlacedOutput)
+          → sum_by (λ (q : PlacedOutput). sum_by counted (map (linked_piece new.project gs q) q.pieces)) qs
           ≡ sum_by stayed_in qs
       mapped [] = refl
       mapped (q ∷ qs) =
-          sum_by-cons (λ (q : PlacedSection). sum_by counted (map (linked_piece new.project gs q) q.pieces)) q qs
+          sum_by-cons (λ (q : PlacedOutput). sum_by counted (map (linked_piece new.project gs q) q.pieces)) q qs
           ∙ ap (λ n.
-          n + sum_by (λ (q : PlacedSection). sum_by counted (map (linked_piece new.project gs q) q.pieces)) qs)
+          n + sum_by (λ (q : PlacedOutput). sum_by counted (map (linked_piece new.project gs q) q.pieces)) qs)
           (sum_map counted (linked_piece new.project gs q) q.pieces)
           ∙ ap (λ n. stayed_in q + n) (mapped qs) ∙ sym (sum_by-cons stayed_in q qs)
 
@@ -326,7 +326,7 @@ module _ (old new : GoodLink) where
   none_counted false = refl
 
   -- an input section has as many bytes in the file as in memory, or none
-  range_short : (q : PlacedSection) (u : PlacedPiece) → (range_in gs q u).length ≤ u.piece.size
+  range_short : (q : PlacedOutput) (u : PlacedPiece) → (range_in gs q u).length ≤ u.piece.size
   range_short q u = go (q.has_file_bytes && not (u.piece.size == 0))
     where
       own : FileRange
@@ -342,7 +342,7 @@ module _ (old new : GoodLink) where
   no_length : (x : LinkedPiece) → x.range.length ≡ 0 → counted x ≡ 0
   no_length x e = ap (λ n. cond (has_stayed old x) n 0) e ∙ none_counted (has_stayed old x)
 
-  no_bytes : (q : PlacedSection) → q.has_file_bytes ≡ false → stayed_in q ≡ 0
+  no_bytes : (q : PlacedOutput) → q.has_file_bytes ≡ false → stayed_in q ≡ 0
   no_bytes q e =
       sum_zero (λ u. counted (linked_in new q u)) q.pieces
       (each_is (λ u. counted (linked_in new q u) ≡ 0) (λ u. no_length (linked_in new q u) (empty u)) q.pieces)
@@ -353,7 +353,7 @@ module _ (old new : GoodLink) where
           let none : FileRange = record { offset = 0; length = 0 } in
           ap (λ b. (cond (b && not (u.piece.size == 0)) own none).length) e
 
-  no_size : (q : PlacedSection) → IsSpread q → not (q.size == 0) ≡ false → stayed_in q ≡ 0
+  no_size : (q : PlacedOutput) → IsSpread q → not (q.size == 0) ≡ false → stayed_in q ≡ 0
   no_size q h e =
       let empty : q.size ≡ 0 = grind (arith, nat_tests) in
       sum_zero (λ u. counted (linked_in new q u)) q.pieces
@@ -362,14 +362,14 @@ module _ (old new : GoodLink) where
       let short = range_short q u in
       no_length (linked_in new q u) (omega (arith, short, k.0, k.1, empty))) q.pieces h.pieces_inside)
 
-  module _ (all_in_file : (sections : List PlacedSection)
+  module _ (all_in_file : (sections : List PlacedOutput)
       → map (λ (x : SectionInFile). x.section) (in_file (segments sections)) ≡ nonempty sections)
       (good : IsGood new) where
     pub by_loaded : bytes_stayed old new ≡ sum_by (λ (x : SectionInFile). stayed_in x.section) (loaded s)
     by_loaded =
         by_section
-        ∙ sum_passing stayed_in (λ (q : PlacedSection). not (q.size == 0)) s.sections
-        (each_implies IsSpread (λ (q : PlacedSection). not (q.size == 0) ≡ false → stayed_in q ≡ 0) no_size s.sections
+        ∙ sum_passing stayed_in (λ (q : PlacedOutput). not (q.size == 0)) s.sections
+        (each_implies IsSpread (λ (q : PlacedOutput). not (q.size == 0) ≡ false → stayed_in q ≡ 0) no_size s.sections
         good.spread)
         ∙ ap (sum_by stayed_in) (sym (all_in_file s.sections))
         ∙ sum_map stayed_in (λ (x : SectionInFile). x.section) (in_file gs)
@@ -378,7 +378,7 @@ module _ (old new : GoodLink) where
         (each_is (λ (x : SectionInFile). x.section.has_file_bytes ≡ false → stayed_in x.section ≡ 0)
         (λ x e. no_bytes x.section e) (in_file gs))
 
-    piece_kept : (q : PlacedSection) (u : PlacedPiece) (v : ImagePiece)
+    piece_kept : (q : PlacedOutput) (u : PlacedPiece) (v : ImagePiece)
         → IsImagePiece new.project s u v × IsKept old new q u v → counted (linked_in new q u) ≤ kept_size v
     piece_kept q u v h = go (has_stayed old (linked_in new q u)) refl
       where

@@ -7,7 +7,7 @@ use Rattle.std.proofs.lemmas.Bool.Decides.{nat_tests}
 use Rattle.std.proofs.lemmas.List.Sums.{sum_by-cons}
 use Rattle.ldmodel_laws.specs.Untouched.{IsGood}
 use Rattle.ldmodel.specs.Image.{covers}
-use Rattle.ldmodel.specs.Layout.{PlacedPiece, PlacedSection}
+use Rattle.ldmodel.specs.Layout.{PlacedPiece, PlacedOutput}
 use Rattle.ldmodel.specs.SectionHeaders.{image_length}
 use Rattle.ldmodel.specs.Segments.{SectionInFile, file_offset, in_file, nonempty, segments}
 use Rattle.ldmodel.specs.Stayed.{FileRange, GoodLink, range_in}
@@ -253,11 +253,11 @@ module _ (d : Drawing) where
 
 -- ---- of two links
 
-module _ (old new : GoodLink) (all_in_file : (sections : List PlacedSection)
+module _ (old new : GoodLink) (all_in_file : (sections : List PlacedOutput)
     → map (λ (x : SectionInFile). x.section) (in_file (segments sections)) ≡ nonempty sections)
     (good : IsGood new) where
   -- an input section that is kept stayed, with all its bytes
-  piece_stayed : (q : PlacedSection) (u : PlacedPiece) (v : ImagePiece) → q.has_file_bytes ≡ true
+  piece_stayed : (q : PlacedOutput) (u : PlacedPiece) (v : ImagePiece) → q.has_file_bytes ≡ true
       → IsImagePiece new.project new.layout u v × HasStayed old new q u v
       → kept_size v ≤ counted old new (linked_in new q u)
   piece_stayed q u v bytes h = go v.stays refl

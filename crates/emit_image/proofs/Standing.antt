@@ -11,7 +11,7 @@ use Rattle.std.proofs.lemmas.Slice.Zip.{AllZip-long}
 use Rattle.ldmodel_laws.specs.FileLayout.{IsFileLayout}
 use Rattle.ldmodel.specs.Headers.{ascending, elf_header, program_header}
 use Rattle.ldmodel.specs.Image.{file_headers}
-use Rattle.ldmodel.specs.Layout.{Layout, PlacedPiece, PlacedSection}
+use Rattle.ldmodel.specs.Layout.{Layout, PlacedPiece, PlacedOutput}
 use Rattle.ldmodel.specs.Layout as layout
 use Rattle.ldmodel.specs.Project.{Project}
 use Rattle.ldmodel.specs.SectionHeaders.{FilePart, end_of_part, header_count, header_names_number, header_part}
@@ -227,10 +227,10 @@ module _ (p : Project) (s : Layout) where
   unfolding image_length
   tail-last = refl
 
-sections-of : (g : Segment) (qs : List PlacedSection) → map (λ (x : SectionInFile). x.section) (map (in_segment g) qs)
+sections-of : (g : Segment) (qs : List PlacedOutput) → map (λ (x : SectionInFile). x.section) (map (in_segment g) qs)
     ≡ qs
 sections-of g [] = refl
-sections-of g (q ∷ qs) = ap (λ (rs : List PlacedSection). q ∷ rs) (sections-of g qs)
+sections-of g (q ∷ qs) = ap (λ (rs : List PlacedOutput). q ∷ rs) (sections-of g qs)
 
 all-sections : (gs : List Segment) → map (λ (x : SectionInFile). x.section) (in_file gs)
     ≡ flat_map group_sections (map (λ (g : Segment). g.group) gs)
@@ -239,9 +239,9 @@ all-sections (g ∷ gs) =
     ap (map (λ (x : SectionInFile). x.section))
     (flat_map-cons (λ (g : Segment). map (in_segment g) (group_sections g.group)) g gs)
     ∙ map-append (λ (x : SectionInFile). x.section) (map (in_segment g) (group_sections g.group)) (in_file gs)
-    ∙ ap (λ (qs : List PlacedSection). qs ++ map (λ (x : SectionInFile). x.section) (in_file gs))
+    ∙ ap (λ (qs : List PlacedOutput). qs ++ map (λ (x : SectionInFile). x.section) (in_file gs))
     (sections-of g (group_sections g.group))
-    ∙ ap (λ (qs : List PlacedSection). group_sections g.group ++ qs) (all-sections gs)
+    ∙ ap (λ (qs : List PlacedOutput). group_sections g.group ++ qs) (all-sections gs)
     ∙ sym (flat_map-cons group_sections g.group (map (λ (g : Segment). g.group) gs))
 
 all-unmapped : {X Y : Type 0} (P : Y → Type 0) (f : X → Y) (xs : List X) → All P (map f xs) → All (λ x. P (f x)) xs
@@ -251,9 +251,9 @@ all-unmapped P f xs h = λ k d l.
 full-size : (n : ℕ) → not (n == 0) ≡ true → 0 < n
 full-size n h = grind (arith, nat_tests)
 
-all-full-sections : (qs : List PlacedSection) → All (λ (q : PlacedSection). 0 < q.size) (nonempty qs)
+all-full-sections : (qs : List PlacedOutput) → All (λ (q : PlacedOutput). 0 < q.size) (nonempty qs)
 all-full-sections qs =
-    all-full (λ (q : PlacedSection). not (q.size == 0)) (λ (q : PlacedSection). 0 < q.size) qs (λ i d l t.
+    all-full (λ (q : PlacedOutput). not (q.size == 0)) (λ (q : PlacedOutput). 0 < q.size) qs (λ i d l t.
     full-size ((get_or qs i d).size) t)
 
 -- a drawing of a link, the parts of which stand in order in memory, and are filled, stands in order in the file
@@ -262,8 +262,8 @@ pub stands : (p : Project) (s : Layout) (d : Drawing) → IsFileLayout s.section
 stands p s d layout-is h m f e =
     let gs : List Segment = segments s.sections in
     let parts = layout-is.grouping.parts in
-    let full : All (λ (q : PlacedSection). 0 < q.size) (flat_map group_sections (map (λ (g : Segment). g.group) gs)) =
-    subst (All (λ (q : PlacedSection). 0 < q.size)) (sym parts) (all-full-sections s.sections) in
+    let full : All (λ (q : PlacedOutput). 0 < q.size) (flat_map group_sections (map (λ (g : Segment). g.group) gs)) =
+    subst (All (λ (q : PlacedOutput). 0 < q.size)) (sym parts) (all-full-sections s.sections) in
     let order = files (headers_end (length gs)) gs layout-is.grouping.together layout-is.offsets full in
     let placed : All (λ (x : SectionInFile). IsInMemory x.section) (in_file gs) =
     all-unmapped IsInMemory (λ (x : SectionInFile). x.section) (in_file gs)

@@ -6,7 +6,7 @@ use Rattle.std.specs.Int.{next_multiple_of}
 use Rattle.std.specs.List.{AllZip, enumerate_from}
 use Rattle.std.proofs.lemmas.List.Concat.{flat_map-cons}
 use Rattle.std.proofs.lemmas.Slice.Zip.{AllZip-long}
-use Rattle.ldmodel.specs.Layout.{Layout, PlacedSection}
+use Rattle.ldmodel.specs.Layout.{Layout, PlacedOutput}
 use Rattle.ldmodel.specs.Project.{Project}
 use Rattle.ldmodel.specs.SectionHeaders.{FilePart, SectionHeader, Tables, end_of_part, header_bytes, header_names}
 use Rattle.ldmodel.specs.SectionHeaders.{header_name_table, header_part, output_header, part_at, section_headers}
@@ -104,19 +104,19 @@ module _ (p : Project) (s : Layout) where
       ∙ ap (λ (bs : List ℕ). symbol_bytes (symbol_entry p s (n, z)) ++ bs) (entries_same (n + 1) zs xs h.1)
       ∙ sym (flat_map-cons (λ x. symbol_bytes (symbol_entry p s x)) (n, z) (enumerate_from (n + 1) zs))
 
-  own_same : (qs : List PlacedSection) (ys : List TableSection) → AllZip (IsTableSection s) qs ys
-      → map (λ (y : TableSection). y.name.now) ys ≡ map (λ (q : PlacedSection). q.name) qs
+  own_same : (qs : List PlacedOutput) (ys : List TableSection) → AllZip (IsTableSection s) qs ys
+      → map (λ (y : TableSection). y.name.now) ys ≡ map (λ (q : PlacedOutput). q.name) qs
   own_same [] [] h = refl
   own_same [] (y ∷ ys) h = absurd h
   own_same (q ∷ qs) [] h = absurd h
   own_same (q ∷ qs) (y ∷ ys) h = ap (λ (n : List ℕ). n ∷ map (λ (y : TableSection). y.name.now) ys) h.0.name
       ∙ ap (λ (ns : List (List ℕ)). q.name ∷ ns) (own_same qs ys h.1)
 
-  header_same : (n : ℕ) (q : PlacedSection) (y : TableSection) → IsTableSection s q y
+  header_same : (n : ℕ) (q : PlacedOutput) (y : TableSection) → IsTableSection s q y
       → section_header_of (header_names s) (n, y) ≡ output_header s (segments s.sections) (n, q)
   header_same n q y h = rw (h.placed, h.offset) refl
 
-  headers_same : (n : ℕ) (qs : List PlacedSection) (ys : List TableSection) → AllZip (IsTableSection s) qs ys
+  headers_same : (n : ℕ) (qs : List PlacedOutput) (ys : List TableSection) → AllZip (IsTableSection s) qs ys
       → flat_map (λ x. header_bytes (section_header_of (header_names s) x)) (enumerate_from n ys)
       ≡ flat_map (λ x. header_bytes (output_header s (segments s.sections) x)) (enumerate_from n qs)
   headers_same n [] [] h = refl

@@ -10,31 +10,31 @@ use Rattle.elfobj.specs.Raised.{raised}
 use Rattle.elfobj.specs.declared.meter.Count.TheVariants.{Bytes}
 use Rattle.emit_image.specs.Stretches.{Fills, Stand, byte_in, content_byte, drawn_byte, stays_at, stays_in, stretch_at}
 use Rattle.emit_image.specs.Stretches.{written, written_in}
-use Rattle.emit_image.specs.declared.stretch.Stretch.{Stretch}
+use Rattle.emit_image.specs.declared.write_span.WriteSpan.{WriteSpan}
 
-pub stand-end : (from end : ℕ) (xs : List Stretch) → Stand from end xs → from ≤ end
+pub stand-end : (from end : ℕ) (xs : List WriteSpan) → Stand from end xs → from ≤ end
 stand-end from end [] h = omega (arith, h)
 stand-end from end (x ∷ xs) h = let later = stand-end x.end end xs h.2 in omega (arith, h.0)
 
-pub here-cons : (from : ℕ) (x : Stretch) (xs : List Stretch) (o : ℕ) → o < x.end → stretch_at from (x ∷ xs) o
-    ≡ Some (record { from = from; stretch = x })
+pub here-cons : (from : ℕ) (x : WriteSpan) (xs : List WriteSpan) (o : ℕ) → o < x.end → stretch_at from (x ∷ xs) o
+    ≡ Some (record { from = from; write_span = x })
 here-cons from x xs o l = grind (arith, nat_tests)
 
-pub later-cons : (from : ℕ) (x : Stretch) (xs : List Stretch) (o : ℕ) → x.end ≤ o → stretch_at from (x ∷ xs) o
+pub later-cons : (from : ℕ) (x : WriteSpan) (xs : List WriteSpan) (o : ℕ) → x.end ≤ o → stretch_at from (x ∷ xs) o
     ≡ stretch_at x.end xs o
 later-cons from x xs o l = grind (arith, nat_tests)
 
--- what the next stretch says
-pub record Turn (done end k : ℕ) (xs : List Stretch) (x : Stretch) : Type 0 where
+-- what the next write span says
+pub record Turn (done end k : ℕ) (xs : List WriteSpan) (x : WriteSpan) : Type 0 where
   pub above : done ≤ x.end
   pub fills : Fills (x.end - done) x.content
   pub within : x.end ≤ end
   pub order : Stand x.end end (drop (k + 1) xs)
-  pub here : (o : ℕ) → o < x.end → stretch_at done (drop k xs) o ≡ Some (record { from = done; stretch = x })
+  pub here : (o : ℕ) → o < x.end → stretch_at done (drop k xs) o ≡ Some (record { from = done; write_span = x })
   pub later : (o : ℕ) → x.end ≤ o → stretch_at done (drop k xs) o ≡ stretch_at x.end (drop (k + 1) xs) o
   pub count : written done (drop k xs) ≡ written_in done x + written x.end (drop (k + 1) xs)
 
-pub turn : (done end k : ℕ) (xs : List Stretch) (d : Stretch) → k < length xs → Stand done end (drop k xs)
+pub turn : (done end k : ℕ) (xs : List WriteSpan) (d : WriteSpan) → k < length xs → Stand done end (drop k xs)
     → Turn done end k xs (get_or xs k d)
 turn done end k xs d l h =
     let e : drop k xs ≡ get_or xs k d ∷ drop (k + 1) xs = drop_more xs k d l in
@@ -49,14 +49,14 @@ turn done end k xs d l h =
       count = rw e refl;
     }
 
--- the same of the next stretch as the code has it
-pub turn_of : (done end k : ℕ) (xs : List Stretch) (x : Stretch) → k < length xs → Stand done end (drop k xs) → x
+-- the same of the next write span as the code has it
+pub turn_of : (done end k : ℕ) (xs : List WriteSpan) (x : WriteSpan) → k < length xs → Stand done end (drop k xs) → x
     ≡ get_or xs k x → Turn done end k xs x
-turn_of done end k xs x l h e = let P : Stretch → Type 0 = λ y. Turn done end k xs y in
+turn_of done end k xs x l h e = let P : WriteSpan → Type 0 = λ y. Turn done end k xs y in
     subst P (sym e) (turn done end k xs x l h)
 
--- the bytes of the canvas after the first stretches
-pub record Walked (xs : List Stretch) (k done end : ℕ) (old new : List ℕ) (m n : Counts) : Type 0 where
+-- the bytes of the canvas after the first write spans
+pub record Walked (xs : List WriteSpan) (k done end : ℕ) (old new : List ℕ) (m n : Counts) : Type 0 where
   pub order : Stand done end (drop k xs)
   pub rest : (o : ℕ) → done ≤ o → stretch_at 0 xs o ≡ stretch_at done (drop k xs) o
   pub right : (o : ℕ) → o < done → stays_at xs o ≡ false → get_or new o 0 ≡ drawn_byte xs o
@@ -72,8 +72,8 @@ pub record Grew (least most : ℕ) (old new : List ℕ) : Type 0 where
   pub short : length new ≤ most
   pub same : (o : ℕ) → get_or new o 0 ≡ get_or old o 0
 
--- what the writing of a stretch leaves
-pub record Wrote (from : ℕ) (x : Stretch) (old new : List ℕ) (m n : Counts) : Type 0 where
+-- what the writing of a write span leaves
+pub record Wrote (from : ℕ) (x : WriteSpan) (old new : List ℕ) (m n : Counts) : Type 0 where
   pub own : x.stays ≡ false → (i : ℕ) → i < x.end - from → get_or new (from + i) 0 ≡ content_byte x.content i
   pub kept : x.stays ≡ true → new ≡ old
   pub before : (o : ℕ) → o < from → get_or new o 0 ≡ get_or old o 0
@@ -81,10 +81,10 @@ pub record Wrote (from : ℕ) (x : Stretch) (old new : List ℕ) (m n : Counts) 
   pub len : length new ≡ length old
   pub counted : (i : ℕ) → raised n Bytes i ≡ raised m Bytes (written_in from x + i)
 
-module _ (xs : List Stretch) (k done end : ℕ) (x : Stretch) (old now grown new : List ℕ) (m n q : Counts)
+module _ (xs : List WriteSpan) (k done end : ℕ) (x : WriteSpan) (old now grown new : List ℕ) (m n q : Counts)
     (w : Walked xs k done end old now m n) (t : Turn done end k xs x) (g : Grew x.end end now grown)
     (r : Wrote done x grown new n q) where
-  at : (o : ℕ) → done ≤ o → o < x.end → stretch_at 0 xs o ≡ Some (record { from = done; stretch = x })
+  at : (o : ℕ) → done ≤ o → o < x.end → stretch_at 0 xs o ≡ Some (record { from = done; write_span = x })
   at o a b = w.rest o a ∙ t.here o b
 
   as_own : (o : ℕ) → done ≤ o → o < x.end → stays_at xs o ≡ x.stays
@@ -123,19 +123,19 @@ module _ (xs : List Stretch) (k done end : ℕ) (x : Stretch) (old now grown new
         );
   }
 
--- past the last stretch
-pub done_all : (xs : List Stretch) (k done end : ℕ) (old new : List ℕ) (m n : Counts) → length xs ≤ k
+-- past the last write span
+pub done_all : (xs : List WriteSpan) (k done end : ℕ) (old new : List ℕ) (m n : Counts) → length xs ≤ k
     → Walked xs k done end old new m n → done ≡ end
 done_all xs k done end old new m n l w = subst (Stand done end) (drop_all k xs l) w.order
 
-pub counted_all : (xs : List Stretch) (k done end : ℕ) (old new : List ℕ) (m n : Counts) → length xs ≤ k
+pub counted_all : (xs : List WriteSpan) (k done end : ℕ) (old new : List ℕ) (m n : Counts) → length xs ≤ k
     → Walked xs k done end old new m n
     → (i : ℕ) → raised n Bytes i ≡ raised m Bytes (written 0 xs + i)
 counted_all xs k done end old new m n l w i =
     ap (λ j. raised n Bytes j) (let e : i ≡ written done (drop k xs) + i =
     sym (ap (λ ys. written done ys + i) (drop_all k xs l) ∙ zero-add i) in e) ∙ w.counted i
 
-pub walked_none : (xs : List Stretch) (end : ℕ) (old : List ℕ) (m : Counts) → length old ≤ end → Stand 0 end xs
+pub walked_none : (xs : List WriteSpan) (end : ℕ) (old : List ℕ) (m : Counts) → length old ≤ end → Stand 0 end xs
     → Walked xs 0 0 end old old m m
 walked_none xs end old m l h = record {
   order = h;

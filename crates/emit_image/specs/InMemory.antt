@@ -2,7 +2,7 @@
 -- fields have their sizes.
 use Rattle.std.specs.Prelude.{ℕ, ◌+◌, ◌^◌, ◌<◌, ◌≤◌, ◌⊎◌, List, [], ◌∷◌, length, slice_index_or}
 use Rattle.std.specs.List.{All}
-use Rattle.ldmodel.specs.Layout.{PlacedData, PlacedPiece, PlacedSection}
+use Rattle.ldmodel.specs.Layout.{PlacedData, PlacedPiece, PlacedOutput}
 use Rattle.ldmodel.specs.Segments.{end_of}
 use Rattle.emit_image.specs.Drawing.{IsFilled}
 use Rattle.emit_image.specs.declared.section.Drawing.{Drawing}
@@ -32,7 +32,7 @@ DoNotMeet xs ds =
     ⊎ (bytes_end (slice_index_or ds j d) ≤ (slice_index_or xs i x).start)
 
 -- an output section whose parts stand in order in it
-pub record IsInMemory (q : PlacedSection) : Type 0 where
+pub record IsInMemory (q : PlacedOutput) : Type 0 where
   pub end : end_of q < 2 ^ 64
   pub pieces : PiecesInOrder q.start (end_of q) q.pieces
   pub data_commands : DataInOrder q.start (end_of q) q.data_commands

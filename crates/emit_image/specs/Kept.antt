@@ -5,7 +5,7 @@ use Rattle.std.specs.List.{All, AllZip}
 use Rattle.elfobj.specs.Profile.{AreApart}
 use Rattle.emit_fields.specs.Patches.{patch_end}
 use Rattle.emit_fields.specs.declared.patch.Patch.{Patch}
-use Rattle.ldmodel.specs.Layout.{Layout, PlacedPiece, PlacedSection}
+use Rattle.ldmodel.specs.Layout.{Layout, PlacedPiece, PlacedOutput}
 use Rattle.ldmodel.specs.Relocations.{Site, site_field}
 use Rattle.ldmodel.specs.Segments.{SectionInFile, segments}
 use Rattle.ldmodel.specs.Stayed.{GoodLink, LinkedPiece, has_stayed, linked_piece, retargeted, sites_in, stayed}
@@ -15,20 +15,20 @@ use Rattle.emit_image.specs.declared.section.ImagePiece.{ImagePiece}
 use Rattle.emit_image.specs.declared.section.ImageSection.{ImageSection}
 
 -- the input sections of output sections with file bytes, and those of a drawing, are related one by one
-abbrev pub EachPiece : (PlacedSection → PlacedPiece → ImagePiece → Type 0) → Layout → Drawing → Type 0
+abbrev pub EachPiece : (PlacedOutput → PlacedPiece → ImagePiece → Type 0) → Layout → Drawing → Type 0
 EachPiece R s d =
     AllZip (λ (x : SectionInFile) (y : ImageSection). AllZip (R x.section) x.section.pieces y.pieces.now) (loaded s)
     d.sections.now
 
-abbrev pub linked_in : GoodLink → PlacedSection → PlacedPiece → LinkedPiece
+abbrev pub linked_in : GoodLink → PlacedOutput → PlacedPiece → LinkedPiece
 linked_in l q x = linked_piece l.project (segments l.layout.sections) q x
 
 -- an input section that is kept has stayed
-abbrev pub HasStayed : GoodLink → GoodLink → PlacedSection → PlacedPiece → ImagePiece → Type 0
+abbrev pub HasStayed : GoodLink → GoodLink → PlacedOutput → PlacedPiece → ImagePiece → Type 0
 HasStayed old new q x y = y.stays ≡ true → has_stayed old (linked_in new q x) ≡ true
 
 -- one that has stayed is kept
-abbrev pub IsKept : GoodLink → GoodLink → PlacedSection → PlacedPiece → ImagePiece → Type 0
+abbrev pub IsKept : GoodLink → GoodLink → PlacedOutput → PlacedPiece → ImagePiece → Type 0
 IsKept old new q x y = has_stayed old (linked_in new q x) ≡ true → y.stays ≡ true
 
 -- the field of a site of an input section, in its place in the file

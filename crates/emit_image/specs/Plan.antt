@@ -6,22 +6,22 @@ use Rattle.emit_image.specs.Drawing.{drawing_end, drawing_spot}
 use Rattle.emit_image.specs.Grown.{Grown}
 use Rattle.emit_image.specs.Stretches.{EndsBy, IsPatchOf, Spot, Stand, is_patched}
 use Rattle.emit_image.specs.declared.section.Drawing.{Drawing}
-use Rattle.emit_image.specs.declared.stretch.Stretch.{Stretch}
+use Rattle.emit_image.specs.declared.write_span.WriteSpan.{WriteSpan}
 
--- the stretches of an image, where it ends, and patches in the file
+-- the write spans of an image, where it ends, and patches in the file
 pub record ImagePlan : Type 0 where
-  pub stretches : List Stretch
+  pub write_spans : List WriteSpan
   pub end : ℕ
   pub patches : List Patch
 
--- stretches stand up to the end, and no patch ends past it
+-- write spans stand up to the end, and no patch ends past it
 pub record IsWhole (p : ImagePlan) : Type 0 where
-  pub stand : Stand 0 p.end p.stretches
+  pub stand : Stand 0 p.end p.write_spans
   pub within : All (EndsBy p.end) p.patches
 
 -- a plan to draw an image and to patch what stays
 pub record IsPlanOf (d : Drawing) (patches : List Patch) (p : ImagePlan) : Type 0 where
-  pub drawn : Grown [] p.stretches 0 (drawing_end d) (drawing_spot d)
+  pub drawn : Grown [] p.write_spans 0 (drawing_end d) (drawing_spot d)
   pub end : p.end ≡ drawing_end d
   pub patched : p.patches ≡ patches
 

@@ -6,8 +6,8 @@ use Rattle.std.specs.List.{AllZip, enumerate_from}
 use Rattle.elfobj.specs.file.declared.constants.TheConstants.{SHT_PROGBITS, SHT_NOBITS, SHF_WRITE, SHF_ALLOC}
 use Rattle.elfobj.specs.file.declared.constants.TheConstants.{SHF_EXECINSTR}
 use Rattle.elfobj.specs.file.declared.constants.TheConstants.{STB_GLOBAL, STB_WEAK}
-use Rattle.ldmodel.specs.Layout.{Layout, PlacedSection}
-use Rattle.ldmodel.specs.Lent.{placed_of}
+use Rattle.ldmodel.specs.Layout.{Layout, PlacedOutput}
+use Rattle.ldmodel.specs.PlacementView.{placed_of}
 use Rattle.ldmodel.specs.Project.{Project}
 use Rattle.ldmodel.specs.SectionHeaders.{SectionHeader, FilePart, Tables, end_of_part, header_bytes, part_at}
 use Rattle.ldmodel.specs.SectionHeaders.{table_headers}
@@ -32,7 +32,7 @@ pub record IsTableSymbol (p : Project) (s : Layout) (x : ValuedSymbol) (y : Tabl
   pub size : y.size ≡ st_size p x.decision
 
 -- an output section, with where it begins in the file
-pub record IsTableSection (s : Layout) (q : PlacedSection) (y : TableSection) : Type 0 where
+pub record IsTableSection (s : Layout) (q : PlacedOutput) (y : TableSection) : Type 0 where
   pub name : y.name.now ≡ q.name
   pub placed : y.placed ≡ placed_of q
   pub offset : y.offset ≡ file_offset (segments s.sections) q % 2 ^ 64

@@ -7,7 +7,7 @@ ghost use Rattle.emit_image.specs.Grown.{Grown};
 ghost use Rattle.emit_image.specs.Stretches.{Fills, Stand, content_byte};
 
 use crate::section::ImagePiece;
-use crate::stretch::{Content, Stretch};
+use crate::write_span::{Content, WriteSpan};
 use ldmodel::memory::NoMemory;
 use ldmodel::placed::PlacedData;
 use std::alloc::Global;
@@ -15,9 +15,9 @@ use std::alloc::Global;
 /// What lies between output sections, and where an input section has no bytes.
 pub(crate) const ZERO: [u8; 1] = [0];
 
-/// Adds a stretch from `from`, where those before it end, up to `end`.
+/// Adds a write span from `from`, where those before it end, up to `end`.
 pub(crate) fn add<'a>(
-    out: &mut Vec<Stretch<'a>>,
+    out: &mut Vec<WriteSpan<'a>>,
     from: usize,
     end: usize,
     stays: bool,
@@ -30,7 +30,7 @@ pub(crate) fn add<'a>(
         (Grown out.old.items out.new.items from end (λ o.
         record { byte = content_byte content.entry (o - from); stays = stays })) }
 {
-    out.push(Stretch {
+    out.push(WriteSpan {
         end,
         stays,
         content,
@@ -40,7 +40,7 @@ pub(crate) fn add<'a>(
 
 /// Adds a run of a pattern up to `end`; nothing where it is empty.
 pub(crate) fn add_fill<'a>(
-    out: &mut Vec<Stretch<'a>>,
+    out: &mut Vec<WriteSpan<'a>>,
     from: usize,
     end: usize,
     pattern: &'a [u8],
@@ -61,7 +61,7 @@ pub(crate) fn add_fill<'a>(
 
 /// Adds an input section that is not empty.
 pub(crate) fn add_piece<'a>(
-    out: &mut Vec<Stretch<'a>>,
+    out: &mut Vec<WriteSpan<'a>>,
     from: usize,
     end: usize,
     x: &ImagePiece<'a>,
@@ -81,7 +81,7 @@ pub(crate) fn add_piece<'a>(
 
 /// Adds a data command.
 pub(crate) fn add_data<'a>(
-    out: &mut Vec<Stretch<'a>>,
+    out: &mut Vec<WriteSpan<'a>>,
     from: usize,
     end: usize,
     d: &PlacedData,

@@ -1,4 +1,4 @@
-//! The stretches of an output section: its input sections and data commands, in the order of their addresses, and the
+//! The write spans of an output section: its input sections and data commands, in the order of their addresses, and the
 //! gaps between them.
 
 ghost use Rattle.std.specs.Prelude.{◌≡◌, ◌≤◌, ◌<◌, ◌+◌, IfOk, OnOk, length, slice_index_or};
@@ -11,7 +11,7 @@ ghost use Rattle.emit_image.specs.declared.section.ImagePiece.{ImagePiece};
 
 use crate::add::{add_data, add_fill, add_piece};
 use crate::section::ImageSection;
-use crate::stretch::Stretch;
+use crate::write_span::WriteSpan;
 use ldmodel::memory::NoMemory;
 
 /// How far the parts of an output section are added.
@@ -38,7 +38,7 @@ fn place(x: &ImageSection<'_>, at: u64) -> usize
 /// Adds the next data command, which starts below `limit`, and the gap before it. The input sections to come start at
 /// `limit` or later.
 fn add_next_data<'a>(
-    out: &mut Vec<Stretch<'a>>,
+    out: &mut Vec<WriteSpan<'a>>,
     x: &ImageSection<'a>,
     cursor: SectionCursor,
     limit: u64,
@@ -70,7 +70,7 @@ fn add_next_data<'a>(
 
 /// Adds the data commands to come that start below `limit`, where the input sections to come start at `limit` or later.
 fn add_data_before<'a>(
-    out: &mut Vec<Stretch<'a>>,
+    out: &mut Vec<WriteSpan<'a>>,
     x: &ImageSection<'a>,
     cursor: SectionCursor,
     limit: u64,
@@ -98,7 +98,7 @@ fn add_data_before<'a>(
 
 /// Adds the next input section, which is not empty, the data commands before it, and the gaps.
 fn add_full_piece<'a>(
-    out: &mut Vec<Stretch<'a>>,
+    out: &mut Vec<WriteSpan<'a>>,
     x: &ImageSection<'a>,
     cursor: SectionCursor,
 ) -> Result<SectionCursor, NoMemory>
@@ -128,7 +128,7 @@ fn add_full_piece<'a>(
 
 /// Adds the next input section; nothing where it is empty.
 fn add_next_piece<'a>(
-    out: &mut Vec<Stretch<'a>>,
+    out: &mut Vec<WriteSpan<'a>>,
     x: &ImageSection<'a>,
     cursor: SectionCursor,
 ) -> Result<SectionCursor, NoMemory>
@@ -154,7 +154,7 @@ fn add_next_piece<'a>(
 
 /// Adds an output section.
 pub(crate) fn add_section<'a>(
-    out: &mut Vec<Stretch<'a>>,
+    out: &mut Vec<WriteSpan<'a>>,
     x: &ImageSection<'a>,
 ) -> Result<(), NoMemory>
     requires orderly { IsOrderly x.now }

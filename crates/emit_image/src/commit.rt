@@ -6,8 +6,8 @@ ghost use Rattle.elfobj.specs.declared.meter.Count.TheVariants.{Bytes};
 ghost use Rattle.emit_image.specs.Stretches.{EndsBy, Fills, IsPatchOf, IsPlanFor, Stand, content_byte, drawn_byte};
 ghost use Rattle.emit_image.specs.Stretches.{is_patched, patch_bytes, stays_at, written, written_in};
 
-use crate::patched::{DESK, write_piece};
-use crate::stretch::{Content, Stretch};
+use crate::patched::{BUFFER_SIZE, write_piece};
+use crate::write_span::{Content, WriteSpan};
 use elfobj::Meter;
 use emit_fields::canvas::Canvas;
 use emit_fields::patch::Patch;
@@ -16,7 +16,7 @@ use emit_fields::run::write_run;
 /// Writes the bytes of a content from `from` up to `end`. An input section may be put together on `desk` before.
 fn write_content(
     canvas: &mut Canvas,
-    desk: &mut [u8; DESK],
+    desk: &mut [u8; BUFFER_SIZE],
     from: usize,
     end: usize,
     content: &Content<'_>,
@@ -42,12 +42,12 @@ fn write_content(
     }
 }
 
-/// Writes a stretch that begins at `from`, unless it stays. `desk` is as for `write_content`.
+/// Writes a write span that begins at `from`, unless it stays. `desk` is as for `write_content`.
 fn write_stretch(
     canvas: &mut Canvas,
-    desk: &mut [u8; DESK],
+    desk: &mut [u8; BUFFER_SIZE],
     from: usize,
-    x: &Stretch<'_>,
+    x: &WriteSpan<'_>,
     meter: &mut Meter,
 )
     requires order { from ≤ x.now.end }
@@ -90,22 +90,27 @@ fn grow_to(canvas: &mut Canvas, least: usize, most: usize)
     }
 }
 
-/// Writes all stretches but those that stay, each byte once; the canvas grows with them up to `end`.
-fn write_stretches(canvas: &mut Canvas, stretches: &[Stretch<'_>], end: usize, meter: &mut Meter)
-    requires order { Stand 0 end stretches.now }
+/// Writes all write spans but those that stay, each byte once; the canvas grows with them up to `end`.
+fn write_stretches(
+    canvas: &mut Canvas,
+    write_spans: &[WriteSpan<'_>],
+    end: usize,
+    meter: &mut Meter,
+)
+    requires order { Stand 0 end write_spans.now }
     requires short { length canvas.old.bytes ≤ end }
     requires room { end ≤ canvas.old.room }
-    ensures written { (o : ℕ) → o < end → stays_at stretches.now o ≡ false
-        → slice_index canvas.new.bytes o ≡ drawn_byte stretches.now o }
-    ensures kept { (o : ℕ) → o < end → stays_at stretches.now o ≡ true
+    ensures written { (o : ℕ) → o < end → stays_at write_spans.now o ≡ false
+        → slice_index canvas.new.bytes o ≡ drawn_byte write_spans.now o }
+    ensures kept { (o : ℕ) → o < end → stays_at write_spans.now o ≡ true
         → slice_index canvas.new.bytes o ≡ slice_index canvas.old.bytes o }
     ensures len { length canvas.new.bytes ≡ end }
     ensures counted { (n : ℕ) → raised meter.new Bytes n
-        ≡ raised meter.old Bytes (written 0 stretches.now + n) }
+        ≡ raised meter.old Bytes (written 0 write_spans.now + n) }
 {
-    let mut desk = [0; DESK];
+    let mut desk = [0; BUFFER_SIZE];
     let mut done = 0;
-    for x in stretches {
+    for x in write_spans {
         grow_to(canvas, x.end, end);
         write_stretch(canvas, &mut desk, done, x, meter);
         done = x.end;
@@ -137,28 +142,28 @@ fn write_patches(canvas: &mut Canvas, patches: &[Patch], end: usize, meter: &mut
     }
 }
 
-/// Brings the canvas to the image that the stretches, up to `end`, and the patches are a plan for: cuts off what lies
-/// past it, writes the patches, and then the stretches that don't stay. It takes no memory.
+/// Brings the canvas to the image that the write spans, up to `end`, and the patches are a plan for: cuts off what lies
+/// past it, writes the patches, and then the write spans that don't stay. It takes no memory.
 pub(crate) fn write_image(
     canvas: &mut Canvas,
-    stretches: &[Stretch<'_>],
+    write_spans: &[WriteSpan<'_>],
     end: usize,
     patches: &[Patch],
     meter: &mut Meter,
 )
-    requires order { Stand 0 end stretches.now }
+    requires order { Stand 0 end write_spans.now }
     requires room { end ≤ canvas.old.room }
     requires patches { All (EndsBy end) patches.now }
     ensures len { length canvas.new.bytes ≡ end }
-    ensures drawn { (o : ℕ) → o < end → stays_at stretches.now o ≡ false
-        → slice_index canvas.new.bytes o ≡ drawn_byte stretches.now o }
-    ensures image { (image : ℕ → ℕ) → IsPlanFor image stretches.now end patches.now canvas.old.bytes → (o : ℕ)
+    ensures drawn { (o : ℕ) → o < end → stays_at write_spans.now o ≡ false
+        → slice_index canvas.new.bytes o ≡ drawn_byte write_spans.now o }
+    ensures image { (image : ℕ → ℕ) → IsPlanFor image write_spans.now end patches.now canvas.old.bytes → (o : ℕ)
         → o < end → slice_index canvas.new.bytes o ≡ image o }
-    ensures counted { meter.new ≡ raised meter.old Bytes (patch_bytes patches.now + written 0 stretches.now) }
+    ensures counted { meter.new ≡ raised meter.old Bytes (patch_bytes patches.now + written 0 write_spans.now) }
 {
     canvas.resize_reserved(canvas.len().min(end));
     write_patches(canvas, patches, end, meter);
-    write_stretches(canvas, stretches, end, meter);
+    write_stretches(canvas, write_spans, end, meter);
     // so that the range of the count is known
     let _bytes = meter.bytes();
 }

@@ -3,8 +3,8 @@
 ghost use Rattle.std.specs.Prelude.{◌≡◌, ◌+◌, ◌<◌, ◌^◌, ◌++◌, IfOk, OnOk, List, length, flat_map, ◌==◌, if◌then◌else◌};
 ghost use Rattle.ldmodel.specs.Headers.{elf_header};
 ghost use Rattle.ldmodel.specs.Image.{file_headers};
-ghost use Rattle.ldmodel.specs.Layout.{Layout, PlacedSection};
-ghost use Rattle.ldmodel.specs.Lent.{AreSegments};
+ghost use Rattle.ldmodel.specs.Layout.{Layout, PlacedOutput};
+ghost use Rattle.ldmodel.specs.PlacementView.{AreSegments};
 ghost use Rattle.ldmodel.specs.Project.{Project};
 ghost use Rattle.ldmodel.specs.SectionHeaders.{header_part};
 ghost use Rattle.ldmodel.specs.Segments as definition;
@@ -182,7 +182,7 @@ fn file_end(end: u128, g: &Segment) -> Result<u128, NoMemory>
 ///
 /// Where it is 2^64 or more: no memory holds such a file.
 pub fn loaded_end(segments: &[Segment]) -> Result<u64, NoMemory>
-    ensures { IfOk result (λ end. (sections : List PlacedSection) (gs : List LaidSegment)
+    ensures { IfOk result (λ end. (sections : List PlacedOutput) (gs : List LaidSegment)
         → AreSegments sections gs segments.now → end ≡ definition.loaded_end gs) }
 {
     let mut end = 64 + 56 * segments.len() as u128;

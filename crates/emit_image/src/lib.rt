@@ -2,10 +2,10 @@
 //! fields; a plan makes every growth, and a commit takes no memory and has no refusal.
 //!
 //! - `headers`: ELF header and program headers; `tail` over `symbols`, `strings`, `sections`, `number`: the tail;
-//! - `section`: what is drawn; `row`: sections that stayed side by side as one; `stretch`, `add`, `add_section`: a
-//!   drawing as stretches, gaps and their fill among them;
-//! - `plan`, `commit` over `patched`, `redraw`, `draw`: over the image of an earlier link, of which what stayed is kept,
-//!   or anew; `law`.
+//! - `section`: what is drawn; `row`: sections that stayed side by side as one; `write_span`, `add`, `add_section`: a
+//!   drawing as write spans, gaps and their fill among them;
+//! - `plan`, `commit` over `patched`, `redraw`, `draw`: over the image of an previous link, of which what stayed is
+//!   kept, or anew; `law`.
 #![tactic(auto)]
 
 mod add;
@@ -21,7 +21,7 @@ pub mod redraw;
 pub mod row;
 pub mod section;
 pub mod sections;
-pub mod stretch;
 pub mod strings;
 pub mod symbols;
 pub mod tail;
+pub mod write_span;

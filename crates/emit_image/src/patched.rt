@@ -11,7 +11,7 @@ use emit_fields::canvas::Canvas;
 use emit_fields::patch::{Patch, write_patched};
 
 /// How long an input section is at most that is put together beside the canvas.
-pub(crate) const DESK: usize = 4096;
+pub(crate) const BUFFER_SIZE: usize = 4096;
 
 /// Copies bytes over as many others. Four of them, as most fields have, are copied as one word.
 #[inline(always)]
@@ -29,7 +29,7 @@ fn copy_over(to: &mut [u8], from: &[u8])
 
 /// Copies bytes over those from `at` on.
 #[inline(always)]
-fn put(whole: &mut [u8; DESK], at: usize, bytes: &[u8])
+fn put(whole: &mut [u8; BUFFER_SIZE], at: usize, bytes: &[u8])
     requires { at + length bytes.now ≤ 4096 }
     ensures written { (i : ℕ) → i < length bytes.now
         → slice_index whole.new (at + i) ≡ slice_index bytes.now i }
@@ -41,7 +41,7 @@ fn put(whole: &mut [u8; DESK], at: usize, bytes: &[u8])
 }
 
 /// Puts the bytes of the fields that lie in a section, and its own between them, over the first of `whole`.
-fn put_together(whole: &mut [u8; DESK], bytes: &[u8], patches: &[Patch])
+fn put_together(whole: &mut [u8; BUFFER_SIZE], bytes: &[u8], patches: &[Patch])
     requires few { length bytes.now ≤ 4096 }
     requires order { AreInOrder 0 (length bytes.now) patches.now }
     ensures { (i : ℕ) → i < length bytes.now → slice_index whole.new i ≡ patched_byte bytes.now patches.now i }
@@ -56,7 +56,7 @@ fn put_together(whole: &mut [u8; DESK], bytes: &[u8], patches: &[Patch])
 /// once. `desk` is where it may be put together; what stands there before and after has no meaning.
 pub(crate) fn write_piece(
     canvas: &mut Canvas,
-    desk: &mut [u8; DESK],
+    desk: &mut [u8; BUFFER_SIZE],
     at: usize,
     bytes: &[u8],
     patches: &[Patch],
@@ -73,7 +73,7 @@ pub(crate) fn write_piece(
     ensures room { canvas.new.room ≡ canvas.old.room }
     ensures counted { meter.new ≡ raised meter.old Bytes (length bytes.now) }
 {
-    if bytes.len() > DESK || patches.is_empty() {
+    if bytes.len() > BUFFER_SIZE || patches.is_empty() {
         write_patched(canvas, at, bytes, patches, meter);
         return;
     }

@@ -1,4 +1,4 @@
-//! The plan of an image: its stretches, one after the other from its beginning to its end.
+//! The plan of an image: its write spans, one after the other from its beginning to its end.
 
 ghost use Rattle.std.specs.Prelude.{◌≡◌, ◌≤◌, ◌<◌, ◌+◌, ◌^◌, ◌%◌, All, IfOk, OnOk, [], length};
 ghost use Rattle.emit_image.specs.Drawing.{IsDrawing, IsOrderly, drawing_end, drawing_spot, end_of_sections, part_end};
@@ -12,7 +12,7 @@ use crate::add_section::add_section;
 use crate::commit::write_image;
 use crate::law::{drawing_is_image, kept_is_image, kept_is_not_drawn};
 use crate::section::{Drawing, ImagePart, ImageSection};
-use crate::stretch::{Content, Stretch};
+use crate::write_span::{Content, WriteSpan};
 use elfobj::Meter;
 use emit_fields::canvas::Canvas;
 use emit_fields::patch::Patch;
@@ -22,7 +22,7 @@ use std::marker::Model;
 
 /// Adds the zeros before an output section, and the section. Returns where it ends.
 fn add_next_section<'a>(
-    out: &mut Vec<Stretch<'a>>,
+    out: &mut Vec<WriteSpan<'a>>,
     from: usize,
     x: &ImageSection<'a>,
 ) -> Result<usize, NoMemory>
@@ -40,7 +40,7 @@ fn add_next_section<'a>(
 }
 
 /// Adds the output sections after the headers. Returns where the last one ends.
-fn add_sections<'a>(out: &mut Vec<Stretch<'a>>, d: &Drawing<'a>) -> Result<usize, NoMemory>
+fn add_sections<'a>(out: &mut Vec<WriteSpan<'a>>, d: &Drawing<'a>) -> Result<usize, NoMemory>
     requires drawing { IsDrawing d.now }
     requires stand { Stand 0 (length d.now.headers.now) out.old.items }
     ensures end { IfOk result (λ end. end ≡ end_of_sections (length d.now.headers.now) d.now.sections.now) }
@@ -57,7 +57,7 @@ fn add_sections<'a>(out: &mut Vec<Stretch<'a>>, d: &Drawing<'a>) -> Result<usize
 
 /// Adds the zeros before a part of the tail, and the part. Returns where it ends.
 fn add_part<'a>(
-    out: &mut Vec<Stretch<'a>>,
+    out: &mut Vec<WriteSpan<'a>>,
     from: usize,
     part: &ImagePart<'a>,
 ) -> Result<usize, NoMemory>
@@ -77,7 +77,11 @@ fn add_part<'a>(
 }
 
 /// Adds the tail. Returns where it ends.
-fn add_tail<'a>(out: &mut Vec<Stretch<'a>>, from: usize, d: &Drawing<'a>) -> Result<usize, NoMemory>
+fn add_tail<'a>(
+    out: &mut Vec<WriteSpan<'a>>,
+    from: usize,
+    d: &Drawing<'a>,
+) -> Result<usize, NoMemory>
     requires drawing { IsDrawing d.now }
     requires from { from ≡ end_of_sections (length d.now.headers.now) d.now.sections.now }
     requires stand { Stand 0 from out.old.items }
@@ -91,7 +95,7 @@ fn add_tail<'a>(out: &mut Vec<Stretch<'a>>, from: usize, d: &Drawing<'a>) -> Res
     Ok(at)
 }
 
-/// How many stretches an image can have.
+/// How many write spans an image can have.
 fn most_stretches(d: &Drawing<'_>) -> usize {
     let mut count: usize = 1;
     for x in d.sections {
@@ -103,8 +107,8 @@ fn most_stretches(d: &Drawing<'_>) -> usize {
     count.saturating_add(d.tail.len().saturating_mul(2))
 }
 
-/// Adds the stretches of an image to none. Returns where it ends.
-fn add_all<'a>(out: &mut Vec<Stretch<'a>>, d: &Drawing<'a>) -> Result<usize, NoMemory>
+/// Adds the write spans of an image to none. Returns where it ends.
+fn add_all<'a>(out: &mut Vec<WriteSpan<'a>>, d: &Drawing<'a>) -> Result<usize, NoMemory>
     requires drawing { IsDrawing d.now }
     requires none { out.old.items ≡ [] }
     ensures end { IfOk result (λ end. end ≡ drawing_end d.now) }
@@ -122,10 +126,10 @@ fn add_all<'a>(out: &mut Vec<Stretch<'a>>, d: &Drawing<'a>) -> Result<usize, NoM
     Ok(end)
 }
 
-/// What a commit needs: the stretches of an image, where it ends, and patches of what stays.
+/// What a commit needs: the write spans of an image, where it ends, and patches of what stays.
 #[derive(Drop)]
 pub struct Plan<'a> {
-    stretches: Vec<Stretch<'a>>,
+    write_spans: Vec<WriteSpan<'a>>,
     end: usize,
     patches: &'a [Patch],
 }
@@ -135,9 +139,10 @@ impl<'a> Model for Plan<'a> {
 
     ghost Value = { ImagePlan };
 
-    ghost view = { λ p. record { stretches = p.stretches.items; end = p.end; patches = p.patches.now } };
+    ghost view = { λ p. record { write_spans = p.write_spans.items; end = p.end; patches = p.patches.now } };
 
-    ghost invariant = { λ p. IsWhole (record { stretches = p.stretches.items; end = p.end; patches = p.patches.now }) };
+    ghost invariant = { λ p. IsWhole (record
+        { write_spans = p.write_spans.items; end = p.end; patches = p.patches.now }) };
 }
 
 /// The plan of an image that is drawn from these parts, where the bytes that stay are patched by `patches`, whose
@@ -158,11 +163,11 @@ pub fn plan_image<'a>(
     ensures bytes { canvas.new.bytes ≡ canvas.old.bytes }
     ensures room { OnOk result (drawing_end drawing.now ≤ canvas.new.room) }
 {
-    let mut stretches = Vec::with_capacity(alloc, most_stretches(drawing))?;
-    let end = add_all(&mut stretches, drawing)?;
+    let mut write_spans = Vec::with_capacity(alloc, most_stretches(drawing))?;
+    let end = add_all(&mut write_spans, drawing)?;
     canvas.reserve(end)?;
     Ok(Plan {
-        stretches,
+        write_spans,
         end,
         patches,
     })
@@ -217,6 +222,6 @@ impl<'a> Plan<'a> {
         drawing_is_image();
         kept_is_image();
         kept_is_not_drawn();
-        write_image(canvas, &self.stretches, self.end, self.patches, meter);
+        write_image(canvas, &self.write_spans, self.end, self.patches, meter);
     }
 }

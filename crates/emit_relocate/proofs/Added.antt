@@ -27,7 +27,7 @@ use Rattle.emit_relocate.specs.Fields.{faults_of}
 use Rattle.emit_relocate.specs.Fields.{field_at, sites_among, work_of}
 use Rattle.emit_relocate.specs.KnownLink.{KnownLink}
 use Rattle.emit_relocate.specs.Sites.{IsPlaced}
-use Rattle.emit_relocate.specs.declared.site.PlacedSection.{PlacedSection}
+use Rattle.emit_relocate.specs.declared.site.PlacedInput.{PlacedInput}
 use Rattle.emit_relocate.proofs.Runs.{within}
 
 pub raise_none : (m : Counts) → m.fields < 2 ^ 64 → m ≡ raised m count.Fields 0
@@ -142,7 +142,7 @@ module _ (l : KnownLink) (o : NamedObject) (x : LinkedSection) (start : ℕ) (rs
       subst (λ ys. IsTried l (sites_among o x start ys) f0 f1 g0 g1 m0 m1) (ap (λ n. take n rs) e ∙ take-length rs) p
 
 -- the fields of a section are put in order and added
-pub added : (l : KnownLink) (m : PlacedSection) (o : NamedObject) (x : LinkedSection) → IsPlaced l m o x
+pub added : (l : KnownLink) (m : PlacedInput) (o : NamedObject) (x : LinkedSection) → IsPlaced l m o x
     → (f0 f1 old new own run : List Patch) (g0 g1 : List code.Fault) (m0 m1 : Counts)
     → IsTried l (sites_among o x m.start m.relocations.now) old new g0 g1 m0 m1 → new ≡ old ++ own
     → AreFieldsOf m.relocations.now (length m.relocations.now) own
@@ -167,7 +167,7 @@ added l m o x h f0 f1 old new own run g0 g1 m0 m1 tried part of same order e =
     }
 
 -- those of relocations in the order of their offsets are in order as they come
-pub added_as_they_are : (l : KnownLink) (m : PlacedSection) (o : NamedObject) (x : LinkedSection) → IsPlaced l m o x
+pub added_as_they_are : (l : KnownLink) (m : PlacedInput) (o : NamedObject) (x : LinkedSection) → IsPlaced l m o x
     → (f0 f1 : List Patch) (g0 g1 : List code.Fault) (m0 m1 : Counts)
     → IsTried l (sites_among o x m.start m.relocations.now) f0 f1 g0 g1 m0 m1
     → AreAdded m.relocations.now (length m.relocations.now) f0 f1 → elf.AreApart m.relocations.now

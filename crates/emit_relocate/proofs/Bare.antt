@@ -15,12 +15,12 @@ use Rattle.ldmodel.specs.declared.names.ObjectPlace.{ObjectPlace}
 use Rattle.ldmodel.specs.declared.sections.Part.TheVariants.{InTable}
 use Rattle.ldmodel.specs.declared.sections.SectionKey.{SectionKey}
 use Rattle.emit_relocate.specs.Changes.{Adds, Evaluated, IsEvaluatedAt, IsEvaluatedOf, Results, own_sites, section_key}
-use Rattle.emit_relocate.specs.Earlier.{has_moved}
+use Rattle.emit_relocate.specs.PreviousLinkInfo.{has_moved}
 use Rattle.emit_relocate.specs.Fields.{field_at, sites_among}
 use Rattle.emit_relocate.specs.Filled.{IsRunAt, IsRunOf, ObjectSection}
 use Rattle.emit_relocate.specs.KnownLink.{KnownLink, named_object}
 use Rattle.emit_relocate.specs.Links.{IsAtHand}
-use Rattle.emit_relocate.specs.declared.earlier.FileRange.{FileRange}
+use Rattle.emit_relocate.specs.declared.previous_link_info.FileRange.{FileRange}
 use Rattle.emit_relocate.specs.declared.input_section.InputSection.{InputSection}
 use Rattle.emit_relocate.proofs.Added.{tried_nothing}
 use Rattle.emit_relocate.proofs.Found.{relocations_of, there_of}

@@ -6,7 +6,7 @@ use Rattle.std.proofs.lemmas.List.Sums.{sum_by-cons}
 use Rattle.ldmodel.specs.Relocations.{Site, site_field_with, site_field, site_value}
 use Rattle.ldmodel.specs.SymbolValues.{SymbolValue, Number, NotDefined, NotInOutput}
 use Rattle.ldmodel_laws.specs.Untouched.{HasField}
-use Rattle.emit_relocate.specs.Earlier.{good_link}
+use Rattle.emit_relocate.specs.PreviousLinkInfo.{good_link}
 use Rattle.emit_relocate.specs.Fields.{evaluations, work_of}
 use Rattle.emit_relocate.specs.KnownLink.{KnownLink}
 use Rattle.emit_relocate.proofs.Lists.{here, later}

@@ -15,7 +15,7 @@ use Rattle.ldmodel.specs.declared.fault.Fault as code
 use Rattle.emit_relocate.specs.Changes.{IsFiled, file_patch_at, in_file}
 use Rattle.emit_relocate.specs.Fields.{IsTried, field_at, sites_among}
 use Rattle.emit_relocate.specs.KnownLink.{KnownLink}
-use Rattle.emit_relocate.specs.declared.earlier.FileRange.{FileRange}
+use Rattle.emit_relocate.specs.declared.previous_link_info.FileRange.{FileRange}
 
 as_list : (m : Option Patch) → cons_option m [] ≡ option_to_list m
 as_list None = refl

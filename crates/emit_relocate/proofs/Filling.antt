@@ -18,7 +18,7 @@ use Rattle.emit_relocate.specs.Fields.{IsAdded, IsCounted, IsRun}
 use Rattle.emit_relocate.specs.Filled.{EndBelow, IsOrder, IsRunAt, ObjectSection}
 use Rattle.emit_relocate.specs.KnownLink.{KnownLink, named_object, object_of, start_of}
 use Rattle.emit_relocate.specs.Links.{IsPlaceOf, IsPlacedAt}
-use Rattle.emit_relocate.specs.declared.site.PlacedSection.{PlacedSection}
+use Rattle.emit_relocate.specs.declared.site.PlacedInput.{PlacedInput}
 use Rattle.emit_relocate.proofs.Added.{tried_nothing}
 
 abbrev pub start_in : Option PlacedPiece → Option ℕ
@@ -58,7 +58,7 @@ module _ (l : KnownLink) (s : ObjectSection) where
         ((tried_nothing l a.fields a.faults a.counts h).counts);
   }
 
-  pub renewed_some : (m : PlacedSection) → IsPlacedAt l s m → (a b : Results) → b.ends ≡ a.ends
+  pub renewed_some : (m : PlacedInput) → IsPlacedAt l s m → (a b : Results) → b.ends ≡ a.ends
       → b.patches ≡ a.patches
       → IsAdded l s.object s.section m.start a.fields b.fields a.faults b.faults a.counts b.counts
       → Adds l (IsRenewed l s) a b

@@ -20,7 +20,7 @@ use Rattle.emit_relocate.specs.Links.{IsAtHand}
 use Rattle.emit_relocate.specs.Sites.{IsPlaced, IsSectionOf}
 use Rattle.emit_relocate.specs.SymbolValues.{IsRow}
 use Rattle.emit_relocate.specs.declared.input_section.InputSection.{InputSection}
-use Rattle.emit_relocate.specs.declared.site.PlacedSection.{PlacedSection}
+use Rattle.emit_relocate.specs.declared.site.PlacedInput.{PlacedInput}
 
 abbrev Ascend : List LinkedSection → Type 0
 Ascend xs = AllPairs (λ (s : Section) (t : Section). s.number.0 < t.number.0) (map section_of xs)
@@ -107,7 +107,7 @@ module _ (l : KnownLink) (m : InputSection) (s : ObjectSection) (h : IsAtHand l 
   there_of = ap (λ (r : ObjectData). slice_get r.sections m.index.0) (sym h.read_is) ∙ h.section_is
 
   -- where it was placed
-  pub placed_of : (p : PlacedSection) → p.values.now ≡ m.values.now → IsSectionOf m.object.now s.section m.key p
+  pub placed_of : (p : PlacedInput) → p.values.now ≡ m.values.now → IsSectionOf m.object.now s.section m.key p
       → IsPlaced l p s.object s.section
   placed_of p values is = record {
     object_is = rw is.key_is h.object_is;

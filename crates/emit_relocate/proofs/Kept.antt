@@ -18,7 +18,7 @@ use Rattle.slab.specs.Slab.{Updates, get, values}
 use Rattle.ldmodel.specs.declared.fault.SiteKey.{SiteKey}
 use Rattle.emit_relocate.specs.Index.{IsSound, has_spot, is_against, is_owner, is_spot, no_bucket, slot}
 use Rattle.emit_relocate.specs.declared.bucket.Bucket.{Bucket}
-use Rattle.emit_relocate.specs.declared.index.Spot.{Spot}
+use Rattle.emit_relocate.specs.declared.index.IndexSlot.{IndexSlot}
 use Rattle.emit_relocate.specs.declared.index.TargetSite.{TargetSite}
 
 abbrev held : List (Option SiteKey) → List SiteKey
@@ -97,11 +97,11 @@ joined o p v s known true owner e free =
     ap (λ b. b || (nat_eq o p && true)) none ∙ and_all (nat_eq o p) ∙ ap (λ n. nat_eq n p) (sym owner)
 joined o p v s known false owner e free = ap (λ b. known || b) (and_none (nat_eq o p)) ∙ sym (or_none known) ∙ e
 
-module _ (ts : List Bucket) (os : List (List Spot)) (o t k : ℕ) (low_t : t < length ts) (low_o : o < length os)
+module _ (ts : List Bucket) (os : List (List IndexSlot)) (o t k : ℕ) (low_t : t < length ts) (low_o : o < length os)
     (a b : Bucket) (is : a ≡ get_or ts t a) (v : SiteKey)
     (owner : v.object.0 ≡ o) (free : get a.sites k ≡ None) (u : Updates a.sites b.sites k (Some v)) (h : IsSound ts os)
   where
-    abbrev spot : Spot
+    abbrev spot : IndexSlot
     spot = record { target = t; place = k }
 
     was : get_or ts t no_bucket ≡ a
@@ -134,7 +134,7 @@ module _ (ts : List Bucket) (os : List (List Spot)) (o t k : ℕ) (low_t : t < l
               ∙ ap (λ c. if c && nat_eq k j then Some v else slot ts w j) (sym (ne_eqb t w (λ e. differs (sym e))))
         ]
 
-    abbrev spots : List Spot
+    abbrev spots : List IndexSlot
     spots = get_or os o [] ++ spot ∷ []
 
     known_spots : (p w j : ℕ) → has_spot w j (get_or (set os o spots) p [])

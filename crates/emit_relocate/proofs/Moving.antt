@@ -20,13 +20,13 @@ use Rattle.ldmodel.specs.declared.fault.Fault as code
 use Rattle.ldmodel.specs.declared.names.ObjectPlace.{ObjectPlace}
 use Rattle.ldmodel.specs.declared.sections.Part.TheVariants.{InTable}
 use Rattle.emit_relocate.specs.Changes.{IsFiled, IsMoved, file_patch_at, own_sites}
-use Rattle.emit_relocate.specs.Earlier.{HasSameValues, has_moved, is_same_value}
+use Rattle.emit_relocate.specs.PreviousLinkInfo.{HasSameValues, has_moved, is_same_value}
 use Rattle.emit_relocate.specs.Fields.{IsCounted, sites_among}
 use Rattle.emit_relocate.specs.Filled.{ObjectSection}
 use Rattle.emit_relocate.specs.KnownLink.{KnownLink, named_object}
 use Rattle.emit_relocate.specs.Links.{IsPlaceOf, IsPlacedAt, sites_at_hand}
-use Rattle.emit_relocate.specs.declared.earlier.FileRange.{FileRange}
-use Rattle.emit_relocate.specs.declared.site.PlacedSection.{PlacedSection}
+use Rattle.emit_relocate.specs.declared.previous_link_info.FileRange.{FileRange}
+use Rattle.emit_relocate.specs.declared.site.PlacedInput.{PlacedInput}
 use Rattle.emit_relocate.proofs.Added.{among_more, counted_more, tried_nothing}
 
 -- a value is the same as itself
@@ -152,7 +152,7 @@ module _ (old : GoodLink) (l : KnownLink) where
     moved_unplaced gone ps gs m h =
         subst (λ a. IsMoved old l r (sites_in a) ps ps gs gs m m) (sym gone) (moved_nothing r ps gs m h)
 
-    pub moved_placed : (m : PlacedSection) → IsPlacedAt l s m
+    pub moved_placed : (m : PlacedInput) → IsPlacedAt l s m
         → (p0 p1 : List Patch) (g0 g1 : List code.Fault) (m0 m1 : Counts)
         → IsMoved old l r (sites_at_hand m s m.relocations.now) p0 p1 g0 g1 m0 m1
         → IsMoved old l r (own_sites l s) p0 p1 g0 g1 m0 m1

@@ -14,7 +14,7 @@ use Rattle.elfobj.specs.RelocationKinds.{width}
 use Rattle.elfobj.specs.Sections.{LinkedSection}
 use Rattle.emit_fields.specs.declared.patch.Patch.{Patch}
 use Rattle.ldmodel.specs.Fault.{Fault}
-use Rattle.ldmodel.specs.Layout.{Layout, PlacedPiece, PlacedSection}
+use Rattle.ldmodel.specs.Layout.{Layout, PlacedPiece, PlacedOutput}
 use Rattle.ldmodel.specs.Project.{NamedObject, Project}
 use Rattle.ldmodel.specs.Relocations.{Site, patch_of, site_field, sites}
 use Rattle.ldmodel.specs.Segments.{file_offset, segments}
@@ -25,11 +25,11 @@ use Rattle.ldmodel.specs.declared.sections.SectionKey.{SectionKey}
 use Rattle.ldmodel_laws.specs.StayedSites.{has_part_stayed}
 use Rattle.emit_relocate.specs.Changes.{AreChanged, Evaluated, IsEvaluatedAt, IsEvaluatedOf, Results, file_patch_at}
 use Rattle.emit_relocate.specs.Changes.{in_file, own_sites, section_key}
-use Rattle.emit_relocate.specs.Earlier.{IsComplete, good_link, has_moved, range_of}
+use Rattle.emit_relocate.specs.PreviousLinkInfo.{IsComplete, good_link, has_moved, range_of}
 use Rattle.emit_relocate.specs.Filled.{ObjectSection, sections_in}
 use Rattle.emit_relocate.specs.KnownLink.{KnownLink}
 use Rattle.emit_relocate.specs.Patched.{AreAllPatched, AreFew, AreOfProfile, AreSized, IsPatchOfSite, file_patch}
-use Rattle.emit_relocate.specs.declared.earlier.FileRange.{FileRange}
+use Rattle.emit_relocate.specs.declared.previous_link_info.FileRange.{FileRange}
 use Rattle.emit_relocate.proofs.Changing.{patches_of}
 use Rattle.emit_relocate.proofs.Fewer.{Some_of, both_of, given_of, none_of}
 use Rattle.emit_relocate.proofs.Lists.{filter_in, filter_nothing, filter_where, given_in, here, in_filter, in_given}
@@ -149,14 +149,14 @@ range_whole : (p : Project) (s : Layout) (x : LinkedPiece) → Contains (linked_
     → x.range.length ≡ x.size
 unfolding linked_pieces
 range_whole p s x c some =
-    let found = in_joined (λ (q : PlacedSection). map (linked_piece p (segments s.sections) q) q.pieces) s.sections x c
+    let found = in_joined (λ (q : PlacedOutput). map (linked_piece p (segments s.sections) q) q.pieces) s.sections x c
     in
     let mapped = in_mapped (linked_piece p (segments s.sections) found.origin) found.origin.pieces x found.gives in
     whole found.origin mapped.source
     (found.origin.has_file_bytes && not (mapped.source.piece.size == 0))
     (ap (λ (y : LinkedPiece). y.range.length) mapped.gives) (ap (λ (y : LinkedPiece). y.size) mapped.gives)
   where
-    whole : (q : PlacedSection) (z : PlacedPiece) (b : Bool)
+    whole : (q : PlacedOutput) (z : PlacedPiece) (b : Bool)
         → (cond {A = FileBytes} b
         (record { offset = file_offset (segments s.sections) q + (z.start - q.start); length = z.piece.size })
         (record { offset = 0; length = 0 })).length ≡ x.range.length

@@ -12,7 +12,7 @@ use Rattle.ldmodel.specs.declared.names.ObjectPlace.{ObjectPlace}
 use Rattle.emit_relocate.specs.Index.{IsSound, cleared, cleared_one, has_spot, is_of_object, is_owner, is_spot, room_at}
 use Rattle.emit_relocate.specs.Index.{room_of, slot, slots_at}
 use Rattle.emit_relocate.specs.declared.bucket.Bucket.{Bucket}
-use Rattle.emit_relocate.specs.declared.index.Spot.{Spot}
+use Rattle.emit_relocate.specs.declared.index.IndexSlot.{IndexSlot}
 
 -- the values of entries are those of the slots
 pub entry_values : (k : ℕ) (slots : List (Option SiteKey)) → map (λ e. e.1) (entries_from k slots)
@@ -51,10 +51,10 @@ module _ {X Y : Type 0} (f : X → Y) where
   past xs i d high = get_or_past (map f xs) i d (omega (arith, length-map xs f, high))
 
 -- the room of an object's list, where one of the lists is written
-abbrev room : Vec Spot Global → ℕ
+abbrev room : Vec IndexSlot Global → ℕ
 room v = vec_capacity v - vec_len v
 
-pub no_less_room : (os : List (Vec Spot Global)) (k o : ℕ) (old new : Vec Spot Global) → k < length os
+pub no_less_room : (os : List (Vec IndexSlot Global)) (k o : ℕ) (old new : Vec IndexSlot Global) → k < length os
     → old ≡ get_or os k old → room old ≤ room new → get_or (map room os) o 0 ≤ get_or (map room (set os k new)) o 0
 no_less_room os k o old new low is more = elim (cases_eq o k) [
   | inl same ↦ rw (same, mapped_at room os k old 0 low is, written_at room os k new 0 low) more
@@ -62,7 +62,7 @@ no_less_room os k o old new low is more = elim (cases_eq o k) [
 ]
 
 -- one place more is cleared
-pub cleared_more : (spots : List Spot) (i t k : ℕ) (d : Spot) (x : Option SiteKey) → i < length spots
+pub cleared_more : (spots : List IndexSlot) (i t k : ℕ) (d : IndexSlot) (x : Option SiteKey) → i < length spots
     → cleared_one t k (get_or spots i d) (cleared t k (take i spots) x) ≡ cleared t k (take (i + 1) spots) x
 cleared_more spots i t k d x low =
     rw (list_any_more (is_spot t k) spots i d low)
@@ -97,7 +97,7 @@ stays : (o p : ℕ) (s : Option SiteKey) → p ≢ o → is_owner p (if is_owner
 stays o p None differs = refl
 stays o p (Some x) differs = stays_if o p x (nat_eq x.object.0 o) differs refl
 
-module _ (ts us : List Bucket) (os : List (List Spot)) (o : ℕ) (h : IsSound ts os) (c : (t k : ℕ) → slot us t k
+module _ (ts us : List Bucket) (os : List (List IndexSlot)) (o : ℕ) (h : IsSound ts os) (c : (t k : ℕ) → slot us t k
     ≡ cleared t k (get_or os o []) (slot ts t k)) where
   left : (t k : ℕ) → slot us t k ≡ (if is_owner o (slot ts t k) then None else slot ts t k)
   left t k = c t k ∙ ap (λ b. if b then None else slot ts t k) (h.known o t k)
@@ -145,7 +145,7 @@ bucket_values [] t = refl
 bucket_values (b ∷ ts) zero = refl
 bucket_values (b ∷ ts) (suc t) = bucket_values ts t
 
-module _ (ts us : List Bucket) (os : List (List Spot)) (object : ObjectPlace) (h : IsSound ts os) (n : (t : ℕ)
+module _ (ts us : List Bucket) (os : List (List IndexSlot)) (object : ObjectPlace) (h : IsSound ts os) (n : (t : ℕ)
     → length (slots_at us t) ≡ length (slots_at ts t))
     (c : (t k : ℕ) → slot us t k ≡ cleared t k (get_or os object.0 []) (slot ts t k)) where
   pub dropped_sites : (t : ℕ) → get_or (map (λ (b : Bucket). values b.sites) us) t []
@@ -155,7 +155,7 @@ module _ (ts us : List Bucket) (os : List (List Spot)) (object : ObjectPlace) (h
       (kept_values object (slots_at ts t) (slots_at us t) (n t) (λ k. left ts us os object.0 h c t k))
 
 -- an object that knows no place has no sites
-pub nothing_dropped : (ts : List Bucket) (os : List (List Spot)) (object : ObjectPlace) → IsSound ts os
+pub nothing_dropped : (ts : List Bucket) (os : List (List IndexSlot)) (object : ObjectPlace) → IsSound ts os
     → length os ≤ object.0
     → (t : ℕ) → get_or (map (λ (b : Bucket). values b.sites) ts) t []
     ≡ others object (get_or (map (λ (b : Bucket). values b.sites) ts) t [])
@@ -163,7 +163,7 @@ nothing_dropped ts os object h high t =
     dropped_sites ts ts os object h (λ u. refl) (λ u k. rw (get_or_past os object.0 [] high) refl) t
 
 -- the same places known and held
-pub same_sound : (ts us : List Bucket) (os ps : List (List Spot)) → IsSound ts os
+pub same_sound : (ts us : List Bucket) (os ps : List (List IndexSlot)) → IsSound ts os
     → ((t : ℕ) → slots_at us t ≡ slots_at ts t) → ((o : ℕ) → get_or ps o [] ≡ get_or os o []) → IsSound us ps
 same_sound ts us os ps h same known = record {
   known = λ o t k. ap (has_spot t k) (known o) ∙ h.known o t k

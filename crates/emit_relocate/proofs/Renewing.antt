@@ -9,7 +9,7 @@ use Rattle.emit_relocate.specs.Changes.{own_sites, section_key}
 use Rattle.emit_relocate.specs.Fields.{IsCounted}
 use Rattle.emit_relocate.specs.Filled.{IsRunOf, ObjectSection, sections_in}
 use Rattle.emit_relocate.specs.KnownLink.{KnownLink}
-use Rattle.emit_relocate.specs.declared.earlier.FileRange.{FileRange}
+use Rattle.emit_relocate.specs.declared.previous_link_info.FileRange.{FileRange}
 use Rattle.emit_relocate.proofs.Changing.{flat_runs, run_of, sites_of}
 use Rattle.emit_relocate.proofs.Settling.{all_sites}
 

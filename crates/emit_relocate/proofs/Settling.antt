@@ -29,11 +29,11 @@ use Rattle.ldmodel.specs.declared.sections.SectionKey.{SectionKey}
 use Rattle.ldmodel_laws.specs.StayedSites.{has_part_stayed, lies_in_stayed}
 use Rattle.ldmodel_laws.specs.Untouched.{HasField, HasSameValue}
 use Rattle.emit_relocate.specs.Changes.{Evaluated, IsEvaluatedAt, IsEvaluatedOf, own_sites, section_key}
-use Rattle.emit_relocate.specs.Earlier.{IsComplete, IsPieceOf, good_link, has_moved, is_same_value}
+use Rattle.emit_relocate.specs.PreviousLinkInfo.{IsComplete, IsPieceOf, good_link, has_moved, is_same_value}
 use Rattle.emit_relocate.specs.Fields.{fault_at}
 use Rattle.emit_relocate.specs.Filled.{ObjectSection, sections_in, sections_of}
 use Rattle.emit_relocate.specs.KnownLink.{KnownLink, named_object}
-use Rattle.emit_relocate.specs.declared.earlier.FileRange.{FileRange}
+use Rattle.emit_relocate.specs.declared.previous_link_info.FileRange.{FileRange}
 use Rattle.emit_relocate.proofs.Changing.{sites_of}
 use Rattle.emit_relocate.proofs.Lists.{count_either, filter_map_kept, filter_where, filter_whole, here, in_filter}
 use Rattle.emit_relocate.proofs.Lists.{in_joined, in_mapped, joined_in, later, none_in_nil}

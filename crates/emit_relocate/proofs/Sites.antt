@@ -13,9 +13,9 @@ use Rattle.ldmodel.specs.declared.fault.Fault.TheVariants as variant
 use Rattle.ldmodel.specs.declared.fault.SiteKey.{SiteKey}
 use Rattle.emit_relocate.specs.KnownLink.{KnownLink}
 use Rattle.emit_relocate.specs.Sites.{IsEvaluated, IsOutcome, IsSiteAt}
-use Rattle.emit_relocate.specs.declared.site.PlacedSection.{PlacedSection}
+use Rattle.emit_relocate.specs.declared.site.PlacedInput.{PlacedInput}
 
-module _ (l : KnownLink) (m : PlacedSection) (entry : ℕ) (t : Site) (h : IsSiteAt l m entry t) where
+module _ (l : KnownLink) (m : PlacedInput) (entry : ℕ) (t : Site) (h : IsSiteAt l m entry t) where
   abbrev key : SiteKey
   key = record { object = m.object; section = m.section; entry = entry }
 

@@ -1,4 +1,4 @@
--- What comes of input sections beside an earlier link: the fields of those that did not stay; and, of those that did,
+-- What comes of input sections beside an previous link: the fields of those that did not stay; and, of those that did,
 -- the fields of the sites whose symbol has another value, in their places in the file.
 use Rattle.std.specs.Prelude.{◌≡◌, ℕ, ◌+◌, List, [], ◌++◌, map, flat_map, filter, nat_le, if◌then◌else◌, Option, Some}
 use Rattle.std.specs.Prelude.{Contains, None, length}
@@ -13,12 +13,12 @@ use Rattle.ldmodel.specs.declared.fault.Fault as code
 use Rattle.ldmodel.specs.declared.names.ObjectPlace.{ObjectPlace}
 use Rattle.ldmodel.specs.declared.sections.Part.TheVariants.{InTable}
 use Rattle.ldmodel.specs.declared.sections.SectionKey.{SectionKey}
-use Rattle.emit_relocate.specs.Earlier.{HasStayedAt, has_moved}
+use Rattle.emit_relocate.specs.PreviousLinkInfo.{HasStayedAt, has_moved}
 use Rattle.emit_relocate.specs.Fields.{IsCounted, field_at}
 use Rattle.emit_relocate.specs.Filled.{IsRunOf, ObjectSection, ends_of, sections_in}
 use Rattle.emit_relocate.specs.KnownLink.{KnownLink, named_object}
 use Rattle.emit_relocate.specs.declared.changed_fields.ChangedFields.{ChangedFields}
-use Rattle.emit_relocate.specs.declared.earlier.FileRange.{FileRange}
+use Rattle.emit_relocate.specs.declared.previous_link_info.FileRange.{FileRange}
 
 -- a field of a section in its place in the file, if it lies within the section's bytes there
 abbrev pub in_file : FileRange → Patch → Option Patch

@@ -8,7 +8,7 @@ use Rattle.slab.specs.Slab.{slab_len}
 use Rattle.ldmodel.specs.declared.fault.SiteKey.{SiteKey}
 use Rattle.ldmodel.specs.declared.names.ObjectPlace.{ObjectPlace}
 use Rattle.emit_relocate.specs.declared.bucket.Bucket.{Bucket}
-use Rattle.emit_relocate.specs.declared.index.Spot.{Spot}
+use Rattle.emit_relocate.specs.declared.index.IndexSlot.{IndexSlot}
 use Rattle.emit_relocate.specs.declared.index.TargetSite.{TargetSite}
 
 -- the sites of each target, and how many more there is room for, of each target and of each object
@@ -49,24 +49,24 @@ slots_at buckets t = (slice_index_or buckets t no_bucket).sites.slots
 abbrev pub slot : List Bucket → ℕ → ℕ → Option SiteKey
 slot buckets t k = slice_index_or (slots_at buckets t) k None
 
-abbrev pub is_spot : ℕ → ℕ → Spot → Bool
+abbrev pub is_spot : ℕ → ℕ → IndexSlot → Bool
 is_spot t k s = (s.target == t) && (s.place == k)
 
-abbrev pub has_spot : ℕ → ℕ → List Spot → Bool
+abbrev pub has_spot : ℕ → ℕ → List IndexSlot → Bool
 has_spot t k spots = list_any (is_spot t k) spots
 
 abbrev pub is_owner : ℕ → Option SiteKey → Bool
 is_owner o site = option_map_or (λ (s : SiteKey). s.object.0 == o) site false
 
 -- an object knows a place just where one of its sites stands
-pub record IsSound (buckets : List Bucket) (objects : List (List Spot)) : Type 0 where
+pub record IsSound (buckets : List Bucket) (objects : List (List IndexSlot)) : Type 0 where
   pub known : (o t k : ℕ) → has_spot t k (slice_index_or objects o []) ≡ is_owner o (slot buckets t k)
 
 -- what is left at a place after these are cleared
-abbrev pub cleared_one : ℕ → ℕ → Spot → Option SiteKey → Option SiteKey
+abbrev pub cleared_one : ℕ → ℕ → IndexSlot → Option SiteKey → Option SiteKey
 cleared_one t k spot site = if is_spot t k spot then None else site
 
-abbrev pub cleared : ℕ → ℕ → List Spot → Option SiteKey → Option SiteKey
+abbrev pub cleared : ℕ → ℕ → List IndexSlot → Option SiteKey → Option SiteKey
 cleared t k spots site = if has_spot t k spots then None else site
 
 -- what a bucket has room for, and the count of what is wanted of it
@@ -77,8 +77,8 @@ abbrev pub wanted_at : List Bucket → ℕ → ℕ
 wanted_at buckets t = (slice_index_or buckets t no_bucket).wanted
 
 -- the places that an object knows, and how many more it has room for
-abbrev pub spots_at : List (Vec Spot Global) → ℕ → List Spot
-spots_at objects o = slice_index_or (map (λ (v : Vec Spot Global). v.items) objects) o []
+abbrev pub spots_at : List (Vec IndexSlot Global) → ℕ → List IndexSlot
+spots_at objects o = slice_index_or (map (λ (v : Vec IndexSlot Global). v.items) objects) o []
 
-abbrev pub spot_room : List (Vec Spot Global) → ℕ → ℕ
-spot_room objects o = slice_index_or (map (λ (v : Vec Spot Global). vec_capacity v - vec_len v) objects) o 0
+abbrev pub spot_room : List (Vec IndexSlot Global) → ℕ → ℕ
+spot_room objects o = slice_index_or (map (λ (v : Vec IndexSlot Global). vec_capacity v - vec_len v) objects) o 0

@@ -1,6 +1,6 @@
 pub mod Values
 pub mod KnownLink
-pub mod Earlier
+pub mod PreviousLinkInfo
 pub mod SymbolValues
 pub mod Sites
 pub mod Fields

@@ -1,5 +1,5 @@
 -- What the code has at hand where it goes over the input sections of a link: the link and an earlier one, and an input
--- section, before its place in the output is known, in its place, and beside the earlier link.
+-- section, before its place in the output is known, in its place, and beside the previous link.
 use Rattle.std.specs.Prelude.{◌≡◌, List, Option, None, Some, slice_get}
 use Rattle.elfobj.specs.declared.relocation.Relocation.{Relocation}
 use Rattle.ldmodel.specs.Layout.{PlacedPiece}
@@ -8,17 +8,17 @@ use Rattle.ldmodel.specs.Stayed.{GoodLink}
 use Rattle.ldmodel.specs.SymbolValues.{placed_part}
 use Rattle.ldmodel.specs.declared.sections.Part.TheVariants.{InTable}
 use Rattle.ldmodel.specs.declared.sections.SectionKey.{SectionKey}
-use Rattle.emit_relocate.specs.Earlier.{HasStayedAt, IsKept}
+use Rattle.emit_relocate.specs.PreviousLinkInfo.{HasStayedAt, IsKept}
 use Rattle.emit_relocate.specs.Fields.{sites_among}
 use Rattle.emit_relocate.specs.Filled.{EndBelow, ObjectSection}
 use Rattle.emit_relocate.specs.KnownLink.{KnownLink, named_object}
 use Rattle.emit_relocate.specs.Sites.{IsPlaced}
 use Rattle.emit_relocate.specs.SymbolValues.{HasSymbolValues, IsRow}
 use Rattle.emit_relocate.specs.declared.changed_fields.Links.{Links}
-use Rattle.emit_relocate.specs.declared.earlier.FileRange.{FileRange}
+use Rattle.emit_relocate.specs.declared.previous_link_info.FileRange.{FileRange}
 use Rattle.emit_relocate.specs.declared.input_section.InputSection.{InputSection}
-use Rattle.emit_relocate.specs.declared.moved.StayedSection.{StayedSection}
-use Rattle.emit_relocate.specs.declared.site.PlacedSection.{PlacedSection}
+use Rattle.emit_relocate.specs.declared.retargeted.StayedSection.{StayedSection}
+use Rattle.emit_relocate.specs.declared.site.PlacedInput.{PlacedInput}
 
 -- these may be the links at hand, by what the linker knows of them: `knows` of `Known`, and that of `Earlier`
 pub record AreLinks {L E : Type 0} (knows : L → KnownLink → Type 0) (knows_both : E → GoodLink → KnownLink → Type 0)
@@ -44,7 +44,7 @@ pub record IsAtHand (l : KnownLink) (m : InputSection) (s : ObjectSection) : Typ
   pub values_are : IsRow l s.object m.values.now
 
 -- an input section is that at hand, where it is in the output
-pub record IsPlacedAt (l : KnownLink) (s : ObjectSection) (m : PlacedSection) : Type 0 where
+pub record IsPlacedAt (l : KnownLink) (s : ObjectSection) (m : PlacedInput) : Type 0 where
   -- its place in the layout
   pub piece : PlacedPiece
   pub piece_is : placed_part l.layout s.object.name (InTable s.section.number) ≡ Some piece
@@ -53,15 +53,15 @@ pub record IsPlacedAt (l : KnownLink) (s : ObjectSection) (m : PlacedSection) : 
   pub section_is : IsPlaced l m s.object s.section
 
 -- it is there, or not in the output
-abbrev pub IsPlaceOf : KnownLink → ObjectSection → Option PlacedSection → Type 0
+abbrev pub IsPlaceOf : KnownLink → ObjectSection → Option PlacedInput → Type 0
 IsPlaceOf l s None = placed_part l.layout s.object.name (InTable s.section.number) ≡ None
 IsPlaceOf l s (Some m) = IsPlacedAt l s m
 
 -- a site of it, and the sites among relocations of it
-abbrev pub site_at_hand : PlacedSection → ObjectSection → Relocation → Site
+abbrev pub site_at_hand : PlacedInput → ObjectSection → Relocation → Site
 site_at_hand m s r = record { object = s.object; section = s.section; start = m.start; relocation = r }
 
-abbrev pub sites_at_hand : PlacedSection → ObjectSection → List Relocation → List Site
+abbrev pub sites_at_hand : PlacedInput → ObjectSection → List Relocation → List Site
 sites_at_hand m s rs = sites_among s.object s.section m.start rs
 
 -- the input section of a key stayed, as is known, with its bytes in this range of the file
@@ -72,7 +72,7 @@ pub record IsKeptAt (old : GoodLink) (l : KnownLink) (range : SectionKey → Opt
   -- and is so
   pub stayed : HasStayedAt old l key r
 
--- an input section is that at hand, and its symbols may have other values than in the earlier link
+-- an input section is that at hand, and its symbols may have other values than in the previous link
 pub record IsStayedAt {E : Type 0} (knows_both : E → GoodLink → KnownLink → Type 0)
     (range : E → SectionKey → Option FileRange) (m : StayedSection E) (old : GoodLink) (l : KnownLink)
     (s : ObjectSection) : Type 0 where

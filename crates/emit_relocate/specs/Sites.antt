@@ -15,10 +15,10 @@ use Rattle.ldmodel.specs.declared.fault.Fault as code
 use Rattle.ldmodel.specs.declared.names.ObjectPlace.{ObjectPlace}
 use Rattle.emit_relocate.specs.KnownLink.{KnownLink, named_object}
 use Rattle.emit_relocate.specs.SymbolValues.{IsRow}
-use Rattle.emit_relocate.specs.declared.site.PlacedSection.{PlacedSection}
+use Rattle.emit_relocate.specs.declared.site.PlacedInput.{PlacedInput}
 
 -- a section of an object, as the code has it at hand
-pub record IsPlaced (l : KnownLink) (m : PlacedSection) (o : NamedObject) (x : LinkedSection) : Type 0 where
+pub record IsPlaced (l : KnownLink) (m : PlacedInput) (o : NamedObject) (x : LinkedSection) : Type 0 where
   pub object_is : named_object l m.object ≡ Some o
   pub section_is : section_numbered o m.section ≡ Some x
   pub symbols_are : m.symbols.now ≡ map (λ (y : NamedSymbol). y.symbol) o.object.symbols
@@ -26,24 +26,24 @@ pub record IsPlaced (l : KnownLink) (m : PlacedSection) (o : NamedObject) (x : L
   pub relocations_are : m.relocations.now ≡ x.relocations
 
 -- the same by what was read of the object
-pub record IsSectionOf (o : ObjectData) (x : LinkedSection) (key : ObjectPlace) (m : PlacedSection) : Type 0 where
+pub record IsSectionOf (o : ObjectData) (x : LinkedSection) (key : ObjectPlace) (m : PlacedInput) : Type 0 where
   pub key_is : m.object ≡ key
   pub number_is : find (λ (y : LinkedSection). y.number.0 == m.section.0) o.sections ≡ Some x
   pub symbols_are : m.symbols.now ≡ map (λ (y : NamedSymbol). y.symbol) o.symbols
   pub relocations_are : m.relocations.now ≡ x.relocations
 
 -- these are entries of its table of relocations, from a number on
-abbrev pub AreEntriesFrom : PlacedSection → ℕ → List Relocation → Type 0
+abbrev pub AreEntriesFrom : PlacedInput → ℕ → List Relocation → Type 0
 AreEntriesFrom m first rs =
     (k : ℕ) (r : Relocation) → slice_get rs k ≡ Some r → slice_get m.relocations.now (first + k) ≡ Some r
 
 -- a site of it
-pub record IsSite (l : KnownLink) (m : PlacedSection) (t : Site) : Type 0 where
+pub record IsSite (l : KnownLink) (m : PlacedInput) (t : Site) : Type 0 where
   pub placed : IsPlaced l m t.object t.section
   pub start_is : t.start ≡ m.start
 
 -- that of an entry of its table
-pub record IsSiteAt (l : KnownLink) (m : PlacedSection) (entry : ℕ) (t : Site) : Type 0 where
+pub record IsSiteAt (l : KnownLink) (m : PlacedInput) (entry : ℕ) (t : Site) : Type 0 where
   pub site : IsSite l m t
   pub entry_is : slice_get m.relocations.now entry ≡ Some t.relocation
 

@@ -1,5 +1,5 @@
-//! The fields of a link that an earlier link did not have, in one flat list, those that change in sections that stayed,
-//! and the faults of relocations. Beside no earlier link these are the fields of all objects.
+//! The fields of a link that an previous link did not have, in one flat list, those that change in sections that
+//! stayed, and the faults of relocations. Beside no previous link these are the fields of all objects.
 
 ghost use Rattle.std.specs.Prelude.{◌≡◌, IfOk, OnOk, Some, [], ◌∷◌};
 ghost use Rattle.ldmodel.specs.Project.{NamedObject};
@@ -11,11 +11,11 @@ ghost use Rattle.emit_relocate.specs.KnownLink.{KnownLink, named_object};
 ghost use Rattle.emit_relocate.specs.Links.{AreLinks, IsAtHand, IsKeptAt};
 ghost use Rattle.emit_relocate.specs.SymbolValues.{HasSymbolValues};
 
-use crate::earlier::{Earlier, FileRange};
 use crate::fields::add_fields;
 use crate::input_section::InputSection;
-use crate::known::Known;
-use crate::moved::StayedSection;
+use crate::link_info::LinkInfo;
+use crate::previous_link_info::{FileRange, PreviousLinkInfo};
+use crate::retargeted::StayedSection;
 use crate::symbol_values::SymbolValues;
 use elfobj::Object;
 use elfobj::section::LinkedIndex;
@@ -41,7 +41,7 @@ pub struct ChangedFields {
     pub faults: Vec<Fault>,
 }
 
-/// The link whose relocations are evaluated, with the values of its symbols, and the earlier link beside it.
+/// The link whose relocations are evaluated, with the values of its symbols, and the previous link beside it.
 #[derive_where(Clone, Copy)]
 struct Links<'a, L, E> {
     /// The link.
@@ -52,7 +52,7 @@ struct Links<'a, L, E> {
     symbols: &'a SymbolValues,
 }
 
-impl<'a, L: Known, E: Earlier> Links<'a, L, E> {
+impl<'a, L: LinkInfo, E: PreviousLinkInfo> Links<'a, L, E> {
     /// Adds the fields of a section that did not stay: none, where it is not in the output.
     fn add_renewed(
         &self,
@@ -99,7 +99,7 @@ impl<'a, L: Known, E: Earlier> Links<'a, L, E> {
     {
         // so that the range of the count is known
         let _fields = meter.fields();
-        if !self.earlier.is_marked(section.key) {
+        if !self.earlier.is_dirty(section.key) {
             return Ok(());
         }
         match section.placed(self.link) {
@@ -213,7 +213,7 @@ impl<'a, L: Known, E: Earlier> Links<'a, L, E> {
 }
 
 /// How many relocations there are in those sections of an object that are in the output. Nearly all have a field.
-fn count_of_object<L: Known>(link: &L, key: ObjectPlace, object: &Object) -> usize {
+fn count_of_object<L: LinkInfo>(link: &L, key: ObjectPlace, object: &Object) -> usize {
     let mut count: usize = 0;
     for index in 0..object.sections().len() {
         let relocations = object.relocations(LinkedIndex(index));
@@ -226,9 +226,13 @@ fn count_of_object<L: Known>(link: &L, key: ObjectPlace, object: &Object) -> usi
     count
 }
 
-/// How many fields there will be at most, where there is no earlier link. Beside one it is 0: to know the number, each
+/// How many fields there will be at most, where there is no previous link. Beside one it is 0: to know the number, each
 /// section would have to be asked once more whether it stayed, and the list may grow as well.
-fn count_fields<L: Known, E: Earlier>(link: &L, earlier: &E, objects: &[ObjectPlace]) -> usize {
+fn count_fields<L: LinkInfo, E: PreviousLinkInfo>(
+    link: &L,
+    earlier: &E,
+    objects: &[ObjectPlace],
+) -> usize {
     if !earlier.is_none() {
         return 0;
     }
@@ -242,7 +246,7 @@ fn count_fields<L: Known, E: Earlier>(link: &L, earlier: &E, objects: &[ObjectPl
 }
 
 /// How many sections these objects have.
-fn count_sections<L: Known>(link: &L, objects: &[ObjectPlace]) -> usize {
+fn count_sections<L: LinkInfo>(link: &L, objects: &[ObjectPlace]) -> usize {
     let mut count: usize = 0;
     for key in objects {
         if let Some(object) = link.object(*key) {
@@ -253,14 +257,14 @@ fn count_sections<L: Known>(link: &L, objects: &[ObjectPlace]) -> usize {
 }
 
 /// Evaluates the relocations of input sections in the output that did not stay, and those of sections that stayed whose
-/// symbol has another value than in the earlier link. Each of these relocations counts as one; the other fields are as
+/// symbol has another value than in the previous link. Each of these relocations counts as one; the other fields are as
 /// they were. `objects` are the keys of the objects, in their order, and `symbols` has the values of their symbols.
 ///
 /// # Errors
 ///
 /// Where memory runs out; a table of 2^32 relocations or more, which no object has whose length is within the limit,
 /// counts as that.
-pub fn changed_fields<L: Known, E: Earlier>(
+pub fn changed_fields<L: LinkInfo, E: PreviousLinkInfo>(
     alloc: Global,
     link: &L,
     earlier: &E,

@@ -11,7 +11,7 @@ ghost use Rattle.emit_relocate.specs.Fields.{AreAdded, IsAdded, IsNext, IsTried,
 ghost use Rattle.emit_relocate.specs.KnownLink.{KnownLink};
 ghost use Rattle.emit_relocate.specs.Sites.{AreEntriesFrom, IsPlaced};
 
-use crate::site::{PlacedSection, evaluate, is_evaluated};
+use crate::site::{PlacedInput, evaluate, is_evaluated};
 use elfobj::Relocation;
 use emit_fields::patch::{Patch, in_order};
 use ldmodel::fault::Fault;
@@ -23,7 +23,7 @@ use std::alloc::Global;
 /// Evaluates the relocation of number `entry`: adds its field, for which there is room, or its fault.
 #[inline(always)]
 fn add_site(
-    section: &PlacedSection<'_>,
+    section: &PlacedInput<'_>,
     entry: u32,
     relocation: &Relocation,
     fields: &mut Vec<Patch>,
@@ -68,7 +68,7 @@ fn is_numbered(relocations: &[Relocation]) -> bool
 /// the only caller of `evaluate`, which is so compiled into its loop.
 #[inline(never)]
 pub(crate) fn add_sites(
-    section: &PlacedSection<'_>,
+    section: &PlacedInput<'_>,
     first: usize,
     relocations: &[Relocation],
     fields: &mut Vec<Patch>,
@@ -116,7 +116,7 @@ fn is_ascending(relocations: &[Relocation]) -> bool
 #[inline(never)]
 fn add_unordered(
     alloc: Global,
-    section: &PlacedSection<'_>,
+    section: &PlacedInput<'_>,
     fields: &mut Vec<Patch>,
     faults: &mut Vec<Fault>,
     meter: &mut Meter,
@@ -143,7 +143,7 @@ fn add_unordered(
 /// counts as that.
 pub fn add_fields(
     alloc: Global,
-    section: &PlacedSection<'_>,
+    section: &PlacedInput<'_>,
     fields: &mut Vec<Patch>,
     faults: &mut Vec<Fault>,
     meter: &mut Meter,

@@ -10,7 +10,7 @@ ghost use Rattle.emit_relocate.specs.declared.index.TargetSite.{TargetSite};
 ghost use Rattle.ldmodel.specs.declared.names.ObjectPlace.{ObjectPlace};
 
 use crate::bucket::Bucket;
-use crate::walk::Sites;
+use crate::sites_of_target::Sites;
 use elfobj::section::SectionIndex;
 use ldmodel::fault::SiteKey;
 use ldmodel::memory::NoMemory;
@@ -36,7 +36,7 @@ pub struct TargetSite {
 
 /// Where a site stands in the index.
 #[derive(Clone, Copy, Debug, PartialEq, Eq)]
-pub struct Spot {
+pub struct IndexSlot {
     target: usize,
     place: usize,
 }
@@ -46,7 +46,7 @@ pub struct Spot {
 pub struct Index {
     alloc: Global,
     targets: Vec<Bucket>,
-    objects: Vec<Vec<Spot>>,
+    objects: Vec<Vec<IndexSlot>>,
 }
 
 impl Model for Index {
@@ -66,7 +66,7 @@ impl Model for Index {
 }
 
 /// Takes the site at a place out of its target.
-fn remove_one(targets: &mut Vec<Bucket>, spot: Spot)
+fn remove_one(targets: &mut Vec<Bucket>, spot: IndexSlot)
     ensures slots { (t k : ℕ) → slot targets.new.items t k ≡ cleared_one t k spot (slot targets.old.items t k) }
     ensures lengths { (t : ℕ) → length (slots_at targets.new.items t) ≡ length (slots_at targets.old.items t) }
     ensures rooms { (t : ℕ) → room_at targets.old.items t ≤ room_at targets.new.items t }
@@ -78,7 +78,7 @@ fn remove_one(targets: &mut Vec<Bucket>, spot: Spot)
 }
 
 /// Takes the sites at these places out of their targets.
-fn remove_all(targets: &mut Vec<Bucket>, spots: &[Spot])
+fn remove_all(targets: &mut Vec<Bucket>, spots: &[IndexSlot])
     ensures slots { (t k : ℕ) → slot targets.new.items t k ≡ cleared t k spots.now (slot targets.old.items t k) }
     ensures lengths { (t : ℕ) → length (slots_at targets.new.items t) ≡ length (slots_at targets.old.items t) }
     ensures rooms { (t : ℕ) → room_at targets.old.items t ≤ room_at targets.new.items t }
@@ -151,7 +151,11 @@ fn reserve_targets(
 }
 
 /// Makes a list for each object up to this one.
-fn grow_objects(objects: &mut Vec<Vec<Spot>>, alloc: Global, object: usize) -> Result<(), NoMemory>
+fn grow_objects(
+    objects: &mut Vec<Vec<IndexSlot>>,
+    alloc: Global,
+    object: usize,
+) -> Result<(), NoMemory>
     ensures spots { (o : ℕ) → spots_at objects.new.items o ≡ spots_at objects.old.items o }
     ensures there { OnOk result (object < length objects.new.items) }
 {
@@ -163,7 +167,7 @@ fn grow_objects(objects: &mut Vec<Vec<Spot>>, alloc: Global, object: usize) -> R
 
 /// Makes room for these sites with their object.
 fn reserve_object(
-    objects: &mut Vec<Vec<Spot>>,
+    objects: &mut Vec<Vec<IndexSlot>>,
     alloc: Global,
     object: usize,
     count: usize,
@@ -247,7 +251,9 @@ impl Index {
             section: site.section,
             entry: site.entry,
         });
-        self.objects[object.0].push(Spot { target, place }).unwrap();
+        self.objects[object.0]
+            .push(IndexSlot { target, place })
+            .unwrap();
     }
 
     /// Adds sites of an object, for which there is room. It takes no memory.

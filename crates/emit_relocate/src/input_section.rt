@@ -7,8 +7,8 @@ ghost use Rattle.ldmodel.specs.Project.{NamedObject};
 ghost use Rattle.emit_relocate.specs.KnownLink.{KnownLink, named_object};
 ghost use Rattle.emit_relocate.specs.SymbolValues.{IsRow};
 
-use crate::known::Known;
-use crate::site::PlacedSection;
+use crate::link_info::LinkInfo;
+use crate::site::PlacedInput;
 use crate::value::SymbolValue;
 use elfobj::Object;
 use elfobj::section::LinkedIndex;
@@ -66,7 +66,7 @@ impl<'a> InputSection<'a> {
     }
 
     /// Where it is in the output, if it is there.
-    pub fn placed<L: Known>(&self, link: &L) -> Option<PlacedSection<'a>>
+    pub fn placed<L: LinkInfo>(&self, link: &L) -> Option<PlacedInput<'a>>
         ensures key { IfSome result (λ m. m.object ≡ self.now.key) }
         ensures apart { IfSome result (λ m. AreApart m.relocations.now) }
         ensures below { IfSome result (λ m. All (λ r. m.start + r.offset < 2 ^ 64) m.relocations.now) }
@@ -81,7 +81,7 @@ impl<'a> InputSection<'a> {
                     // no layout has a section past the end of the address space
                     return None;
                 }
-                Some(PlacedSection::new(self.key, self.object, self.index, start, self.values))
+                Some(PlacedInput::new(self.key, self.object, self.index, start, self.values))
             }
         }
     }

@@ -1,4 +1,4 @@
-//! Laws of what is evaluated beside an earlier link.
+//! Laws of what is evaluated beside an previous link.
 
 ghost use Rattle.std.specs.Prelude.{◌≡◌, ◌+◌, ◌++◌, All, None, Option, [], length};
 ghost use Rattle.std.specs.List.{filter_map};
@@ -11,18 +11,18 @@ ghost use Rattle.ldmodel.specs.WorkBound.{sites_outside};
 ghost use Rattle.ldmodel.specs.declared.sections.SectionKey.{SectionKey};
 ghost use Rattle.elfobj.specs.declared.meter.Count.TheVariants.{Fields};
 ghost use Rattle.emit_relocate.specs.Changes.{AreChanged, AreFilled, Results};
-ghost use Rattle.emit_relocate.specs.Earlier.{IsComplete, good_link};
+ghost use Rattle.emit_relocate.specs.PreviousLinkInfo.{IsComplete, good_link};
 ghost use Rattle.emit_relocate.specs.Fields.{fault_at, faults_of};
 ghost use Rattle.emit_relocate.specs.Filled.{sections_in};
 ghost use Rattle.emit_relocate.specs.KnownLink.{KnownLink};
 ghost use Rattle.emit_relocate.specs.Patched.{AreAllPatched, AreFew, AreOfProfile, AreSized, IsPatchOfSite};
-ghost use Rattle.emit_relocate.specs.declared.earlier.FileRange.{FileRange};
+ghost use Rattle.emit_relocate.specs.declared.previous_link_info.FileRange.{FileRange};
 
 use ldmodel_laws::stayed::{
     fields_in_image, sites_by_piece, stayed_by_part, stayed_in_both, unmoved_sites,
 };
 
-/// Where nothing is known to have stayed all is evaluated, as without an earlier link.
+/// Where nothing is known to have stayed all is evaluated, as without an previous link.
 pub fn all_is_evaluated()
     ensures { (old : GoodLink) (l : KnownLink) (range : SectionKey → Option FileRange) (a b : Results)
         → AreChanged old l range (sections_in l.project.objects) a b → ((key : SectionKey) → range key ≡ None)

@@ -26,7 +26,7 @@ use ldmodel::names::ObjectPlace;
 
 /// An input section in the output, with what its relocations need.
 #[derive(Clone, Copy, Debug)]
-pub struct PlacedSection<'a> {
+pub struct PlacedInput<'a> {
     /// The object of the section.
     pub object: ObjectPlace,
     /// The number of the section among the section headers.
@@ -41,7 +41,7 @@ pub struct PlacedSection<'a> {
     pub relocations: &'a [Relocation],
 }
 
-impl<'a> PlacedSection<'a> {
+impl<'a> PlacedInput<'a> {
     /// A section of an object that starts at an address. `values` are the values of the object's symbols.
     pub fn new(
         key: ObjectPlace,
@@ -49,7 +49,7 @@ impl<'a> PlacedSection<'a> {
         index: LinkedIndex,
         start: u64,
         values: &'a [SymbolValue],
-    ) -> PlacedSection<'a>
+    ) -> PlacedInput<'a>
         requires { index.0 < length object.now.sections }
         ensures start { result.start ≡ start }
         ensures values { result.values.now ≡ values.now }
@@ -60,7 +60,7 @@ impl<'a> PlacedSection<'a> {
             → All (λ r. field_end r ≤ x.size) result.relocations.now }
     {
         let section = object.sections()[index.0];
-        PlacedSection {
+        PlacedInput {
             object: key,
             section: section.number,
             start,
@@ -79,7 +79,7 @@ pub fn is_evaluated(kind: RelocationKind) -> bool
 }
 
 /// The value of the symbol that a relocation of a section names.
-pub fn site_value(section: &PlacedSection<'_>, symbol: SymbolIndex) -> SymbolValue
+pub fn site_value(section: &PlacedInput<'_>, symbol: SymbolIndex) -> SymbolValue
     ensures { (l : KnownLink) (t : Site) → IsSite l section.now t → t.relocation.symbol ≡ symbol
         → value_of result ≡ site_value l.project l.layout t }
 {
@@ -91,7 +91,7 @@ pub fn site_value(section: &PlacedSection<'_>, symbol: SymbolIndex) -> SymbolVal
 }
 
 /// The key of the relocation of number `entry` of a section.
-fn site_key(section: &PlacedSection<'_>, entry: u32) -> SiteKey
+fn site_key(section: &PlacedInput<'_>, entry: u32) -> SiteKey
     ensures { result ≡ record { object = section.now.object; section = section.now.section; entry = entry } }
 {
     SiteKey {
@@ -103,7 +103,7 @@ fn site_key(section: &PlacedSection<'_>, entry: u32) -> SiteKey
 
 /// The field of a relocation of number `entry` against a symbol of a value; or its fault.
 fn field_with(
-    section: &PlacedSection<'_>,
+    section: &PlacedInput<'_>,
     entry: u32,
     relocation: &Relocation,
     value: SymbolValue,
@@ -140,7 +140,7 @@ fn field_with(
 /// The field of a relocation of number `entry`, in its place; or its fault. The call counts one relocation, where the
 /// symbol has a value.
 pub fn evaluate(
-    section: &PlacedSection<'_>,
+    section: &PlacedInput<'_>,
     entry: u32,
     relocation: &Relocation,
     meter: &mut Meter,

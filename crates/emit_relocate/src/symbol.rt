@@ -11,7 +11,7 @@ ghost use Rattle.emit_relocate.specs.KnownLink.{AreNameValues, IsEntryCase, IsNa
 ghost use Rattle.emit_relocate.specs.KnownLink.{name_of_object};
 ghost use Rattle.emit_relocate.specs.Values.{value_of};
 
-use crate::known::Known;
+use crate::link_info::LinkInfo;
 use crate::value::{SymbolValue, address_from};
 use elfobj::relocation::SymbolIndex;
 use elfobj::symbol::{Symbol, SymbolPlace};
@@ -23,7 +23,7 @@ use std::alloc::Global;
 
 /// The value of a symbol of an object by its own entry (gABI, "Symbol Values"): an address in its section, its number,
 /// or 0 for the null entry.
-pub fn own_value<L: Known>(link: &L, object: ObjectPlace, symbol: &Symbol) -> SymbolValue
+pub fn own_value<L: LinkInfo>(link: &L, object: ObjectPlace, symbol: &Symbol) -> SymbolValue
     ensures { (l : KnownLink) → L.knows link.now l → value_of result
         ≡ own_value l.layout (name_of_object l object) symbol.now.place symbol.now.value }
 {
@@ -39,7 +39,7 @@ pub fn own_value<L: Known>(link: &L, object: ObjectPlace, symbol: &Symbol) -> Sy
 }
 
 /// The value of the symbol of an entry, if there is such an entry.
-fn entry_value<L: Known>(link: &L, entry: Entry) -> SymbolValue
+fn entry_value<L: LinkInfo>(link: &L, entry: Entry) -> SymbolValue
     ensures { (l : KnownLink) → L.knows link.now l → value_of result
         ≡ entry_value l.project l.layout (entry_of l.number entry) }
 {
@@ -54,7 +54,7 @@ fn entry_value<L: Known>(link: &L, entry: Entry) -> SymbolValue
 }
 
 /// The address of the common block that an entry owns.
-fn common_value<L: Known>(link: &L, owner: Entry) -> SymbolValue
+fn common_value<L: LinkInfo>(link: &L, owner: Entry) -> SymbolValue
     ensures { (l : KnownLink) → L.knows link.now l → value_of result ≡ common_value l (entry_of l.number owner) }
 {
     let object = ObjectPlace(owner.key);
@@ -73,7 +73,7 @@ fn given_value(given: Option<u64>) -> SymbolValue
 }
 
 /// The value of a name, by what it stands for and the value that the script gives it.
-fn decided_value<L: Known>(link: &L, case: Case, given: Option<u64>) -> SymbolValue
+fn decided_value<L: LinkInfo>(link: &L, case: Case, given: Option<u64>) -> SymbolValue
     ensures { (l : KnownLink) → L.knows link.now l → (name : List ℕ) → given ≡ script_value l.layout name
         → value_of result ≡ decided_value l.project l.layout name (decision_of l.number case) }
 {
@@ -87,7 +87,7 @@ fn decided_value<L: Known>(link: &L, case: Case, given: Option<u64>) -> SymbolVa
 
 /// The value of the entry symbol, `e_entry`: 0 where there is none. It stands for `case`, and the script gives it the
 /// value `given`, if any.
-pub fn entry_point<L: Known>(link: &L, case: Option<Case>, given: Option<u64>) -> SymbolValue
+pub fn entry_point<L: LinkInfo>(link: &L, case: Option<Case>, given: Option<u64>) -> SymbolValue
     ensures { (l : KnownLink) → L.knows link.now l → IsEntryCase l case given → value_of result
         ≡ entry_point l.project l.layout }
 {
@@ -110,7 +110,7 @@ pub fn entry_fault(value: SymbolValue) -> Option<Fault>
 }
 
 /// The value of the name of a key.
-pub fn name_value<L: Known>(link: &L, name: NameKey) -> SymbolValue
+pub fn name_value<L: LinkInfo>(link: &L, name: NameKey) -> SymbolValue
     ensures { (l : KnownLink) → L.knows link.now l → IsNameValueOf l name (value_of result) }
 {
     match link.case(name) {
@@ -120,7 +120,7 @@ pub fn name_value<L: Known>(link: &L, name: NameKey) -> SymbolValue
 }
 
 /// The values of all names, each under its key. What stands under a key of no name has no meaning.
-pub fn name_values<L: Known>(alloc: Global, link: &L) -> Result<Vec<SymbolValue>, NoMemory>
+pub fn name_values<L: LinkInfo>(alloc: Global, link: &L) -> Result<Vec<SymbolValue>, NoMemory>
     ensures { IfOk result (λ v. (l : KnownLink) → L.knows link.now l → AreNameValues l v.items) }
 {
     let limit = link.name_limit();

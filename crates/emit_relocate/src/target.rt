@@ -10,7 +10,7 @@ ghost use Rattle.ldmodel.specs.Targets as model;
 ghost use Rattle.emit_relocate.specs.KnownLink.{AreNameValues, IsSymbolOf, KnownLink, named_target, value_under};
 ghost use Rattle.emit_relocate.specs.Values.{value_of};
 
-use crate::known::Known;
+use crate::link_info::LinkInfo;
 use crate::symbol::own_value;
 use crate::value::SymbolValue;
 use elfobj::relocation::SymbolIndex;
@@ -34,7 +34,7 @@ fn is_weak(binding: Binding) -> bool
 }
 
 /// What the value of a symbol of an object depends on: its name; the section that a local one lies in; or nothing.
-pub fn target_of<L: Known>(
+pub fn target_of<L: LinkInfo>(
     link: &L,
     object: ObjectPlace,
     index: SymbolIndex,
@@ -65,7 +65,7 @@ fn value_under(values: &[SymbolValue], name: NameKey) -> SymbolValue
 /// The number of a target: the value of a name, where one without a number counts as 0, or the address of a section.
 /// `values` are the values of all names. While the number of a target stays the same, so do the fields of all
 /// relocations against it.
-pub fn target_number<L: Known>(link: &L, values: &[SymbolValue], target: Target) -> u64
+pub fn target_number<L: LinkInfo>(link: &L, values: &[SymbolValue], target: Target) -> u64
     ensures { (l : KnownLink) → L.knows link.now l → AreNameValues l values.now → (t : model.Target)
         → named_target l target ≡ Some t → result ≡ target_number l.project l.layout t }
 {
@@ -80,7 +80,7 @@ pub fn target_number<L: Known>(link: &L, values: &[SymbolValue], target: Target)
 }
 
 /// S, the value of a symbol that a relocation of its object names. `values` are the values of all names.
-pub fn referenced_value<L: Known>(
+pub fn referenced_value<L: LinkInfo>(
     link: &L,
     values: &[SymbolValue],
     object: ObjectPlace,

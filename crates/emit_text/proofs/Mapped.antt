@@ -6,8 +6,8 @@ use Rattle.std.specs.Prelude.{Contains}
 use Rattle.std.specs.Vec.{vec_items}
 use Rattle.ldscript.specs.Numbering.{OutputSectionAt, output_sections}
 use Rattle.ldscript.specs.Numbered.{shown_sections}
-use Rattle.ldmodel.specs.Layout.{Layout, PlacedPiece, PlacedSection}
-use Rattle.ldmodel.specs.Lent.{placed_of, starts_of}
+use Rattle.ldmodel.specs.Layout.{Layout, PlacedPiece, PlacedOutput}
+use Rattle.ldmodel.specs.PlacementView.{placed_of, starts_of}
 use Rattle.ldmodel.specs.Lines.{line_of, hex}
 use Rattle.ldmodel.specs.MapText.{map_text, entry_line, section_lines, piece_line, symbol_line, value_word}
 use Rattle.ldmodel.specs.Names.{Decision, decision, declared_names}
@@ -58,7 +58,7 @@ starts_left p number (y ∷ ys) (x ∷ xs) rest e =
     let tail : shown_row p number xs ≡ map (λ (z : PlacedPiece). z.piece) ys = cc in
     starts_left p number ys xs rest tail
 
-sections_same : (p : Project) (number : ℕ → ℕ) (qs : List PlacedSection) (os : List OutputSectionAt)
+sections_same : (p : Project) (number : ℕ → ℕ) (qs : List PlacedOutput) (os : List OutputSectionAt)
     (rows : List (List Piece)) → map name_of qs ≡ map name_in os
     → map (shown_row p number) rows ≡ map row_of qs
     → sections_text p number (map placed_of qs) os rows (flat_map starts_of qs) ≡ flat_map section_lines qs

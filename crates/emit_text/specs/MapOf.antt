@@ -5,8 +5,8 @@ use Rattle.ldscript.specs.Numbered.{shown_sections}
 use Rattle.ldscript.specs.Numbering.{OutputSectionAt, output_sections}
 use Rattle.ldmodel.specs.FaultCode.{name_of_part}
 use Rattle.ldmodel.specs.HandedOver.{decision_of, piece_of}
-use Rattle.ldmodel.specs.Layout.{Layout, PlacedPiece, PlacedSection}
-use Rattle.ldmodel.specs.Lent.{IsPlacementView}
+use Rattle.ldmodel.specs.Layout.{Layout, PlacedPiece, PlacedOutput}
+use Rattle.ldmodel.specs.PlacementView.{IsPlacementView}
 use Rattle.ldmodel.specs.NameFaults.{object_name}
 use Rattle.ldmodel.specs.Names.{declared_names, decision}
 use Rattle.ldmodel.specs.OutputSymbols.{is_before, is_defined}
@@ -28,10 +28,10 @@ abbrev pub shown_row : Project → (number : ℕ → ℕ) → List Piece → Lis
 shown_row p number row = map (shown_piece p number) row
 
 -- the entries of the row of an output section
-abbrev pub row_of : PlacedSection → List model.Piece
+abbrev pub row_of : PlacedOutput → List model.Piece
 row_of q = map (λ (x : PlacedPiece). x.piece) q.pieces
 
-abbrev pub name_of : PlacedSection → List ℕ
+abbrev pub name_of : PlacedOutput → List ℕ
 name_of q = q.name
 
 abbrev pub name_in : OutputSectionAt → List ℕ

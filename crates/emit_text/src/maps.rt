@@ -152,7 +152,7 @@ fn likely_size(parts: &MapParts<'_>) -> usize {
 /// # Errors
 ///
 /// Where there is no memory for the text, the only memory that it takes.
-pub fn map_text<M: Members>(
+pub fn render_map<M: Members>(
     alloc: Global,
     parts: &MapParts<'_>,
     members: &M,

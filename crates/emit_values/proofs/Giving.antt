@@ -14,7 +14,7 @@ use Rattle.ldscript.specs.statements.Numbering.{DirectiveAt, all_directives}
 use Rattle.ldscript.specs.statements.declared.numbering.DirectiveAt as code_directive
 use Rattle.ldscript.specs.statements.declared.statement.Statement.{Statement}
 use Rattle.ldmodel.specs.Layout.{Layout, ScriptSymbol}
-use Rattle.ldmodel.specs.Lent.{given_name, name_given_by, symbol_of}
+use Rattle.ldmodel.specs.PlacementView.{given_name, name_given_by, symbol_of}
 use Rattle.ldmodel.specs.declared.script_symbol.ScriptSymbol as code
 use Rattle.symres.specs.Decided.{HasCase}
 use Rattle.symres.specs.SymbolTable.{SymbolTableState}

@@ -9,8 +9,8 @@ use Rattle.ldscript.specs.statements.Given.{region_from, section_from}
 use Rattle.ldscript.specs.statements.Numbering.{OutputSectionAt, output_sections, regions}
 use Rattle.ldscript.specs.statements.declared.statement.Region.{Region}
 use Rattle.ldmodel.specs.Assertions.{final_scope, number_if_any}
-use Rattle.ldmodel.specs.Layout.{Layout, MemoryRegion, PlacedSection}
-use Rattle.ldmodel.specs.Lent.{IsPlacementView, placed_of, region_of}
+use Rattle.ldmodel.specs.Layout.{Layout, MemoryRegion, PlacedOutput}
+use Rattle.ldmodel.specs.PlacementView.{IsPlacementView, placed_of, region_of}
 use Rattle.ldmodel.specs.Names.{declared_names, decision}
 use Rattle.ldmodel.specs.OutputSymbols as model
 use Rattle.ldmodel.specs.OutputSymbols.{in_byte_order, is_defined, output_symbol, output_symbols}
@@ -150,32 +150,32 @@ section_later n (o ∷ os) name = go (bytes_eq name o.section.name) (section_lat
     go true e = refl
     go false e = e
 
-section_found : (qs : List PlacedSection) (os : List OutputSectionAt) (name : Name)
-    → map (λ (q : PlacedSection). q.name) qs ≡ map (λ (o : OutputSectionAt). o.section.name) os
+section_found : (qs : List PlacedOutput) (os : List OutputSectionAt) (name : Name)
+    → map (λ (q : PlacedOutput). q.name) qs ≡ map (λ (o : OutputSectionAt). o.section.name) os
     → option_map code.section_numbers (numbered (map placed_of qs) (section_from 0 os name))
-    ≡ option_map (λ (q : PlacedSection). record { start = q.start; load = q.load; size = q.size })
-    (find (λ (q : PlacedSection). bytes_eq q.name name) qs)
+    ≡ option_map (λ (q : PlacedOutput). record { start = q.start; load = q.load; size = q.size })
+    (find (λ (q : PlacedOutput). bytes_eq q.name name) qs)
 section_found [] [] name same = refl
 section_found [] (o ∷ os) name same = absurd (cc)
 section_found (q ∷ qs) [] name same = absurd (cc)
 section_found (q ∷ qs) (o ∷ os) name same =
     let one : q.name ≡ o.section.name = cc in
-    let others : map (λ (x : PlacedSection). x.name) qs ≡ map (λ (x : OutputSectionAt). x.section.name) os = cc in
+    let others : map (λ (x : PlacedOutput). x.name) qs ≡ map (λ (x : OutputSectionAt). x.section.name) os = cc in
     go (bytes_eq name o.section.name) refl one (section_found qs os name others)
   where
     go : (b : Bool) → bytes_eq name o.section.name ≡ b → q.name ≡ o.section.name
         → option_map code.section_numbers (numbered (map placed_of qs) (section_from 0 os name))
-        ≡ option_map (λ (x : PlacedSection). record { start = x.start; load = x.load; size = x.size })
-        (find (λ (x : PlacedSection). bytes_eq x.name name) qs)
+        ≡ option_map (λ (x : PlacedOutput). record { start = x.start; load = x.load; size = x.size })
+        (find (λ (x : PlacedOutput). bytes_eq x.name name) qs)
         → option_map code.section_numbers (numbered (map placed_of (q ∷ qs)) (section_from 0 (o ∷ os) name))
-        ≡ option_map (λ (x : PlacedSection). record { start = x.start; load = x.load; size = x.size })
-        (find (λ (x : PlacedSection). bytes_eq x.name name) (q ∷ qs))
+        ≡ option_map (λ (x : PlacedOutput). record { start = x.start; load = x.load; size = x.size })
+        (find (λ (x : PlacedOutput). bytes_eq x.name name) (q ∷ qs))
     go true e one h =
         ap (λ (b : Bool). option_map code.section_numbers (numbered (map placed_of (q ∷ qs))
         (cond b (Some 0) (section_from 1 os name)))) e
         ∙ sym (ap (λ (b : Bool).
-        option_map (λ (x : PlacedSection). record { start = x.start; load = x.load; size = x.size })
-        (cond b (Some q) (find (λ (x : PlacedSection). bytes_eq x.name name) qs)))
+        option_map (λ (x : PlacedOutput). record { start = x.start; load = x.load; size = x.size })
+        (cond b (Some q) (find (λ (x : PlacedOutput). bytes_eq x.name name) qs)))
         (ap (λ (n : Name). bytes_eq n name) one ∙ flip name o.section.name true e))
     go false e one h =
         ap (λ (b : Bool). option_map code.section_numbers (numbered (map placed_of (q ∷ qs))
@@ -185,8 +185,8 @@ section_found (q ∷ qs) (o ∷ os) name same =
         ∙ (ap (option_map code.section_numbers) (next (placed_of q) (map placed_of qs) (section_from 0 os name))
         ∙ (h
         ∙ sym (ap (λ (b : Bool).
-        option_map (λ (x : PlacedSection). record { start = x.start; load = x.load; size = x.size })
-        (cond b (Some q) (find (λ (x : PlacedSection). bytes_eq x.name name) qs)))
+        option_map (λ (x : PlacedOutput). record { start = x.start; load = x.load; size = x.size })
+        (cond b (Some q) (find (λ (x : PlacedOutput). bytes_eq x.name name) qs)))
         (ap (λ (n : Name). bytes_eq n name) one ∙ flip name o.section.name false e)))))
 
 region_later : (n : ℕ) (rs : List Region) (name : Name) → region_from (suc n) rs name

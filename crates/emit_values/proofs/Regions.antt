@@ -7,7 +7,7 @@ use Rattle.ldscript.specs.statements.declared.section.OutputSection.{OutputSecti
 use Rattle.ldscript.specs.statements.declared.statement.Region.{Region}
 use Rattle.ldscript.specs.statements.declared.statement.Statement.{Statement}
 use Rattle.ldmodel_laws.specs.Traces.{AddsSection, Trace, all_added, nothing_added, region_added, section_added}
-use Rattle.ldmodel.specs.Layout.{Layout, MemoryRegion, PlacedSection, nothing_placed}
+use Rattle.ldmodel.specs.Layout.{Layout, MemoryRegion, PlacedOutput, nothing_placed}
 use Rattle.ldmodel.specs.Placement.{freed_from, load_region, placed_section}
 
 -- the names of the regions so far
@@ -33,7 +33,7 @@ freed_names (Some name) next (r ∷ rs) = by_case (bytes_eq r.name name) (freed_
 -- an output section adds none
 names_stay : (s : Layout) (o : OutputSection) (t : Layout) → AddsSection s o t → names t ≡ names s
 names_stay s o t h =
-    let q : PlacedSection = placed_section o h.head h.last in
+    let q : PlacedOutput = placed_section o h.head h.last in
     ap names (sym h.after)
     ∙ freed_names (load_region o.load) (q.load + q.load_size)
     (freed_from o.region (q.start + q.size) h.last.layout.regions)

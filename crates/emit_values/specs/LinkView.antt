@@ -4,7 +4,7 @@ use Rattle.ldmodel.specs.Layout.{Layout, script_value}
 use Rattle.ldmodel.specs.Project.{Project}
 use Rattle.symres.specs.Decided.{HasCase}
 use Rattle.symres.specs.SymbolTable.{IsSymbolTable, SymbolTableState}
-use Rattle.place.specs.Arranged.{IsArranged}
+use Rattle.place.specs.IndexedLayout.{IsIndexedLayout}
 use Rattle.emit_relocate.specs.KnownLink.{KnownLink}
 use Rattle.emit_values.specs.declared.link_view.LinkView.{LinkView}
 
@@ -17,7 +17,7 @@ pub record IsLinkView (l : KnownLink) (v : LinkView) : Type 0 where
   pub project : l.project ≡ v.project.now
   pub link : l ≡ known_link l.project l.layout v.symbol_table.now
   pub symbol_table : IsSymbolTable l.project v.symbol_table.now
-  pub arranged : IsArranged l.project l.layout v.arranged.now
+  pub indexed_layout : IsIndexedLayout l.project l.layout v.indexed_layout.now
   pub given : (k : ℕ) (name : List ℕ) → l.name k ≡ Some name
       → slice_index_or v.given.items k None ≡ script_value l.layout name
   pub cases : (k : ℕ) (name : List ℕ) → l.name k ≡ Some name → HasCase v.symbol_table.now.cases k

@@ -7,7 +7,7 @@ ghost use Rattle.ldmodel.specs.Live.{symbol_at};
 ghost use Rattle.ldmodel.specs.NameFaults.{object_name};
 ghost use Rattle.ldmodel.specs.Project.{Project};
 ghost use Rattle.ldmodel.specs.SymbolValues.{placed_part};
-ghost use Rattle.place.specs.Arranged.{IsArranged};
+ghost use Rattle.place.specs.IndexedLayout.{IsIndexedLayout};
 ghost use Rattle.emit_relocate.specs.KnownLink.{IsCaseOf, IsNameOf, IsScriptValueOf, KnownLink, object_of, start_of};
 ghost use Rattle.emit_values.specs.LinkView.{IsLinkView};
 ghost use Rattle.emit_values.specs.Seen.{is_seen};
@@ -15,11 +15,11 @@ ghost use Rattle.emit_values.specs.Seen.{is_seen};
 use crate::link_view::LinkView;
 use elfobj::Object;
 use elfobj::relocation::SymbolIndex;
-use emit_relocate::known::Known;
+use emit_relocate::link_info::LinkInfo;
 use ldmodel::names::{Case, NameKey, ObjectPlace};
 use ldmodel::sections::SectionKey;
 use ldmodel_project::view::ProjectView;
-use place::arranged::Arranged;
+use place::indexed_layout::IndexedLayout;
 use symres::declaring::declares;
 
 /// Whether there is a symbol that isn't local.
@@ -36,17 +36,17 @@ fn sees(project: &ProjectView<'_>, object: ObjectPlace, symbol: SymbolIndex) -> 
 }
 
 /// Where an input section arranged, if it is in the output.
-fn start_in(arranged: &Arranged, section: SectionKey) -> Option<u64>
-    ensures { (p : Project) (s : Layout) → IsArranged p s arranged.now → result
+fn start_in(indexed_layout: &IndexedLayout, section: SectionKey) -> Option<u64>
+    ensures { (p : Project) (s : Layout) → IsIndexedLayout p s indexed_layout.now → result
         ≡ option_map (λ (x : PlacedPiece). x.start) (placed_part s (object_name p section.object.0) section.part) }
 {
-    match arranged.find(section) {
+    match indexed_layout.find(section) {
         None => None,
         Some(place) => Some(place.start),
     }
 }
 
-impl<'a, 'p> Known for LinkView<'a, 'p> {
+impl<'a, 'p> LinkInfo for LinkView<'a, 'p> {
     ghost knows = { λ v l. IsLinkView l v };
 
     fn object(&self, key: ObjectPlace) -> Option<&Object> {
@@ -54,7 +54,7 @@ impl<'a, 'p> Known for LinkView<'a, 'p> {
     }
 
     fn start(&self, section: SectionKey) -> Option<u64> {
-        start_in(self.arranged, section)
+        start_in(self.indexed_layout, section)
     }
 
     fn name_key(&self, object: ObjectPlace, symbol: SymbolIndex) -> NameKey {

@@ -3,14 +3,14 @@
 ghost use Rattle.std.specs.Prelude.{◌≡◌, IfOk};
 ghost use Rattle.ldmodel.specs.Layout.{Layout};
 ghost use Rattle.symres.specs.SymbolTable.{IsSymbolTable};
-ghost use Rattle.place.specs.Arranged.{IsArranged};
+ghost use Rattle.place.specs.IndexedLayout.{IsIndexedLayout};
 ghost use Rattle.emit_values.specs.Seen.{AreSeen};
 
 use crate::given::GivenValues;
 use crate::given_table::given_table;
 use ldmodel::memory::NoMemory;
 use ldmodel_project::view::ProjectView;
-use place::arranged::Arranged;
+use place::indexed_layout::IndexedLayout;
 use std::alloc::Global;
 use symres::SymbolTable;
 
@@ -19,7 +19,7 @@ use symres::SymbolTable;
 pub struct LinkView<'a, 'p> {
     pub(crate) project: &'a ProjectView<'p>,
     pub(crate) symbol_table: &'a SymbolTable,
-    pub(crate) arranged: &'a Arranged,
+    pub(crate) indexed_layout: &'a IndexedLayout,
     // what the script gives the name of each key
     pub(crate) given: Vec<Option<u64>>,
     ghost seen: { AreSeen project.now symbol_table.now },
@@ -29,7 +29,7 @@ impl<'a, 'p> LinkView<'a, 'p> {
     ghost use Rattle.emit_values.specs.ScriptValues.{AreScriptValues};
     ghost use Rattle.emit_values.specs.LinkView.{IsLinkView, known_link};
 
-    /// The link of a project with these names, at the layout of `arranged` and `given`.
+    /// The link of a project with these names, at the layout of `indexed_layout` and `given`.
     ///
     /// # Errors
     ///
@@ -38,18 +38,19 @@ impl<'a, 'p> LinkView<'a, 'p> {
         alloc: Global,
         project: &'a ProjectView<'p>,
         symbol_table: &'a SymbolTable,
-        arranged: &'a Arranged,
+        indexed_layout: &'a IndexedLayout,
         given: &GivenValues<'_>,
     ) -> Result<LinkView<'a, 'p>, NoMemory>
         requires { IsSymbolTable project.now symbol_table.now }
         ensures { IfOk result (λ v. (s : Layout) → AreScriptValues s given.now.values
-            → IsArranged project.now s arranged.now → IsLinkView (known_link project.now s symbol_table.now) v) }
+            → IsIndexedLayout project.now s indexed_layout.now
+            → IsLinkView (known_link project.now s symbol_table.now) v) }
     {
         let given = given_table(alloc, symbol_table, &given.values)?;
         Ok(LinkView {
             project,
             symbol_table,
-            arranged,
+            indexed_layout,
             given,
         })
     }

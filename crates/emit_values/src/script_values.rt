@@ -4,7 +4,7 @@ ghost use Rattle.std.specs.Prelude.{◌≡◌, ◌∷◌, ◌++◌, [], List, If
 ghost use Rattle.ldscript.specs.statements.Numbering.{all_directives};
 ghost use Rattle.ldscript.specs.statements.declared.statement.Statement.{Statement};
 ghost use Rattle.ldmodel.specs.Layout as layout;
-ghost use Rattle.ldmodel.specs.Lent.{given_name, symbol_of};
+ghost use Rattle.ldmodel.specs.PlacementView.{given_name, symbol_of};
 ghost use Rattle.place.specs.sections.Places.{AreOf};
 ghost use Rattle.place.specs.terms.LayoutSymbols.{AreValuesOf, IsFound};
 ghost use Rattle.emit_values.specs.ScriptValues.{AreScriptValues, value_in};
@@ -14,7 +14,7 @@ use ldmodel::script_symbol::ScriptSymbol;
 use ldscript::Script;
 use ldscript::tree::Directive;
 use place::Placement;
-use place::terms::commands::number_in;
+use place::terms::directives_by_name::number_in;
 use std::alloc::Global;
 
 /// The values that a script gives names, under the numbers of its commands.

@@ -12,7 +12,7 @@ use Rattle.ldscript.specs.statements.Numbering.{InputStatementAt, input_statemen
 use Rattle.ldscript.specs.statements.declared.statement.Statement.{Statement}
 use Rattle.ldmodel.specs.FaultCode.{name_of_part}
 use Rattle.ldmodel.specs.FirstMatch.{first_match, takes}
-use Rattle.ldmodel.specs.Gathering.{is_out, is_out_under, taken_by}
+use Rattle.ldmodel.specs.Gathering.{is_discarded, is_out_under, taken_by}
 use Rattle.ldmodel.specs.HandedOver.{section_id}
 use Rattle.ldmodel.specs.InputSections.{input_sections}
 use Rattle.ldmodel.specs.Live.{live, orphans}
@@ -25,13 +25,14 @@ use Rattle.ldmodel.specs.declared.rows.Piece as code
 use Rattle.ldmodel.specs.declared.sections.SectionKey.{SectionKey}
 use Rattle.ldmodel_project.specs.ByPlace.{piece_in}
 use Rattle.gather.specs.Found.{IsFound}
-use Rattle.gather.specs.Gathered.{AreGathered, Facts, as_piece, facts, own_piece, shown_facts, taken_in, untaken}
-use Rattle.gather.specs.Gathered.{untaken_by_none}
+use Rattle.gather.specs.GatheredSections.{AreGathered, Facts, as_piece, facts, own_piece, shown_facts, taken_in}
+use Rattle.gather.specs.GatheredSections.{untaken}
+use Rattle.gather.specs.GatheredSections.{untaken_by_none}
 use Rattle.gather.specs.LeftOut.{is_out_by, is_out_of}
 use Rattle.gather.specs.LiveMarks.{marked}
 use Rattle.gather.specs.Matches.{number_of}
 use Rattle.gather.specs.RowPieces.{AreBuckets, taken_piece}
-use Rattle.gather.specs.declared.gathered.Gathered.{Gathered}
+use Rattle.gather.specs.declared.gathered_section.GatheredSection.{GatheredSection}
 use Rattle.gather.proofs.Named.{all_found}
 
 map_again : {X Y Z : Type 0} (g : Y → Z) (f : X → Y) (xs : List X) → map (λ x. g (f x)) xs ≡ map g (map f xs)
@@ -49,18 +50,19 @@ out_by_facts p f = is_out_of (input_statements p.script) p.options.orphans f.siz
 
 out_is : (p : Project) (ss : List InputSection)
     → map (λ s. is_out_of (input_statements p.script) p.options.orphans s.size (first_match p.script s.object s.name))
-    ss ≡ map (is_out p) ss
-unfolding is_out
+    ss ≡ map (is_discarded p) ss
+unfolding is_discarded
 out_is p [] = refl
 out_is p (s ∷ ss) =
     ap (λ b. b ∷ map (λ s.
     is_out_of (input_statements p.script) p.options.orphans s.size (first_match p.script s.object s.name)) ss)
     (out_under p s (taken_by p s))
-    ∙ ap (λ l. is_out p s ∷ l) (out_is p ss)
+    ∙ ap (λ l. is_discarded p s ∷ l) (out_is p ss)
 
-pub out_are : (p : Project) (xs : List Gathered) → AreGathered p xs
-    → map (λ (x : Gathered). is_out_of (input_statements p.script) p.options.orphans x.size (number_of x.statement)) xs
-    ≡ map (is_out p) (input_sections p)
+pub out_are : (p : Project) (xs : List GatheredSection) → AreGathered p xs
+    → map (λ (x : GatheredSection). is_out_of (input_statements p.script) p.options.orphans x.size
+    (number_of x.statement)) xs
+    ≡ map (is_discarded p) (input_sections p)
 out_are p xs a =
     map_again (λ (f : Facts). is_out_of (input_statements p.script) p.options.orphans f.size f.statement)
     shown_facts xs
@@ -110,7 +112,8 @@ piece_by p n f = record {
   alignment = f.alignment;
 }
 
-same_piece : (p : Project) (x : Gathered) (n : InputIndex) → piece_in p (as_piece x n) ≡ piece_by p n.0 (shown_facts x)
+same_piece : (p : Project) (x : GatheredSection) (n : InputIndex) → piece_in p (as_piece x n)
+    ≡ piece_by p n.0 (shown_facts x)
 unfolding piece_by
 same_piece p x n = refl
 
@@ -131,7 +134,7 @@ of_section p s n found =
     ∙ ap (with_names s.object) found.name
 
 -- the pieces of the marked sections
-pieces_are : (p : Project) (marks : List Bool) (xs : List Gathered) (ss : List InputSection) → map shown_facts xs
+pieces_are : (p : Project) (marks : List Bool) (xs : List GatheredSection) (ss : List InputSection) → map shown_facts xs
     ≡ map (facts p) ss → All (IsFound p) ss → map (piece_in p) (taken_in marks xs)
     ≡ filter_map (taken_piece p) (marked marks ss)
 pieces_are p [] xs ss e a = refl
@@ -144,7 +147,7 @@ pieces_are p (b ∷ bs) (x ∷ xs) (s ∷ ss) e a =
     go b (marked bs xs) (marked bs ss) head (All-head (IsFound p) s ss a)
     (pieces_are p bs xs ss tail (All-tail (IsFound p) s ss a))
   where
-    one : (o : Option InputIndex) (m : Option ℕ) (l : List Gathered) (r : List InputSection) → number_of o ≡ m
+    one : (o : Option InputIndex) (m : Option ℕ) (l : List GatheredSection) (r : List InputSection) → number_of o ≡ m
         → shown_facts x ≡ facts p s → IsFound p s
         → map (piece_in p) (filter_map own_piece l) ≡ filter_map (taken_piece p) r
         → map (piece_in p) (cons_option (option_map (as_piece x) o) (filter_map own_piece l))
@@ -158,7 +161,7 @@ pieces_are p (b ∷ bs) (x ∷ xs) (s ∷ ss) e a =
         ∙ ap (piece_by p k.0) h ∙ of_section p s k.0 f ∙ ap (λ j. piece_of j s) same)
         ∙ ap (λ t. piece_of m s ∷ t) rest
 
-    go : (b : Bool) (l : List Gathered) (r : List InputSection) → shown_facts x ≡ facts p s → IsFound p s
+    go : (b : Bool) (l : List GatheredSection) (r : List InputSection) → shown_facts x ≡ facts p s → IsFound p s
         → map (piece_in p) (filter_map own_piece l) ≡ filter_map (taken_piece p) r
         → map (piece_in p) (filter_map own_piece (cond b (x ∷ l) l))
         ≡ filter_map (taken_piece p) (cond b (s ∷ r) r)
@@ -167,7 +170,7 @@ pieces_are p (b ∷ bs) (x ∷ xs) (s ∷ ss) e a =
         one x.statement (first_match p.script s.object s.name) l r (ap (λ (f : Facts). f.statement) h) h f rest
 
 -- so those of the live sections are those that statements take
-pub taken_are : (p : Project) (marks : List Bool) (xs : List Gathered) → AreGathered p xs
+pub taken_are : (p : Project) (marks : List Bool) (xs : List GatheredSection) → AreGathered p xs
     → marked marks (input_sections p) ≡ live p
     → map (piece_in p) (taken_in marks xs) ≡ filter_map (taken_piece p) (live p)
 taken_are p marks xs a l =
@@ -197,7 +200,7 @@ within_or_none script file section =
     at_position (λ (i : InputStatementAt). takes file section i.input) (input_statements script)
 
 -- the keys of the marked sections that no statement takes
-orphans_in : (p : Project) (marks : List Bool) (xs : List Gathered) (ss : List InputSection)
+orphans_in : (p : Project) (marks : List Bool) (xs : List GatheredSection) (ss : List InputSection)
     → map shown_facts xs ≡ map (facts p) ss
     → map (section_id (λ key. key)) (filter_map untaken (marked marks xs))
     ≡ map (λ (s : InputSection). s.id) (filter (λ s. is_none (taken_by p s)) (marked marks ss))
@@ -211,7 +214,8 @@ orphans_in p (b ∷ bs) (x ∷ xs) (s ∷ ss) e =
     go b (marked bs xs) (filter (λ s. is_none (taken_by p s)) (marked bs ss)) (marked bs ss) refl head
     (orphans_in p bs xs ss tail)
   where
-    one : (o : Option InputIndex) (none : Bool) (l : List Gathered) (r : List InputSection) → is_none (number_of o)
+    one : (o : Option InputIndex) (none : Bool) (l : List GatheredSection) (r : List InputSection)
+        → is_none (number_of o)
         ≡ none → section_id (λ key. key) x.section ≡ s.id
         → map (section_id (λ key. key)) (filter_map untaken l) ≡ map (λ (s : InputSection). s.id) r
         → map (section_id (λ key. key)) (cons_option (untaken_by_none x.section o) (filter_map untaken l))
@@ -222,7 +226,7 @@ orphans_in p (b ∷ bs) (x ∷ xs) (s ∷ ss) e =
     one (Some k) true l r e h rest = absurd (cc)
     one (Some k) false l r e h rest = rest
 
-    go : (b : Bool) (l : List Gathered) (r : List InputSection) (all : List InputSection) → r
+    go : (b : Bool) (l : List GatheredSection) (r : List InputSection) (all : List InputSection) → r
         ≡ filter (λ s. is_none (taken_by p s)) all → shown_facts x ≡ facts p s
         → map (section_id (λ key. key)) (filter_map untaken l) ≡ map (λ (s : InputSection). s.id) r
         → map (section_id (λ key. key)) (filter_map untaken (cond b (x ∷ l) l))
@@ -233,7 +237,7 @@ orphans_in p (b ∷ bs) (x ∷ xs) (s ∷ ss) e =
         ∙ sym (within_or_none p.script s.object s.name)) (ap (λ (f : Facts). f.id) h) rest
         ∙ ap (λ q. map (λ (s : InputSection). s.id) (cond (is_none (taken_by p s)) (s ∷ q) q)) is
 
-pub orphans_are : (p : Project) (marks : List Bool) (xs : List Gathered) (found : List SectionKey)
+pub orphans_are : (p : Project) (marks : List Bool) (xs : List GatheredSection) (found : List SectionKey)
     → found ≡ filter_map untaken (marked marks xs) → AreGathered p xs → marked marks (input_sections p) ≡ live p
     → map (section_id (λ key. key)) found ≡ map (λ (s : InputSection). s.id) (orphans p)
 unfolding orphans
@@ -242,8 +246,9 @@ orphans_are p marks xs found is a l =
     ∙ ap (λ ss. map (λ (s : InputSection). s.id) (filter (λ s. is_none (taken_by p s)) ss)) l
 
 -- what is found, one section later
-pub found_step : {Y : Type 0} (h : Gathered → Option Y) (old new all : List Y) (marks : List Bool) (xs : List Gathered)
-    (i : ℕ) (d : Gathered) (b : Bool)
+pub found_step : {Y : Type 0} (h : GatheredSection → Option Y) (old new all : List Y) (marks : List Bool)
+    (xs : List GatheredSection)
+    (i : ℕ) (d : GatheredSection) (b : Bool)
     → i < length xs → b ≡ get_or marks i false → new ≡ old ++ filter_map h (cond b (get_or xs i d ∷ []) [])
     → old ++ filter_map h (marked (drop i marks) (drop i xs)) ≡ all → new
     ++ filter_map h (marked (drop (i + 1) marks) (drop (i + 1) xs)) ≡ all
@@ -257,13 +262,15 @@ found_step h old new all marks xs i d b within is added before =
     (marked_more marks xs i (get_or xs i d) within (get_or_default xs i d (get_or xs i d) within))))
     ∙ before
   where
-    go : (b : Bool) (x : Gathered) (rest : List Gathered) → filter_map h (cond b (x ∷ []) []) ++ filter_map h rest
+    go : (b : Bool) (x : GatheredSection) (rest : List GatheredSection) → filter_map h (cond b (x ∷ []) [])
+        ++ filter_map h rest
         ≡ filter_map h (cond b (x ∷ rest) rest)
     go true x rest = sym (filter_map-append h (x ∷ []) rest)
     go false x rest = refl
 
 -- nothing is left to be found
-pub found_all : {Y : Type 0} (h : Gathered → Option Y) (found all : List Y) (marks : List Bool) (xs : List Gathered)
+pub found_all : {Y : Type 0} (h : GatheredSection → Option Y) (found all : List Y) (marks : List Bool)
+    (xs : List GatheredSection)
     (i : ℕ)
     → length xs ≤ i → found ++ filter_map h (marked (drop i marks) (drop i xs)) ≡ all → found ≡ all
 found_all h found all marks xs i past e =
@@ -271,14 +278,14 @@ found_all h found all marks xs i past e =
     ∙ ap (λ l. found ++ filter_map h (marked (drop i marks) l)) (sym (drop_all i xs past)) ∙ e
 
 -- the sections before a place are in the lists of the statements that take them
-pub record Taken (xs : List Gathered) (marks : List Bool) (i count : ℕ) (buckets : List (Vec code.Piece Global))
+pub record Taken (xs : List GatheredSection) (marks : List Bool) (i count : ℕ) (buckets : List (Vec code.Piece Global))
     : Type 0 where
   pub done : List code.Piece
   pub are : AreBuckets done count buckets
   pub rest : done ++ taken_in (drop i marks) (drop i xs) ≡ taken_in marks xs
 
 -- a live section that a statement takes is put as its piece
-pub taken_one : {T E : Type 0} (r : Result T E) (x : Gathered) (b : Bool) (n : InputIndex) (piece : code.Piece)
+pub taken_one : {T E : Type 0} (r : Result T E) (x : GatheredSection) (b : Bool) (n : InputIndex) (piece : code.Piece)
     (old new : List (Vec code.Piece Global)) → b ≡ true → x.statement ≡ Some n → piece ≡ as_piece x n
     → OnOk r ((xs : List code.Piece) (count : ℕ) → AreBuckets xs count old → AreBuckets (xs ++ piece ∷ []) count new)
     → OnOk r ((xs : List code.Piece) (count : ℕ) → AreBuckets xs count old

@@ -12,19 +12,20 @@ use Rattle.ldmodel.specs.InputSections.{input_sections}
 use Rattle.ldmodel.specs.Live.{is_kept}
 use Rattle.ldmodel.specs.Project.{Project}
 use Rattle.ldmodel.specs.Sections.{InputSection}
-use Rattle.gather.specs.Gathered.{AreGathered, Facts, facts, shown_facts}
+use Rattle.gather.specs.GatheredSections.{AreGathered, Facts, facts, shown_facts}
 use Rattle.gather.specs.LiveMarks.{IsSectionAt}
 use Rattle.gather.specs.Matches.{number_of}
 use Rattle.gather.specs.Roots.{is_kept_by, kept_numbers}
-use Rattle.gather.specs.declared.gathered.Gathered.{Gathered}
+use Rattle.gather.specs.declared.gathered_section.GatheredSection.{GatheredSection}
 use Rattle.gather.proofs.InLists.{here, later, first_or_later, none_in_nil}
 
 module _ (statements : List InputStatementAt) where
-  abbrev keeps : Gathered → Bool
+  abbrev keeps : GatheredSection → Bool
   keeps x = is_kept_by statements (number_of x.statement)
 
   -- a number that is found
-  found_at : (n : ℕ) (xs : List Gathered) (k : ℕ) (x : Gathered) → slice_get xs k ≡ Some x → keeps x ≡ true
+  found_at : (n : ℕ) (xs : List GatheredSection) (k : ℕ) (x : GatheredSection) → slice_get xs k ≡ Some x → keeps x
+      ≡ true
       → Contains (kept_numbers statements n xs) (n + k)
   found_at n [] k x e h = cc
   found_at n (y ∷ ys) zero x e h =
@@ -45,27 +46,27 @@ module _ (statements : List InputStatementAt) where
       go false c = c
 
   -- what is found is such a number
-  at_found : (n : ℕ) (xs : List Gathered) (m : ℕ) → Contains (kept_numbers statements n xs) m → (k : ℕ)
-      × (x : Gathered) × (m ≡ n + k) × (slice_get xs k ≡ Some x) × (keeps x ≡ true)
+  at_found : (n : ℕ) (xs : List GatheredSection) (m : ℕ) → Contains (kept_numbers statements n xs) m → (k : ℕ)
+      × (x : GatheredSection) × (m ≡ n + k) × (slice_get xs k ≡ Some x) × (keeps x ≡ true)
   at_found n [] m c = absurd (none_in_nil m c)
   at_found n (y ∷ ys) m c = go (keeps y) refl c (λ d. at_found (n + 1) ys m d)
     where
-      abbrev_later : ((k : ℕ) × (x : Gathered) × (m ≡ n + 1 + k) × (slice_get ys k ≡ Some x) × (keeps x ≡ true))
-          → (k : ℕ) × (x : Gathered) × (m ≡ n + k) × (slice_get (y ∷ ys) k ≡ Some x) × (keeps x ≡ true)
+      abbrev_later : ((k : ℕ) × (x : GatheredSection) × (m ≡ n + 1 + k) × (slice_get ys k ≡ Some x) × (keeps x ≡ true))
+          → (k : ℕ) × (x : GatheredSection) × (m ≡ n + k) × (slice_get (y ∷ ys) k ≡ Some x) × (keeps x ≡ true)
       abbrev_later r = let e : m ≡ n + suc r.0 = omega (arith, r.2) in (suc r.0, r.1, e, r.3, r.4)
 
       go : (b : Bool) → keeps y ≡ b
           → Contains (cond b (n ∷ kept_numbers statements (n + 1) ys) (kept_numbers statements (n + 1) ys)) m
-          → (Contains (kept_numbers statements (n + 1) ys) m → (k : ℕ) × (x : Gathered) × (m ≡ n + 1 + k)
+          → (Contains (kept_numbers statements (n + 1) ys) m → (k : ℕ) × (x : GatheredSection) × (m ≡ n + 1 + k)
           × (slice_get ys k ≡ Some x) × (keeps x ≡ true))
-          → (k : ℕ) × (x : Gathered) × (m ≡ n + k) × (slice_get (y ∷ ys) k ≡ Some x) × (keeps x ≡ true)
+          → (k : ℕ) × (x : GatheredSection) × (m ≡ n + k) × (slice_get (y ∷ ys) k ≡ Some x) × (keeps x ≡ true)
       go true e d rest = ⊎_elim (λ same. (let at : m ≡ n + 0 = omega (arith, same) in (0, y, at, refl, e))) (λ l.
           abbrev_later (rest l)) (first_or_later n (kept_numbers statements (n + 1) ys) m d)
       go false e d rest = abbrev_later (rest d)
 
 -- the section of a number, as the code has it and as the definition does
-statement_at : (p : Project) (xs : List Gathered) (ss : List InputSection) → map shown_facts xs
-    ≡ map (facts p) ss → (k : ℕ) (x : Gathered) (s : InputSection)
+statement_at : (p : Project) (xs : List GatheredSection) (ss : List InputSection) → map shown_facts xs
+    ≡ map (facts p) ss → (k : ℕ) (x : GatheredSection) (s : InputSection)
     → slice_get xs k ≡ Some x → slice_get ss k ≡ Some s → number_of x.statement ≡ first_match p.script s.object s.name
 statement_at p [] ss e k x s a b = cc
 statement_at p (y ∷ ys) [] e k x s a b = cc
@@ -73,31 +74,32 @@ statement_at p (y ∷ ys) (t ∷ ts) e zero x s a b =
     let head : shown_facts y ≡ facts p t = cc in
     let same : y ≡ x = cc in
     let twin : t ≡ s = cc in
-    ap (λ (z : Gathered). number_of z.statement) (sym same) ∙ ap (λ (f : Facts). f.statement) head
+    ap (λ (z : GatheredSection). number_of z.statement) (sym same) ∙ ap (λ (f : Facts). f.statement) head
     ∙ ap (λ (z : InputSection). first_match p.script z.object z.name) twin
 statement_at p (y ∷ ys) (t ∷ ts) e (suc k) x s a b =
     let tail : map shown_facts ys ≡ map (facts p) ts = cc in
     statement_at p ys ts tail k x s a b
 
 -- both lists reach as far
-also_there : (p : Project) (xs : List Gathered) (ss : List InputSection) → map shown_facts xs
+also_there : (p : Project) (xs : List GatheredSection) (ss : List InputSection) → map shown_facts xs
     ≡ map (facts p) ss → (k : ℕ) (s : InputSection)
-    → slice_get ss k ≡ Some s → (x : Gathered) × (slice_get xs k ≡ Some x)
+    → slice_get ss k ≡ Some s → (x : GatheredSection) × (slice_get xs k ≡ Some x)
 also_there p xs [] e k s b = cc
 also_there p [] (t ∷ ts) e k s b = cc
 also_there p (y ∷ ys) (t ∷ ts) e zero s b = (y, refl)
 also_there p (y ∷ ys) (t ∷ ts) e (suc k) s b = let tail : map shown_facts ys ≡ map (facts p) ts = cc in
     also_there p ys ts tail k s b
 
-pub kept_are : (p : Project) (xs : List Gathered) (found : List ℕ) → found
+pub kept_are : (p : Project) (xs : List GatheredSection) (found : List ℕ) → found
     ≡ kept_numbers (input_statements p.script) 0 xs → AreGathered p xs
     → (k : ℕ) (s : InputSection) → IsSectionAt p k s → IsTrue (is_kept (taken_by p s)) ↔ Contains found k
 kept_are p xs found is a k s at = (to, from)
   where
-    mine : (x : Gathered) × (slice_get xs k ≡ Some x)
+    mine : (x : GatheredSection) × (slice_get xs k ≡ Some x)
     mine = also_there p xs (input_sections p) a.facts k s at
 
-    by_number : (x : Gathered) → slice_get xs k ≡ Some x → keeps (input_statements p.script) x ≡ is_kept (taken_by p s)
+    by_number : (x : GatheredSection) → slice_get xs k ≡ Some x → keeps (input_statements p.script) x
+        ≡ is_kept (taken_by p s)
     by_number x e = ap (is_kept_by (input_statements p.script))
         (statement_at p xs (input_sections p) a.facts k x s e at)
 

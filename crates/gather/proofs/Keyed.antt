@@ -6,9 +6,9 @@ use Rattle.std.specs.Option.{option_map}
 use Rattle.std.proofs.lemmas.Bool.{and_parts, and_from, eqb-true, eq-eqb}
 use Rattle.std.proofs.lemmas.List.{length-map, get_or-map, get_or_default}
 use Rattle.std.proofs.lemmas.Option.{slice_get_within, get_or_from_slice_get}
-use Rattle.gather.specs.Gathered.{AreGathered, Facts, facts, shown_facts}
+use Rattle.gather.specs.GatheredSections.{AreGathered, Facts, facts, shown_facts}
 use Rattle.gather.specs.LiveMarks.{IsSectionAt}
-use Rattle.gather.specs.declared.gathered.Gathered.{Gathered}
+use Rattle.gather.specs.declared.gathered_section.GatheredSection.{GatheredSection}
 use Rattle.ldmodel.specs.HandedOver.{section_id}
 use Rattle.ldmodel.specs.InputSections.{input_sections}
 use Rattle.ldmodel.specs.Project.{Project}
@@ -16,7 +16,7 @@ use Rattle.ldmodel.specs.Sections.{InputSection, SectionId, is_same, is_same_par
 use Rattle.ldmodel.specs.declared.sections.SectionKey.{SectionKey}
 use Rattle.gather.specs.SectionPlaces.{ArePlaces, AreProjectPlaces, IsPlaceOf}
 use Rattle.gather_sections.specs.SectionTable.{IsTableOf, number_of}
-use Rattle.gather_sections.specs.declared.section_table.SectionTable.{SectionTable}
+use Rattle.gather_sections.specs.declared.input_section_table.InputSectionTable.{InputSectionTable}
 use Rattle.gather.proofs.InLists.{there}
 use Rattle.gather.proofs.PlacesUnder.{part_itself, same_part}
 
@@ -44,14 +44,14 @@ the_some : (o : Option ℕ) → IsSome o → (m : ℕ) × (o ≡ Some m)
 the_some None h = absurd (cc)
 the_some (Some m) h = (m, refl)
 
-module _ (p : Project) (xs : List Gathered) (are : AreGathered p xs) where
+module _ (p : Project) (xs : List GatheredSection) (are : AreGathered p xs) where
   pub as_many : length xs ≡ length (input_sections p)
   as_many =
       sym (length-map xs shown_facts) ∙ (ap length are.facts
       ∙ length-map (input_sections p) (facts p))
 
   -- the key of a section is that of its place
-  pub id_at : (b : ℕ) (s : InputSection) (x : Gathered) → IsSectionAt p b s → get_or xs b x ≡ x
+  pub id_at : (b : ℕ) (s : InputSection) (x : GatheredSection) → IsSectionAt p b s → get_or xs b x ≡ x
       → id_in x.section ≡ s.id
   id_at b s x at is =
       let within : b < length (input_sections p) = slice_get_within (input_sections p) b s at in
@@ -69,11 +69,11 @@ module _ (p : Project) (xs : List Gathered) (are : AreGathered p xs) where
       omega (arith, within, as_many)
 
   -- each of them has a number
-  pub are_numbered : (t : SectionTable) → IsTableOf p t → (b : ℕ) (x : Gathered) → b < length xs
+  pub are_numbered : (t : InputSectionTable) → IsTableOf p t → (b : ℕ) (x : GatheredSection) → b < length xs
       → IsSome (number_of t (get_or xs b x).section.object.0 (get_or xs b x).section.part)
   are_numbered t table b x low =
       let s = there (input_sections p) b (omega (arith, low, as_many)) in
-      let y : Gathered = get_or xs b x in
+      let y : GatheredSection = get_or xs b x in
       let inside : Contains (input_sections p) s.0 =
       (b, omega (arith, low, as_many), get_or_from_slice_get (input_sections p) b s.0 s.0 s.1) in
       subst (λ (i : SectionId). IsSome (number_of t i.object i.part))
@@ -82,10 +82,11 @@ module _ (p : Project) (xs : List Gathered) (are : AreGathered p xs) where
   module _ (place : SectionKey → Option ℕ) (places : ArePlaces xs (length xs) place)
       (apart : (a b : ℕ) (s u : InputSection) → IsSectionAt p a s → IsSectionAt p b u → s.id ≡ u.id → a ≡ b) where
     -- the number m that the key has, at which x and section u of the project stand, is that of section s
-    one_place : (k : SectionKey) (b m : ℕ) (s u : InputSection) (x : Gathered) → IsSectionAt p b s → id_in k ≡ s.id
+    one_place : (k : SectionKey) (b m : ℕ) (s u : InputSection) (x : GatheredSection) → IsSectionAt p b s → id_in k
+        ≡ s.id
         → place k ≡ Some m → get_or xs m x ≡ x → IsSectionAt p m u → m ≡ b
     one_place k b m s u x at same is here stands =
-        let its : x.section ≡ k = ap (λ (z : Gathered). z.section) (sym here) ∙ places.is k m x is in
+        let its : x.section ≡ k = ap (λ (z : GatheredSection). z.section) (sym here) ∙ places.is k m x is in
         let alike : u.id ≡ s.id = sym (id_at m u x stands here) ∙ (ap id_in its ∙ same) in
         apart m b u s stands at alike
 
@@ -98,11 +99,11 @@ module _ (p : Project) (xs : List Gathered) (are : AreGathered p xs) where
         is ∙ ap (λ i. Some i)
         (one_place k b m s u.0 x.0 at same is (get_or_from_slice_get xs m x.0 x.0 x.1) u.1)
 
-    has_place : (k : SectionKey) (b : ℕ) (s : InputSection) (x : Gathered) → IsSectionAt p b s → id_in k ≡ s.id
+    has_place : (k : SectionKey) (b : ℕ) (s : InputSection) (x : GatheredSection) → IsSectionAt p b s → id_in k ≡ s.id
         → get_or xs b x ≡ x → IsSome (place k)
     has_place k b s x at same here =
         let key : x.section ≡ k = key_is x.section k (id_at b s x at here ∙ sym same) in
-        let own : (get_or xs b x).section ≡ k = ap (λ (y : Gathered). y.section) here ∙ key in
+        let own : (get_or xs b x).section ≡ k = ap (λ (y : GatheredSection). y.section) here ∙ key in
         subst (λ (q : SectionKey). IsSome (place q)) own (places.all b x (within_gathered b s at))
 
     at_once : (k : SectionKey) (b : ℕ) (s : InputSection) → IsSectionAt p b s → id_in k ≡ s.id → place k ≡ Some b
@@ -112,10 +113,10 @@ module _ (p : Project) (xs : List Gathered) (are : AreGathered p xs) where
         (has_place k b s x.0 at same (get_or_from_slice_get xs b x.0 x.0 x.1)) in
         with_place k b m.0 s at same m.1
 
-    at_its_place : (k : SectionKey) (b : ℕ) (s : InputSection) (x : Gathered) → IsSectionAt p b s
+    at_its_place : (k : SectionKey) (b : ℕ) (s : InputSection) (x : GatheredSection) → IsSectionAt p b s
         → place k ≡ Some b → get_or xs b x ≡ x → s.id ≡ id_in k
     at_its_place k b s x at h here =
-        let its : x.section ≡ k = ap (λ (z : Gathered). z.section) (sym here) ∙ places.is k b x h in
+        let its : x.section ≡ k = ap (λ (z : GatheredSection). z.section) (sym here) ∙ places.is k b x h in
         sym (id_at b s x at here) ∙ ap id_in its
 
     from_place : (k : SectionKey) (b : ℕ) (s : InputSection) → IsSectionAt p b s → place k ≡ Some b

@@ -6,7 +6,7 @@ use Rattle.std.specs.List.{Contains}
 use Rattle.std.proofs.lemmas.Bool.{and_parts, and_from, not-true}
 use Rattle.std.proofs.lemmas.List.{get_or-map, length-map}
 use Rattle.std.proofs.lemmas.Option.{slice_get_within, slice_get-get_or, get_or_from_slice_get}
-use Rattle.ldmodel.specs.Gathering.{is_out, candidates}
+use Rattle.ldmodel.specs.Gathering.{is_discarded, candidates}
 use Rattle.ldmodel.specs.InputSections.{input_sections}
 use Rattle.ldmodel.specs.Live.{is_root, live, refers_to}
 use Rattle.ldmodel.specs.Project.{Project}
@@ -25,25 +25,26 @@ module _ (p : Project) (g : Graph) (w : IsGraphOf p g) where
   all = input_sections p
 
   abbrev is_in : InputSection → Bool
-  is_in s = not (is_out p s)
+  is_in s = not (is_discarded p s)
 
   long : length g.out ≡ length all
-  long = ap length w.out ∙ length-map all (is_out p)
+  long = ap length w.out ∙ length-map all (is_discarded p)
 
-  out_at : (k : ℕ) (s : InputSection) → IsSectionAt p k s → slice_index_or g.out k true ≡ is_out p s
+  out_at : (k : ℕ) (s : InputSection) → IsSectionAt p k s → slice_index_or g.out k true ≡ is_discarded p s
   out_at k s e = ap (λ l. slice_index_or l k true) w.out
-      ∙ get_or-map (is_out p) all k s true (slice_get_within all k s e)
-      ∙ ap (is_out p) (get_or_from_slice_get all k s s e)
+      ∙ get_or-map (is_discarded p) all k s true (slice_get_within all k s e)
+      ∙ ap (is_discarded p) (get_or_from_slice_get all k s s e)
 
-  not_out : (k : ℕ) (s : InputSection) → IsSectionAt p k s → IsIn g k → is_out p s ≡ false
-  not_out k s e i = sym (out_at k s e) ∙ i
+  not_discarded : (k : ℕ) (s : InputSection) → IsSectionAt p k s → IsIn g k → is_discarded p s ≡ false
+  not_discarded k s e i = sym (out_at k s e) ∙ i
 
-  candidate : (k : ℕ) (s : InputSection) → IsSectionAt p k s → is_out p s ≡ false → Contains (candidates p) s
+  candidate : (k : ℕ) (s : InputSection) → IsSectionAt p k s → is_discarded p s ≡ false → Contains (candidates p) s
   candidate k s e o = filter_in is_in all s (k, slice_get_within all k s e, get_or_from_slice_get all k s s e)
       (ap not o)
 
-  among : (s : InputSection) → Contains (candidates p) s → Contains all s × (is_out p s ≡ false)
-  among s c = let h : Contains all s × (is_in s ≡ true) = in_filter is_in all s c in (h.0, not-true (is_out p s) h.1)
+  among : (s : InputSection) → Contains (candidates p) s → Contains all s × (is_discarded p s ≡ false)
+  among s c = let h : Contains all s × (is_in s ≡ true) = in_filter is_in all s c in
+      (h.0, not-true (is_discarded p s) h.1)
 
   at_place : (s : InputSection) (c : Contains all s) → IsSectionAt p c.0 s
   at_place s c = slice_get-get_or all c.0 s c.1 ∙ ap (λ x. Some x) c.2
@@ -51,13 +52,13 @@ module _ (p : Project) (g : Graph) (w : IsGraphOf p g) where
   live_path : (k : ℕ) → IsLive g k → (s : InputSection) → IsSectionAt p k s
       → Path (is_root p) (refers_to p) (candidates p) s
   live_path k (from_root n c i) s e =
-      let o : is_out p s ≡ false = not_out k s e i in
+      let o : is_discarded p s ≡ false = not_discarded k s e i in
       start s (candidate k s e o) ((w.roots k s e o).1 c)
   live_path k (from_live a b l t i) s e =
-      let o : is_out p s ≡ false = not_out k s e i in
+      let o : is_discarded p s ≡ false = not_discarded k s e i in
       let within : a < length all = omega (arith, t.0, long) in
       let at : IsSectionAt p a (get_or all a s) = slice_get-get_or all a s within in
-      let before : is_out p (get_or all a s) ≡ false = not_out a (get_or all a s) at (live_in g a l) in
+      let before : is_discarded p (get_or all a s) ≡ false = not_discarded a (get_or all a s) at (live_in g a l) in
       step (get_or all a s) s (live_path a l (get_or all a s) at) (candidate k s e o)
       ((w.references a k (get_or all a s) s at e before o).1 t)
 
@@ -68,11 +69,11 @@ module _ (p : Project) (g : Graph) (w : IsGraphOf p g) where
   path_live : (s : InputSection) → Path (is_root p) (refers_to p) (candidates p) s → (k : ℕ) → IsSectionAt p k s
       → IsLive g k
   path_live s (start x c h) k e =
-      let o : is_out p s ≡ false = (among s c).1 in
+      let o : is_discarded p s ≡ false = (among s c).1 in
       from_root k ((w.roots k s e o).0 h) (out_at k s e ∙ o)
   path_live s (step x y q c h) k e =
-      let o : is_out p s ≡ false = (among s c).1 in
-      let from : Contains all x × (is_out p x ≡ false) = among x (on_path x q) in
+      let o : is_discarded p s ≡ false = (among s c).1 in
+      let from : Contains all x × (is_discarded p x ≡ false) = among x (on_path x q) in
       let at : IsSectionAt p from.0.0 x = at_place x from.0 in
       from_live from.0.0 k (path_live x q from.0.0 at) ((w.references from.0.0 k x s at e from.1 o).0 h) (out_at k s e
       ∙ o)
@@ -93,7 +94,7 @@ module _ (p : Project) (g : Graph) (w : IsGraphOf p g) where
         (λ h. let both = and_parts (is_in s) (test s) h in
         let c : Contains (live p) s =
         subst (λ l. Contains l s) (sym in_order)
-        (filter_in test (candidates p) s (candidate k s e (not-true (is_out p s) both.0)) both.1) in
+        (filter_in test (candidates p) s (candidate k s e (not-true (is_discarded p s) both.0)) both.1) in
         (reached k).1 (path_live s ((paths s).0 c) k e))
 
     pub marked_live : marked marks all ≡ live p

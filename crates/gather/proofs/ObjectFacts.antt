@@ -7,11 +7,11 @@ use Rattle.std.proofs.lemmas.List.{drop_all, drop_more, get_or_past, map-append}
 use Rattle.std.proofs.lemmas.Option.{get_or_from_slice_get, slice_get_within}
 use Rattle.elfobj.specs.Sections.{LinkedSection}
 use Rattle.gather.specs.Blocks.{AreBlocksOf, block_of}
-use Rattle.gather.specs.Gathered.{AddsFacts, Facts, beside, block_facts, facts, linked_facts, shown_facts}
+use Rattle.gather.specs.GatheredSections.{AddsFacts, Facts, beside, block_facts, facts, linked_facts, shown_facts}
 use Rattle.gather.specs.Matches.{matches_of, number_of}
 use Rattle.gather.specs.ProjectMatches.{IsMatched}
 use Rattle.gather.specs.declared.blocks.CommonBlock.{CommonBlock}
-use Rattle.gather.specs.declared.gathered.Gathered.{Gathered}
+use Rattle.gather.specs.declared.gathered_section.GatheredSection.{GatheredSection}
 use Rattle.gather.specs.declared.matches.Matches.{Matches}
 use Rattle.ldmodel.specs.FirstMatch.{first_match}
 use Rattle.ldmodel.specs.InputSections.{common_blocks, linked_input, object_inputs}
@@ -45,8 +45,8 @@ beside_more i ss ms k s e = first ∙ ⊎_elim inside past (cases_lt k (length m
         (sym (drop_all (k + 1) ms (omega (arith, h))))
 
 -- one more linked section is added
-pub linked_step : (i : ℕ) (ss : List LinkedSection) (ms : List (Option InputIndex)) (old new : List Gathered)
-    (x : Gathered) (k : ℕ) (s : LinkedSection) (all : List Facts)
+pub linked_step : (i : ℕ) (ss : List LinkedSection) (ms : List (Option InputIndex)) (old new : List GatheredSection)
+    (x : GatheredSection) (k : ℕ) (s : LinkedSection) (all : List Facts)
     → slice_get ss k ≡ Some s → shown_facts x ≡ linked_facts i s (number_of (get_or ms k None)) → new ≡ old ++ x ∷ []
     → map shown_facts old ++ beside i (drop k ss) (map number_of (drop k ms)) ≡ all
     → map shown_facts new ++ beside i (drop (k + 1) ss) (map number_of (drop (k + 1) ms)) ≡ all
@@ -71,7 +71,7 @@ module _ (p : Project) (i : ℕ) (o : NamedObject) where
   blocks_are (b ∷ bs) = ap (λ l. facts p (block_of i o.name b) ∷ l) (blocks_are bs)
 
   -- the sections of an object, its linked ones and then its blocks
-  pub object_added : (x : Matches) (bs : List CommonBlock) (old mid new : List Gathered) → IsMatched p.script o x
+  pub object_added : (x : Matches) (bs : List CommonBlock) (old mid new : List GatheredSection) → IsMatched p.script o x
       → AreBlocksOf p i o bs → AddsFacts old mid (beside i o.object.sections (map number_of x.linked.items))
       → AddsFacts mid new (map (block_facts i (number_of x.common)) bs)
       → AddsFacts old new (map (facts p) (object_inputs p i o))

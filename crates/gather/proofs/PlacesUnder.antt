@@ -7,7 +7,7 @@ use Rattle.std.specs.Option.{option_map}
 use Rattle.std.proofs.lemmas.Bool.{and_parts, and_from, cases_eq, eqb-true, eq-eqb, false≢true}
 use Rattle.std.proofs.lemmas.List.{get_or_default, length-set}
 use Rattle.std.proofs.lemmas.Option.{same_Some}
-use Rattle.gather.specs.declared.gathered.Gathered.{Gathered}
+use Rattle.gather.specs.declared.gathered_section.GatheredSection.{GatheredSection}
 use Rattle.ldmodel.specs.Project.{Project}
 use Rattle.ldmodel.specs.Sections.{is_same_part}
 use Rattle.ldmodel.specs.declared.sections.Part.{Part}
@@ -15,8 +15,8 @@ use Rattle.ldmodel.specs.declared.sections.Part.TheVariants.{InTable, InCommon}
 use Rattle.ldmodel.specs.declared.sections.SectionKey.{SectionKey}
 use Rattle.gather.specs.SectionPlaces.{ArePlaces, is_same_key, place_at, place_under, with_place}
 use Rattle.gather_sections.specs.SectionTable.{IsTableOf, len_of, number_of}
-use Rattle.gather_sections.specs.declared.section_table.SectionId.{SectionId}
-use Rattle.gather_sections.specs.declared.section_table.SectionTable.{SectionTable}
+use Rattle.gather_sections.specs.declared.input_section_table.SectionNumber.{SectionNumber}
+use Rattle.gather_sections.specs.declared.input_section_table.InputSectionTable.{InputSectionTable}
 
 pub same_part : (a b : Part) → is_same_part a b ≡ true → a ≡ b
 same_part (InTable k) (InTable n) h = ap (λ x. InTable (record { 0 = x })) (eqb-true k.0 n.0 h)
@@ -40,7 +40,7 @@ key_itself a =
     (part_itself a.part)
 
 -- a column of a table, with one more place
-module _ (p : Project) (t : SectionTable) (table : IsTableOf p t) (s : SectionKey) (n : ℕ) (old : List (Option ℕ))
+module _ (p : Project) (t : InputSectionTable) (table : IsTableOf p t) (s : SectionKey) (n : ℕ) (old : List (Option ℕ))
     (long : length old ≡ len_of t) where
   module _ (at : ℕ) (is : number_of t s.object.0 s.part ≡ Some at) where
     own_place : (k : SectionKey) → k ≡ s → place_under t (set old at (Some n)) k ≡ Some n
@@ -75,18 +75,20 @@ module _ (p : Project) (t : SectionTable) (table : IsTableOf p t) (s : SectionKe
   is_none None e some = cc
   is_none (Some m) e some = cc
 
-  pub put_under : (id : Option SectionId) → option_map (λ (i : SectionId). i.0) id ≡ number_of t s.object.0 s.part
+  pub put_under : (id : Option SectionNumber) → option_map (λ (i : SectionNumber). i.0) id
+      ≡ number_of t s.object.0 s.part
       → IsSome (number_of t s.object.0 s.part) → (k : SectionKey)
       → place_under t (with_place id n old) k ≡ cond (is_same_key k s) (Some n) (place_under t old k)
   put_under None e some k = absurd (is_none (number_of t s.object.0 s.part) e some)
   put_under (Some i) e some k = put_at i.0 (sym e) k
 
 -- one more section has its place
-module _ (xs : List Gathered) (n : ℕ) (old new : SectionKey → Option ℕ) (s : Gathered) (low : n < length xs)
+module _ (xs : List GatheredSection) (n : ℕ) (old new : SectionKey → Option ℕ) (s : GatheredSection) (low : n
+    < length xs)
     (is : get_or xs n s ≡ s)
     (put : (k : SectionKey) → new k ≡ cond (is_same_key k s.section) (Some n) (old k))
     (before : ArePlaces xs n old) where
-  other : (d : Gathered) → get_or xs n d ≡ s
+  other : (d : GatheredSection) → get_or xs n d ≡ s
   other d = get_or_default xs n d s low ∙ is
 
   below : (k : SectionKey) (m : ℕ) → new k ≡ Some m → m < n + 1
@@ -96,14 +98,14 @@ module _ (xs : List Gathered) (n : ℕ) (old new : SectionKey → Option ℕ) (s
       go true e = let same : n ≡ m = same_Some n m e in omega (arith, same)
       go false e = let less : m < n = before.below k m e in omega (arith, less)
 
-  at_key : (k : SectionKey) (m : ℕ) (x : Gathered) → new k ≡ Some m → (get_or xs m x).section ≡ k
+  at_key : (k : SectionKey) (m : ℕ) (x : GatheredSection) → new k ≡ Some m → (get_or xs m x).section ≡ k
   at_key k m x h = go (is_same_key k s.section) refl (sym (put k) ∙ h)
     where
       go : (b : Bool) → is_same_key k s.section ≡ b → cond b (Some n) (old k) ≡ Some m
           → (get_or xs m x).section ≡ k
       go true same e =
           ap (λ i. (get_or xs i x).section) (sym (same_Some n m e))
-          ∙ (ap (λ (y : Gathered). y.section) (other x) ∙ sym (same_key k s.section same))
+          ∙ (ap (λ (y : GatheredSection). y.section) (other x) ∙ sym (same_key k s.section same))
       go false same e = before.is k m x e
 
   known : (k : SectionKey) → IsSome (old k) → IsSome (new k)
@@ -117,10 +119,10 @@ module _ (xs : List Gathered) (n : ℕ) (old new : SectionKey → Option ℕ) (s
   last_known = subst (λ (o : Option ℕ). IsSome o) (sym (put s.section
       ∙ ap (λ b. cond b (Some n) (old s.section)) (key_itself s.section))) refl
 
-  all_known : (m : ℕ) (x : Gathered) → m < n + 1 → IsSome (new (get_or xs m x).section)
+  all_known : (m : ℕ) (x : GatheredSection) → m < n + 1 → IsSome (new (get_or xs m x).section)
   all_known m x h = ⊎_elim
       (λ (e : m ≡ n). subst (λ (k : SectionKey). IsSome (new k))
-      (sym (ap (λ i. (get_or xs i x).section) e ∙ ap (λ (y : Gathered). y.section) (other x))) last_known)
+      (sym (ap (λ i. (get_or xs i x).section) e ∙ ap (λ (y : GatheredSection). y.section) (other x))) last_known)
       (λ ne. known (get_or xs m x).section (before.all m x (omega (arith, h, ne))))
       (cases_eq m n)
 
@@ -128,7 +130,8 @@ module _ (xs : List Gathered) (n : ℕ) (old new : SectionKey → Option ℕ) (s
   more_placed = record { below = below; is = at_key; all = all_known }
 
 -- the same of the section at a place
-pub next_placed : (xs : List Gathered) (n : ℕ) (d : Gathered) (old new : SectionKey → Option ℕ) → n < length xs
+pub next_placed : (xs : List GatheredSection) (n : ℕ) (d : GatheredSection) (old new : SectionKey → Option ℕ) → n
+    < length xs
     → ((k : SectionKey) → new k
     ≡ cond (is_same_key k (get_or xs n d).section) (Some n) (old k))
     → ArePlaces xs n old → ArePlaces xs (n + 1) new
@@ -136,9 +139,10 @@ next_placed xs n d old new low put before =
     more_placed xs n old new (get_or xs n d) low (get_or_default xs n (get_or xs n d) d low) put before
 
 -- the same of a column of a table
-pub column_placed : (p : Project) (t : SectionTable) (xs : List Gathered) (n : ℕ) (d : Gathered) (id : Option SectionId)
+pub column_placed : (p : Project) (t : InputSectionTable) (xs : List GatheredSection) (n : ℕ) (d : GatheredSection)
+    (id : Option SectionNumber)
     (old : List (Option ℕ)) → IsTableOf p t → length old ≡ len_of t → n < length xs
-    → option_map (λ (i : SectionId). i.0) id
+    → option_map (λ (i : SectionNumber). i.0) id
     ≡ number_of t (get_or xs n d).section.object.0 (get_or xs n d).section.part
     → IsSome (number_of t (get_or xs n d).section.object.0 (get_or xs n d).section.part)
     → ArePlaces xs n (place_under t old) → ArePlaces xs (n + 1) (place_under t (with_place id n old))
@@ -146,6 +150,6 @@ column_placed p t xs n d id old table long low is some before =
     next_placed xs n d (place_under t old) (place_under t (with_place id n old)) low
     (put_under p t table (get_or xs n d).section n old long id is some) before
 
-pub long_with : (id : Option SectionId) (n : ℕ) (old : List (Option ℕ)) → length (with_place id n old) ≡ length old
+pub long_with : (id : Option SectionNumber) (n : ℕ) (old : List (Option ℕ)) → length (with_place id n old) ≡ length old
 long_with None n old = refl
 long_with (Some i) n old = length-set old i.0 (Some n)

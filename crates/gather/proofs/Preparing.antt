@@ -12,10 +12,10 @@ use Rattle.std.proofs.lemmas.Option.{get_or_from_slice_get, slice_get-get_or, sl
 use Rattle.std.proofs.lemmas.Slice.Zip.{AllZip-long}
 use Rattle.gather.specs.Apart.{IsAscending}
 use Rattle.gather.specs.Blocks.{AreBlocks, AreBlocksOf, blocks_at}
-use Rattle.gather.specs.Gathered.{AddsFacts, AreGathered, facts, shown_facts}
+use Rattle.gather.specs.GatheredSections.{AddsFacts, AreGathered, facts, shown_facts}
 use Rattle.gather.specs.ProjectMatches.{AreMatched, IsMatched}
 use Rattle.gather.specs.declared.blocks.CommonBlock.{CommonBlock}
-use Rattle.gather.specs.declared.gathered.Gathered.{Gathered}
+use Rattle.gather.specs.declared.gathered_section.GatheredSection.{GatheredSection}
 use Rattle.gather.specs.declared.matches.Matches.{Matches}
 use Rattle.ldmodel.specs.InputSections.{input_sections, object_inputs}
 use Rattle.ldmodel.specs.Project.{NamedObject, Project}
@@ -92,12 +92,13 @@ blocks_given p n o xs x h here at =
     (zip_at (AreBlocksAt p) p.objects xs n o x at h)
 
 -- the sections of the objects so far
-pub record GatheredBefore (p : Project) (n : ℕ) (xs : List Gathered) : Type 0 where
+pub record GatheredBefore (p : Project) (n : ℕ) (xs : List GatheredSection) : Type 0 where
   pub are : map shown_facts xs ≡ map (facts p) (flat_map (λ (o : ℕ × NamedObject). object_inputs p o.0 o.1)
       (take n (enumerate_from 0 p.objects)))
   pub ascending : All IsAscending (take n p.objects)
 
-pub more_gathered : (p : Project) (n : ℕ) (o : NamedObject) (xs new : List Gathered) → slice_get p.objects n ≡ Some o
+pub more_gathered : (p : Project) (n : ℕ) (o : NamedObject) (xs new : List GatheredSection) → slice_get p.objects n
+    ≡ Some o
     → AddsFacts xs new (map (facts p) (object_inputs p n o)) → IsAscending o → GatheredBefore p n xs
     → GatheredBefore p (n + 1) new
 more_gathered p n o xs new at added up h =
@@ -116,7 +117,7 @@ more_gathered p n o xs new at added up h =
           (subst IsAscending (sym (get_or_from_slice_get p.objects n o o at)) up);
     }
 
-pub all_gathered : (p : Project) (n : ℕ) (xs : List Gathered) → length p.objects ≤ n → GatheredBefore p n xs
+pub all_gathered : (p : Project) (n : ℕ) (xs : List GatheredSection) → length p.objects ≤ n → GatheredBefore p n xs
     → AreGathered p xs
 unfolding input_sections
 all_gathered p n xs past h = record {

@@ -6,11 +6,11 @@ use Rattle.std.specs.Prelude.{IsTrue}
 use Rattle.std.specs.List.{Contains, list_any}
 use Rattle.std.proofs.lemmas.List.{get_or_default, length-map}
 use Rattle.std.proofs.lemmas.Option.{get_or_from_slice_get, same_Some, slice_get_within}
-use Rattle.gather.specs.Gathered.{AreGathered}
+use Rattle.gather.specs.GatheredSections.{AreGathered}
 use Rattle.gather.specs.Graphs.{graph_of}
 use Rattle.gather.specs.LiveMarks.{IsGraphOf, IsSectionAt}
-use Rattle.gather.specs.declared.gathered.Gathered.{Gathered}
-use Rattle.ldmodel.specs.Gathering.{is_out, taken_by}
+use Rattle.gather.specs.declared.gathered_section.GatheredSection.{GatheredSection}
+use Rattle.ldmodel.specs.Gathering.{is_discarded, taken_by}
 use Rattle.ldmodel.specs.InputSections.{input_sections}
 use Rattle.ldmodel.specs.Live.{entry_section, is_kept, is_section, refers_to, target_section}
 use Rattle.ldmodel.specs.Project.{Project}
@@ -23,7 +23,7 @@ use Rattle.gather.proofs.Named.{found_one}
 use Rattle.gather.proofs.Refers.{or_cases, or_left, or_right}
 
 -- of the section of a key
-pub own_row : (p : Project) (xs : List Gathered) (n : ℕ) (x : Gathered)
+pub own_row : (p : Project) (xs : List GatheredSection) (n : ℕ) (x : GatheredSection)
     → AreGathered p xs → get_or xs n x ≡ x → (s : InputSection) → IsSectionAt p n s
     → (s.id.object ≡ x.section.object.0)
     × (s.relocations ≡ relocations_of p x.section.object.0 x.section.part)
@@ -37,7 +37,7 @@ own_row p xs n x are here s at =
     )
 
 -- what was added for a section, which is x, are the numbers of those that it refers to
-module _ (p : Project) (xs : List Gathered) (n b : ℕ) (x : Gathered) (new : List ℕ)
+module _ (p : Project) (xs : List GatheredSection) (n b : ℕ) (x : GatheredSection) (new : List ℕ)
     (are : AreGathered p xs) (here : get_or xs n x ≡ x) (low : n < length (input_sections p))
     (below : b < length (input_sections p))
     (adds : AddsTargets p x.section.object.0 (relocations_of p x.section.object.0 x.section.part) [] new) where
@@ -64,7 +64,7 @@ module _ (p : Project) (xs : List Gathered) (n b : ℕ) (x : Gathered) (new : Li
   refers_as = (refers_in, in_refers)
 
 -- the same of the section at a place
-pub refers_at : (p : Project) (xs : List Gathered) (n : ℕ) (d : Gathered) (old new : List ℕ)
+pub refers_at : (p : Project) (xs : List GatheredSection) (n : ℕ) (d : GatheredSection) (old new : List ℕ)
     → AreGathered p xs → n < length (input_sections p) → old ≡ []
     → AddsTargets p (get_or xs n d).section.object.0
     (relocations_of p (get_or xs n d).section.object.0 (get_or xs n d).section.part) old new
@@ -78,7 +78,7 @@ refers_at p xs n d old new are low none adds b below =
 
 -- the graph of the project
 pub graph_is : (p : Project) (out : List Bool) (roots : List ℕ) (entry : Option ℕ)
-    → out ≡ map (is_out p) (input_sections p) → IsPlaceOf p (entry_section p) entry
+    → out ≡ map (is_discarded p) (input_sections p) → IsPlaceOf p (entry_section p) entry
     → ((k : ℕ) (s : InputSection) → IsSectionAt p k s
     → (IsTrue (is_kept (taken_by p s)) ⊎ (entry ≡ Some k)) ↔ Contains roots k)
     → IsGraphOf p (graph_of out roots (Refers p))
@@ -101,7 +101,7 @@ graph_is p out roots entry is_out_of number are = record {
     low a s at =
         let within : a < length (input_sections p) = slice_get_within (input_sections p) a s at in
         let many : length out ≡ length (input_sections p) =
-        ap length is_out_of ∙ length-map (input_sections p) (is_out p) in
+        ap length is_out_of ∙ length-map (input_sections p) (is_discarded p) in
         omega (arith, within, many)
 
     same : (s t : InputSection) → IsTrue (refers_to p s t) → (a b : ℕ) → IsSectionAt p a s → IsSectionAt p b t

@@ -8,7 +8,7 @@ pub mod Matches
 pub mod Graphs
 pub mod LiveMarks
 pub mod Apart
-pub mod Gathered
+pub mod GatheredSections
 pub mod NamedPieces
 pub mod RowPieces
 pub mod LeftOut

@@ -1,7 +1,7 @@
 -- What marks beside the input sections of a project say, and which graphs are those of a project.
 use Rattle.std.specs.Prelude.{ℕ, ◌≡◌, ◌↔◌, Bool, false, List, [], ◌∷◌, map, Some, slice_get, if◌then◌else◌, Contains}
 use Rattle.std.specs.Prelude.{IsTrue}
-use Rattle.ldmodel.specs.Gathering.{is_out}
+use Rattle.ldmodel.specs.Gathering.{is_discarded}
 use Rattle.ldmodel.specs.InputSections.{input_sections}
 use Rattle.ldmodel.specs.Live.{is_root, refers_to}
 use Rattle.ldmodel.specs.Project.{Project}
@@ -21,8 +21,8 @@ IsSectionAt p k s = slice_get (input_sections p) k ≡ Some s
 -- the graph is that of the project's input sections, numbered from 0 in their order; of sections that are left out it
 -- may say anything else
 pub record IsGraphOf (p : Project) (g : Graph) : Type 0 where
-  pub out : g.out ≡ map (is_out p) (input_sections p)
-  pub roots : (k : ℕ) (s : InputSection) → IsSectionAt p k s → is_out p s ≡ false
+  pub out : g.out ≡ map (is_discarded p) (input_sections p)
+  pub roots : (k : ℕ) (s : InputSection) → IsSectionAt p k s → is_discarded p s ≡ false
       → IsTrue (is_root p s) ↔ Contains g.roots k
-  pub references : (a b : ℕ) (s t : InputSection) → IsSectionAt p a s → IsSectionAt p b t → is_out p s ≡ false
-      → is_out p t ≡ false → IsTrue (refers_to p s t) ↔ LeadsTo g a b
+  pub references : (a b : ℕ) (s t : InputSection) → IsSectionAt p a s → IsSectionAt p b t → is_discarded p s ≡ false
+      → is_discarded p t ≡ false → IsTrue (refers_to p s t) ↔ LeadsTo g a b

@@ -4,9 +4,9 @@ use Rattle.std.specs.Prelude.{IsSome, option_and_then, slice_set}
 use Rattle.std.specs.Prelude.{IsTrue, slice_index_or}
 use Rattle.std.specs.List.{list_any}
 use Rattle.elfobj.specs.declared.relocation.Relocation.{Relocation}
-use Rattle.gather.specs.Gathered.{AreGathered}
+use Rattle.gather.specs.GatheredSections.{AreGathered}
 use Rattle.gather.specs.LiveMarks.{IsSectionAt}
-use Rattle.gather.specs.declared.gathered.Gathered.{Gathered}
+use Rattle.gather.specs.declared.gathered_section.GatheredSection.{GatheredSection}
 use Rattle.ldmodel.specs.HandedOver.{section_id}
 use Rattle.ldmodel.specs.Live.{is_section, refers_to, target_section}
 use Rattle.ldmodel.specs.Project.{Project}
@@ -15,21 +15,21 @@ use Rattle.ldmodel.specs.declared.sections.SectionKey.{SectionKey}
 use Rattle.symres.specs.SymbolTable.{IsSymbolTable, SymbolTableState}
 use Rattle.gather.specs.declared.places.Places.{Places}
 use Rattle.gather_sections.specs.SectionTable.{number_of}
-use Rattle.gather_sections.specs.declared.section_table.SectionId as code
-use Rattle.gather_sections.specs.declared.section_table.SectionTable.{SectionTable}
+use Rattle.gather_sections.specs.declared.input_section_table.SectionNumber as code
+use Rattle.gather_sections.specs.declared.input_section_table.InputSectionTable.{InputSectionTable}
 
 abbrev pub place_at : List (Option ℕ) → ℕ → Option ℕ
 place_at places at = slice_index_or places at None
 
 -- the place of the section of a key, by the column of a table
-abbrev pub place_under : SectionTable → List (Option ℕ) → SectionKey → Option ℕ
+abbrev pub place_under : InputSectionTable → List (Option ℕ) → SectionKey → Option ℕ
 place_under t places k = option_and_then (place_at places) (number_of t k.object.0 k.part)
 
 abbrev pub place_in : Places → SectionKey → Option ℕ
 place_in x k = place_under x.table.now x.places.now k
 
 -- a column with one more place
-abbrev pub with_place : Option code.SectionId → ℕ → List (Option ℕ) → List (Option ℕ)
+abbrev pub with_place : Option code.SectionNumber → ℕ → List (Option ℕ) → List (Option ℕ)
 with_place None place places = places
 with_place (Some i) place places = slice_set places i.0 (Some place)
 
@@ -37,10 +37,10 @@ abbrev pub is_same_key : SectionKey → SectionKey → Bool
 is_same_key a b = (a.object.0 == b.object.0) && is_same_part a.part b.part
 
 -- each of the first n sections has its place, and nothing else has one
-pub record ArePlaces (xs : List Gathered) (n : ℕ) (place : SectionKey → Option ℕ) : Type 0 where
+pub record ArePlaces (xs : List GatheredSection) (n : ℕ) (place : SectionKey → Option ℕ) : Type 0 where
   pub below : (k : SectionKey) (m : ℕ) → place k ≡ Some m → m < n
-  pub is : (k : SectionKey) (m : ℕ) (x : Gathered) → place k ≡ Some m → (slice_index_or xs m x).section ≡ k
-  pub all : (m : ℕ) (x : Gathered) → m < n → IsSome (place (slice_index_or xs m x).section)
+  pub is : (k : SectionKey) (m : ℕ) (x : GatheredSection) → place k ≡ Some m → (slice_index_or xs m x).section ≡ k
+  pub all : (m : ℕ) (x : GatheredSection) → m < n → IsSome (place (slice_index_or xs m x).section)
 
 -- the place is that of the section of this key in the project; there is none where the key is of no input section
 abbrev pub IsPlaceOf : Project → Option SectionId → Option ℕ → Type 0
@@ -68,7 +68,8 @@ abbrev pub Refers : Project → ℕ → ℕ → Type 0
 Refers p a b = (s t : InputSection) → IsSectionAt p a s → IsSectionAt p b t → IsTrue (refers_to p s t)
 
 -- the parts by which references are found are those of the project
-pub record AreProjectReferences (p : Project) (symbol_table : SymbolTableState) (places : Places) (xs : List Gathered)
+pub record AreProjectReferences (p : Project) (symbol_table : SymbolTableState) (places : Places)
+    (xs : List GatheredSection)
     : Type 0 where
   pub named : IsSymbolTable p symbol_table
   pub sections : AreGathered p xs

@@ -1,7 +1,7 @@
 //! What gathering finds.
 
 ghost use Rattle.std.specs.Prelude.{◌≡◌, IfOk, map};
-ghost use Rattle.gather.specs.Gathered.{AreGathered};
+ghost use Rattle.gather.specs.GatheredSections.{AreGathered};
 ghost use Rattle.gather.specs.LiveMarks.{marked};
 ghost use Rattle.gather.specs.Gathering.{IsGathering};
 ghost use Rattle.gather.specs.ProjectMatches.{AreMatched};
@@ -11,13 +11,13 @@ ghost use Rattle.symres.specs.SymbolTable.{IsSymbolTable};
 ghost use Rattle.gather_sections.specs.SectionTable.{IsTableOf};
 
 use crate::blocks::{block_ranks, common_blocks};
-use crate::gathered::{Gathered, input_sections};
-use crate::left_out::left_out;
+use crate::discarded_sections::discarded_sections;
+use crate::gathered_section::{GatheredSection, input_sections};
 use crate::live::mark_live;
 use crate::live_sections::orphans;
 use crate::matches::Matches;
 use crate::rows::rows;
-use gather_sections::section_table::SectionTable;
+use gather_sections::input_section_table::InputSectionTable;
 use ldmodel::memory::NoMemory;
 use ldmodel::rows::Piece;
 use ldmodel::sections::SectionKey;
@@ -30,7 +30,7 @@ use symres::SymbolTable;
 #[derive(Drop)]
 pub struct Gathering {
     /// The numbers of the input sections.
-    pub table: SectionTable,
+    pub table: InputSectionTable,
     /// One row for each output section, in the order of the script.
     pub rows: Vec<Vec<Piece>>,
     /// The live input sections that no statement takes, in object order and then section order. Each is a fault.
@@ -41,9 +41,9 @@ pub struct Gathering {
 fn sorted_out(
     alloc: Global,
     project: &ProjectView<'_>,
-    sections: &[Gathered],
+    sections: &[GatheredSection],
     marks: &[bool],
-    table: SectionTable,
+    table: InputSectionTable,
 ) -> Result<Gathering, NoMemory>
     requires table { IsTableOf project.now table }
     requires sections { AreGathered project.now sections.now }
@@ -80,9 +80,9 @@ impl Gathering {
         let blocks = common_blocks(alloc, project, symbol_table)?;
         let sections = input_sections(alloc, project, matches, &blocks)?;
         let options = project.options();
-        let out = left_out(alloc, project.script(), options.orphans(), &sections)?;
+        let out = discarded_sections(alloc, project.script(), options.orphans(), &sections)?;
         let ranks = block_ranks(alloc, &blocks)?;
-        let table = SectionTable::of(alloc, project, ranks)?;
+        let table = InputSectionTable::of(alloc, project, ranks)?;
         let marks = mark_live(alloc, project, symbol_table, &table, &sections, &out)?;
         sorted_out(alloc, project, &sections, &marks, table)
     }

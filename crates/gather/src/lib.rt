@@ -4,7 +4,7 @@
 //!
 //! - `matcher` over `file_search`, `file_tables`, `word_table`, `word`, `name_places`: first match; `matches`: of one
 //!   object, and of all;
-//! - `gathered`, `blocks`, `cases`: the input sections, common blocks among them; `left_out`;
+//! - `gathered_section`, `blocks`, `cases`: the input sections, common blocks among them; `discarded_sections`;
 //! - `roots`, `marking`, `references`, and of a project `live`, `referring`, `targets`, `places`: which sections are
 //!   live;
 //! - `rows`, `sorting`, `section_names`, `live_sections`: rows and orphans; `gathering`: all of it, for a project;
@@ -14,12 +14,12 @@
 
 mod blocks;
 mod cases;
+pub mod discarded_sections;
 mod file_search;
 mod file_tables;
-pub mod gathered;
+pub mod gathered_section;
 pub mod gathering;
 pub mod law;
-pub mod left_out;
 mod live;
 pub mod live_sections;
 pub mod marking;

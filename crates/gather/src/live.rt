@@ -1,22 +1,22 @@
 //! Which input sections are live.
 
 ghost use Rattle.std.specs.Prelude.{◌≡◌, IfOk, map, true};
-ghost use Rattle.gather.specs.Gathered.{AreGathered};
+ghost use Rattle.gather.specs.GatheredSections.{AreGathered};
 ghost use Rattle.gather.specs.LiveMarks.{marked};
-ghost use Rattle.ldmodel.specs.Gathering.{is_out};
+ghost use Rattle.ldmodel.specs.Gathering.{is_discarded};
 ghost use Rattle.ldmodel.specs.InputSections.{input_sections};
 ghost use Rattle.ldmodel.specs.Live.{live};
 ghost use Rattle.symres.specs.SymbolTable.{IsSymbolTable};
 ghost use Rattle.gather_sections.specs.SectionTable.{IsTableOf};
 
-use crate::gathered::Gathered;
-use crate::live_sections::not_out;
+use crate::gathered_section::GatheredSection;
+use crate::live_sections::not_discarded;
 use crate::marking::mark;
 use crate::places::{Places, places_of};
 use crate::referring::ProjectReferences;
 use crate::roots::roots;
 use crate::targets::entry_section;
-use gather_sections::section_table::SectionTable;
+use gather_sections::input_section_table::InputSectionTable;
 use ldmodel::memory::NoMemory;
 use ldmodel_project::view::ProjectView;
 use std::alloc::Global;
@@ -28,15 +28,15 @@ fn mark_needed(
     alloc: Global,
     project: &ProjectView<'_>,
     symbol_table: &SymbolTable,
-    table: &SectionTable,
-    sections: &[Gathered],
+    table: &InputSectionTable,
+    sections: &[GatheredSection],
     out: &[bool],
 ) -> Result<Vec<bool>, NoMemory>
     requires symbol_table { IsSymbolTable project.now symbol_table.now }
     requires table { IsTableOf project.now table.now }
     requires collected { project.now.options.gc ≡ true }
     requires sections { AreGathered project.now sections.now }
-    requires out { out.now ≡ map (is_out project.now) (input_sections project.now) }
+    requires out { out.now ≡ map (is_discarded project.now) (input_sections project.now) }
     ensures { IfOk result (λ marks. marked marks.items (input_sections project.now) ≡ live project.now) }
 {
     let column = places_of(alloc, project, table, sections)?;
@@ -64,20 +64,20 @@ pub(crate) fn mark_live(
     alloc: Global,
     project: &ProjectView<'_>,
     symbol_table: &SymbolTable,
-    table: &SectionTable,
-    sections: &[Gathered],
+    table: &InputSectionTable,
+    sections: &[GatheredSection],
     out: &[bool],
 ) -> Result<Vec<bool>, NoMemory>
     requires symbol_table { IsSymbolTable project.now symbol_table.now }
     requires table { IsTableOf project.now table.now }
     requires sections { AreGathered project.now sections.now }
-    requires out { out.now ≡ map (is_out project.now) (input_sections project.now) }
+    requires out { out.now ≡ map (is_discarded project.now) (input_sections project.now) }
     ensures { IfOk result (λ marks. marked marks.items (input_sections project.now) ≡ live project.now) }
 {
     let options = project.options();
     if options.gc() {
         mark_needed(alloc, project, symbol_table, table, sections, out)
     } else {
-        not_out(alloc, out)
+        not_discarded(alloc, out)
     }
 }

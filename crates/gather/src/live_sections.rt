@@ -1,17 +1,17 @@
 //! What becomes of the live sections: statements take them, or they are orphans.
 
 ghost use Rattle.std.specs.Prelude.{◌≡◌, ◌++◌, ◌∷◌, [], IfOk, OnOk, false, map, not, slice_index_or, if◌then◌else◌};
-ghost use Rattle.ldmodel.specs.Gathering.{is_out};
+ghost use Rattle.ldmodel.specs.Gathering.{is_discarded};
 ghost use Rattle.ldmodel.specs.HandedOver.{section_id};
 ghost use Rattle.ldmodel.specs.InputSections.{input_sections};
 ghost use Rattle.ldmodel.specs.Live.{live, orphans};
 ghost use Rattle.ldmodel.specs.Project.{Project};
 ghost use Rattle.ldmodel.specs.Sections.{InputSection};
 ghost use Rattle.std.specs.List.{filter_map};
-ghost use Rattle.gather.specs.Gathered.{AreGathered, untaken};
+ghost use Rattle.gather.specs.GatheredSections.{AreGathered, untaken};
 ghost use Rattle.gather.specs.LiveMarks.{marked};
 
-use crate::gathered::Gathered;
+use crate::gathered_section::GatheredSection;
 use ldmodel::memory::NoMemory;
 use ldmodel::sections::SectionKey;
 use ldmodel_laws::gathering::live_by_path;
@@ -22,15 +22,15 @@ use std::alloc::Global;
 /// # Errors
 ///
 /// Where memory runs out.
-pub fn not_out(alloc: Global, out: &[bool]) -> Result<Vec<bool>, NoMemory>
+pub fn not_discarded(alloc: Global, out: &[bool]) -> Result<Vec<bool>, NoMemory>
     ensures marks { IfOk result (λ marks. marks.items ≡ map not out.now) }
     ensures live { IfOk result (λ marks. (p : Project) → p.options.gc ≡ false → out.now
-        ≡ map (is_out p) (input_sections p) → marked marks.items (input_sections p) ≡ live p) }
+        ≡ map (is_discarded p) (input_sections p) → marked marks.items (input_sections p) ≡ live p) }
 {
     live_by_path();
     let mut marks = Vec::with_capacity(alloc, out.len())?;
-    for is_out in out {
-        marks.push(!*is_out)?;
+    for is_discarded in out {
+        marks.push(!*is_discarded)?;
     }
     Ok(marks)
 }
@@ -45,7 +45,7 @@ pub(crate) fn is_marked(marks: &[bool], number: usize) -> bool
 /// Adds a section, if it is live and no statement takes it.
 fn add_untaken(
     found: &mut Vec<SectionKey>,
-    section: &Gathered,
+    section: &GatheredSection,
     is_live: bool,
 ) -> Result<(), NoMemory>
     ensures { OnOk result (found.new.items ≡ found.old.items
@@ -68,7 +68,7 @@ fn add_untaken(
 /// Where memory runs out.
 pub fn orphans(
     alloc: Global,
-    sections: &[Gathered],
+    sections: &[GatheredSection],
     marks: &[bool],
 ) -> Result<Vec<SectionKey>, NoMemory>
     ensures { IfOk result (λ found. (p : Project) → AreGathered p sections.now

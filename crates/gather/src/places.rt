@@ -1,13 +1,13 @@
 //! Where input sections stand in a list, by their numbers.
 
 ghost use Rattle.std.specs.Prelude.{◌≡◌, ◌<◌, IfOk, IfSome, length, option_and_then};
-ghost use Rattle.gather.specs.Gathered.{AreGathered};
+ghost use Rattle.gather.specs.GatheredSections.{AreGathered};
 ghost use Rattle.gather.specs.SectionPlaces.{AreProjectPlaces, place_in, place_under, with_place};
 ghost use Rattle.gather_sections.specs.SectionTable.{IsTableOf};
 
-use crate::gathered::Gathered;
+use crate::gathered_section::GatheredSection;
 use crate::law::sections_apart;
-use gather_sections::section_table::{SectionId, SectionTable};
+use gather_sections::input_section_table::{InputSectionTable, SectionNumber};
 use ldmodel::memory::NoMemory;
 use ldmodel::sections::SectionKey;
 use ldmodel_project::view::ProjectView;
@@ -17,13 +17,13 @@ use std::alloc::Global;
 #[derive(Drop)]
 pub(crate) struct Places<'a> {
     /// The numbers of the input sections.
-    pub(crate) table: &'a SectionTable,
+    pub(crate) table: &'a InputSectionTable,
     /// For each number the place of the section that has it, if one does.
     pub(crate) places: &'a [Option<usize>],
 }
 
 /// Puts the place of the section of a number, if there is one.
-fn put(places: &mut Vec<Option<usize>>, id: Option<SectionId>, place: usize)
+fn put(places: &mut Vec<Option<usize>>, id: Option<SectionNumber>, place: usize)
     requires { IfSome id (λ i. i.0 < length places.old.items) }
     ensures { places.new.items ≡ with_place id place places.old.items }
 {
@@ -40,8 +40,8 @@ fn put(places: &mut Vec<Option<usize>>, id: Option<SectionId>, place: usize)
 pub(crate) fn places_of(
     alloc: Global,
     project: &ProjectView<'_>,
-    table: &SectionTable,
-    sections: &[Gathered],
+    table: &InputSectionTable,
+    sections: &[GatheredSection],
 ) -> Result<Vec<Option<usize>>, NoMemory>
     requires table { IsTableOf project.now table.now }
     requires sections { AreGathered project.now sections.now }

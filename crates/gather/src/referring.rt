@@ -10,7 +10,7 @@ ghost use Rattle.gather.specs.Symbols.{IsObjectAt};
 ghost use Rattle.ldmodel.specs.InputSections.{input_sections};
 ghost use Rattle.symres.specs.SymbolTable.{IsSymbolTable};
 
-use crate::gathered::Gathered;
+use crate::gathered_section::GatheredSection;
 use crate::places::Places;
 use crate::references::References;
 use crate::targets::target_section;
@@ -74,7 +74,7 @@ fn add_row(
     project: &ProjectView<'_>,
     symbol_table: &SymbolTable,
     places: &Places<'_>,
-    section: &Gathered,
+    section: &GatheredSection,
     targets: &mut Vec<usize>,
 ) -> Result<(), NoMemory>
     requires symbol_table { IsSymbolTable project.now symbol_table.now }
@@ -112,7 +112,7 @@ pub(crate) struct ProjectReferences<'a, 'p> {
     pub(crate) project: &'a ProjectView<'p>,
     pub(crate) symbol_table: &'a SymbolTable,
     pub(crate) places: &'a Places<'a>,
-    pub(crate) sections: &'a [Gathered],
+    pub(crate) sections: &'a [GatheredSection],
 }
 
 impl<'a, 'p> References for ProjectReferences<'a, 'p> {

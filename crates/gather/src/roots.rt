@@ -7,12 +7,12 @@ ghost use Rattle.ldmodel.specs.Gathering.{taken_by};
 ghost use Rattle.ldmodel.specs.Live.{is_kept};
 ghost use Rattle.ldmodel.specs.Project.{Project};
 ghost use Rattle.ldmodel.specs.Sections.{InputSection};
-ghost use Rattle.gather.specs.Gathered.{AreGathered};
+ghost use Rattle.gather.specs.GatheredSections.{AreGathered};
 ghost use Rattle.gather.specs.LiveMarks.{IsSectionAt};
 ghost use Rattle.gather.specs.Matches.{number_of};
 ghost use Rattle.gather.specs.Roots.{is_kept_by, kept_numbers};
 
-use crate::gathered::Gathered;
+use crate::gathered_section::GatheredSection;
 use ldmodel::memory::NoMemory;
 use ldmodel::rows::InputIndex;
 use ldscript::Script;
@@ -46,7 +46,7 @@ fn add_kept(found: &mut Vec<usize>, number: usize, is_kept: bool) -> Result<(), 
 fn kept(
     alloc: Global,
     statements: &[InputStatementAt<'_>],
-    sections: &[Gathered],
+    sections: &[GatheredSection],
 ) -> Result<Vec<usize>, NoMemory>
     ensures { IfOk result (λ found. found.items ≡ kept_numbers (shown_inputs statements.now) 0 sections.now) }
 {
@@ -80,7 +80,7 @@ fn add_entry(found: &mut Vec<usize>, entry: Option<usize>) -> Result<(), NoMemor
 pub fn roots(
     alloc: Global,
     script: &Script,
-    sections: &[Gathered],
+    sections: &[GatheredSection],
     entry: Option<usize>,
 ) -> Result<Vec<usize>, NoMemory>
     ensures { IfOk result (λ found. (p : Project) → p.script ≡ script.now

@@ -2,7 +2,7 @@
 
 ghost use Rattle.std.specs.Prelude.{◌≡◌, ◌++◌, ◌∷◌, [], ℕ, IfOk, List, OnOk, if◌then◌else◌};
 ghost use Rattle.std.specs.List.{filter_map};
-ghost use Rattle.gather.specs.Gathered.{AreGathered, own_piece, taken_in};
+ghost use Rattle.gather.specs.GatheredSections.{AreGathered, own_piece, taken_in};
 ghost use Rattle.gather.specs.LiveMarks.{marked};
 ghost use Rattle.gather.specs.RowPieces.{AddsTo, AreBuckets, AreEmpty};
 ghost use Rattle.ldmodel.specs.InputSections.{input_sections};
@@ -11,7 +11,7 @@ ghost use Rattle.ldmodel.specs.Rows.{rows};
 ghost use Rattle.ldmodel.specs.declared.rows.Piece.{Piece};
 ghost use Rattle.ldmodel_project.specs.ByPlace.{rows_in};
 
-use crate::gathered::Gathered;
+use crate::gathered_section::GatheredSection;
 use crate::live_sections::is_marked;
 use crate::sorting::order;
 use ldmodel::memory::NoMemory;
@@ -46,7 +46,7 @@ fn add_piece(buckets: &mut Vec<Vec<Piece>>, piece: Piece) -> Result<(), NoMemory
 /// Adds a section to those of the statement that takes it, if it is live and one does.
 fn add_taken(
     buckets: &mut Vec<Vec<Piece>>,
-    section: &Gathered,
+    section: &GatheredSection,
     is_live: bool,
 ) -> Result<(), NoMemory>
     ensures { OnOk result ((xs : List Piece) (count : ℕ) → AreBuckets xs count buckets.old.items
@@ -62,7 +62,7 @@ fn add_taken(
 /// The live sections that each statement takes, in their order. `marks` says of each section whether it is live.
 fn buckets(
     alloc: Global,
-    sections: &[Gathered],
+    sections: &[GatheredSection],
     marks: &[bool],
     statements: usize,
 ) -> Result<Vec<Vec<Piece>>, NoMemory>
@@ -108,7 +108,7 @@ fn add_statement(
 pub fn rows(
     alloc: Global,
     project: &ProjectView<'_>,
-    sections: &[Gathered],
+    sections: &[GatheredSection],
     marks: &[bool],
 ) -> Result<Vec<Vec<Piece>>, NoMemory>
     ensures { IfOk result (λ found. AreGathered project.now sections.now

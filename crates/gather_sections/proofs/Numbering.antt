@@ -21,7 +21,7 @@ use Rattle.gather_sections.specs.Ranks.{is_ranked}
 use Rattle.gather_sections.specs.Slots.{AreLaid, AreLinkedBefore, AreLinkedCounted, linked_in, slots_of}
 use Rattle.gather_sections.specs.SectionTable.{AreBlockRanks, IsBlockAmong, IsTableOf, block_of, len_of, number_of}
 use Rattle.gather_sections.specs.SectionTable.{slot_of}
-use Rattle.gather_sections.specs.declared.section_table.SectionTable.{SectionTable}
+use Rattle.gather_sections.specs.declared.input_section_table.InputSectionTable.{InputSectionTable}
 use Rattle.gather_sections.specs.declared.slots.Slots.{Slots}
 use Rattle.gather_sections.proofs.Counting.{inside}
 use Rattle.gather_sections.proofs.OfObjects.{one_section}
@@ -75,7 +75,7 @@ some_of : {X Y : Type 0} (f : X → Y) (o : Option X) (y : Y) → option_map f o
 some_of f None y e = absurd (let none : ⊥ = cc in none)
 some_of f (Some x) y e = (x, refl, same_Some _ _ e)
 
-module _ (t : SectionTable) where
+module _ (t : InputSectionTable) where
   record Block (n x at : ℕ) : Type 0 where
     place : ℕ
     is : t.slots + place ≡ at
@@ -123,7 +123,7 @@ map_some f (Some x) h = h
 
 -- ---- all of them
 
-module _ (t : SectionTable) where
+module _ (t : InputSectionTable) where
   below : (n : ℕ) (q : Part) (at : ℕ) → number_of t n q ≡ Some at → at < len_of t
   below n (InTable k) at e =
       let low = slot_below t.objects.items t.slots t.laid n k.0 at e in omega (arith, low)
@@ -144,7 +144,7 @@ module _ (t : SectionTable) where
   apart n m (InCommon x) (InCommon y) at e f =
       let same = one_block t n m x.0 y.0 at e f in (same.0, ap (λ i. InCommon (record { 0 = i })) same.1)
 
-module _ (t : SectionTable) (p : Project) (linked : AreLinkedCounted p t.objects.items)
+module _ (t : InputSectionTable) (p : Project) (linked : AreLinkedCounted p t.objects.items)
     (before : AreLinkedBefore p t.objects.items)
     (ranks : List (ℕ × Bool × ℕ)) (blocks : AreBlockRanks p ranks) (same : IsPermutation ranks t.blocks.items) where
   abbrev Numbered : InputSection → Type 0

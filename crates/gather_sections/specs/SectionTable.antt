@@ -9,7 +9,7 @@ use Rattle.ldmodel.specs.declared.sections.Part.{Part}
 use Rattle.ldmodel.specs.declared.sections.Part.TheVariants.{InTable, InCommon}
 use Rattle.gather_sections.specs.Ranks.{is_ranked}
 use Rattle.gather_sections.specs.Slots.{linked_in, slots_of}
-use Rattle.gather_sections.specs.declared.section_table.SectionTable.{SectionTable}
+use Rattle.gather_sections.specs.declared.input_section_table.InputSectionTable.{InputSectionTable}
 use Rattle.gather_sections.specs.declared.slots.Slots.{Slots}
 
 -- the number of header number k of object number n
@@ -18,25 +18,25 @@ slot_of slots n k =
     if nat_lt k (slots_of slots n).count then Some ((slots_of slots n).begin + k) else None
 
 -- the number of a common block
-abbrev pub block_of : SectionTable → ℕ → ℕ → Option ℕ
+abbrev pub block_of : InputSectionTable → ℕ → ℕ → Option ℕ
 block_of t n x = option_map (λ (j : ℕ). t.slots + j) (position (is_ranked (n, true, x)) t.blocks.items)
 
 -- the number of a part of object number n, if it has one
-abbrev pub number_of : SectionTable → ℕ → Part → Option ℕ
+abbrev pub number_of : InputSectionTable → ℕ → Part → Option ℕ
 number_of t n (InTable k) = slot_of t.objects.items n k.0
 number_of t n (InCommon x) = block_of t n x.0
 
 -- how many numbers there are
-abbrev pub len_of : SectionTable → ℕ
+abbrev pub len_of : InputSectionTable → ℕ
 len_of t = t.slots + length t.blocks.items
 
 -- how many linked sections the objects before number n have
-abbrev pub linked_of : SectionTable → ℕ → Option ℕ
+abbrev pub linked_of : InputSectionTable → ℕ → Option ℕ
 linked_of t n = option_map (λ (x : Slots). x.linked) (slice_get t.objects.items n)
 
 -- each input section of the project has a number, and no two parts of objects have the same one; the linked sections of
 -- objects are counted
-pub record IsTableOf (p : Project) (t : SectionTable) : Type 0 where
+pub record IsTableOf (p : Project) (t : InputSectionTable) : Type 0 where
   pub all : (s : InputSection) → Contains (input_sections p) s → IsSome (number_of t s.id.object s.id.part)
   pub below : (n : ℕ) (q : Part) (at : ℕ) → number_of t n q ≡ Some at → at < len_of t
   pub apart : (n m : ℕ) (q r : Part) (at : ℕ) → number_of t n q ≡ Some at → number_of t m r ≡ Some at

@@ -1,7 +1,7 @@
 //! The files of a link. No contract can say what a file holds: these are tested on the built program.
 
 use ldmodel::edit::MAX_PAYLOAD;
-use relink::link::file::ObjectFile;
+use relink::driver::file::ObjectFile;
 use std::fs::{File, OpenOptions};
 use std::io::{ErrorKind, Read, Write};
 use std::os::unix::fs::OpenOptionsExt;

@@ -13,7 +13,7 @@
 ghost use Rattle.std.specs.Prelude.{◌≡◌};
 ghost use Rattle.ldi.specs.Exit.{exit_status};
 
-use crate::linking::{FileNames, link_files};
+use crate::link_command::{FileNames, link_files};
 use ldi_stream::Status;
 use ldi_stream::fault::RunFault;
 use ldi_words::call::Call;
@@ -24,8 +24,8 @@ use std::process::ExitCode;
 use std::{env, io};
 
 mod files;
-mod linking;
-mod session;
+mod link_command;
+mod session_command;
 
 /// The words of the command line are refused.
 const REFUSED: u8 = 2;

@@ -15,8 +15,8 @@ use Rattle.ldi_stream.specs.declared.head.Aim.TheVariants as aim
 use Rattle.ldi_stream.specs.declared.head.EditHead.{EditHead}
 use Rattle.ldi_stream.specs.declared.head.EditHead.TheVariants as edit
 use Rattle.ldi_stream.specs.declared.head.CommandHead.TheVariants as head
-use Rattle.ldi_stream.specs.declared.serve.Step.{Step}
-use Rattle.ldi_stream.specs.declared.serve.Step.TheVariants.{Next, End}
+use Rattle.ldi_stream.specs.declared.serve.ServeStep.{ServeStep}
+use Rattle.ldi_stream.specs.declared.serve.ServeStep.TheVariants.{Next, End}
 use Rattle.ldi_stream.proofs.StreamGrammar.{OneFirst, NotBegun, no_line, short_payload, bad_at_end}
 
 -- a read failed within a line
@@ -57,7 +57,7 @@ module _ (one_first : OneFirst) (h : EditHead) (text : List ℕ) (says : Says te
   some_line part = rw length-append (rw length-append (omega arith))
 
   pub edit_stepped : (rest mid end : Option (List ℕ)) (out out' : Option (List ℕ)) (p p' : Project)
-      (r : Result Step RunFault) → Consumes rest mid (text ++ 10 ∷ [])
+      (r : Result ServeStep RunFault) → Consumes rest mid (text ++ 10 ∷ [])
       → EditStepped (edit_of h) (announced h) (world mid out p) (world end out' p') r
       → Stepped (world rest out p) (world end out' p') r
   edit_stepped rest mid end out out' p p' (Ok Next) first s =

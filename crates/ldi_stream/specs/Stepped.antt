@@ -13,8 +13,8 @@ use Rattle.ldi_stream.specs.declared.line.LineEnd.{LineEnd}
 use Rattle.ldi_stream.specs.declared.line.LineEnd.TheVariants.{Line, Ended, Broken}
 use Rattle.ldi_stream.specs.declared.payload.Payload.{Payload}
 use Rattle.ldi_stream.specs.declared.payload.Payload.TheVariants.{Whole, NoMemory, Short}
-use Rattle.ldi_stream.specs.declared.serve.Step.{Step}
-use Rattle.ldi_stream.specs.declared.serve.Step.TheVariants.{Next, End}
+use Rattle.ldi_stream.specs.declared.serve.ServeStep.{ServeStep}
+use Rattle.ldi_stream.specs.declared.serve.ServeStep.TheVariants.{Next, End}
 
 -- what a reader has left, and how many of its calls failed
 pub record ReaderState : Type 0 where
@@ -69,7 +69,7 @@ pub record Served (old new : World) : Type 0 where
   pub wrote : Appends old.written new.written answer
   pub reply : Reply old.project command answer new.project
 
-abbrev pub Stepped : World → World → Result Step RunFault → Type 0
+abbrev pub Stepped : World → World → Result ServeStep RunFault → Type 0
 Stepped old new (Ok Next) = Served old new
 Stepped old new (Ok (End status)) = AtEnd old new status ⊎ AtBad old new status
 Stepped old new (Err Read) = CutShort old new
@@ -77,7 +77,7 @@ Stepped old new (Err Write) = AnswerCut old new ⊎ BadCut old new
 Stepped old new (Err Long) = ⊥
 
 -- the same of an edit whose line was read, with this number of bytes of payload to come, and of what it is with them
-abbrev pub EditStepped : (List ℕ → Change) → ℕ → World → World → Result Step RunFault → Type 0
+abbrev pub EditStepped : (List ℕ → Change) → ℕ → World → World → Result ServeStep RunFault → Type 0
 EditStepped change n old new (Ok Next) =
     (payload answer : List ℕ) × (length payload ≡ n) × Consumes old.rest new.rest payload
     × Appends old.written new.written answer × EditReply old.project (change payload) answer new.project

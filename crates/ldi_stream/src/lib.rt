@@ -8,7 +8,7 @@ ghost use Rattle.ldi_stream.specs.Ran.{Ran, FaultsCounted, Flushed, status_of, w
 
 use crate::devices::{Sink, Source};
 use crate::fault::RunFault;
-use crate::serve::{Step, serve_one};
+use crate::serve::{ServeStep, serve_one};
 use ldmodel::linker::Linker;
 use std::alloc::Global;
 
@@ -60,8 +60,8 @@ pub fn run<R: Source, W: Sink, L: Linker>(
 {
     for _turn in 0..u64::MAX {
         match serve_one(alloc, source, sink, linker)? {
-            Step::Next => {}
-            Step::End(status) => return Ok(status),
+            ServeStep::Next => {}
+            ServeStep::End(status) => return Ok(status),
         }
     }
     Err(RunFault::Long)

@@ -25,7 +25,7 @@ use std::alloc::Global;
 
 /// What a step of a run comes to.
 #[derive(Clone, Copy, Debug, PartialEq, Eq)]
-pub enum Step {
+pub enum ServeStep {
     /// A command was answered.
     Next,
     /// The run has ended.
@@ -80,7 +80,7 @@ fn serve_payload<R: Source, W: Sink, L: Linker>(
     linker: &mut L,
     aim: Aim<'_>,
     count: usize,
-) -> Result<Step, RunFault>
+) -> Result<ServeStep, RunFault>
     ensures stepped { EditStepped (aimed aim.entry) count
         (world (R.rest source.old) (W.written sink.old) (L.project linker.old))
         (world (R.rest source.new) (W.written sink.new) (L.project linker.new)) result }
@@ -91,15 +91,15 @@ fn serve_payload<R: Source, W: Sink, L: Linker>(
     match read_payload(alloc, source, count)? {
         Payload::Whole(bytes) => {
             use_payload(sink, linker, aim, bytes)?;
-            Ok(Step::Next)
+            Ok(ServeStep::Next)
         }
         Payload::NoMemory => {
             write_refused(sink, EditRefusal::NoMemory)?;
-            Ok(Step::Next)
+            Ok(ServeStep::Next)
         }
         Payload::Short => {
             write_malformed(sink)?;
-            Ok(Step::End(Status::Malformed))
+            Ok(ServeStep::End(Status::Malformed))
         }
     }
 }
@@ -109,7 +109,7 @@ fn serve_bare<W: Sink, L: Linker>(
     sink: &mut W,
     linker: &mut L,
     edit: Edit<'_>,
-) -> Result<Step, RunFault>
+) -> Result<ServeStep, RunFault>
     ensures stepped { (rest : Option (List ℕ)) → EditStepped (λ _. change_of edit.entry) 0
         (world rest (W.written sink.old) (L.project linker.old))
         (world rest (W.written sink.new) (L.project linker.new)) result }
@@ -117,7 +117,7 @@ fn serve_bare<W: Sink, L: Linker>(
     ensures counted { (r : ℕ) → FaultsCounted r r (W.failed sink.old) (W.failed sink.new) result }
 {
     make_edit(sink, linker, edit)?;
-    Ok(Step::Next)
+    Ok(ServeStep::Next)
 }
 
 /// Makes the edit of a line that was read, with its payload, and answers it.
@@ -127,7 +127,7 @@ fn serve_edit<R: Source, W: Sink, L: Linker>(
     sink: &mut W,
     linker: &mut L,
     head: EditHead<'_>,
-) -> Result<Step, RunFault>
+) -> Result<ServeStep, RunFault>
     ensures stepped { EditStepped (edit_of head.entry) (announced head.entry)
         (world (R.rest source.old) (W.written sink.old) (L.project linker.old))
         (world (R.rest source.new) (W.written sink.new) (L.project linker.new)) result }
@@ -156,14 +156,14 @@ fn asked<L: Linker>(linker: &L, query: Query) -> &[u8]
 }
 
 /// Answers bytes that no command begins.
-fn serve_bad<W: Sink>(sink: &mut W) -> Result<Step, RunFault>
+fn serve_bad<W: Sink>(sink: &mut W) -> Result<ServeStep, RunFault>
     ensures stepped { (old new : Option (List ℕ)) (p : Project) → IfSome old IsBad
         → Stepped (world old (W.written sink.old) p) (world new (W.written sink.new) p) result }
     ensures flushed { Flushed (W.held sink.old) (W.held sink.new) result }
     ensures counted { (r : ℕ) → FaultsCounted r r (W.failed sink.old) (W.failed sink.new) result }
 {
     write_malformed(sink)?;
-    Ok(Step::End(Status::Malformed))
+    Ok(ServeStep::End(Status::Malformed))
 }
 
 /// Reads one command, makes it and answers it; or meets the end of the stream, or bytes that no command
@@ -177,7 +177,7 @@ pub fn serve_one<R: Source, W: Sink, L: Linker>(
     source: &mut R,
     sink: &mut W,
     linker: &mut L,
-) -> Result<Step, RunFault>
+) -> Result<ServeStep, RunFault>
     ensures stepped { Stepped (world (R.rest source.old) (W.written sink.old) (L.project linker.old))
         (world (R.rest source.new) (W.written sink.new) (L.project linker.new)) result }
     ensures flushed { Flushed (W.held sink.old) (W.held sink.new) result }
@@ -188,13 +188,13 @@ pub fn serve_one<R: Source, W: Sink, L: Linker>(
     lines_without_feed();
     let mut line = [0u8; MAX_LINE];
     match read_line(source, &mut line)? {
-        LineEnd::Ended => Ok(Step::End(Status::Done(linker.status()))),
+        LineEnd::Ended => Ok(ServeStep::End(Status::Done(linker.status()))),
         LineEnd::Broken => serve_bad(sink),
         LineEnd::Line(n) => match read_head(&line[..n]) {
             None => serve_bad(sink),
             Some(CommandHead::Ask(query)) => {
                 write_bytes(sink, asked(linker, query))?;
-                Ok(Step::Next)
+                Ok(ServeStep::Next)
             }
             Some(CommandHead::Edit(head)) => serve_edit(alloc, source, sink, linker, head),
         },

@@ -31,9 +31,9 @@ abbrev pub is_out_under : Project → InputSection → Option InputStatementAt �
 is_out_under p s None = (s.size == 0) || are_discarded p.options.orphans
 is_out_under p s (Some i) = is_discard i.place
 
-unfoldable pub is_out : Project → InputSection → Bool
-is_out p s = is_out_under p s (taken_by p s)
+unfoldable pub is_discarded : Project → InputSection → Bool
+is_discarded p s = is_out_under p s (taken_by p s)
 
 -- the input sections that are not left out, in their order
 abbrev pub candidates : Project → List InputSection
-candidates p = filter (λ s. not (is_out p s)) (input_sections p)
+candidates p = filter (λ s. not (is_discarded p s)) (input_sections p)

@@ -11,7 +11,7 @@ use Rattle.elfobj.specs.declared.section.SectionIndex.{SectionIndex}
 use Rattle.emit_fields.specs.Patches.{patch_covers}
 use Rattle.emit_fields.specs.declared.patch.Patch.{Patch}
 use Rattle.ldmodel.specs.Headers.{elf_header, program_headers}
-use Rattle.ldmodel.specs.Layout.{Layout, PlacedPiece, PlacedData, PlacedSection}
+use Rattle.ldmodel.specs.Layout.{Layout, PlacedPiece, PlacedData, PlacedOutput}
 use Rattle.ldmodel.specs.Project.{NamedObject, Project}
 use Rattle.ldmodel.specs.Relocations.{fields_of}
 use Rattle.ldmodel.specs.SectionHeaders.{FilePart, header_part, header_count, header_names_number, tail, image_length}
@@ -75,13 +75,13 @@ abbrev pub data_byte : ℕ → PlacedData → ℕ
 data_byte at d = slice_index d.bytes (at - d.start)
 
 -- where the input sections of nonzero size and the data commands of an output section end
-abbrev pub ends_in : PlacedSection → List ℕ
+abbrev pub ends_in : PlacedOutput → List ℕ
 ends_in q =
     map (λ (x : PlacedPiece). x.start + x.piece.size) (filter (λ (x : PlacedPiece). not (x.piece.size == 0)) q.pieces)
     ++ map (λ (d : PlacedData). d.start + length d.bytes) q.data_commands
 
 -- the gap at an address begins at the last of these ends before it, or where the output section starts
-abbrev pub gap_start : PlacedSection → ℕ → ℕ
+abbrev pub gap_start : PlacedOutput → ℕ → ℕ
 gap_start q at = fold (λ n end. if nat_le end at then max n end else n) q.start (ends_in q)
 
 -- byte i of a gap: the fill's bytes over and over; 0 without a fill
@@ -89,30 +89,30 @@ abbrev pub fill_byte : Option (List ℕ) → ℕ → ℕ
 fill_byte None i = 0
 fill_byte (Some bytes) i = slice_index bytes (i % length bytes)
 
-abbrev pub gap_byte : PlacedSection → ℕ → ℕ
+abbrev pub gap_byte : PlacedOutput → ℕ → ℕ
 gap_byte q at = fill_byte q.fill (at - gap_start q at)
 
-abbrev pub covering_piece : PlacedSection → ℕ → Option PlacedPiece
+abbrev pub covering_piece : PlacedOutput → ℕ → Option PlacedPiece
 covering_piece q at = find (λ (x : PlacedPiece). covers x.start x.piece.size at) q.pieces
 
-abbrev pub covering_data : PlacedSection → ℕ → Option PlacedData
+abbrev pub covering_data : PlacedOutput → ℕ → Option PlacedData
 covering_data q at = find (λ (d : PlacedData). covers d.start (length d.bytes) at) q.data_commands
 
 -- the cases of a byte of an output section, at an address
-abbrev pub field_case : Project → Layout → PlacedSection → ℕ → Option ℕ
+abbrev pub field_case : Project → Layout → PlacedOutput → ℕ → Option ℕ
 field_case p s q at = option_and_then (piece_field_byte p s at) (covering_piece q at)
 
-abbrev pub piece_case : Project → PlacedSection → ℕ → Option ℕ
+abbrev pub piece_case : Project → PlacedOutput → ℕ → Option ℕ
 piece_case p q at = option_map (own_byte p at) (covering_piece q at)
 
-abbrev pub data_case : PlacedSection → ℕ → Option ℕ
+abbrev pub data_case : PlacedOutput → ℕ → Option ℕ
 data_case q at = option_map (data_byte at) (covering_data q at)
 
-abbrev pub gap_case : PlacedSection → ℕ → Option ℕ
+abbrev pub gap_case : PlacedOutput → ℕ → Option ℕ
 gap_case q at = Some (gap_byte q at)
 
 -- the byte of an output section at an address: of the field, the input section, the data command or the gap there
-abbrev pub placed_byte : Project → Layout → PlacedSection → ℕ → ℕ
+abbrev pub placed_byte : Project → Layout → PlacedOutput → ℕ → ℕ
 placed_byte p s q at =
     first_of (field_case p s q at ∷ piece_case p q at ∷ data_case q at ∷ gap_case q at ∷ [])
 

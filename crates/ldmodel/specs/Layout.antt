@@ -34,7 +34,7 @@ pub record PlacedData : Type 0 where
 
 -- an output section in its place: its addresses in memory are those from `start` on. Where it has file bytes, they are
 -- loaded from `load` on, and `load_size` is its size; else that is 0. `region` is that of `>region`
-pub record PlacedSection : Type 0 where
+pub record PlacedOutput : Type 0 where
   pub name : List ℕ
   pub region : Option (List ℕ)
   pub alignment : ℕ
@@ -59,14 +59,14 @@ pub record Layout : Type 0 where
   pub inputs : ℕ
   pub symbols : List ScriptSymbol
   pub regions : List MemoryRegion
-  pub sections : List PlacedSection
+  pub sections : List PlacedOutput
 
 -- nothing is placed yet, and `.` is 0
 abbrev pub nothing_placed : Layout
 nothing_placed = record { dot = 0; dots = []; inputs = 0; symbols = []; regions = []; sections = [] }
 
-abbrev pub section_named : List PlacedSection → List ℕ → Option PlacedSection
-section_named sections name = find (λ (q : PlacedSection). bytes_eq q.name name) sections
+abbrev pub section_named : List PlacedOutput → List ℕ → Option PlacedOutput
+section_named sections name = find (λ (q : PlacedOutput). bytes_eq q.name name) sections
 
 abbrev pub region_named : List MemoryRegion → List ℕ → Option MemoryRegion
 region_named regions name = find (λ (r : MemoryRegion). bytes_eq r.name name) regions
@@ -80,7 +80,7 @@ script_value s name = option_map (λ (x : ScriptSymbol). x.value) (symbol_named 
 
 abbrev pub section_numbers : Layout → List ℕ → Option SectionNumbers
 section_numbers s name =
-    option_map (λ (q : PlacedSection). record { start = q.start; load = q.load; size = q.size })
+    option_map (λ (q : PlacedOutput). record { start = q.start; load = q.load; size = q.size })
     (section_named s.sections name)
 
 abbrev pub region_numbers : Layout → List ℕ → Option RegionNumbers

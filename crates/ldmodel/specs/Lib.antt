@@ -43,7 +43,7 @@ pub mod WorkBound
 pub mod SessionWork
 pub mod Mentioned
 pub mod FaultCode
-pub mod Lent
+pub mod PlacementView
 pub mod Commands
 pub mod Answers
 pub mod LinkCommand

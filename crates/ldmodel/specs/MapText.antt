@@ -2,7 +2,7 @@
 -- sections in the order of the script, after each the input sections in it; and the symbols in byte order of their
 -- names.
 use Rattle.std.specs.Prelude.{ℕ, List, [], ◌∷◌, ◌++◌, flat_map, replicate, codes, if◌then◌else◌}
-use Rattle.ldmodel.specs.Layout.{Layout, PlacedPiece, PlacedSection}
+use Rattle.ldmodel.specs.Layout.{Layout, PlacedPiece, PlacedOutput}
 use Rattle.ldmodel.specs.Lines.{line_of, hex}
 use Rattle.ldmodel.specs.OutputSymbols.{OutputSymbol, output_symbols, owner}
 use Rattle.ldmodel.specs.Project.{Project}
@@ -13,7 +13,7 @@ abbrev pub entry_line : Project → Layout → List ℕ
 entry_line p s = line_of (codes "entry" ∷ hex (number_or_0 (entry_point p s)) ∷ [])
 
 -- `rwx`, with a hyphen for what a section may not be: it may always be read
-abbrev pub flag_letters : PlacedSection → List ℕ
+abbrev pub flag_letters : PlacedOutput → List ℕ
 flag_letters q =
     codes "r" ++ (if q.writable then codes "w" else codes "-") ++ (if q.executable then codes "x" else codes "-")
 
@@ -22,7 +22,7 @@ abbrev pub piece_line : PlacedPiece → List ℕ
 piece_line x = line_of (codes "piece" ∷ hex x.start ∷ hex x.piece.size ∷ x.piece.object ∷ x.piece.name ∷ [])
 
 -- `section NAME START LOAD SIZE FLAGS`, and its input sections
-abbrev pub section_lines : PlacedSection → List ℕ
+abbrev pub section_lines : PlacedOutput → List ℕ
 section_lines q =
     line_of (codes "section" ∷ q.name ∷ hex q.start ∷ hex q.load ∷ hex q.size ∷ flag_letters q ∷ [])
     ++ flat_map piece_line q.pieces

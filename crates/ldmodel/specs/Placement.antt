@@ -48,7 +48,7 @@ use Rattle.ldscript.specs.terms.Expressions as expression
 use Rattle.ldmodel.specs.Arithmetic.{minus_modulo, plus_modulo}
 use Rattle.ldmodel.specs.Chain.{and_then, run}
 use Rattle.ldmodel.specs.Fault.{Fault, NoValue, MovedBack, RegionFull}
-use Rattle.ldmodel.specs.Layout.{Layout, number, with_symbol, MemoryRegion, PlacedSection, address, region_named}
+use Rattle.ldmodel.specs.Layout.{Layout, number, with_symbol, MemoryRegion, PlacedOutput, address, region_named}
 use Rattle.ldmodel.specs.Layout.{PlacedPiece, PlacedData, noted, nothing_placed}
 use Rattle.ldmodel.specs.Rows.{Piece, piece_alignment}
 
@@ -133,13 +133,13 @@ same_region (Some r) (Some t) = bytes_eq r t
 same_region _ _ = false
 
 -- start less load address, modulo 2^64
-abbrev pub difference_of : PlacedSection → ℕ
+abbrev pub difference_of : PlacedOutput → ℕ
 difference_of q = minus_modulo q.start q.load
 
 -- that of the last earlier output section of a region, 0 without one; sections that name no region count as one region
-unfoldable pub difference_in : List PlacedSection → Option (List ℕ) → ℕ
+unfoldable pub difference_in : List PlacedOutput → Option (List ℕ) → ℕ
 difference_in sections region =
-    option_map_or difference_of (last_or None (filter (λ (q : PlacedSection). same_region q.region region) sections)) 0
+    option_map_or difference_of (last_or None (filter (λ (q : PlacedOutput). same_region q.region region) sections)) 0
 
 -- without AT(e) or AT>region: the start, where an address is given; else as far from the start as in the last section
 -- of the same region
@@ -275,7 +275,7 @@ has_flag flag b = list_any (λ (x : PlacedPiece). not (bit_and x.piece.flags fla
 
 -- it has file bytes if there is something of that kind in it. The flags are the union over the input sections of
 -- nonzero size; a section that takes memory but no file bytes may be written
-unfoldable pub placed_section : OutputSection → Head → Body → PlacedSection
+unfoldable pub placed_section : OutputSection → Head → Body → PlacedOutput
 placed_section o h b =
     let size : ℕ = b.layout.dot - h.start in
     let in_file : Bool = not (size == 0) && has_contents b in
@@ -300,7 +300,7 @@ abbrev pub is_within : MemoryRegion → ℕ → ℕ → Bool
 is_within r at size = (size == 0) || (nat_le r.origin at && nat_le (at + size) (r.origin + r.extent))
 
 -- a section, where the region that it names, if any, has room for a range
-abbrev pub with_room : Option MemoryRegion → ℕ → ℕ → PlacedSection → Result PlacedSection Fault
+abbrev pub with_room : Option MemoryRegion → ℕ → ℕ → PlacedOutput → Result PlacedOutput Fault
 with_room None at size q = Ok q
 with_room (Some r) at size q = if is_within r at size then Ok q else Err (RegionFull q.name r.name)
 
@@ -320,7 +320,7 @@ freed_from (Some name) next regions =
     map (λ (r : MemoryRegion). if bytes_eq r.name name then record r { next = next } else r) regions
 
 -- after a section its region goes on at its end, then that of AT>region at its load end
-abbrev pub with_section : Layout → OutputSection → PlacedSection → Layout
+abbrev pub with_section : Layout → OutputSection → PlacedOutput → Layout
 with_section s o q = record s {
   regions = freed_from (load_region o.load) (q.load + q.load_size) (freed_from o.region (q.start + q.size) s.regions);
   sections = s.sections ++ q ∷ [];
@@ -329,7 +329,7 @@ with_section s o q = record s {
 -- faults come in this order: the region, the region of load addresses, the load end
 unfoldable pub section_end : ℕ → OutputSection → Head → Body → Result Layout Fault
 section_end line o h b =
-    let q : PlacedSection = placed_section o h b in
+    let q : PlacedOutput = placed_section o h b in
     and_then (with_room (find_region b.layout o.region) q.start q.size q) (λ _.
     and_then (with_room (find_region b.layout (load_region o.load)) q.load q.load_size q) (λ _.
     and_then (address line (q.load + q.load_size)) (λ _.

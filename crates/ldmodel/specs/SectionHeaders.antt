@@ -9,7 +9,7 @@ use Rattle.std.specs.Int.{to_le_bytes, next_multiple_of, w32, w64}
 use Rattle.elfobj.specs.file.declared.constants.TheConstants.{SHT_PROGBITS, SHT_SYMTAB, SHT_STRTAB, SHT_NOBITS}
 use Rattle.elfobj.specs.file.declared.constants.TheConstants.{SHF_WRITE}
 use Rattle.elfobj.specs.file.declared.constants.TheConstants.{SHF_ALLOC, SHF_EXECINSTR}
-use Rattle.ldmodel.specs.Layout.{Layout, PlacedSection}
+use Rattle.ldmodel.specs.Layout.{Layout, PlacedOutput}
 use Rattle.ldmodel.specs.Project.{Project}
 use Rattle.ldmodel.specs.Segments.{Segment, segments, loaded_end, file_offset}
 use Rattle.ldmodel.specs.Tail.{string_table, name_offset, output_symbol_table, symbol_name_table}
@@ -36,7 +36,7 @@ header_bytes h =
 -- the names in the order of the headers, from number 1 on
 abbrev pub header_names : Layout → List (List ℕ)
 header_names s =
-    map (λ (q : PlacedSection). q.name) s.sections ++ codes ".symtab" ∷ codes ".strtab" ∷ codes ".shstrtab" ∷ []
+    map (λ (q : PlacedOutput). q.name) s.sections ++ codes ".symtab" ∷ codes ".strtab" ∷ codes ".shstrtab" ∷ []
 
 -- `.shstrtab`
 unfoldable pub header_name_table : Layout → List ℕ
@@ -71,16 +71,16 @@ tables p s =
     }
 
 -- the flags of an output section
-abbrev pub section_flags : PlacedSection → ℕ
+abbrev pub section_flags : PlacedOutput → ℕ
 section_flags q = SHF_ALLOC + (if q.writable then SHF_WRITE else 0) + (if q.executable then SHF_EXECINSTR else 0)
 
 -- an address that was given may be no multiple of the alignment: then 1 stands in its place
-abbrev pub stated_alignment : PlacedSection → ℕ
+abbrev pub stated_alignment : PlacedOutput → ℕ
 stated_alignment q = if q.start % q.alignment == 0 then q.alignment else 1
 
 -- the header of output section number i. sh_offset has 64 bits: it is modulo 2^64. In a link without faults only that
 -- of a section without file bytes can be as great, since an image has its limit
-abbrev pub output_header : Layout → List Segment → ℕ × PlacedSection → SectionHeader
+abbrev pub output_header : Layout → List Segment → ℕ × PlacedOutput → SectionHeader
 output_header s gs x = record {
   name = name_offset (header_names s) x.0;
   type = if x.1.has_file_bytes then SHT_PROGBITS else SHT_NOBITS;

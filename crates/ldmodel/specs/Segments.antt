@@ -6,19 +6,19 @@ use Rattle.std.specs.Prelude.{ℕ, ◌+◌, ◌-◌, ◌*◌, ◌%◌, List, [],
 use Rattle.std.specs.Prelude.{not, ◌&&◌, ◌==◌, nat_lt, nat_le, bytes_eq, if◌then◌else◌}
 use Rattle.std.specs.Option.{option_map_or}
 use Rattle.std.specs.Bool.{beq}
-use Rattle.ldmodel.specs.Layout.{PlacedSection}
+use Rattle.ldmodel.specs.Layout.{PlacedOutput}
 use Rattle.ldmodel.specs.Placement.{difference_of}
 
 -- the size of a page
 abbrev pub page_size : ℕ
 page_size = 4096
 
-abbrev pub end_of : PlacedSection → ℕ
+abbrev pub end_of : PlacedOutput → ℕ
 end_of q = q.start + q.size
 
 -- a section stands in the segment of the one before it: their flags are equal, and so are their distances from start to
 -- load address; it begins at the other's end or less than a page past it; and it isn't so that it alone has file bytes
-abbrev pub shares_segment : PlacedSection → PlacedSection → Bool
+abbrev pub shares_segment : PlacedOutput → PlacedOutput → Bool
 shares_segment p q =
     beq p.writable q.writable && beq p.executable q.executable
     && (difference_of p == difference_of q)
@@ -28,21 +28,21 @@ shares_segment p q =
 
 -- the sections of a segment: the first, and the others
 pub record Group : Type 0 where
-  pub first : PlacedSection
-  pub others : List PlacedSection
+  pub first : PlacedOutput
+  pub others : List PlacedOutput
 
-abbrev pub group_sections : Group → List PlacedSection
+abbrev pub group_sections : Group → List PlacedOutput
 group_sections g = g.first ∷ g.others
 
 -- a section before the groups of those after it
-abbrev pub with_front : PlacedSection → List Group → List Group
+abbrev pub with_front : PlacedOutput → List Group → List Group
 with_front q [] = record { first = q; others = [] } ∷ []
 with_front q (g ∷ gs) =
     if shares_segment q g.first then record { first = q; others = group_sections g } ∷ gs
     else (record { first = q; others = [] } ∷ g ∷ gs)
 
 -- neighbours that share a segment stand in one group
-unfoldable pub groups : List PlacedSection → List Group
+unfoldable pub groups : List PlacedOutput → List Group
 groups [] = []
 groups (q ∷ qs) = with_front q (groups qs)
 
@@ -59,16 +59,16 @@ abbrev pub segment_load : Segment → ℕ
 segment_load g = g.group.first.load
 
 -- the end of a section, counted from the segment's start
-abbrev pub reach : Group → PlacedSection → ℕ
+abbrev pub reach : Group → PlacedOutput → ℕ
 reach g q = end_of q - g.first.start
 
 -- p_filesz: up to the end of the last section with file bytes, 0 without one
 abbrev pub file_size : Group → ℕ
-file_size g = fold (λ n (q : PlacedSection). if q.has_file_bytes then reach g q else n) 0 (group_sections g)
+file_size g = fold (λ n (q : PlacedOutput). if q.has_file_bytes then reach g q else n) 0 (group_sections g)
 
 -- p_memsz: up to the end of the last section
 abbrev pub memory_size : Group → ℕ
-memory_size g = fold (λ n (q : PlacedSection). reach g q) 0 (group_sections g)
+memory_size g = fold (λ n (q : PlacedOutput). reach g q) 0 (group_sections g)
 
 -- the least number not below an end that is congruent to an address modulo the page size
 abbrev pub congruent : ℕ → ℕ → ℕ
@@ -91,10 +91,10 @@ begun_from end (g ∷ gs) = begun end g ∷ begun_from (file_end end (begun end 
 abbrev pub headers_end : ℕ → ℕ
 headers_end count = 64 + 56 * count
 
-abbrev pub nonempty : List PlacedSection → List PlacedSection
-nonempty sections = filter (λ (q : PlacedSection). not (q.size == 0)) sections
+abbrev pub nonempty : List PlacedOutput → List PlacedOutput
+nonempty sections = filter (λ (q : PlacedOutput). not (q.size == 0)) sections
 
-unfoldable pub segments : List PlacedSection → List Segment
+unfoldable pub segments : List PlacedOutput → List Segment
 segments sections = let gs : List Group = groups (nonempty sections) in begun_from (headers_end (length gs)) gs
 
 -- where the loaded part of the file ends: at the end of the last file bytes, or of the headers
@@ -104,9 +104,9 @@ loaded_end gs = fold file_end (headers_end (length gs)) gs
 -- an output section, and where it begins in the file
 pub record SectionInFile : Type 0 where
   pub offset : ℕ
-  pub section : PlacedSection
+  pub section : PlacedOutput
 
-abbrev pub in_segment : Segment → PlacedSection → SectionInFile
+abbrev pub in_segment : Segment → PlacedOutput → SectionInFile
 in_segment g q = record { offset = g.offset + (q.start - segment_start g); section = q }
 
 -- the output sections of nonzero size in the file
@@ -114,7 +114,7 @@ abbrev pub in_file : List Segment → List SectionInFile
 in_file gs = flat_map (λ (g : Segment). map (in_segment g) (group_sections g.group)) gs
 
 -- where an output section begins in the file; 0 where its size is 0
-abbrev pub file_offset : List Segment → PlacedSection → ℕ
+abbrev pub file_offset : List Segment → PlacedOutput → ℕ
 file_offset gs q =
     option_map_or (λ (x : SectionInFile). x.offset)
     (find (λ (x : SectionInFile). bytes_eq x.section.name q.name) (in_file gs)) 0

@@ -7,7 +7,7 @@ use Rattle.std.specs.List.{list_any}
 use Rattle.std.specs.Option.{option_map_or}
 use Rattle.elfobj.specs.Sections.{LinkedSection}
 use Rattle.ldmodel.specs.Image.{object_named, section_numbered}
-use Rattle.ldmodel.specs.Layout.{Layout, PlacedPiece, PlacedSection}
+use Rattle.ldmodel.specs.Layout.{Layout, PlacedPiece, PlacedOutput}
 use Rattle.ldmodel.specs.Project.{NamedObject, Project}
 use Rattle.ldmodel.specs.Relocations.{Site, sites_at, site_value}
 use Rattle.ldmodel.specs.Sections.{is_same_part}
@@ -32,7 +32,7 @@ pub record LinkedPiece : Type 0 where
   pub range : FileRange
 
 -- no bytes, where the output section has none in the file
-abbrev pub range_in : List Segment → PlacedSection → PlacedPiece → FileRange
+abbrev pub range_in : List Segment → PlacedOutput → PlacedPiece → FileRange
 range_in gs q x =
     if q.has_file_bytes && not (x.piece.size == 0)
     then record { offset = file_offset gs q + (x.start - q.start); length = x.piece.size }
@@ -41,7 +41,7 @@ range_in gs q x =
 abbrev pub text_of : Project → List ℕ → List ℕ
 text_of p object = option_map_or (λ (o : NamedObject). o.object.text) (object_named p object) []
 
-abbrev pub linked_piece : Project → List Segment → PlacedSection → PlacedPiece → LinkedPiece
+abbrev pub linked_piece : Project → List Segment → PlacedOutput → PlacedPiece → LinkedPiece
 linked_piece p gs q x = record {
   object = x.piece.object;
   text = text_of p x.piece.object;
@@ -53,7 +53,7 @@ linked_piece p gs q x = record {
 
 -- the input sections in the output, in their order
 unfoldable pub linked_pieces : Project → Layout → List LinkedPiece
-linked_pieces p s = flat_map (λ (q : PlacedSection). map (linked_piece p (segments s.sections) q) q.pieces) s.sections
+linked_pieces p s = flat_map (λ (q : PlacedOutput). map (linked_piece p (segments s.sections) q) q.pieces) s.sections
 
 abbrev pub same_range : FileRange → FileRange → Bool
 same_range a b = (a.offset == b.offset) && (a.length == b.length)

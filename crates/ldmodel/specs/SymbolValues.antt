@@ -8,7 +8,7 @@ use Rattle.elfobj.specs.declared.symbol.Symbol.{Symbol}
 use Rattle.elfobj.specs.declared.symbol.SymbolPlace.{SymbolPlace}
 use Rattle.elfobj.specs.declared.symbol.SymbolPlace.TheVariants as place
 use Rattle.ldmodel.specs.Arithmetic.{plus_modulo}
-use Rattle.ldmodel.specs.Layout.{Layout, PlacedPiece, PlacedSection, script_value}
+use Rattle.ldmodel.specs.Layout.{Layout, PlacedPiece, PlacedOutput, script_value}
 use Rattle.ldmodel.specs.Live.{symbol_at}
 use Rattle.ldmodel.specs.NameFaults.{object_name}
 use Rattle.ldmodel.specs.Names.{Entry, Decision, Strong, Script, Common, Weak, Provided, Undefined, Duplicate, decision}
@@ -26,7 +26,7 @@ pub data SymbolValue : Type 0 where
 
 -- all input sections in the output, in their order
 abbrev pub placed_pieces : Layout → List PlacedPiece
-placed_pieces s = flat_map (λ (q : PlacedSection). q.pieces) s.sections
+placed_pieces s = flat_map (λ (q : PlacedOutput). q.pieces) s.sections
 
 -- a part of an object is this piece
 abbrev pub is_part : List ℕ → Part → PlacedPiece → Bool

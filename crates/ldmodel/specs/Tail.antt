@@ -13,7 +13,7 @@ use Rattle.elfobj.specs.declared.symbol.SymbolKind.{SymbolKind}
 use Rattle.elfobj.specs.declared.symbol.SymbolKind.TheVariants as kind
 use Rattle.elfobj.specs.declared.symbol.SymbolPlace.{SymbolPlace}
 use Rattle.elfobj.specs.declared.symbol.SymbolPlace.TheVariants as place
-use Rattle.ldmodel.specs.Layout.{Layout, PlacedSection}
+use Rattle.ldmodel.specs.Layout.{Layout, PlacedOutput}
 use Rattle.ldmodel.specs.NameFaults.{object_name}
 use Rattle.ldmodel.specs.Names.{Entry, Decision, Strong, Common, Weak}
 use Rattle.ldmodel.specs.OutputSymbols.{OutputSymbol, output_symbols}
@@ -82,7 +82,7 @@ st_size p _ = 0
 abbrev pub header_of_part : Layout → List ℕ → Part → ℕ
 header_of_part s object part =
     option_map_or (λ n. n + 1)
-    (position (λ (q : PlacedSection). list_any (is_part object part) q.pieces) s.sections) SHN_ABS
+    (position (λ (q : PlacedOutput). list_any (is_part object part) q.pieces) s.sections) SHN_ABS
 
 abbrev pub header_of_place : Layout → List ℕ → SymbolPlace → ℕ
 header_of_place s object (place.Section k) = header_of_part s object (InTable k)

@@ -54,7 +54,7 @@ pub struct PlacedRegion {
     pub extent: u64,
 }
 
-/// Where everything stands: what a placement lends (`specs/Lent.antt`).
+/// Where everything stands: what a placement lends (`specs/PlacementView.antt`).
 #[derive(Clone, Copy, Debug)]
 pub struct PlacementView<'a> {
     /// The output sections, in the order of the script.

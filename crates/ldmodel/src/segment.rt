@@ -2,7 +2,7 @@
 
 use crate::placed::OutputIndex;
 
-/// A segment: one PT_LOAD of the image (`specs/Lent.antt` says which).
+/// A segment: one PT_LOAD of the image (`specs/PlacementView.antt` says which).
 #[derive(Clone, Copy, Debug, PartialEq, Eq)]
 pub struct Segment {
     /// `p_offset`: where it begins in the file; padding can carry it past 2^64.

@@ -7,7 +7,7 @@ use Rattle.std.specs.List.{Contains}
 use Rattle.std.proofs.lemmas.Bool.{cases_lt, false≢true, lt-ltb, le-leb}
 use Rattle.ldmodel.specs.Each.{Each}
 use Rattle.ldmodel.specs.Image.{covers, ends_in, fill_byte, gap_byte, gap_start}
-use Rattle.ldmodel.specs.Layout.{PlacedData, PlacedPiece, PlacedSection}
+use Rattle.ldmodel.specs.Layout.{PlacedData, PlacedPiece, PlacedOutput}
 use Rattle.ldmodel_laws.specs.Gaps.{IsBare, IsGapStart}
 use Rattle.ldmodel_laws.specs.Spread.{IsSpread, data_end, piece_end}
 use Rattle.ldmodel_laws.proofs.Finding.{in_either, in_map, member_of}
@@ -33,13 +33,13 @@ covering : (a n o : ℕ) → a ≤ o → o < a + n → covers a n o ≡ true
 covering a n o h k = of_both (nat_le a o) (nat_lt o (a + n)) (le-leb a o h) (lt-ltb o (a + n) k)
 
 -- an address in an input section or a data command is not bare
-no_piece : (q : PlacedSection) (x : PlacedPiece) (at : ℕ) → Contains q.pieces x → IsBare q at → x.start ≤ at
+no_piece : (q : PlacedOutput) (x : PlacedPiece) (at : ℕ) → Contains q.pieces x → IsBare q at → x.start ≤ at
     → at < piece_end x → ⊥
 no_piece q x at c bare low high =
     none_passes (λ (y : PlacedPiece). covers y.start y.piece.size at) q.pieces x bare.piece c
     (covering x.start x.piece.size at low high)
 
-no_data : (q : PlacedSection) (d : PlacedData) (at : ℕ) → Contains q.data_commands d → IsBare q at → d.start ≤ at
+no_data : (q : PlacedOutput) (d : PlacedData) (at : ℕ) → Contains q.data_commands d → IsBare q at → d.start ≤ at
     → at < data_end d → ⊥
 no_data q d at c bare low high =
     none_passes (λ (y : PlacedData). covers y.start (length y.bytes) at) q.data_commands d bare.data_command c
@@ -55,7 +55,7 @@ is_some : (n : ℕ) → not (n == 0) ≡ true → 0 < n
 is_some zero e = absurd (false≢true e)
 is_some (suc n) e = omega arith
 
-module _ (q : PlacedSection) (x : PlacedPiece) (n : ℕ) (past : IsPast q x n) where
+module _ (q : PlacedOutput) (x : PlacedPiece) (n : ℕ) (past : IsPast q x n) where
   abbrev at : ℕ
   at = piece_end x + n
 
@@ -113,7 +113,7 @@ module _ (q : PlacedSection) (x : PlacedPiece) (n : ℕ) (past : IsPast q x n) w
   pub byte_of_gap : gap_byte q at ≡ fill_byte q.fill n
   byte_of_gap = ap (fill_byte q.fill) (let e : at - gap_start q at ≡ n = omega (arith, gap_from_end) in e)
 
-pub carried_gap : (q r : PlacedSection) (x y : PlacedPiece) (n : ℕ) → q.fill ≡ r.fill → IsPast q x n → IsPast r y n
+pub carried_gap : (q r : PlacedOutput) (x y : PlacedPiece) (n : ℕ) → q.fill ≡ r.fill → IsPast q x n → IsPast r y n
     → gap_byte q (piece_end x + n) ≡ gap_byte r (piece_end y + n)
 carried_gap q r x y n same p s =
     byte_of_gap q x n p ∙ ap (λ f. fill_byte f n) same ∙ sym (byte_of_gap r y n s)

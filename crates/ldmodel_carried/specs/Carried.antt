@@ -3,7 +3,7 @@
 use Rattle.std.specs.Prelude.{◌≡◌, ℕ, ◌+◌, ◌<◌, ◌≤◌, ◌==◌, Bool, not, Contains, length}
 use Rattle.emit_fields.specs.Fields.{relocation_value}
 use Rattle.ldmodel.specs.Each.{Each}
-use Rattle.ldmodel.specs.Layout.{PlacedData, PlacedPiece, PlacedSection}
+use Rattle.ldmodel.specs.Layout.{PlacedData, PlacedPiece, PlacedOutput}
 use Rattle.ldmodel.specs.Relocations.{Site, site_place}
 use Rattle.ldmodel.specs.Stayed.{GoodLink, LinkedPiece, link_pieces, site_value_in}
 use Rattle.ldmodel_laws.specs.Gaps.{IsBare}
@@ -32,7 +32,7 @@ abbrev pub has_changed : GoodLink → GoodLink → (before : ℕ) → Site → B
 has_changed old new before t = not (worth old (at_start before t) == worth new t)
 
 -- byte n of a gap that begins where an input section of nonzero size ends: all from there on is bare
-pub record IsPast (q : PlacedSection) (x : PlacedPiece) (n : ℕ) : Type 0 where
+pub record IsPast (q : PlacedOutput) (x : PlacedPiece) (n : ℕ) : Type 0 where
   pub spread : IsSpread q
   pub among : Contains q.pieces x
   pub some : 0 < x.piece.size

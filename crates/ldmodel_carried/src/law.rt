@@ -3,7 +3,7 @@
 ghost use Rattle.std.specs.Prelude.{◌≡◌, ◌+◌, ◌<◌, ℕ, Contains, List, false, true};
 ghost use Rattle.ldmodel.specs.Each.{Each};
 ghost use Rattle.ldmodel.specs.Image.{byte_at, gap_byte};
-ghost use Rattle.ldmodel.specs.Layout.{PlacedPiece, PlacedSection};
+ghost use Rattle.ldmodel.specs.Layout.{PlacedPiece, PlacedOutput};
 ghost use Rattle.ldmodel.specs.Relocations.{Site, site_value};
 ghost use Rattle.ldmodel.specs.Stayed.{GoodLink, LinkedPiece, sites_in};
 ghost use Rattle.ldmodel.specs.SymbolValues.{Number};
@@ -32,7 +32,7 @@ pub fn carried_sites()
 /// A gap that begins where an input section ends has the same bytes wherever the section stands, where the fill is the
 /// same.
 pub fn carried_gaps()
-    ensures { (q r : PlacedSection) (x y : PlacedPiece) (n : ℕ) → q.fill ≡ r.fill → IsPast q x n → IsPast r y n
+    ensures { (q r : PlacedOutput) (x y : PlacedPiece) (n : ℕ) → q.fill ≡ r.fill → IsPast q x n → IsPast r y n
         → gap_byte q (piece_end x + n) ≡ gap_byte r (piece_end y + n) }
 {}
 

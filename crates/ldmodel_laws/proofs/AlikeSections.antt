@@ -18,7 +18,7 @@ use Rattle.ldmodel.specs.Arithmetic.{plus_modulo}
 use Rattle.ldmodel.specs.Placement.{directive_step, Body, body_step}
 use Rattle.ldmodel.specs.Chain.{and_then, run}
 use Rattle.ldmodel.specs.Fault.{Fault}
-use Rattle.ldmodel.specs.Layout.{Layout, PlacedSection, ScriptSymbol, address, noted, number}
+use Rattle.ldmodel.specs.Layout.{Layout, PlacedOutput, ScriptSymbol, address, noted, number}
 use Rattle.ldmodel.specs.Placement.{free_dot_step, item_command_step, item_step, next_row, opened, section_step}
 use Rattle.ldmodel.specs.Rows.{Piece}
 use Rattle.ldmodel.specs.Placement.{find_region, load_region, placed_section, section_end, with_room, with_section}
@@ -164,9 +164,9 @@ end_is : (line : ℕ) (o : OutputSection) (h : Head) (b : Body) (t : Layout) →
     → with_section b.layout o (placed_section o h b) ≡ t
 unfolding section_end
 end_is line o h b t e =
-    let q : PlacedSection = placed_section o h b in
+    let q : PlacedOutput = placed_section o h b in
     let to_end : ℕ → Result Layout Fault = λ end. Ok (with_section b.layout o q) in
-    let to_load : PlacedSection → Result Layout Fault = λ z. and_then (address line (q.load + q.load_size)) to_end in
+    let to_load : PlacedOutput → Result Layout Fault = λ z. and_then (address line (q.load + q.load_size)) to_end in
     let k = came (with_room (find_region b.layout o.region) q.start q.size q) (λ z.
     and_then (with_room (find_region b.layout (load_region o.load)) q.load q.load_size q) to_load) t e in
     let l = came (with_room (find_region b.layout (load_region o.load)) q.load q.load_size q) to_load t k.gives in
@@ -232,7 +232,7 @@ free_dot_alike names s t u v line c a p q =
         }))
 
 -- output sections are added by output sections alone, one by each
-module _ (sections : List PlacedSection) where
+module _ (sections : List PlacedOutput) where
   abbrev HasThese : Body → Type 0
   HasThese b = b.layout.sections ≡ sections
 
@@ -257,7 +257,7 @@ section_adds : (provided : List (List ℕ)) (row : List Piece) (s : Layout) (lin
     → section_step provided row s line o ≡ Ok t → length t.sections ≡ length s.sections + 1
 section_adds provided row s line o t e =
     let p = section_placed provided row s line o t e in
-    let q : PlacedSection = placed_section o p.head p.last in
+    let q : PlacedOutput = placed_section o p.head p.last in
     let kept = body_keeps s.sections provided o.body (opened s row p.head) p.last p.body refl in
     ap (λ (z : Layout). length z.sections) (sym p.after)
     ∙ (length-append p.last.layout.sections (q ∷ []) ∙ ap (λ l. length l + 1) kept)

@@ -10,7 +10,7 @@ use Rattle.emit_fields.specs.declared.patch.Patch.{Patch}
 use Rattle.ldmodel.specs.Image.{byte_at, covering_data, covering_piece, data_byte, field_byte, file_headers}
 use Rattle.ldmodel.specs.Image.{file_section_at, first_of, gap_byte, linked_part, object_named, own_byte}
 use Rattle.ldmodel.specs.Image.{piece_field_byte, placed_byte, section_case, section_numbered, tail_at, tail_case}
-use Rattle.ldmodel.specs.Layout.{Layout, PlacedData, PlacedPiece, PlacedSection}
+use Rattle.ldmodel.specs.Layout.{Layout, PlacedData, PlacedPiece, PlacedOutput}
 use Rattle.ldmodel.specs.Project.{NamedObject, Project}
 use Rattle.ldmodel.specs.Relocations.{fields_of}
 use Rattle.ldmodel.specs.SectionHeaders.{FilePart}
@@ -64,14 +64,14 @@ module _ (p : Project) (s : Layout) where
     by_part (InTable k) = by_object k (object_named p x.piece.object)
     by_part (InCommon e) = refl
 
-  among : (q : PlacedSection) (at : ℕ) (x : Option PlacedPiece) (d : Option PlacedData)
+  among : (q : PlacedOutput) (at : ℕ) (x : Option PlacedPiece) (d : Option PlacedData)
       → first_of (option_and_then (piece_field_byte p s at) x ∷ option_map (own_byte p at) x
       ∷ option_map (data_byte at) d ∷ Some (gap_byte q at) ∷ []) ≡ byte_among p s q at x d
   among q at (Some x) d = by_part x at (option_map (data_byte at) d ∷ Some (gap_byte q at) ∷ []) x.piece.part
   among q at None (Some d) = refl
   among q at None None = refl
 
-  pub placed_by_cases : (q : PlacedSection) (at : ℕ) → placed_byte p s q at ≡ output_byte p s q at
+  pub placed_by_cases : (q : PlacedOutput) (at : ℕ) → placed_byte p s q at ≡ output_byte p s q at
   placed_by_cases q at = among q at (covering_piece q at) (covering_data q at)
 
   past : (o : ℕ) (x : Option SectionInFile) (t : Option FilePart)

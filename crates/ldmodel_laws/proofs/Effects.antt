@@ -23,7 +23,7 @@ use Rattle.ldmodel.specs.Placement.{assigned, directive_step, Body, piece_placed
 use Rattle.ldmodel.specs.Placement.{with_dot, with_data, data_step, moved_on, advanced, set_to, dot_step, body_step}
 use Rattle.ldmodel.specs.Chain.{and_then, run}
 use Rattle.ldmodel.specs.Fault.{Fault, MovedBack, PastAddressSpace}
-use Rattle.ldmodel.specs.Layout.{Layout, PlacedSection, address, number, with_symbol}
+use Rattle.ldmodel.specs.Layout.{Layout, PlacedOutput, address, number, with_symbol}
 use Rattle.ldmodel.specs.Placement.{free_dot_step, region_step, section_step, opened, with_region}
 use Rattle.ldmodel.specs.Rows.{Piece}
 use Rattle.ldmodel.specs.Placement.{section_end, placed_section, with_section, with_room, find_region, load_region}
@@ -189,14 +189,14 @@ pub record SectionPlaced (provided : List (List ℕ)) (row : List Piece) (s : La
   pub body : run (body_step provided) (opened s row head) o.body ≡ Ok last
   pub after : with_section last.layout o (placed_section o head last) ≡ t
 
-module _ (line : ℕ) (o : OutputSection) (b : Body) (q : PlacedSection) where
+module _ (line : ℕ) (o : OutputSection) (b : Body) (q : PlacedOutput) where
   abbrev with_end : ℕ → Result Layout Fault
   with_end end = Ok (with_section b.layout o q)
 
-  abbrev with_load : PlacedSection → Result Layout Fault
+  abbrev with_load : PlacedOutput → Result Layout Fault
   with_load p = and_then (address line (q.load + q.load_size)) with_end
 
-  abbrev with_start : PlacedSection → Result Layout Fault
+  abbrev with_start : PlacedOutput → Result Layout Fault
   with_start p = and_then (with_room (find_region b.layout (load_region o.load)) q.load q.load_size q) with_load
 
   ended_after : (t : Layout) → and_then (with_room (find_region b.layout o.region) q.start q.size q) with_start ≡ Ok t

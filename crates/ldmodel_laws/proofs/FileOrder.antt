@@ -6,7 +6,7 @@ use Rattle.std.proofs.lemmas.List.Elements.{filter-append}
 use Rattle.std.proofs.lemmas.Bool.{eqb-true, eq-eqb, false≢true, leb-true}
 use Rattle.ldmodel.specs.Each.{Each}
 use Rattle.ldmodel_laws.specs.FileLayout.{Neighbours, IsTogether, Shares}
-use Rattle.ldmodel.specs.Layout.{PlacedSection}
+use Rattle.ldmodel.specs.Layout.{PlacedOutput}
 use Rattle.ldmodel.specs.Segments.{Group, Segment, SectionInFile, in_file, in_segment, headers_end}
 use Rattle.ldmodel.specs.Segments.{segment_start, end_of, reach, file_size, file_end, segments, group_sections, groups}
 use Rattle.ldmodel.specs.Segments.{begun, begun_from, nonempty}
@@ -26,7 +26,7 @@ both_right true b e = e
 both_right false b e = absurd (let none : ⊥ = cc in none)
 
 -- of two neighbours in a segment the second begins at the end of the first or past it
-after_one : (p q : PlacedSection) → Shares p q → end_of p ≤ q.start
+after_one : (p q : PlacedOutput) → Shares p q → end_of p ≤ q.start
 after_one p q h =
     let less = both_left _ _ h in
     let least = both_left _ _ less in
@@ -69,19 +69,19 @@ each_parts P (x ∷ xs) ys h = let rest = each_parts P xs ys h.1 in ((h.0, rest.
 
 -- ---- a segment
 
-abbrev HasSize : PlacedSection → Type 0
+abbrev HasSize : PlacedOutput → Type 0
 HasSize q = 0 < q.size
 
 -- sections one past the other from an address on
-abbrev Ascends : ℕ → List PlacedSection → Type 0
+abbrev Ascends : ℕ → List PlacedOutput → Type 0
 Ascends from [] = Unit {0}
 Ascends from (q ∷ qs) = (from ≤ q.start) × Ascends (end_of q) qs
 
-ascends : (p : PlacedSection) (qs : List PlacedSection) → Neighbours Shares (p ∷ qs) → Ascends (end_of p) qs
+ascends : (p : PlacedOutput) (qs : List PlacedOutput) → Neighbours Shares (p ∷ qs) → Ascends (end_of p) qs
 ascends p [] h = tt
 ascends p (q ∷ qs) h = (after_one p q h.0, ascends q qs h.1)
 
-ascends_below : (from to : ℕ) → from ≤ to → (qs : List PlacedSection) → Ascends to qs → Ascends from qs
+ascends_below : (from to : ℕ) → from ≤ to → (qs : List PlacedOutput) → Ascends to qs → Ascends from qs
 ascends_below from to l [] h = tt
 ascends_below from to l (q ∷ qs) h = (omega (arith, l, h.0), h.1)
 
@@ -98,10 +98,10 @@ module _ (g : Segment) where
   abbrev base : ℕ
   base = segment_start g
 
-  abbrev placed : List PlacedSection → List SectionInFile
+  abbrev placed : List PlacedOutput → List SectionInFile
   placed qs = map (in_segment g) qs
 
-  past_all : (from : ℕ) → base ≤ from → (qs : List PlacedSection) → Ascends from qs
+  past_all : (from : ℕ) → base ≤ from → (qs : List PlacedOutput) → Ascends from qs
       → Each (Past (g.offset + (from - base))) (placed qs)
   past_all from l [] h = tt
   past_all from l (q ∷ qs) h =
@@ -111,7 +111,7 @@ module _ (g : Segment) where
             (λ x k. omega (arith, k, l, h.0)) (placed qs) more,
       )
 
-  in_order : (from : ℕ) → base ≤ from → (qs : List PlacedSection) → Ascends from qs → EachLater Before (placed qs)
+  in_order : (from : ℕ) → base ≤ from → (qs : List PlacedOutput) → Ascends from qs → EachLater Before (placed qs)
   in_order from l [] h = tt
   in_order from l (q ∷ qs) h =
       let up : base ≤ end_of q = omega (arith, l, h.0) in (
@@ -120,11 +120,11 @@ module _ (g : Segment) where
         in_order (end_of q) up qs h.1,
       )
 
-  abbrev last_reach : ℕ → List PlacedSection → ℕ
-  last_reach n qs = fold (λ m (q : PlacedSection). cond q.has_file_bytes (reach g.group q) m) n qs
+  abbrev last_reach : ℕ → List PlacedOutput → ℕ
+  last_reach n qs = fold (λ m (q : PlacedOutput). cond q.has_file_bytes (reach g.group q) m) n qs
 
   -- the end of the last file bytes is past those of all
-  last_above : (n from : ℕ) (qs : List PlacedSection) → base ≤ from → n ≤ from - base → Ascends from qs
+  last_above : (n from : ℕ) (qs : List PlacedOutput) → base ≤ from → n ≤ from - base → Ascends from qs
       → n ≤ last_reach n qs
   last_above n from [] l m h = omega arith
   last_above n from (q ∷ qs) l m h =
@@ -140,7 +140,7 @@ module _ (g : Segment) where
   EndsBy n x = end_in_file x ≤ n
 
   -- with file bytes they end by the last one's end
-  ends_by : (n from : ℕ) (qs : List PlacedSection) → base ≤ from → n ≤ from - base → Ascends from qs
+  ends_by : (n from : ℕ) (qs : List PlacedOutput) → base ≤ from → n ≤ from - base → Ascends from qs
       → Each (EndsBy (g.offset + last_reach n qs)) (with_bytes (placed qs))
   ends_by n from [] l m h = tt
   ends_by n from (q ∷ qs) l m h =
@@ -160,7 +160,7 @@ module _ (g : Segment) where
       go true one other = (omega (arith, last, l, h.0), one)
       go false one other = other
 
-  sizes : (qs : List PlacedSection) → Each HasSize qs → Each (λ (x : SectionInFile). 0 < x.section.size) (placed qs)
+  sizes : (qs : List PlacedOutput) → Each HasSize qs → Each (λ (x : SectionInFile). 0 < x.section.size) (placed qs)
   sizes [] h = tt
   sizes (q ∷ qs) h = (h.0, sizes qs h.1)
 
@@ -246,11 +246,11 @@ all_in_order end (g ∷ gs) h k =
       up = omega (arith, up, rest.up);
     }
 
-has_size : (qs : List PlacedSection) → Each HasSize (nonempty qs)
+has_size : (qs : List PlacedOutput) → Each HasSize (nonempty qs)
 has_size qs = each_imply (λ q. not (q.size == 0) ≡ true) HasSize (λ q h. go q (q.size == 0) refl h) (nonempty qs)
-    (each_passes (λ (q : PlacedSection). not (q.size == 0)) qs)
+    (each_passes (λ (q : PlacedOutput). not (q.size == 0)) qs)
   where
-    go : (q : PlacedSection) (b : Bool) → (q.size == 0) ≡ b → not b ≡ true → 0 < q.size
+    go : (q : PlacedOutput) (b : Bool) → (q.size == 0) ≡ b → not b ≡ true → 0 < q.size
     go q true e h = absurd (false≢true h)
     go q false e h = ⊎_elim (λ z. absurd (false≢true (sym e ∙ eq-eqb q.size 0 z))) (λ l. l) (eq-zero-or-pos q.size)
 
@@ -259,7 +259,7 @@ have_size [] h = tt
 have_size (g ∷ gs) h = let parts = each_parts HasSize (group_sections g) (flat_map group_sections gs) h in
     (parts.0, have_size gs parts.1)
 
-pub files_in_order : (sections : List PlacedSection) → AreInFileOrder (segments sections)
+pub files_in_order : (sections : List PlacedOutput) → AreInFileOrder (segments sections)
 unfolding segments
 files_in_order sections =
     let gs : List Group = groups (nonempty sections) in

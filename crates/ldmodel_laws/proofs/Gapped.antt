@@ -6,7 +6,7 @@ use Rattle.std.specs.List.{Contains}
 use Rattle.ldmodel.specs.Each.{Each}
 use Rattle.ldmodel_laws.specs.Gaps.{IsBare, IsGapStart}
 use Rattle.ldmodel.specs.Image.{covers, ends_in, gap_start}
-use Rattle.ldmodel.specs.Layout.{PlacedSection, PlacedPiece, PlacedData}
+use Rattle.ldmodel.specs.Layout.{PlacedOutput, PlacedPiece, PlacedData}
 use Rattle.ldmodel_laws.proofs.Members.{here, later}
 
 -- the last of a start and of the ends that are not past an address
@@ -121,7 +121,7 @@ data_ended : (at from : ℕ) (ds : List PlacedData) → Each (λ e. e ≤ at →
 data_ended at from [] h = tt
 data_ended at from (d ∷ ds) h = (λ z l. h.0 l, data_ended at from ds (h.1))
 
-pub gap_starts : (q : PlacedSection) (at : ℕ) → q.start ≤ at → IsBare q at → IsGapStart q at (gap_start q at)
+pub gap_starts : (q : PlacedOutput) (at : ℕ) → q.start ≤ at → IsBare q at → IsGapStart q at (gap_start q at)
 gap_starts q at h bare =
     let ended = pieces_ended at (gap_start q at) q.pieces (map end_of_data q.data_commands)
     (not_past at q.start (ends_in q)) in

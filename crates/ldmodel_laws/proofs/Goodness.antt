@@ -13,7 +13,7 @@ use Rattle.ldmodel.specs.Fault.{Fault, ImageTooLong}
 use Rattle.ldmodel.specs.Edits.{AreNamesDistinct}
 use Rattle.ldmodel.specs.Each.{Each}
 use Rattle.ldmodel.specs.Image.{object_named, section_numbered}
-use Rattle.ldmodel.specs.Layout.{Layout, PlacedPiece, PlacedSection}
+use Rattle.ldmodel.specs.Layout.{Layout, PlacedPiece, PlacedOutput}
 use Rattle.ldmodel.specs.Link.{laid_out, layout, of_length, without_overlaps}
 use Rattle.ldmodel.specs.Names.{provided}
 use Rattle.ldmodel.specs.Overlaps.{overlaps}
@@ -67,14 +67,14 @@ of_placement p s e = go (placement p.script (rows p) (provided p)) refl e
 abbrev entry : PlacedPiece → Piece
 entry x = x.piece
 
-abbrev pieces_of : PlacedSection → List PlacedPiece
+abbrev pieces_of : PlacedOutput → List PlacedPiece
 pieces_of q = q.pieces
 
 mapped_append : {X Y : Type 0} (f : X → Y) (xs ys : List X) → map f (xs ++ ys) ≡ map f xs ++ map f ys
 mapped_append f [] ys = refl
 mapped_append f (x ∷ xs) ys = ap (λ l. f x ∷ l) (mapped_append f xs ys)
 
-entries_joined : (qs : List PlacedSection) → map entry (flat_map pieces_of qs) ≡ flat_map (λ r. r) (map entries_in qs)
+entries_joined : (qs : List PlacedOutput) → map entry (flat_map pieces_of qs) ≡ flat_map (λ r. r) (map entries_in qs)
 entries_joined [] = refl
 entries_joined (q ∷ qs) = mapped_append entry q.pieces (flat_map pieces_of qs)
     ∙ ap (λ l. map entry q.pieces ++ l) (entries_joined qs)
@@ -209,9 +209,9 @@ module _ (l : GoodLink) (h : IsFaultless l) where
   piece_fields : (x : LinkedPiece) → Contains (link_pieces l) x → Each (HasField l) (sites_in p x)
   unfolding linked_pieces
   piece_fields x c =
-      let k = in_flat_map (λ (q : PlacedSection). map (linked_piece p (segments s.sections) q) q.pieces) s.sections x c
+      let k = in_flat_map (λ (q : PlacedOutput). map (linked_piece p (segments s.sections) q) q.pieces) s.sections x c
       in
-      let q : PlacedSection = k.origin in
+      let q : PlacedOutput = k.origin in
       let m = in_map (linked_piece p (segments s.sections) q) q.pieces x k.gives in
       let w : PlacedPiece = m.origin in
       let there : Contains (placed_pieces s) w = flat_map_in pieces_of s.sections q w k.among m.among in

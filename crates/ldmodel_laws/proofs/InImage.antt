@@ -15,7 +15,7 @@ use Rattle.emit_fields.specs.Patches.{patched_byte, patch_end}
 use Rattle.emit_fields.specs.declared.patch.Patch.{Patch}
 use Rattle.ldmodel.specs.Image.{byte_at, object_named, section_numbered}
 use Rattle.ldmodel_laws.specs.ByteCases.{part_byte, section_byte}
-use Rattle.ldmodel.specs.Layout.{Layout, PlacedPiece, PlacedSection}
+use Rattle.ldmodel.specs.Layout.{Layout, PlacedPiece, PlacedOutput}
 use Rattle.ldmodel.specs.Project.{NamedObject, Project}
 use Rattle.ldmodel.specs.Relocations.{Site, fields_of, is_evaluated, patch_of, site_field, sites_at}
 use Rattle.ldmodel.specs.SectionHeaders.{Tables, header_part, image_length, tables}
@@ -36,7 +36,7 @@ use Rattle.ldmodel_laws.proofs.Untouched.{by_object, by_section, known, same, si
 
 -- ---- output sections in the file
 
-pub offset_by_name : (sections : List PlacedSection) → AreNamed sections → (x : SectionInFile)
+pub offset_by_name : (sections : List PlacedOutput) → AreNamed sections → (x : SectionInFile)
     → Contains (in_file (segments sections)) x → file_offset (segments sections) x.section ≡ x.offset
 offset_by_name sections named x c =
     ap (λ m. option_map_or (λ (y : SectionInFile). y.offset) m 0)
@@ -48,11 +48,11 @@ offset_by_name sections named x c =
 
 -- ---- input sections in the image
 
-pub linked : (l : GoodLink) (q : PlacedSection) (z : PlacedPiece) → Contains l.layout.sections q → Contains q.pieces z
+pub linked : (l : GoodLink) (q : PlacedOutput) (z : PlacedPiece) → Contains l.layout.sections q → Contains q.pieces z
     → Contains (link_pieces l) (linked_piece l.project (segments l.layout.sections) q z)
 unfolding linked_pieces
 linked l q z c d =
-    flat_map_in (λ (r : PlacedSection). map (linked_piece l.project (segments l.layout.sections) r) r.pieces)
+    flat_map_in (λ (r : PlacedOutput). map (linked_piece l.project (segments l.layout.sections) r) r.pieces)
     l.layout.sections q (linked_piece l.project (segments l.layout.sections) q z) c
     (map_in (linked_piece l.project (segments l.layout.sections) q) q.pieces z d)
 
@@ -78,7 +78,7 @@ module _ (l : GoodLink) (good : IsGood l) where
   abbrev gs : List Segment
   gs = segments l.layout.sections
 
-  range_inside : (q : PlacedSection) (z : PlacedPiece) (i : ℕ) → Contains l.layout.sections q → Contains q.pieces z
+  range_inside : (q : PlacedOutput) (z : PlacedPiece) (i : ℕ) → Contains l.layout.sections q → Contains q.pieces z
       → i < (range_in gs q z).length → (range_in gs q z).offset + i < image_length l.project l.layout
   range_inside q z i there among low = go (q.has_file_bytes && not (z.piece.size == 0)) refl low
     where
@@ -101,8 +101,8 @@ module _ (l : GoodLink) (good : IsGood l) where
       → x.range.offset + i < image_length l.project l.layout
   unfolding linked_pieces
   inside_image x c i low =
-      let k = in_flat_map (λ (q : PlacedSection). map (linked_piece l.project gs q) q.pieces) l.layout.sections x c in
-      let q : PlacedSection = k.origin in
+      let k = in_flat_map (λ (q : PlacedOutput). map (linked_piece l.project gs q) q.pieces) l.layout.sections x c in
+      let q : PlacedOutput = k.origin in
       let m = in_map (linked_piece l.project gs q) q.pieces x k.gives in
       let P : LinkedPiece → Type 0 = λ y. i < y.range.length
       → y.range.offset + i < image_length l.project l.layout in

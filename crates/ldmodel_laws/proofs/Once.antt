@@ -9,7 +9,7 @@ use Rattle.elfobj.specs.Sections.{LinkedSection}
 use Rattle.elfobj.specs.Symbols.{NamedSymbol}
 use Rattle.ldmodel.specs.Edits.{AreNamesDistinct, has_name}
 use Rattle.ldmodel.specs.Each.{Each}
-use Rattle.ldmodel.specs.Gathering.{candidates, is_out}
+use Rattle.ldmodel.specs.Gathering.{candidates, is_discarded}
 use Rattle.ldmodel.specs.InputSections.{block_at, block_of, common_block, common_blocks, input_sections, is_same_entry}
 use Rattle.ldmodel.specs.InputSections.{linked_input, object_inputs}
 use Rattle.ldmodel.specs.Live.{live}
@@ -333,4 +333,4 @@ module _ (p : Project) (names : AreNamesDistinct p.objects) (numbers : AreNumber
       let k = in_order p in
       subst (EachLater Apart) (sym k.1)
       (later_filtered Apart k.0 (candidates p)
-      (later_filtered Apart (λ s. not (is_out p s)) (input_sections p) all_apart))
+      (later_filtered Apart (λ s. not (is_discarded p s)) (input_sections p) all_apart))

@@ -9,7 +9,7 @@ use Rattle.std.proofs.lemmas.Slice.Eq.{bytes_eq-Decides}
 use Rattle.ldmodel.specs.Each.{Each}
 use Rattle.ldmodel.specs.Headers.{elf_header, program_header, program_headers, ascending}
 use Rattle.ldmodel.specs.Image.{byte_at, covering_data, covering_piece, covers, file_headers, file_section_at, tail_at}
-use Rattle.ldmodel.specs.Layout.{Layout, PlacedPiece, PlacedSection}
+use Rattle.ldmodel.specs.Layout.{Layout, PlacedPiece, PlacedOutput}
 use Rattle.ldmodel.specs.Project.{Project}
 use Rattle.ldmodel.specs.Segments.{Group, Segment, SectionInFile, file_offset, groups, headers_end}
 use Rattle.ldmodel.specs.Segments.{in_file, in_segment, loaded_end, begun, begun_from, file_end, nonempty}
@@ -72,10 +72,10 @@ length_headers p s =
 
 -- ---- output sections in the file
 
-abbrev section_in : SectionInFile → PlacedSection
+abbrev section_in : SectionInFile → PlacedOutput
 section_in x = x.section
 
-sections_placed : (g : Segment) (qs : List PlacedSection) → map section_in (map (in_segment g) qs) ≡ qs
+sections_placed : (g : Segment) (qs : List PlacedOutput) → map section_in (map (in_segment g) qs) ≡ qs
 sections_placed g [] = refl
 sections_placed g (q ∷ qs) = ap (λ l. q ∷ l) (sections_placed g qs)
 
@@ -92,7 +92,7 @@ sections_of end (g ∷ gs) =
     (sections_placed (begun end g) (group_sections g))
     ∙ ap (λ l. group_sections g ++ l) (sections_of (file_end end (begun end g)) gs)
 
-pub all_sections : (sections : List PlacedSection) → map section_in (in_file (segments sections)) ≡ nonempty sections
+pub all_sections : (sections : List PlacedOutput) → map section_in (in_file (segments sections)) ≡ nonempty sections
 unfolding segments
 all_sections sections = sections_of (headers_end (length (groups (nonempty sections)))) (groups (nonempty sections))
     ∙ (is_grouping (nonempty sections)).parts
@@ -159,15 +159,15 @@ one_name a b name h = go (bytes_eq a name) (bytes_eq b name) refl refl
 -- ---- an output section in the file
 
 -- the names of the output sections in the file differ
-pub names_apart : (sections : List PlacedSection) → AreNamed sections
+pub names_apart : (sections : List PlacedOutput) → AreNamed sections
     → EachLater (λ (x y : SectionInFile). bytes_eq x.section.name y.section.name ≡ false) (in_file (segments sections))
 names_apart sections named =
-    later_of_map section_in (λ (r t : PlacedSection). bytes_eq r.name t.name ≡ false) (in_file (segments sections))
-    (subst (EachLater (λ (r t : PlacedSection). bytes_eq r.name t.name ≡ false)) (sym (all_sections sections))
-    (later_filtered (λ (r t : PlacedSection). bytes_eq r.name t.name ≡ false) (λ (r : PlacedSection).
+    later_of_map section_in (λ (r t : PlacedOutput). bytes_eq r.name t.name ≡ false) (in_file (segments sections))
+    (subst (EachLater (λ (r t : PlacedOutput). bytes_eq r.name t.name ≡ false)) (sym (all_sections sections))
+    (later_filtered (λ (r t : PlacedOutput). bytes_eq r.name t.name ≡ false) (λ (r : PlacedOutput).
     not (r.size == 0)) sections named))
 
-module _ (sections : List PlacedSection) (named : AreNamed sections) (q : PlacedSection) (there : Contains sections q)
+module _ (sections : List PlacedOutput) (named : AreNamed sections) (q : PlacedOutput) (there : Contains sections q)
     (some : 0 < q.size) where
   abbrev gs : List Segment
   gs = segments sections
@@ -185,7 +185,7 @@ module _ (sections : List PlacedSection) (named : AreNamed sections) (q : Placed
   found : Comes section_in fs q
   found = in_map section_in fs q
       (subst (λ l. Contains l q) (sym (all_sections sections))
-      (filter_in (λ (r : PlacedSection). not (r.size == 0)) sections q there has_size))
+      (filter_in (λ (r : PlacedOutput). not (r.size == 0)) sections q there has_size))
 
   abbrev own : SectionInFile
   own = found.origin
@@ -200,12 +200,12 @@ module _ (sections : List PlacedSection) (named : AreNamed sections) (q : Placed
       (later_imply (λ (x y : SectionInFile). bytes_eq x.section.name y.section.name
       ≡ false) (NotBoth (λ (x : SectionInFile). bytes_eq x.section.name q.name)) (λ x y h.
       one_name x.section.name y.section.name q.name h) fs names_differ)
-      found.among (ap (λ (r : PlacedSection). bytes_eq r.name q.name) found.gives ∙ same_name q.name))
+      found.among (ap (λ (r : PlacedOutput). bytes_eq r.name q.name) found.gives ∙ same_name q.name))
 
   module _ (bytes : q.has_file_bytes ≡ true) where
     in_bytes : Contains (filter (λ (x : SectionInFile). x.section.has_file_bytes) fs) own
     in_bytes = filter_in (λ (x : SectionInFile). x.section.has_file_bytes) fs own found.among
-        (ap (λ (r : PlacedSection). r.has_file_bytes) found.gives ∙ bytes)
+        (ap (λ (r : PlacedOutput). r.has_file_bytes) found.gives ∙ bytes)
 
     order : AreInFileOrder gs
     order = files_in_order sections
@@ -218,7 +218,7 @@ module _ (sections : List PlacedSection) (named : AreNamed sections) (q : Placed
     past_headers = between.0
 
     by_end : own.offset + q.size ≤ loaded_end gs
-    by_end = subst (λ (r : PlacedSection). own.offset + r.size ≤ loaded_end gs) found.gives between.1
+    by_end = subst (λ (r : PlacedOutput). own.offset + r.size ≤ loaded_end gs) found.gives between.1
 
     -- the offset of an address of the section finds the section
     finds : (at : ℕ) → own.offset ≤ at → at < own.offset + q.size
@@ -231,12 +231,12 @@ module _ (sections : List PlacedSection) (named : AreNamed sections) (q : Placed
         (later_imply (λ (x y : SectionInFile). end_in_file x ≤ y.offset)
         (NotBoth (λ (x : SectionInFile). covers x.offset x.section.size at))
         (λ x y h. apart x.offset x.section.size y.offset y.section.size at h) _ order.ascend)
-        in_bytes (ap (λ (r : PlacedSection). covers own.offset r.size at) found.gives
+        in_bytes (ap (λ (r : PlacedOutput). covers own.offset r.size at) found.gives
         ∙ covering own.offset q.size at low high)
 
 -- ---- the byte
 
-module _ (p : Project) (s : Layout) (q : PlacedSection) (x : PlacedPiece) (i : ℕ) (spread : Each IsSpread s.sections)
+module _ (p : Project) (s : Layout) (q : PlacedOutput) (x : PlacedPiece) (i : ℕ) (spread : Each IsSpread s.sections)
     (named : AreNamed s.sections)
     (there : Contains s.sections q) (bytes : q.has_file_bytes ≡ true) (among : Contains q.pieces x)
     (low : i < x.piece.size) where
@@ -290,7 +290,7 @@ module _ (p : Project) (s : Layout) (q : PlacedSection) (x : PlacedPiece) (i : �
       (tail_at p s at)))
       not_header
       ∙ ap (λ m. byte_past_headers p s at m (tail_at p s at)) section_found
-      ∙ ap (λ (r : PlacedSection). output_byte p s r (r.start + (at - file.offset)))
+      ∙ ap (λ (r : PlacedOutput). output_byte p s r (r.start + (at - file.offset)))
       (found s.sections named q there some).gives
       ∙ ap (λ n. output_byte p s q n) address
       ∙ ap (λ m. byte_among p s q (x.start + i) m (covering_data q (x.start + i))) piece_found

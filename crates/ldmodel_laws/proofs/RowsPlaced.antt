@@ -19,7 +19,7 @@ use Rattle.ldscript.specs.statements.declared.statement.ItemCommand.TheVariants 
 use Rattle.ldscript.specs.statements.declared.statement.Statement.{Statement}
 use Rattle.ldmodel.specs.Placement.{Body, body_step, body_command_step, pieces_placed}
 use Rattle.ldmodel.specs.Each.{Each}
-use Rattle.ldmodel.specs.Layout.{Layout, PlacedSection, noted, nothing_placed}
+use Rattle.ldmodel.specs.Layout.{Layout, PlacedOutput, noted, nothing_placed}
 use Rattle.ldmodel.specs.Placement.{command_step, item_command_step, item_step, next_row, opened, placement}
 use Rattle.ldmodel.specs.Placement.{region_step, statement_step}
 use Rattle.ldmodel.specs.Rows.{Piece}
@@ -73,7 +73,7 @@ module _ (of : ℕ → InputStatementAt → List Piece) (mark : (n : ℕ) (i : I
 
   -- ---- a body
 
-  module _ (k : ℕ) (row : List Piece) (sections : List PlacedSection) (total : ℕ) where
+  module _ (k : ℕ) (row : List Piece) (sections : List PlacedOutput) (total : ℕ) where
     abbrev statements : List BodyStatement → List InputStatementAt
     statements ss = inputs_in (InSection k) ss
 
@@ -176,7 +176,7 @@ module _ (of : ℕ → InputStatementAt → List Piece) (mark : (n : ℕ) (i : I
       let k : ℕ = length s.sections in
       let n : ℕ = length (inputs_in (InSection k) o.body) in
       let b : Body = h.last in
-      let q : PlacedSection = placed_section o h.head b in
+      let q : PlacedOutput = placed_section o h.head b in
       let last : SoFar k row s.sections (s.inputs + n) b [] =
       run_by (body_step provided) (SoFar k row s.sections (s.inputs + n)) (λ c x ss d e i.
       step_so_far k row s.sections (s.inputs + n) provided c x ss d e i) o.body (opened s row h.head) b h.body
@@ -245,7 +245,7 @@ module _ (of : ℕ → InputStatementAt → List Piece) (mark : (n : ℕ) (i : I
 
     kept_whole : (s t : Layout) (is : List Item) → Kept s t → Whole s is → Whole t is
     kept_whole s t is h w =
-        ap (λ (xs : List PlacedSection). map entries_in xs ++ coming (length xs) t.inputs is) (sym h.sections)
+        ap (λ (xs : List PlacedOutput). map entries_in xs ++ coming (length xs) t.inputs is) (sym h.sections)
         ∙ ap (λ n. map entries_in s.sections ++ coming (length s.sections) n is) (sym h.inputs) ∙ w
 
     statement_whole : (line : ℕ) (s : Layout) (c : Command) (is : List Item) (t : Layout)

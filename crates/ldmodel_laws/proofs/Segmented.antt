@@ -1,7 +1,7 @@
 -- The segments of a list of output sections are its one file layout.
 use Rattle.std.proofs.Common.{◌≡◌, ℕ, suc, ◌≤◌, List, [], ◌∷◌, length, map, refl, ap, sym, ◌∙◌, subst, arith}
 use Rattle.ldmodel_laws.specs.FileLayout.{IsLeastCongruent, BeginFrom, IsFileLayout, IsGrouping}
-use Rattle.ldmodel.specs.Layout.{PlacedSection}
+use Rattle.ldmodel.specs.Layout.{PlacedOutput}
 use Rattle.ldmodel.specs.Segments.{Group, Segment, groups, segments, begun, begun_from, congruent, file_end}
 use Rattle.ldmodel.specs.Segments.{headers_end, nonempty, segment_start}
 use Rattle.ldmodel_laws.proofs.Grouped.{is_grouping, one_grouping}
@@ -28,7 +28,7 @@ pub same_count : (end : ℕ) (gs : List Group) → length (begun_from end gs) �
 same_count end [] = refl
 same_count end (g ∷ gs) = ap suc (same_count (file_end end (begun end g)) gs)
 
-pub is_file_layout : (sections : List PlacedSection) → IsFileLayout sections (segments sections)
+pub is_file_layout : (sections : List PlacedOutput) → IsFileLayout sections (segments sections)
 unfolding segments
 is_file_layout sections =
     let gs : List Group = groups (nonempty sections) in
@@ -60,7 +60,7 @@ count_of : (gs : List Segment) → length gs ≡ length (map group_in gs)
 count_of [] = refl
 count_of (g ∷ gs) = ap suc (count_of gs)
 
-pub one_file_layout : (sections : List PlacedSection) (gs : List Segment) → IsFileLayout sections gs → gs
+pub one_file_layout : (sections : List PlacedOutput) (gs : List Segment) → IsFileLayout sections gs → gs
     ≡ segments sections
 unfolding segments
 one_file_layout sections gs h =

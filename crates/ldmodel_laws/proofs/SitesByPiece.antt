@@ -13,7 +13,7 @@ use Rattle.elfobj.specs.declared.section.SectionIndex.{SectionIndex}
 use Rattle.ldmodel.specs.Edits.{AreNamesDistinct}
 use Rattle.ldmodel.specs.Each.{Each}
 use Rattle.ldmodel.specs.Image.{object_named, section_numbered}
-use Rattle.ldmodel.specs.Layout.{Layout, PlacedPiece, PlacedSection}
+use Rattle.ldmodel.specs.Layout.{Layout, PlacedPiece, PlacedOutput}
 use Rattle.ldmodel.specs.Project.{NamedObject, Project}
 use Rattle.ldmodel.specs.Relocations.{Site, sites, sites_at, sites_of_section}
 use Rattle.ldmodel.specs.Sections.{is_same_part}
@@ -220,10 +220,10 @@ module _ (test : Site → Bool) (p : Project) where
     unfolding linked_pieces
     kept_linked = go s.sections
       where
-        linked_in : PlacedSection → List LinkedPiece
+        linked_in : PlacedOutput → List LinkedPiece
         linked_in q = map (linked_piece p (segments s.sections) q) q.pieces
 
-        of_one : (q : PlacedSection) → flat_map kept_entry q.pieces
+        of_one : (q : PlacedOutput) → flat_map kept_entry q.pieces
             ≡ filter test (flat_map (sites_in p) (linked_in q))
         of_one q =
             joined_same _ _ q.pieces (λ w c.
@@ -232,12 +232,12 @@ module _ (test : Site → Bool) (p : Project) where
             ∙ sym (joined_mapped (λ x. filter test (sites_in p x)) (linked_piece p (segments s.sections) q) q.pieces)
             ∙ sym (filter_joined test (sites_in p) (linked_in q))
 
-        go : (qs : List PlacedSection) → flat_map kept_entry (flat_map (λ (q : PlacedSection). q.pieces) qs)
+        go : (qs : List PlacedOutput) → flat_map kept_entry (flat_map (λ (q : PlacedOutput). q.pieces) qs)
             ≡ filter test (flat_map (sites_in p) (flat_map linked_in qs))
         go [] = refl
         go (q ∷ qs) =
-            flat_map-append kept_entry q.pieces (flat_map (λ (r : PlacedSection). r.pieces) qs)
-            ∙ ap (λ l. l ++ flat_map kept_entry (flat_map (λ (r : PlacedSection). r.pieces) qs)) (of_one q)
+            flat_map-append kept_entry q.pieces (flat_map (λ (r : PlacedOutput). r.pieces) qs)
+            ∙ ap (λ l. l ++ flat_map kept_entry (flat_map (λ (r : PlacedOutput). r.pieces) qs)) (of_one q)
             ∙ ap (λ l. filter test (flat_map (sites_in p) (linked_in q)) ++ l) (go qs)
             ∙ sym (filter_append test (flat_map (sites_in p) (linked_in q))
             (flat_map (sites_in p) (flat_map linked_in qs)))

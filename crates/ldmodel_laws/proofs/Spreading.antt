@@ -9,7 +9,7 @@ use Rattle.ldscript.specs.statements.declared.statement.ItemCommand.TheVariants 
 use Rattle.ldscript.specs.statements.declared.statement.Statement.{Statement}
 use Rattle.ldmodel.specs.Placement.{Body, body_step}
 use Rattle.ldmodel.specs.Each.{Each}
-use Rattle.ldmodel.specs.Layout.{Layout, PlacedSection, PlacedPiece, PlacedData, noted, nothing_placed}
+use Rattle.ldmodel.specs.Layout.{Layout, PlacedOutput, PlacedPiece, PlacedData, noted, nothing_placed}
 use Rattle.ldmodel.specs.Placement.{command_step, item_command_step, item_step, next_row, opened, placement}
 use Rattle.ldmodel.specs.Placement.{region_step, statement_step}
 use Rattle.ldmodel.specs.Rows.{Piece}
@@ -93,7 +93,7 @@ module _ (start end : ℕ) (pieces : List PlacedPiece) (data_commands : List Pla
 
 -- ---- the body of an output section
 
-module _ (start : ℕ) (sections : List PlacedSection) where
+module _ (start : ℕ) (sections : List PlacedOutput) where
   record Tidy (b : Body) : Type 0 where
     pub spread : AreSpread start b.layout.dot b.pieces b.data_commands
     pub forward : start ≤ b.layout.dot
@@ -157,7 +157,7 @@ unfolding placed_section
 section_spread provided row s o t h all =
     let start : ℕ = h.head.start in
     let b : Body = h.last in
-    let q : PlacedSection = placed_section o h.head b in
+    let q : PlacedOutput = placed_section o h.head b in
     let last : Tidy start s.sections b =
     run_by (body_step provided) (λ c xs. Tidy start s.sections c) (λ c x xs d e i.
     step_tidy start s.sections provided c x d e i) o.body (opened s row h.head) b h.body

@@ -7,7 +7,7 @@ use Rattle.std.specs.List.{Contains}
 use Rattle.std.proofs.lemmas.Bool.Decides.{nat_tests}
 use Rattle.std.proofs.lemmas.List.Sums.{sum_by-append, sum_by-cons}
 use Rattle.ldmodel.specs.Each.{Each}
-use Rattle.ldmodel.specs.Layout.{PlacedPiece, PlacedSection}
+use Rattle.ldmodel.specs.Layout.{PlacedPiece, PlacedOutput}
 use Rattle.ldmodel.specs.SectionHeaders.{image_length}
 use Rattle.ldmodel.specs.Segments.{SectionInFile, Segment, file_offset, headers_end, in_file}
 use Rattle.ldmodel.specs.Segments.{loaded_end}
@@ -85,10 +85,10 @@ module _ {X : Type 0} (start size : X → ℕ) (high : ℕ) where
 -- ---- the bytes of input sections
 
 -- of a section: what it has in the file
-abbrev file_size_of : PlacedSection → ℕ
+abbrev file_size_of : PlacedOutput → ℕ
 file_size_of q = cond q.has_file_bytes q.size 0
 
-range_below : (gs : List Segment) (q : PlacedSection) (u : PlacedPiece) → (range_in gs q u).length
+range_below : (gs : List Segment) (q : PlacedOutput) (u : PlacedPiece) → (range_in gs q u).length
     ≤ cond q.has_file_bytes u.piece.size 0
 range_below gs q u = go q.has_file_bytes (not (u.piece.size == 0))
   where
@@ -103,7 +103,7 @@ range_below gs q u = go q.has_file_bytes (not (u.piece.size == 0))
     go true false = omega arith
     go false c = omega arith
 
-module _ (gs : List Segment) (q : PlacedSection) (spread : IsSpread q) where
+module _ (gs : List Segment) (q : PlacedOutput) (spread : IsSpread q) where
   sizes_below : sum_by (λ (u : PlacedPiece). u.piece.size) q.pieces ≤ q.size
   sizes_below =
       let all = ascending_sum (λ (u : PlacedPiece). u.start) (λ (u : PlacedPiece). u.piece.size) (q.start + q.size)
@@ -141,10 +141,10 @@ module _ (gs : List Segment) (q : PlacedSection) (spread : IsSpread q) where
 
 -- ---- the output sections in the file
 
-files_below : (sections : List PlacedSection) → sum_by file_size_of sections ≤ loaded_end (segments sections)
+files_below : (sections : List PlacedOutput) → sum_by file_size_of sections ≤ loaded_end (segments sections)
 files_below sections =
     let sized : sum_by file_size_of sections ≡ sum_by file_size_of (nonempty sections) =
-    sum_passing file_size_of file_size_of (λ (q : PlacedSection). not (q.size == 0)) sections empty (λ q e. refl) in
+    sum_passing file_size_of file_size_of (λ (q : PlacedOutput). not (q.size == 0)) sections empty (λ q e. refl) in
     let in_them : sum_by file_size_of (nonempty sections) ≡ sum_by (λ (x : SectionInFile). file_size_of x.section) fs =
     ap (sum_by file_size_of) (sym (all_sections sections))
     ∙ sum_mapped file_size_of (λ (x : SectionInFile). x.section) fs in
@@ -164,7 +164,7 @@ files_below sections =
     fs : List SectionInFile
     fs = in_file gs
 
-    empty : (q : PlacedSection) → not (q.size == 0) ≡ false → file_size_of q ≡ 0
+    empty : (q : PlacedOutput) → not (q.size == 0) ≡ false → file_size_of q ≡ 0
     empty q e =
         let zero : q.size ≡ 0 = grind (arith, nat_tests) in
         ap (λ n. cond q.has_file_bytes n 0) zero ∙ both q.has_file_bytes
@@ -186,32 +186,32 @@ module _ (l : GoodLink) (good : IsGood l) where
   range_length x = x.range.length
 
   all_ranges : sum_by range_length (link_pieces l)
-      ≡ sum_by (λ (q : PlacedSection). sum_by (λ (u : PlacedPiece).
+      ≡ sum_by (λ (q : PlacedOutput). sum_by (λ (u : PlacedPiece).
       (range_in (segments l.layout.sections) q u).length) q.pieces) l.layout.sections
   unfolding linked_pieces
   all_ranges = go l.layout.sections
     where
-      go : (qs : List PlacedSection)
+      go : (qs : List PlacedOutput)
           → sum_by range_length
-          (flat_map (λ (q : PlacedSection). map (linked_piece l.project (segments l.layout.sections) q) q.pieces) qs)
-          ≡ sum_by (λ (q : PlacedSection). sum_by (λ (u : PlacedPiece).
+          (flat_map (λ (q : PlacedOutput). map (linked_piece l.project (segments l.layout.sections) q) q.pieces) qs)
+          ≡ sum_by (λ (q : PlacedOutput). sum_by (λ (u : PlacedPiece).
           (range_in (segments l.layout.sections) q u).length) q.pieces) qs
       go [] = refl
       go (q ∷ qs) =
           sum_by-append range_length (map (linked_piece l.project (segments l.layout.sections) q) q.pieces)
-          (flat_map (λ (r : PlacedSection). map (linked_piece l.project (segments l.layout.sections) r) r.pieces) qs)
+          (flat_map (λ (r : PlacedOutput). map (linked_piece l.project (segments l.layout.sections) r) r.pieces) qs)
           ∙ ap (λ n. n + sum_by range_length
-          (flat_map (λ (r : PlacedSection). map (linked_piece l.project (segments l.layout.sections) r) r.pieces) qs))
+          (flat_map (λ (r : PlacedOutput). map (linked_piece l.project (segments l.layout.sections) r) r.pieces) qs))
           (sum_mapped range_length (linked_piece l.project (segments l.layout.sections) q) q.pieces)
           ∙ ap (λ n. sum_by (λ (u : PlacedPiece).
           (range_in (segments l.layout.sections) q u).length) q.pieces + n) (go qs)
-          ∙ sym (sum_by-cons (λ (r : PlacedSection). sum_by (λ (u : PlacedPiece).
+          ∙ sym (sum_by-cons (λ (r : PlacedOutput). sum_by (λ (u : PlacedPiece).
           (range_in (segments l.layout.sections) r u).length) r.pieces) q qs)
 
   pub bytes_in_image : sum_by range_length (link_pieces l) ≤ image_length l.project l.layout
   bytes_in_image =
       let all = all_ranges in
-      let sections = sum_below (λ (q : PlacedSection). sum_by (λ (u : PlacedPiece).
+      let sections = sum_below (λ (q : PlacedOutput). sum_by (λ (u : PlacedPiece).
       (range_in (segments l.layout.sections) q u).length) q.pieces) file_size_of l.layout.sections
       (λ q c. ranges_below (segments l.layout.sections) q (member_of IsSpread l.layout.sections q good.spread c)) in
       let files = files_below l.layout.sections in

@@ -12,7 +12,7 @@ use Rattle.elfobj.specs.Sections.{LinkedSection}
 use Rattle.elfobj.specs.Symbols.{NamedSymbol}
 use Rattle.elfobj.specs.declared.relocation.Relocation.{Relocation}
 use Rattle.ldmodel.specs.Image.{object_named, section_numbered}
-use Rattle.ldmodel.specs.Layout.{Layout, PlacedPiece, PlacedSection}
+use Rattle.ldmodel.specs.Layout.{Layout, PlacedPiece, PlacedOutput}
 use Rattle.ldmodel.specs.Project.{NamedObject, Project}
 use Rattle.ldmodel.specs.Relocations.{Site, site_field_with, is_evaluated, site_field, site_symbol, site_value, sites}
 use Rattle.ldmodel.specs.Sections.{is_same_part}
@@ -55,22 +55,22 @@ keys_same : (p : Project) (s : Layout) → map linked_key (linked_pieces p s) �
 unfolding linked_pieces
 keys_same p s = go s.sections
   where
-    linked_in : PlacedSection → List LinkedPiece
+    linked_in : PlacedOutput → List LinkedPiece
     linked_in q = map (linked_piece p (segments s.sections) q) q.pieces
 
-    of_one : (q : PlacedSection) (ws : List PlacedPiece)
+    of_one : (q : PlacedOutput) (ws : List PlacedPiece)
         → map linked_key (map (linked_piece p (segments s.sections) q) ws) ≡ map placed_key ws
     of_one q [] = refl
     of_one q (w ∷ ws) = ap (λ l. placed_key w ∷ l) (of_one q ws)
 
-    go : (qs : List PlacedSection) → map linked_key (flat_map linked_in qs)
-        ≡ map placed_key (flat_map (λ (q : PlacedSection). q.pieces) qs)
+    go : (qs : List PlacedOutput) → map linked_key (flat_map linked_in qs)
+        ≡ map placed_key (flat_map (λ (q : PlacedOutput). q.pieces) qs)
     go [] = refl
     go (q ∷ qs) =
         map_append linked_key (linked_in q) (flat_map linked_in qs)
         ∙ ap (λ l. l ++ map linked_key (flat_map linked_in qs)) (of_one q q.pieces)
         ∙ ap (λ l. map placed_key q.pieces ++ l) (go qs)
-        ∙ sym (map_append placed_key q.pieces (flat_map (λ (r : PlacedSection). r.pieces) qs))
+        ∙ sym (map_append placed_key q.pieces (flat_map (λ (r : PlacedOutput). r.pieces) qs))
 
 linked_once : (p : Project) (s : Layout) → IsPlacedOnce p s
     → EachLater (λ (x y : LinkedPiece). AreOther (linked_key x) (linked_key y)) (linked_pieces p s)

@@ -19,7 +19,7 @@ use Rattle.emit_fields.specs.declared.patch.Patch.{Patch}
 use Rattle.ldmodel.specs.Each.{Each}
 use Rattle.ldmodel.specs.Image.{byte_at, object_named, section_numbered}
 use Rattle.ldmodel_laws.specs.ByteCases.{object_byte, part_byte, section_byte}
-use Rattle.ldmodel.specs.Layout.{Layout, PlacedPiece, PlacedSection}
+use Rattle.ldmodel.specs.Layout.{Layout, PlacedPiece, PlacedOutput}
 use Rattle.ldmodel.specs.Project.{NamedObject, Project}
 use Rattle.ldmodel.specs.Relocations.{Site, site_field_with, is_evaluated, patch_of, site_field, site_symbol}
 use Rattle.ldmodel.specs.Relocations.{site_value, sites_at}
@@ -45,7 +45,7 @@ module _ (l : GoodLink) (good : IsGood l) where
   abbrev gs : List Segment
   gs = segments l.layout.sections
 
-  piece_byte_in : (q : PlacedSection) (z : PlacedPiece) (i : ℕ) → Contains l.layout.sections q → Contains q.pieces z
+  piece_byte_in : (q : PlacedOutput) (z : PlacedPiece) (i : ℕ) → Contains l.layout.sections q → Contains q.pieces z
       → i < (range_in gs q z).length
       → byte_at l.project l.layout ((range_in gs q z).offset + i)
       ≡ part_byte l.project l.layout z.piece.object z.piece.part z.start i
@@ -72,15 +72,15 @@ module _ (l : GoodLink) (good : IsGood l) where
   pub known : (x : LinkedPiece) → Contains (link_pieces l) x → Known x
   unfolding linked_pieces
   known x c =
-      let k = in_flat_map (λ (q : PlacedSection). map (linked_piece l.project gs q) q.pieces) l.layout.sections x c in
-      let q : PlacedSection = k.origin in
+      let k = in_flat_map (λ (q : PlacedOutput). map (linked_piece l.project gs q) q.pieces) l.layout.sections x c in
+      let q : PlacedOutput = k.origin in
       let m = in_map (linked_piece l.project gs q) q.pieces x k.gives in
       subst Known m.gives (record { byte = λ i low. piece_byte_in q m.origin i k.among m.among low })
 
 pub linked_text : (l : GoodLink) (x : LinkedPiece) → Contains (link_pieces l) x → x.text ≡ text_of l.project x.object
 unfolding linked_pieces
 linked_text l x c =
-    let k = in_flat_map (λ (q : PlacedSection). map (linked_piece l.project (segments l.layout.sections) q) q.pieces)
+    let k = in_flat_map (λ (q : PlacedOutput). map (linked_piece l.project (segments l.layout.sections) q) q.pieces)
     l.layout.sections x c in
     let m = in_map (linked_piece l.project (segments l.layout.sections) k.origin) k.origin.pieces x k.gives in
     subst (λ (y : LinkedPiece). y.text ≡ text_of l.project y.object) m.gives refl

@@ -7,7 +7,7 @@ use Rattle.elfobj.specs.Sections.{LinkedSection}
 use Rattle.elfobj.specs.declared.section.SectionIndex.{SectionIndex}
 use Rattle.emit_fields.specs.Patches.{patched_byte}
 use Rattle.ldmodel.specs.Image.{covering_data, covering_piece, data_byte, gap_byte, object_named, section_numbered}
-use Rattle.ldmodel.specs.Layout.{Layout, PlacedData, PlacedPiece, PlacedSection}
+use Rattle.ldmodel.specs.Layout.{Layout, PlacedData, PlacedPiece, PlacedOutput}
 use Rattle.ldmodel.specs.Project.{NamedObject, Project}
 use Rattle.ldmodel.specs.Relocations.{fields_of}
 use Rattle.ldmodel.specs.SectionHeaders.{FilePart}
@@ -32,13 +32,13 @@ abbrev pub piece_byte : Project → Layout → ℕ → PlacedPiece → ℕ
 piece_byte p s at x = part_byte p s x.piece.object x.piece.part x.start (at - x.start)
 
 -- of the input section that lies there, else of the data command, else of the gap
-abbrev pub byte_among : Project → Layout → PlacedSection → ℕ → Option PlacedPiece → Option PlacedData → ℕ
+abbrev pub byte_among : Project → Layout → PlacedOutput → ℕ → Option PlacedPiece → Option PlacedData → ℕ
 byte_among p s q at (Some x) d = piece_byte p s at x
 byte_among p s q at None (Some d) = data_byte at d
 byte_among p s q at None None = gap_byte q at
 
 -- the byte of an output section at an address
-abbrev pub output_byte : Project → Layout → PlacedSection → ℕ → ℕ
+abbrev pub output_byte : Project → Layout → PlacedOutput → ℕ → ℕ
 output_byte p s q at = byte_among p s q at (covering_piece q at) (covering_data q at)
 
 -- the byte at an offset past the headers: of the output section there, else of the part of the tail

@@ -3,7 +3,7 @@
 -- headers and the file bytes of the segments before it, that is congruent to its address modulo the page size.
 use Rattle.std.specs.Prelude.{◌≡◌, ℕ, ◌≤◌, ◌%◌, List, [], ◌∷◌, length, flat_map, map, true, false}
 use Rattle.ldmodel.specs.Each.{Each}
-use Rattle.ldmodel.specs.Layout.{PlacedSection}
+use Rattle.ldmodel.specs.Layout.{PlacedOutput}
 use Rattle.ldmodel.specs.Segments.{Group, Segment, group_sections, nonempty, shares_segment, segment_start, file_end}
 use Rattle.ldmodel.specs.Segments.{headers_end, page_size}
 
@@ -14,14 +14,14 @@ Neighbours R (x ∷ []) = Unit {0}
 Neighbours R (x ∷ y ∷ ys) = R x y × Neighbours R (y ∷ ys)
 
 -- the last section of a group
-abbrev pub last_from : PlacedSection → List PlacedSection → PlacedSection
+abbrev pub last_from : PlacedOutput → List PlacedOutput → PlacedOutput
 last_from p [] = p
 last_from p (q ∷ qs) = last_from q qs
 
-abbrev pub last_of : Group → PlacedSection
+abbrev pub last_of : Group → PlacedOutput
 last_of g = last_from g.first g.others
 
-abbrev pub Shares : PlacedSection → PlacedSection → Type 0
+abbrev pub Shares : PlacedOutput → PlacedOutput → Type 0
 Shares p q = shares_segment p q ≡ true
 
 -- the sections of a group share a segment, each with the one before it
@@ -33,7 +33,7 @@ abbrev pub AreApart : Group → Group → Type 0
 AreApart g h = shares_segment (last_of g) h.first ≡ false
 
 -- a list of sections in groups
-pub record IsGrouping (sections : List PlacedSection) (gs : List Group) : Type 0 where
+pub record IsGrouping (sections : List PlacedOutput) (gs : List Group) : Type 0 where
   pub parts : flat_map group_sections gs ≡ sections
   pub together : Each IsTogether gs
   pub apart : Neighbours AreApart gs
@@ -49,6 +49,6 @@ abbrev pub BeginFrom : ℕ → List Segment → Type 0
 BeginFrom end [] = Unit {0}
 BeginFrom end (g ∷ gs) = IsLeastCongruent end (segment_start g) g.offset × BeginFrom (file_end end g) gs
 
-pub record IsFileLayout (sections : List PlacedSection) (segments : List Segment) : Type 0 where
+pub record IsFileLayout (sections : List PlacedOutput) (segments : List Segment) : Type 0 where
   pub grouping : IsGrouping (nonempty sections) (map (λ (g : Segment). g.group) segments)
   pub offsets : BeginFrom (headers_end (length segments)) segments

@@ -3,16 +3,16 @@
 use Rattle.std.specs.Prelude.{◌≡◌, ℕ, ◌≤◌, None, ◌⊎◌}
 use Rattle.std.specs.List.{Contains}
 use Rattle.ldmodel.specs.Image.{covering_piece, covering_data, ends_in}
-use Rattle.ldmodel.specs.Layout.{PlacedSection}
+use Rattle.ldmodel.specs.Layout.{PlacedOutput}
 
 -- nothing covers an address
-pub record IsBare (q : PlacedSection) (at : ℕ) : Type 0 where
+pub record IsBare (q : PlacedOutput) (at : ℕ) : Type 0 where
   pub piece : covering_piece q at ≡ None
   pub data_command : covering_data q at ≡ None
 
 -- the gap that an address lies in begins here: all from here to there is bare, and the section starts here, or
 -- something that is not empty ends here
-pub record IsGapStart (q : PlacedSection) (at from : ℕ) : Type 0 where
+pub record IsGapStart (q : PlacedOutput) (at from : ℕ) : Type 0 where
   pub inside : q.start ≤ from
   pub before : from ≤ at
   pub bare : (x : ℕ) → from ≤ x → x ≤ at → IsBare q x

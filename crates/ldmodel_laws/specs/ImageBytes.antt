@@ -1,13 +1,13 @@
 -- Bytes of the image that come from input sections.
 use Rattle.std.specs.Prelude.{◌≡◌, ℕ, ◌+◌, ◌-◌, List, false, bytes_eq}
-use Rattle.ldmodel.specs.Layout.{PlacedPiece, PlacedSection}
+use Rattle.ldmodel.specs.Layout.{PlacedPiece, PlacedOutput}
 use Rattle.ldmodel.specs.Segments.{Segment, file_offset}
 use Rattle.ldmodel_laws.specs.Spread.{EachLater}
 
 -- no two output sections have one name, as the script reader has found
-abbrev pub AreNamed : List PlacedSection → Type 0
-AreNamed sections = EachLater (λ (q r : PlacedSection). bytes_eq q.name r.name ≡ false) sections
+abbrev pub AreNamed : List PlacedOutput → Type 0
+AreNamed sections = EachLater (λ (q r : PlacedOutput). bytes_eq q.name r.name ≡ false) sections
 
 -- where an input section begins in the file
-abbrev pub offset_in_file : List Segment → PlacedSection → PlacedPiece → ℕ
+abbrev pub offset_in_file : List Segment → PlacedOutput → PlacedPiece → ℕ
 offset_in_file gs q x = file_offset gs q + (x.start - q.start)

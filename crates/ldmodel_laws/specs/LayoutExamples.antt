@@ -15,7 +15,7 @@ use Rattle.ldscript.specs.statements.declared.statement.ItemCommand.TheVariants 
 use Rattle.ldscript.specs.statements.declared.statement.Region.{Region}
 use Rattle.ldscript.specs.statements.declared.statement.Statement.{Statement}
 use Rattle.ldmodel.specs.Fault.{Fault}
-use Rattle.ldmodel.specs.Layout.{Layout, PlacedPiece, PlacedSection}
+use Rattle.ldmodel.specs.Layout.{Layout, PlacedPiece, PlacedOutput}
 use Rattle.ldmodel.specs.Overlaps.{overlaps}
 use Rattle.ldmodel.specs.Project.{Project}
 use Rattle.ldmodel.specs.Rows.{Piece}
@@ -75,12 +75,12 @@ region name o l = record { line = 1; name = name; origin = Number o; extent = Nu
 
 -- start, size, load address and load size of each output section
 abbrev pub numbers_of : Result Layout Fault → List (List ℕ)
-numbers_of (Ok s) = map (λ (q : PlacedSection). q.start ∷ q.size ∷ q.load ∷ q.load_size ∷ []) s.sections
+numbers_of (Ok s) = map (λ (q : PlacedOutput). q.start ∷ q.size ∷ q.load ∷ q.load_size ∷ []) s.sections
 numbers_of (Err f) = []
 
 -- where the input sections start
 abbrev pub starts_of : Result Layout Fault → List (List ℕ)
-starts_of (Ok s) = map (λ (q : PlacedSection). map (λ (x : PlacedPiece). x.start) q.pieces) s.sections
+starts_of (Ok s) = map (λ (q : PlacedOutput). map (λ (x : PlacedPiece). x.start) q.pieces) s.sections
 starts_of (Err f) = []
 
 abbrev pub dot_of : Result Layout Fault → List ℕ

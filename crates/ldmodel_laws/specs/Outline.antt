@@ -58,7 +58,7 @@ object_targets o = map section_targets o.object.sections
 -- the second project has, in one place, an object that differs from that of the first in what its sections hold alone;
 -- where sections are dropped that nothing refers to, the relocations of each section name the same symbols, in their
 -- order
-pub record IsRetouched (p q : Project) (place : ℕ) : Type 0 where
+pub record DiffersInContents (p q : Project) (place : ℕ) : Type 0 where
   pub script : p.script ≡ q.script
   pub options : p.options ≡ q.options
   pub references : p.options.gc ≡ true → map object_targets p.objects ≡ map object_targets q.objects

@@ -7,11 +7,11 @@ use Rattle.ldscript.specs.statements.declared.statement.ItemCommand.{ItemCommand
 use Rattle.ldscript.specs.statements.declared.statement.ItemCommand.TheVariants as item
 use Rattle.ldscript.specs.statements.declared.statement.Statement.{Statement}
 use Rattle.ldmodel.specs.Each.{Each}
-use Rattle.ldmodel.specs.Layout.{Layout, PlacedSection, PlacedPiece, PlacedData}
+use Rattle.ldmodel.specs.Layout.{Layout, PlacedOutput, PlacedPiece, PlacedData}
 use Rattle.ldmodel.specs.Rows.{Piece}
 
 -- the entries of rows that stand in an output section
-abbrev pub entries_in : PlacedSection → List Piece
+abbrev pub entries_in : PlacedOutput → List Piece
 entries_in q = map (λ (x : PlacedPiece). x.piece) q.pieces
 
 -- each member and each one after it
@@ -38,7 +38,7 @@ pub record AreSpread (start end : ℕ) (pieces : List PlacedPiece) (data_command
   pub data_ascend : EachLater (λ (d e : PlacedData). data_end d ≤ e.start) data_commands
   pub apart : Each (λ (x : PlacedPiece). Each (AreApart x) data_commands) pieces
 
-abbrev pub IsSpread : PlacedSection → Type 0
+abbrev pub IsSpread : PlacedOutput → Type 0
 IsSpread q = AreSpread q.start (q.start + q.size) q.pieces q.data_commands
 
 -- how many values of `.` a statement of SECTIONS adds: its own, and those of the body of an output section

@@ -11,7 +11,7 @@ ghost use Rattle.ldmodel.specs.Each.{Each};
 ghost use Rattle.ldmodel_laws.specs.Gaps.{IsBare, IsGapStart};
 ghost use Rattle.ldmodel.specs.Image.{byte_at, gap_start};
 ghost use Rattle.ldmodel_laws.specs.ByteCases.{part_byte};
-ghost use Rattle.ldmodel.specs.Layout.{Layout, PlacedPiece, PlacedSection};
+ghost use Rattle.ldmodel.specs.Layout.{Layout, PlacedPiece, PlacedOutput};
 ghost use Rattle.ldmodel.specs.Project.{NamedObject, Project};
 ghost use Rattle.ldmodel.specs.Relocations.{fields_of};
 ghost use Rattle.ldmodel.specs.Segments.{segments};
@@ -22,7 +22,7 @@ ghost use Rattle.ldmodel_laws.specs.Spread.{IsSpread};
 /// where the gap of an address begins up to that address nothing is covered, and there the section starts, or something
 /// that is not empty ends.
 pub fn gap_is_longest_run()
-    ensures { (q : PlacedSection) (at : ℕ) → q.start ≤ at → IsBare q at → IsGapStart q at (gap_start q at) }
+    ensures { (q : PlacedOutput) (at : ℕ) → q.start ≤ at → IsBare q at → IsGapStart q at (gap_start q at) }
 {}
 
 /// The fields of an input section share no byte, where its relocations do not, as the object reader has found; and each
@@ -39,7 +39,7 @@ pub fn fields_are_apart()
 /// byte is that of the field that covers it, else that of the section. Output sections have different names, as the
 /// script reader has found, and nothing in them meets (`layout::nothing_meets`).
 pub fn byte_of_piece()
-    ensures { (p : Project) (s : Layout) (q : PlacedSection) (x : PlacedPiece) (i : ℕ)
+    ensures { (p : Project) (s : Layout) (q : PlacedOutput) (x : PlacedPiece) (i : ℕ)
         → Each IsSpread s.sections → AreNamed s.sections
         → Contains s.sections q → q.has_file_bytes ≡ true → Contains q.pieces x → i < x.piece.size
         → byte_at p s (offset_in_file (segments s.sections) q x + i)

@@ -2,7 +2,7 @@
 
 ghost use Rattle.std.specs.Prelude.{◌≡◌, Contains, List, map};
 ghost use Rattle.ldmodel_laws.specs.FileLayout.{IsFileLayout};
-ghost use Rattle.ldmodel.specs.Layout.{PlacedSection};
+ghost use Rattle.ldmodel.specs.Layout.{PlacedOutput};
 ghost use Rattle.ldmodel.specs.Segments.{SectionInFile, Segment, file_offset, in_file, nonempty, segments};
 ghost use Rattle.ldmodel_laws.specs.FileOrder.{AreInFileOrder};
 ghost use Rattle.ldmodel_laws.specs.ImageBytes.{AreNamed};
@@ -11,22 +11,22 @@ ghost use Rattle.ldmodel_laws.specs.ImageBytes.{AreNamed};
 /// where the test holds, and each segment begins at the least place past the file bytes before it that is congruent to
 /// its address modulo the page size.
 pub fn segments_by_neighbours()
-    ensures is { (sections : List PlacedSection) → IsFileLayout sections (segments sections) }
-    ensures one { (sections : List PlacedSection) (gs : List Segment)
+    ensures is { (sections : List PlacedOutput) → IsFileLayout sections (segments sections) }
+    ensures one { (sections : List PlacedOutput) (gs : List Segment)
         → IsFileLayout sections gs → gs ≡ segments sections }
 {}
 
 /// Output sections with file bytes do not meet in the image: they lie past the headers and up to the end of its loaded
 /// part, where the symbol table may begin, each past the earlier ones.
 pub fn files_in_order()
-    ensures { (sections : List PlacedSection) → AreInFileOrder (segments sections) }
+    ensures { (sections : List PlacedOutput) → AreInFileOrder (segments sections) }
 {}
 
 /// The output sections in the file are those of nonzero size, in their order; and where names differ, each begins where
 /// the offset that its name has says.
 pub fn sections_in_file()
-    ensures all { (sections : List PlacedSection)
+    ensures all { (sections : List PlacedOutput)
         → map (λ (x : SectionInFile). x.section) (in_file (segments sections)) ≡ nonempty sections }
-    ensures offset { (sections : List PlacedSection) → AreNamed sections → (x : SectionInFile)
+    ensures offset { (sections : List PlacedOutput) → AreNamed sections → (x : SectionInFile)
         → Contains (in_file (segments sections)) x → file_offset (segments sections) x.section ≡ x.offset }
 {}

@@ -7,7 +7,7 @@ ghost use Rattle.elfobj.specs.Profile.{AreApart};
 ghost use Rattle.elfobj.specs.RelocationKinds.{width};
 ghost use Rattle.elfobj.specs.Symbols.{NamedSymbol};
 ghost use Rattle.ldmodel.specs.Image.{byte_at};
-ghost use Rattle.ldmodel.specs.Layout.{Layout, PlacedPiece, PlacedSection};
+ghost use Rattle.ldmodel.specs.Layout.{Layout, PlacedPiece, PlacedOutput};
 ghost use Rattle.ldmodel.specs.Project.{Project};
 ghost use Rattle.ldmodel.specs.Relocations.{Site, site_field, site_symbol, sites};
 ghost use Rattle.ldmodel.specs.SectionHeaders.{image_length};
@@ -46,7 +46,7 @@ pub fn faultless_is_good()
 /// An input section in an output section is one of the link; and those that stayed are those of the new link that the
 /// old one has too.
 pub fn stayed_in_both()
-    ensures linked { (l : GoodLink) (q : PlacedSection) (z : PlacedPiece) → Contains l.layout.sections q
+    ensures linked { (l : GoodLink) (q : PlacedOutput) (z : PlacedPiece) → Contains l.layout.sections q
         → Contains q.pieces z
         → Contains (link_pieces l) (linked_piece l.project (segments l.layout.sections) q z) }
     ensures stayed { (old new : GoodLink) (x : LinkedPiece)

@@ -9,7 +9,7 @@ use Rattle.ldmodel.specs.Live.{symbol_at}
 use Rattle.ldmodel.specs.NameFaults.{object_name}
 use Rattle.ldmodel.specs.Names.{symbol_tables}
 use Rattle.ldmodel.specs.Project.{NamedObject, Project}
-use Rattle.ldmodel_laws.specs.Outline.{IsRetouched, ObjectOutline, object_outline}
+use Rattle.ldmodel_laws.specs.Outline.{DiffersInContents, ObjectOutline, object_outline}
 
 abbrev outlined_symbols : ObjectOutline → List NamedSymbol
 outlined_symbols x = x.symbols
@@ -24,7 +24,7 @@ name_in : (m : Option NamedObject) → option_map_or (λ (o : NamedObject). o.na
 name_in None = refl
 name_in (Some o) = refl
 
-module _ {p q : Project} {place : ℕ} (h : IsRetouched p q place) where
+module _ {p q : Project} {place : ℕ} (h : DiffersInContents p q place) where
   pub same_tables : symbol_tables p.objects ≡ symbol_tables q.objects
   same_tables =
       sym (map-map outlined_symbols object_outline p.objects)

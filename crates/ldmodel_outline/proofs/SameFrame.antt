@@ -29,12 +29,12 @@ use Rattle.ldmodel.specs.Tail.{st_type_of, string_table, symbol_bytes, symbol_en
 use Rattle.ldmodel.specs.Tail.{table_symbols, with_value}
 use Rattle.ldmodel.specs.Value.{value}
 use Rattle.ldmodel.specs.declared.sections.Part.TheVariants.{InCommon}
-use Rattle.ldmodel_laws.specs.Outline.{HasSameFrame, IsRetouched}
+use Rattle.ldmodel_laws.specs.Outline.{HasSameFrame, DiffersInContents}
 use Rattle.ldmodel_outline.proofs.Objects.{same_object_name}
 use Rattle.ldmodel_outline.proofs.SameNames.{same_decision, same_declared_names}
 use Rattle.ldmodel_outline.proofs.SameValues.{same_entry_point, same_name_value, same_referenced, same_symbol_of_entry}
 
-module _ {p q : Project} {place : ℕ} (h : IsRetouched p q place) where
+module _ {p q : Project} {place : ℕ} (h : DiffersInContents p q place) where
   same_owner : (d : Decision) → owner p d ≡ owner q d
   same_owner (Strong e) = same_object_name h e.object
   same_owner (Weak e) = same_object_name h e.object

@@ -16,7 +16,7 @@ use Rattle.ldmodel.specs.Names.{Common, Decision, Duplicate, Entry, Provided, Sc
 use Rattle.ldmodel.specs.Project.{NamedObject, Project}
 use Rattle.ldmodel.specs.Sections.{InputSection}
 use Rattle.ldmodel.specs.declared.sections.Part.TheVariants.{InTable}
-use Rattle.ldmodel_laws.specs.Outline.{IsRetouched, ObjectOutline, SectionOutline, object_outline}
+use Rattle.ldmodel_laws.specs.Outline.{DiffersInContents, ObjectOutline, SectionOutline, object_outline}
 use Rattle.ldmodel_laws.specs.Outline.{section_outline}
 use Rattle.ldmodel_outline.proofs.SameNames.{same_decision}
 
@@ -133,7 +133,7 @@ none_seen [] = refl
 none_seen (o ∷ os) =
     λ i. sym (map-map (λ (y : SectionOutline). []) section_outline o.object.sections) i ∷ none_seen os i
 
-module _ {p q : Project} {place : ℕ} (h : IsRetouched p q place) where
+module _ {p q : Project} {place : ℕ} (h : DiffersInContents p q place) where
   same_targets : (gc : Bool) → p.options.gc ≡ gc → map (targets_of gc) p.objects ≡ map (targets_of gc) q.objects
   same_targets true on = h.references on
   same_targets false off = none_seen p.objects ∙ (ap (map no_targets) h.outlines ∙ sym (none_seen q.objects))

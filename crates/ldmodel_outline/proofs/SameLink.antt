@@ -9,7 +9,7 @@ use Rattle.ldmodel.specs.Overlaps.{overlaps}
 use Rattle.ldmodel.specs.Placement.{placement}
 use Rattle.ldmodel.specs.Project.{Project}
 use Rattle.ldmodel.specs.Relocations.{relocation_faults}
-use Rattle.ldmodel_laws.specs.Outline.{IsRetouched}
+use Rattle.ldmodel_laws.specs.Outline.{DiffersInContents}
 use Rattle.ldmodel_outline.proofs.SameFrame.{same_assertion_faults, same_length}
 use Rattle.ldmodel_outline.proofs.SameNames.{same_name_faults, same_provided}
 use Rattle.ldmodel_outline.proofs.SameRows.{same_gathering_faults, same_rows}
@@ -19,7 +19,7 @@ none_before : (fs : List Fault) (next : Link) → (unless fs next).status ≡ 0 
 none_before [] next e = (refl, e)
 none_before (f ∷ fs) next e = absurd (let none : ⊥ = cc in none)
 
-module _ {p q : Project} {place : ℕ} (h : IsRetouched p q place) where
+module _ {p q : Project} {place : ℕ} (h : DiffersInContents p q place) where
   same_without_overlaps : (s : Layout) (fs : List Fault) → without_overlaps p s fs ≡ without_overlaps q s fs
   same_without_overlaps s [] = λ i. of_length (same_length h s i) s
   same_without_overlaps s (f ∷ fs) = refl

@@ -14,10 +14,10 @@ use Rattle.ldmodel.specs.Names.{entry_symbol, is_of_name, is_provided_case, is_s
 use Rattle.ldmodel.specs.Project.{Project}
 use Rattle.ldmodel.specs.ScriptNames.{assigned_names, is_assigned, is_provided, provided_names}
 use Rattle.ldscript.specs.statements.Numbering.{entry_of}
-use Rattle.ldmodel_laws.specs.Outline.{IsRetouched}
+use Rattle.ldmodel_laws.specs.Outline.{DiffersInContents}
 use Rattle.ldmodel_outline.proofs.Objects.{same_object_name, same_tables}
 
-module _ {p q : Project} {place : ℕ} (h : IsRetouched p q place) where
+module _ {p q : Project} {place : ℕ} (h : DiffersInContents p q place) where
   same_declarations : declarations p.objects ≡ declarations q.objects
   same_declarations = λ i. declarations_of (enumerate_from 0 (same_tables h i))
 

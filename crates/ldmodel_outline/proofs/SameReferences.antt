@@ -7,11 +7,11 @@ use Rattle.ldmodel.specs.Live.{entry_section, is_section, refers_to, section_of_
 use Rattle.ldmodel.specs.Live.{section_of_place, section_of_symbol, target_section}
 use Rattle.ldmodel.specs.Names.{Common, Decision, Duplicate, Provided, Script, Strong, Undefined, Weak, is_local}
 use Rattle.ldmodel.specs.Project.{Project}
-use Rattle.ldmodel_laws.specs.Outline.{IsRetouched}
+use Rattle.ldmodel_laws.specs.Outline.{DiffersInContents}
 use Rattle.ldmodel_outline.proofs.Objects.{same_symbol_at}
 use Rattle.ldmodel_outline.proofs.SameNames.{same_decision, same_entry_symbol}
 
-module _ {p q : Project} {place : ℕ} (h : IsRetouched p q place) where
+module _ {p q : Project} {place : ℕ} (h : DiffersInContents p q place) where
   same_section_of_entry : section_of_entry p ≡ section_of_entry q
   same_section_of_entry =
       λ i e. option_and_then (λ (s : NamedSymbol). section_of_place e.object s.symbol.place)

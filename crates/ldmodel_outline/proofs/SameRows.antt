@@ -10,7 +10,7 @@ use Rattle.elfobj.specs.declared.relocation.Relocation.{Relocation}
 use Rattle.ldscript.specs.statements.Numbering.{InputStatementAt, input_statements, output_sections}
 use Rattle.ldmodel.specs.Fault.{Fault, Orphan}
 use Rattle.ldmodel.specs.FirstMatch.{first_match}
-use Rattle.ldmodel.specs.Gathering.{are_discarded, candidates, is_out, is_out_under, taken_by}
+use Rattle.ldmodel.specs.Gathering.{are_discarded, candidates, is_discarded, is_out_under, taken_by}
 use Rattle.ldmodel.specs.InputSections.{input_sections}
 use Rattle.ldmodel.specs.Link.{gathering_faults}
 use Rattle.ldmodel.specs.Live.{is_kept, is_root, is_section, live, orphans, refers_to, target_section}
@@ -19,7 +19,7 @@ use Rattle.ldmodel.specs.Reach.{reached}
 use Rattle.ldmodel.specs.Rows.{Piece, below, is_in_section, is_taken_by, piece_of, rows, taken}
 use Rattle.ldmodel.specs.Sections.{InputSection}
 use Rattle.ldmodel.specs.Sorting.{sort_by}
-use Rattle.ldmodel_laws.specs.Outline.{IsRetouched}
+use Rattle.ldmodel_laws.specs.Outline.{DiffersInContents}
 use Rattle.ldmodel_outline.proofs.MappedGraph.{list_any-mapped, map-filter, map-reached}
 use Rattle.ldmodel_outline.proofs.SameInputs.{bare, naming, same_inputs}
 use Rattle.ldmodel_outline.proofs.SameReferences.{same_entry_section, same_refers_to}
@@ -37,21 +37,23 @@ refers_bare p a b =
 
 -- the live ones of some input sections
 abbrev live_among : (gc : Bool) → Project → List InputSection → List InputSection
-live_among true p xs = reached (is_root p) (refers_to p) (filter (λ x. not (is_out p x)) xs)
-live_among false p xs = filter (λ x. not (is_out p x)) xs
+live_among true p xs = reached (is_root p) (refers_to p) (filter (λ x. not (is_discarded p x)) xs)
+live_among false p xs = filter (λ x. not (is_discarded p x)) xs
 
 module _ (gc : Bool) (p : Project) where
-  out_bare : (x : InputSection) → is_out p x ≡ is_out p (bare gc x)
-  unfolding is_out
+  out_bare : (x : InputSection) → is_discarded p x ≡ is_discarded p (bare gc x)
+  unfolding is_discarded
   out_bare x = go (taken_by p x)
     where
       go : (m : Option InputStatementAt) → is_out_under p x m ≡ is_out_under p (bare gc x) m
       go None = refl
       go (Some y) = refl
 
-  candidates_bare : map (bare gc) (candidates p) ≡ filter (λ x. not (is_out p x)) (map (bare gc) (input_sections p))
+  candidates_bare : map (bare gc) (candidates p)
+      ≡ filter (λ x. not (is_discarded p x)) (map (bare gc) (input_sections p))
   candidates_bare =
-      map-filter (bare gc) (λ x. not (is_out p x)) (λ x. not (is_out p x)) (λ x. ap not (out_bare x)) (input_sections p)
+      map-filter (bare gc) (λ x. not (is_discarded p x)) (λ x. not (is_discarded p x)) (λ x. ap not (out_bare x))
+      (input_sections p)
 
 live_bare : (gc : Bool) (p : Project) → p.options.gc ≡ gc
     → map (bare gc) (live p) ≡ live_among gc p (map (bare gc) (input_sections p))
@@ -89,7 +91,7 @@ module _ (gc : Bool) (p : Project) where
 
 -- ---- of two projects
 
-module _ {p q : Project} {place : ℕ} (h : IsRetouched p q place) where
+module _ {p q : Project} {place : ℕ} (h : DiffersInContents p q place) where
   same_taker : taken_by p ≡ taken_by q
   same_taker =
       λ i x. option_and_then (slice_get (input_statements (h.script i))) (first_match (h.script i) x.object x.name)
@@ -98,8 +100,8 @@ module _ {p q : Project} {place : ℕ} (h : IsRetouched p q place) where
   same_out_under x None = λ i. (x.size == 0) || are_discarded (h.options i).orphans
   same_out_under x (Some y) = refl
 
-  same_out : is_out p ≡ is_out q
-  unfolding is_out
+  same_out : is_discarded p ≡ is_discarded q
+  unfolding is_discarded
   same_out = λ i x. same_out_under x (same_taker i x) i
 
   same_root : is_root p ≡ is_root q

@@ -12,11 +12,11 @@ use Rattle.ldmodel.specs.SymbolValues.{NotDefined, address_in, decided_value, en
 use Rattle.ldmodel.specs.SymbolValues.{own_value, placed_part, symbol_index, symbol_of_entry, value_if_named}
 use Rattle.ldmodel.specs.Targets.{or_weak, referenced_value}
 use Rattle.ldmodel.specs.declared.sections.Part.TheVariants.{InCommon}
-use Rattle.ldmodel_laws.specs.Outline.{IsRetouched}
+use Rattle.ldmodel_laws.specs.Outline.{DiffersInContents}
 use Rattle.ldmodel_outline.proofs.Objects.{same_names_at, same_object_name, same_symbol_at}
 use Rattle.ldmodel_outline.proofs.SameNames.{same_decision, same_entry_symbol}
 
-module _ {p q : Project} {place : ℕ} (h : IsRetouched p q place) where
+module _ {p q : Project} {place : ℕ} (h : DiffersInContents p q place) where
   pub same_symbol_of_entry : symbol_of_entry p ≡ symbol_of_entry q
   same_symbol_of_entry = λ i e. option_map (λ (x : NamedSymbol). x.symbol) (same_symbol_at h e.object e.symbol i)
 

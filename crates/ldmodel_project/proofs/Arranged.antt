@@ -10,11 +10,11 @@ use Rattle.std.proofs.lemmas.Simd.{map-map}
 use Rattle.slab.specs.Slab.{Slab, get, slab_len, HasRoomFor}
 use Rattle.ldmodel.specs.Edits.{unnamed, place_of, AreNamesDistinct}
 use Rattle.ldmodel.specs.Project.{NamedObject}
-use Rattle.ldmodel_project.specs.Listing.{Entry, Contents, key_count}
+use Rattle.ldmodel_project.specs.Listing.{Listed, Contents, key_count}
 use Rattle.ldmodel_project.specs.Slots.{named_at, entry_at, IsOrdered}
 use Rattle.ldmodel_project.specs.Next.{named_under, next_named, next_entry, next_count, CanStep}
 use Rattle.ldmodel_project.specs.Staging.{IsStaged, SameButRoom}
-use Rattle.ldmodel_project.specs.Touched.{IsArranged}
+use Rattle.ldmodel_project.specs.Edited.{ChangesOneObject}
 use Rattle.ldmodel_project.specs.declared.staged.Places.{Places}
 use Rattle.ldmodel_project.specs.declared.staged.StagedObjects.{StagedObjects}
 use Rattle.ldmodel_project.specs.declared.staged.Step.{Step}
@@ -59,16 +59,16 @@ reserved_same old new order e h =
 pub staged_from : (slots : Slab NamedObject) (order : List ℕ) (v : Vec ℕ Global) (step : Step) (places : Places)
     (next : List ℕ) (objects : List NamedObject)
     → v.items ≡ next
-    → IsArranged (map (entry_at slots) order) (staged v step places)
+    → ChangesOneObject (map (entry_at slots) order) (staged v step places)
     → ((k : ℕ) → count_by (nat_eq k) next ≡ next_count (map (entry_at slots) order) step k)
     → map (next_named (map (entry_at slots) order) step) next ≡ objects
     → AreNamesDistinct objects
     → CanStep (shown slots order) step
     → IsStaged (shown slots order) (staged v step places) objects
 staged_from slots order v step places next objects e arranged keys made names can =
-    let entries : List Entry = map (entry_at slots) order in
-    let all : map (λ (e : Entry). e.named) (map (next_entry entries step) v.items) ≡ objects =
-    map-map (λ (e : Entry). e.named) (next_entry entries step) v.items
+    let entries : List Listed = map (entry_at slots) order in
+    let all : map (λ (e : Listed). e.named) (map (next_entry entries step) v.items) ≡ objects =
+    map-map (λ (e : Listed). e.named) (next_entry entries step) v.items
     ∙ (ap (map (next_named entries step)) e ∙ made) in
     record {
       fits = record {
@@ -134,7 +134,7 @@ new_staged slots order at key o v h room vacant next unused within e =
     let places : Places = record { before = None; after = Some at } in
     staged_from slots order v (Put key o) places (insert order at key) (insert objects at o) e
     (arranged slots order (staged v (Put key o) places) key order (record {
-      touched = refl;
+      edited = refl;
       fresh = not_listed slots order key h vacant;
       within_before = tt;
       within_after = within;
@@ -148,11 +148,11 @@ new_staged slots order at key o v h room vacant next unused within e =
       (λ listed. absurd (omega (arith, key_count-entries slots order key, not_listed slots order key h vacant))),
     )
   where
-    entries : List Entry
+    entries : List Listed
     entries = map (entry_at slots) order
 
     objects : List NamedObject
-    objects = map (λ (e : Entry). e.named) entries
+    objects = map (λ (e : Listed). e.named) entries
 
     listed : (k : ℕ) (b : Bool) → nat_eq k key ≡ b
         → count_by (nat_eq k) (insert order at key) ≡ count_by (nat_eq k) order + one_if (nat_eq k key)
@@ -181,7 +181,7 @@ new_staged slots order at key o v h room vacant next unused within e =
         let here : g key ≡ o =
         ap (λ b. unwrap_or (cond b (Some o) None) (named_under (map (entry_at slots) order) key))
         (eq-eqb key key refl) in
-        let rest : map g order ≡ map (λ (e : Entry). e.named) (map (entry_at slots) order) =
+        let rest : map g order ≡ map (λ (e : Listed). e.named) (map (entry_at slots) order) =
         map-same g (named_at slots) order (λ k q. old_named k (nat_eq k key) refl q)
         ∙ sym (objects-entries slots order) in
         map-insert g order at key
@@ -192,7 +192,7 @@ pub place_within : (slots : Slab NamedObject) (order name : List ℕ) (at : ℕ)
     → place_of (objects_shown slots order) name ≡ Some at → at < length order
 place_within slots order name at place =
     let found = name_at_place (objects_shown slots order) name at place in
-    rw (length-map (map (entry_at slots) order) (λ (e : Entry). e.named), length-map order (entry_at slots)) at found.0
+    rw (length-map (map (entry_at slots) order) (λ (e : Listed). e.named), length-map order (entry_at slots)) at found.0
 
 pub replaced_staged : (slots : Slab NamedObject) (order : List ℕ) (at key : ℕ) (o : NamedObject) (v : Vec ℕ Global)
     → IsOrdered slots order → get_or order at 0 ≡ key
@@ -206,7 +206,7 @@ replaced_staged slots order at key o v h there place e =
     let long : at ≤ length (remove order at) = omega (arith, length-remove order at within, within) in
     staged_from slots order v (Put key o) places order (set (objects_shown slots order) at o) e
     (arranged slots order (staged v (Put key o) places) key (remove order at) (record {
-      touched = refl;
+      edited = refl;
       fresh = not_left order at key within there once;
       within_before = long;
       within_after = long;
@@ -265,7 +265,7 @@ moved_staged slots order from to key v h within there goes e =
     staged_from slots order v (Move key) places (insert (remove order from) to key)
     (insert (remove (objects_shown slots order) from) to (get_or (objects_shown slots order) from unnamed)) e
     (arranged slots order (staged v (Move key) places) key (remove order from) (record {
-      touched = refl;
+      edited = refl;
       fresh = not_left order from key within there (listed_at slots order from key h within there);
       within_before = omega (arith, length-remove order from within);
       within_after = goes;
@@ -309,7 +309,7 @@ removed_staged slots order at key v h within there e =
     let places : Places = record { before = Some at; after = None } in
     staged_from slots order v (Remove key) places (remove order at) (remove (objects_shown slots order) at) e
     (arranged slots order (staged v (Remove key) places) key (remove order at) (record {
-      touched = refl;
+      edited = refl;
       fresh = not_left order at key within there once;
       within_before = omega (arith, length-remove order at within);
       within_after = tt;

@@ -10,7 +10,7 @@ use Rattle.std.proofs.lemmas.Option.{slice_get-map, slice_get_read, slice_get_pa
 use Rattle.slab.specs.Slab.{Slab, get}
 use Rattle.ldmodel.specs.Edits.{unnamed}
 use Rattle.ldmodel.specs.Project.{NamedObject}
-use Rattle.ldmodel_project.specs.Listing.{AreKeysDistinct, Contents, Entry, found_under, key_count, keys_of}
+use Rattle.ldmodel_project.specs.Listing.{AreKeysDistinct, Contents, Listed, found_under, key_count, keys_of}
 use Rattle.ldmodel_project.specs.Next.{Fits, named_under, next_named, next_count, next_entries, next_found}
 use Rattle.ldmodel_project.specs.Slots.{named_at, entry_at, IsOrdered}
 use Rattle.ldmodel_project.specs.declared.staged.StagedObjects.{StagedObjects}
@@ -23,11 +23,11 @@ use Rattle.ldmodel_project.proofs.Places.{in_use_of, objects_shown, objects-entr
 abbrev found_if : ℕ → NamedObject → Option NamedObject
 found_if n o = cond (nat_lt 0 n) (Some o) None
 
-pub found_under-counted : (entries : List Entry) (k : ℕ) → found_under entries k
+pub found_under-counted : (entries : List Listed) (k : ℕ) → found_under entries k
     ≡ found_if (key_count entries k) (named_under entries k)
 found_under-counted [] k = refl
 found_under-counted (e ∷ es) k =
-    at (nat_eq k e.key) (key_count (e ∷ es) k) (sum_by-cons (λ (x : Entry). cond (nat_eq k x.key) 1 0) e es)
+    at (nat_eq k e.key) (key_count (e ∷ es) k) (sum_by-cons (λ (x : Listed). cond (nat_eq k x.key) 1 0) e es)
     (found_under-counted es k)
   where
     at : (b : Bool) (n : ℕ) → n ≡ cond b 1 0 + key_count es k
@@ -41,13 +41,13 @@ found_under-counted (e ∷ es) k =
         later ∙ sym (ap (λ (m : ℕ). found_if m (named_under es k)) same)
 
 -- where a key is listed, and where it isn't
-pub found_listed : (entries : List Entry) (k : ℕ) → 0 < key_count entries k
+pub found_listed : (entries : List Listed) (k : ℕ) → 0 < key_count entries k
     → found_under entries k ≡ Some (named_under entries k)
 found_listed entries k h =
     found_under-counted entries k
     ∙ ap (λ (c : Bool). cond c (Some (named_under entries k)) None) (lt-ltb 0 (key_count entries k) h)
 
-pub found_unlisted : (entries : List Entry) (k : ℕ) → key_count entries k ≡ 0 → found_under entries k ≡ None
+pub found_unlisted : (entries : List Listed) (k : ℕ) → key_count entries k ≡ 0 → found_under entries k ≡ None
 found_unlisted entries k h =
     found_under-counted entries k
     ∙ ap (λ (c : Bool). cond c (Some (named_under entries k)) None) (le-ltb 0 (key_count entries k) (omega arith))
@@ -85,7 +85,7 @@ object_past slots order place past =
 
 -- where the objects under the keys of a list are given
 pub found_under-map : (f : ℕ → NamedObject) (order : List ℕ) (k : ℕ)
-    → found_under (map (λ j. let e : Entry = record { key = j; named = f j } in e) order) k
+    → found_under (map (λ j. let e : Listed = record { key = j; named = f j } in e) order) k
     ≡ found_if (count_by (nat_eq k) order) (f k)
 found_under-map f [] k = refl
 found_under-map f (x ∷ xs) k =
@@ -93,9 +93,9 @@ found_under-map f (x ∷ xs) k =
     (found_under-map f xs k)
   where
     at : (b : Bool) → nat_eq k x ≡ b → (n : ℕ) → n ≡ cond b 1 0 + count_by (nat_eq k) xs
-        → found_under (map (λ j. let e : Entry = record { key = j; named = f j } in e) xs) k
+        → found_under (map (λ j. let e : Listed = record { key = j; named = f j } in e) xs) k
         ≡ found_if (count_by (nat_eq k) xs) (f k)
-        → cond b (Some (f x)) (found_under (map (λ j. let e : Entry = record { key = j; named = f j } in e) xs) k)
+        → cond b (Some (f x)) (found_under (map (λ j. let e : Listed = record { key = j; named = f j } in e) xs) k)
         ≡ found_if n (f k)
     at true e n split later =
         ap (λ j. Some (f j)) (sym (eqb-true k x e))
@@ -137,13 +137,13 @@ found_under-next c s k h =
     at Stay n counted found = by_old false n counted found
 
 -- a list of entries has a key as often as their keys do
-pub key_count-keys : (entries : List Entry) (k : ℕ) → key_count entries k ≡ count_by (nat_eq k) (keys_of entries)
+pub key_count-keys : (entries : List Listed) (k : ℕ) → key_count entries k ≡ count_by (nat_eq k) (keys_of entries)
 key_count-keys [] k = refl
 key_count-keys (e ∷ es) k =
     let later : key_count es k ≡ count_by (nat_eq k) (keys_of es) = key_count-keys es k in
     omega (
       arith,
-      sum_by-cons (λ (x : Entry). cond (nat_eq k x.key) 1 0) e es,
+      sum_by-cons (λ (x : Listed). cond (nat_eq k x.key) 1 0) e es,
       sum_by-cons (λ (x : ℕ). cond (nat_eq k x) 1 0) e.key (keys_of es),
     )
 
@@ -166,7 +166,7 @@ next_distinct c s h distinct k = omega (arith, h.keys k, bound s.step, key_count
     bound Stay = once
 
 -- a key stands somewhere exactly where an object is under it
-pub found-placed : (entries : List Entry) (k : ℕ)
+pub found-placed : (entries : List Listed) (k : ℕ)
     → is_some (position (nat_eq k) (keys_of entries)) ≡ is_some (found_under entries k)
 found-placed entries k = in_use_of (nat_eq k) (keys_of entries) ∙ any entries
   where
@@ -175,7 +175,7 @@ found-placed entries k = in_use_of (nat_eq k) (keys_of entries) ∙ any entries
     either true c o p some e = sym some
     either false c o p some e = e
 
-    any : (es : List Entry) → list_any (nat_eq k) (keys_of es) ≡ is_some (found_under es k)
+    any : (es : List Listed) → list_any (nat_eq k) (keys_of es) ≡ is_some (found_under es k)
     any [] = refl
     any (e ∷ es) = either (nat_eq k e.key) (list_any (nat_eq k) (keys_of es)) (Some e.named)
         (found_under es k) refl (any es)

@@ -7,22 +7,22 @@ use Rattle.std.proofs.lemmas.Bool.{eqb-true}
 use Rattle.slab.specs.Slab.{Slab}
 use Rattle.ldmodel.specs.Edits.{unnamed}
 use Rattle.ldmodel.specs.Project.{NamedObject}
-use Rattle.ldmodel_project.specs.Listing.{Entry, found_under, key_count}
+use Rattle.ldmodel_project.specs.Listing.{Listed, found_under, key_count}
 use Rattle.ldmodel_project.specs.Slots.{named_at, entry_at}
 use Rattle.ldmodel_project.specs.Next.{named_under}
 
 -- the entries list the keys of the order
 pub key_count-map : (f : ℕ → NamedObject) (order : List ℕ) (k : ℕ)
-    → key_count (map (λ j. let e : Entry = record { key = j; named = f j } in e) order) k ≡ count_by (nat_eq k) order
+    → key_count (map (λ j. let e : Listed = record { key = j; named = f j } in e) order) k ≡ count_by (nat_eq k) order
 key_count-map f [] k = refl
 key_count-map f (x ∷ xs) k =
-    let later : key_count (map (λ j. let e : Entry = record { key = j; named = f j } in e) xs) k
+    let later : key_count (map (λ j. let e : Listed = record { key = j; named = f j } in e) xs) k
     ≡ count_by (nat_eq k) xs = key_count-map f xs k in
     omega (
       arith,
       sum_by-cons (λ (z : ℕ). cond (nat_eq k z) 1 0) x xs,
-      sum_by-cons (λ (e : Entry). cond (nat_eq k e.key) 1 0) (record { key = x; named = f x })
-          (map (λ j. let e : Entry = record { key = j; named = f j } in e) xs),
+      sum_by-cons (λ (e : Listed). cond (nat_eq k e.key) 1 0) (record { key = x; named = f x })
+          (map (λ j. let e : Listed = record { key = j; named = f j } in e) xs),
     )
 
 pub key_count-entries : (slots : Slab NamedObject) (order : List ℕ) (k : ℕ) → key_count (map (entry_at slots) order) k
@@ -31,16 +31,16 @@ key_count-entries slots order k = key_count-map (named_at slots) order k
 
 -- the object under a listed key is the one that it was made for
 pub named_under-map : (f : ℕ → NamedObject) (order : List ℕ) (k : ℕ) → 0 < count_by (nat_eq k) order
-    → named_under (map (λ j. let e : Entry = record { key = j; named = f j } in e) order) k ≡ f k
+    → named_under (map (λ j. let e : Listed = record { key = j; named = f j } in e) order) k ≡ f k
 named_under-map f [] k h = absurd (omega arith)
 named_under-map f (x ∷ xs) k h =
     at_x (nat_eq k x) refl (sum_by-cons (λ (z : ℕ). cond (nat_eq k z) 1 0) x xs) (named_under-map f xs k)
   where
     at_x : (b : Bool) → nat_eq k x ≡ b → count_by (nat_eq k) (x ∷ xs) ≡ cond b 1 0 + count_by (nat_eq k) xs
         → (0 < count_by (nat_eq k) xs
-        → named_under (map (λ j. let e : Entry = record { key = j; named = f j } in e) xs) k ≡ f k)
+        → named_under (map (λ j. let e : Listed = record { key = j; named = f j } in e) xs) k ≡ f k)
         → unwrap_or (cond b (Some (f x))
-        (found_under (map (λ j. let e : Entry = record { key = j; named = f j } in e) xs) k)) unnamed ≡ f k
+        (found_under (map (λ j. let e : Listed = record { key = j; named = f j } in e) xs) k)) unnamed ≡ f k
     at_x true same split later = ap f (sym (eqb-true k x same))
     at_x false same split later = later (omega arith)
 

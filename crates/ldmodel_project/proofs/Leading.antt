@@ -7,14 +7,14 @@ use Rattle.ldmodel.specs.Edits.{Change, SetScript, Accepts, early_refusal, with_
 use Rattle.ldmodel.specs.Project.{NamedObject, Project}
 use Rattle.ldscript.specs.Script.{IsScript}
 use Rattle.ldmodel.specs.EditMeaning.{refusal_of}
-use Rattle.ldmodel_project.specs.Holding.{Holding, Makes, MakesScript, Stages, held, next_listing, project_of}
-use Rattle.ldmodel_project.specs.Next.{touched_key}
+use Rattle.ldmodel_project.specs.ProjectState.{ProjectState, Makes, MakesScript, Stages, held, next_listing, project_of}
+use Rattle.ldmodel_project.specs.Next.{edited_key}
 use Rattle.ldmodel_project.specs.Staging.{IsStaged}
 use Rattle.ldmodel.specs.declared.edit.EditRefusal.{EditRefusal}
 use Rattle.ldmodel_project.specs.declared.staged.Staged.{Staged}
 
 -- where the objects and the script are known, the next project is
-leads : (h : Holding) (s : Staged) (objects : List NamedObject) (script : Option (List Statement))
+leads : (h : ProjectState) (s : Staged) (objects : List NamedObject) (script : Option (List Statement))
     → IsStaged h.contents s.objects objects
     → s.script ≡ script
     → project_of (next_listing h s) ≡ record (held h) { objects = objects; script = unwrap_or script h.script }
@@ -30,19 +30,19 @@ none_staged P None e = tt
 none_staged P (Some x) e = absurd (none-some x (sym e))
 
 -- an edit of the objects alone
-pub stages_objects : (h : Holding) (c : Change) (next : List NamedObject) (r : Result Staged EditRefusal)
+pub stages_objects : (h : ProjectState) (c : Change) (next : List NamedObject) (r : Result Staged EditRefusal)
     → early_refusal (held h) c ≡ None
     → Accepts (held h) c (with_objects (held h) next) → Makes h next r → Stages h c r
 stages_objects h c next (Ok s) early accepts made = (
   made.0.fits,
   (early, subst (Accepts (held h) c) (sym (leads h s next None made.0 made.1)) accepts),
   made.0.arranged,
-  none_staged (λ _. touched_key s.objects.step ≡ None) s.script made.1,
+  none_staged (λ _. edited_key s.objects.step ≡ None) s.script made.1,
 )
 stages_objects h c next (Err r) early accepts made = inr (early, ap refusal_of made)
 
 -- an edit of the script
-pub stages_script : (h : Holding) (text : List ℕ) (script : List Statement) (r : Result Staged EditRefusal)
+pub stages_script : (h : ProjectState) (text : List ℕ) (script : List Statement) (r : Result Staged EditRefusal)
     → early_refusal (held h) (SetScript text) ≡ None
     → IsScript text script → MakesScript h script r → Stages h (SetScript text) r
 stages_script h text script (Ok s) early is made = (
@@ -52,7 +52,7 @@ stages_script h text script (Ok s) early is made = (
   script_staged s.script,
 )
   where
-    script_staged : (o : Option (List Statement)) → IfSome o (λ _. touched_key s.objects.step ≡ None)
+    script_staged : (o : Option (List Statement)) → IfSome o (λ _. edited_key s.objects.step ≡ None)
     script_staged None = tt
     script_staged (Some x) = made.2
 stages_script h text script (Err r) early is made = inr (early, ap refusal_of made)

@@ -8,7 +8,7 @@ use Rattle.std.proofs.lemmas.List.{take-append-drop, take_at, drop_at, length-ta
 use Rattle.std.proofs.lemmas.List.Edits.{length-insert, get_or-insert_below, get_or-insert_at}
 use Rattle.std.proofs.lemmas.List.Elements.{filter-append}
 use Rattle.std.proofs.lemmas.List.Sums.{sum_by-cons}
-use Rattle.ldmodel_project.specs.Touched.{is_other}
+use Rattle.ldmodel_project.specs.Edited.{is_other}
 use Rattle.ldmodel_project.proofs.Counts.{one_if, count_by_at, count_by-insert, map-insert}
 use Rattle.ldmodel_project.proofs.Places.{position-some, position-none}
 

@@ -10,7 +10,7 @@ use Rattle.std.proofs.lemmas.Simd.{map-map}
 use Rattle.slab.specs.Slab.{Slab}
 use Rattle.ldmodel.specs.Edits.{has_name, unnamed, place_of, is_in_use}
 use Rattle.ldmodel.specs.Project.{NamedObject}
-use Rattle.ldmodel_project.specs.Listing.{Entry}
+use Rattle.ldmodel_project.specs.Listing.{Listed}
 use Rattle.ldmodel_project.specs.Slots.{named_at, entry_at}
 
 pub position-some : {X : Type 0} (p : X → Bool) (xs : List X) (i : ℕ) (d : X) → i < length xs
@@ -39,11 +39,11 @@ named_there slots order name i b h e =
 
 -- the objects that the entries show
 abbrev pub objects_shown : Slab NamedObject → List ℕ → List NamedObject
-objects_shown slots order = map (λ (e : Entry). e.named) (map (entry_at slots) order)
+objects_shown slots order = map (λ (e : Listed). e.named) (map (entry_at slots) order)
 
 pub objects-entries : (slots : Slab NamedObject) (order : List ℕ)
-    → map (λ (e : Entry). e.named) (map (entry_at slots) order) ≡ map (named_at slots) order
-objects-entries slots order = map-map (λ (e : Entry). e.named) (entry_at slots) order
+    → map (λ (e : Listed). e.named) (map (entry_at slots) order) ≡ map (named_at slots) order
+objects-entries slots order = map-map (λ (e : Listed). e.named) (entry_at slots) order
 
 pub place_of-some : (slots : Slab NamedObject) (order name : List ℕ) (i : ℕ) → i < length order
     → ((k : ℕ) → k < i → is_named_at slots order name k ≡ false) → is_named_at slots order name i ≡ true

@@ -7,7 +7,7 @@ use Rattle.std.proofs.lemmas.Simd.{map-map}
 use Rattle.slab.specs.Slab.{Slab, get}
 use Rattle.ldmodel.specs.Edits.{unnamed, AreNamesDistinct}
 use Rattle.ldmodel.specs.Project.{NamedObject}
-use Rattle.ldmodel_project.specs.Listing.{Entry, Contents, key_count}
+use Rattle.ldmodel_project.specs.Listing.{Listed, Contents, key_count}
 use Rattle.ldmodel_project.specs.Slots.{named_at, entry_at, IsOrdered}
 use Rattle.ldmodel_project.specs.Next.{named_under, next_named, next_entry, next_entries, next_count, next_slot}
 use Rattle.ldmodel_project.specs.Next.{CanStep}
@@ -79,15 +79,15 @@ Stepped-entries c s old new order h =
     (λ k listed.
     let counted : 0 < next_count c.entries s.step k = omega (arith, h.fits.keys k) in
     let counted_here : 0 < next_count (map (entry_at old) order) s.step k =
-    subst (λ (es : List Entry). 0 < next_count es s.step k) (sym h.entries) counted in
+    subst (λ (es : List Listed). 0 < next_count es s.step k) (sym h.entries) counted in
     let named : next_named (map (entry_at old) order) s.step k ≡ unwrap_or (next_slot old s.step k) unnamed =
     next_named-entries old order s.step k counted_here in
     let found : named_at new k ≡ unwrap_or (next_slot old s.step k) unnamed =
     ap (λ (o : Option NamedObject). unwrap_or o unnamed) (h.slots k) in
     let there : next_named (map (entry_at old) order) s.step k ≡ next_named c.entries s.step k =
-    ap (λ (es : List Entry). next_named es s.step k) h.entries in
+    ap (λ (es : List Listed). next_named es s.step k) h.entries in
     let same : named_at new k ≡ next_named c.entries s.step k = found ∙ (sym named ∙ there) in
-    ap (λ (o : NamedObject). let e : Entry = record { key = k; named = o } in e) same)
+    ap (λ (o : NamedObject). let e : Listed = record { key = k; named = o } in e) same)
 
 -- and the slab in the staged order
 pub Stepped-ordered : (c : Contents) (s : StagedObjects) (old new : Slab NamedObject) (order : List ℕ)
@@ -95,19 +95,19 @@ pub Stepped-ordered : (c : Contents) (s : StagedObjects) (old new : Slab NamedOb
 Stepped-ordered c s old new order h = record {
   listed = λ k.
       let there : next_count (map (entry_at old) order) s.step k ≡ next_count c.entries s.step k =
-      ap (λ (es : List Entry). next_count es s.step k) h.entries in
+      ap (λ (es : List Listed). next_count es s.step k) h.entries in
       let here : next_count (map (entry_at old) order) s.step k ≡ cond (is_some (next_slot old s.step k)) 1 0 =
       next_count-entries old order s.step k h.ordered in
       let found : cond (is_some (get new k)) 1 0 ≡ cond (is_some (next_slot old s.step k)) 1 0 =
       ap (λ (o : Option NamedObject). cond (is_some o) 1 0) (h.slots k) in
       h.fits.keys k ∙ (sym there ∙ (here ∙ sym found));
   names =
-      let same : map (λ (e : Entry). e.named) (map (entry_at new) s.order.items)
-      ≡ map (λ (e : Entry). e.named) (map (next_entry c.entries s.step) s.order.items) =
-      ap (map (λ (e : Entry). e.named)) (Stepped-entries c s old new order h) in
-      let objects : map (λ (e : Entry). e.named) (map (next_entry c.entries s.step) s.order.items)
+      let same : map (λ (e : Listed). e.named) (map (entry_at new) s.order.items)
+      ≡ map (λ (e : Listed). e.named) (map (next_entry c.entries s.step) s.order.items) =
+      ap (map (λ (e : Listed). e.named)) (Stepped-entries c s old new order h) in
+      let objects : map (λ (e : Listed). e.named) (map (next_entry c.entries s.step) s.order.items)
       ≡ map (named_at new) s.order.items =
-      sym same ∙ map-map (λ (e : Entry). e.named) (entry_at new) s.order.items in
+      sym same ∙ map-map (λ (e : Listed). e.named) (entry_at new) s.order.items in
       subst AreNamesDistinct objects h.fits.names;
 }
 

@@ -6,33 +6,33 @@ use Rattle.std.proofs.lemmas.Bool.{eq-eqb}
 use Rattle.std.proofs.lemmas.List.{length-map, get_or-map, same_lists}
 use Rattle.std.proofs.lemmas.List.FromFn.{length-enumerate_from, get_or-enumerate_from}
 use Rattle.elfobj.specs.Symbols.{NamedSymbol}
-use Rattle.ldmodel_project.specs.Listing.{AreKeysDistinct, Entry}
+use Rattle.ldmodel_project.specs.Listing.{AreKeysDistinct, Listed}
 use Rattle.ldmodel_project.specs.Next.{named_under}
 use Rattle.ldmodel_project.specs.Tables.{HasTableAt, place_or_0, symbols_under, tables_under, without_table}
-use Rattle.ldmodel_project.specs.Touched.{IsAmong, is_other, untouched}
+use Rattle.ldmodel_project.specs.Edited.{IsAmong, is_other, unedited}
 use Rattle.ldmodel_project.proofs.Counts.{map-insert}
 use Rattle.ldmodel_project.proofs.Noting.{once}
 use Rattle.ldmodel_project.proofs.Placed.{filter-mapped}
 use Rattle.ldmodel_project.proofs.Places.{position-some}
 
-abbrev table_of : Entry → ℕ × List NamedSymbol
+abbrev table_of : Listed → ℕ × List NamedSymbol
 table_of e = (e.key, e.named.object.symbols)
 
 -- the tables of the other entries are the other tables
-tables-untouched : (key : ℕ) (entries : List Entry)
-    → without_table key (tables_under entries) ≡ tables_under (untouched (Some key) entries)
-tables-untouched key entries =
-    filter-mapped (λ (e : Entry). is_other (Some key) e.key) (λ (t : ℕ × List NamedSymbol). not (nat_eq t.0 key))
+tables-unedited : (key : ℕ) (entries : List Listed)
+    → without_table key (tables_under entries) ≡ tables_under (unedited (Some key) entries)
+tables-unedited key entries =
+    filter-mapped (λ (e : Listed). is_other (Some key) e.key) (λ (t : ℕ × List NamedSymbol). not (nat_eq t.0 key))
     table_of (λ e. refl) entries
 
 -- where an entry stands among others, its table does
-pub table-among : (key : ℕ) (place : Option ℕ) (entries : List Entry) → IsAmong (Some key) place entries
+pub table-among : (key : ℕ) (place : Option ℕ) (entries : List Listed) → IsAmong (Some key) place entries
     → HasTableAt key (symbols_under entries key) place (without_table key (tables_under entries)) (tables_under entries)
-table-among key None entries h = ap tables_under h ∙ sym (tables-untouched key entries)
+table-among key None entries h = ap tables_under h ∙ sym (tables-unedited key entries)
 table-among key (Some place) entries h =
-    let rest : List Entry = untouched (Some key) entries in
-    let here : Entry = record { key = key; named = named_under entries key } in
-    let others : without_table key (tables_under entries) ≡ tables_under rest = tables-untouched key entries in
+    let rest : List Listed = unedited (Some key) entries in
+    let here : Listed = record { key = key; named = named_under entries key } in
+    let others : without_table key (tables_under entries) ≡ tables_under rest = tables-unedited key entries in
     let long : length (without_table key (tables_under entries)) ≡ length rest =
     ap (λ (ts : List (ℕ × List NamedSymbol)). length ts) others ∙ length-map rest table_of in (
       omega (arith, long, h.0),
@@ -42,13 +42,13 @@ table-among key (Some place) entries h =
     )
 
 -- an edit leaves the other tables
-pub tables-others : (entries next : List Entry) (touched : Option ℕ) (key : ℕ) → touched ≡ Some key
-    → untouched touched next ≡ untouched touched entries
+pub tables-others : (entries next : List Listed) (edited : Option ℕ) (key : ℕ) → edited ≡ Some key
+    → unedited edited next ≡ unedited edited entries
     → without_table key (tables_under next) ≡ without_table key (tables_under entries)
-tables-others entries next touched key e others =
-    tables-untouched key next
-    ∙ (ap tables_under (subst (λ (t : Option ℕ). untouched t next ≡ untouched t entries) e others)
-    ∙ sym (tables-untouched key entries))
+tables-others entries next edited key e others =
+    tables-unedited key next
+    ∙ (ap tables_under (subst (λ (t : Option ℕ). unedited t next ≡ unedited t entries) e others)
+    ∙ sym (tables-unedited key entries))
 
 -- the place of the key at a place
 place_at : (keys : List ℕ) (k key : ℕ) → AreKeysDistinct keys → k < length keys → get_or keys k 0 ≡ key

@@ -8,10 +8,10 @@ use Rattle.std.proofs.lemmas.List.{length-map, map-id}
 use Rattle.std.proofs.lemmas.Simd.{map-map}
 use Rattle.slab.specs.Slab.{Slab}
 use Rattle.ldmodel.specs.Project.{NamedObject}
-use Rattle.ldmodel_project.specs.Listing.{Entry, keys_of}
-use Rattle.ldmodel_project.specs.Next.{named_under, next_entry, next_named, put_under, touched_key}
+use Rattle.ldmodel_project.specs.Listing.{Listed, keys_of}
+use Rattle.ldmodel_project.specs.Next.{named_under, next_entry, next_named, put_under, edited_key}
 use Rattle.ldmodel_project.specs.Slots.{named_at, entry_at}
-use Rattle.ldmodel_project.specs.Touched.{IsAmong, IsArranged, is_other, place_in, untouched}
+use Rattle.ldmodel_project.specs.Edited.{IsAmong, ChangesOneObject, is_other, place_in, unedited}
 use Rattle.ldmodel_project.specs.declared.staged.StagedObjects.{StagedObjects}
 use Rattle.ldmodel_project.specs.declared.staged.Step.{Step}
 use Rattle.ldmodel_project.specs.declared.staged.Step.TheVariants.{Put, Remove, Move, Stay}
@@ -22,26 +22,26 @@ use Rattle.ldmodel_project.proofs.Placed.{position-placed, filter-mapped}
 
 -- the orders before and after the edit are these other keys, with the touched one put in
 pub record Touches (order : List ℕ) (s : StagedObjects) (key : ℕ) (base : List ℕ) : Type 0 where
-  pub touched : touched_key s.step ≡ Some key
+  pub edited : edited_key s.step ≡ Some key
   pub fresh : count_by (nat_eq key) base ≡ 0
   pub within_before : IsWithin s.places.before (length base)
   pub within_after : IsWithin s.places.after (length base)
   pub old : order ≡ placed base s.places.before key
   pub new : s.order.items ≡ placed base s.places.after key
 
-abbrev entry_of : (ℕ → NamedObject) → ℕ → Entry
+abbrev entry_of : (ℕ → NamedObject) → ℕ → Listed
 entry_of f k = record { key = k; named = f k }
 
 -- the keys of entries that are made of an order
 pub keys-map : (f : ℕ → NamedObject) (order : List ℕ)
-    → keys_of (map (λ j. let e : Entry = record { key = j; named = f j } in e) order) ≡ order
-keys-map f order = map-map (λ (e : Entry). e.key) (entry_of f) order ∙ map-id order
+    → keys_of (map (λ j. let e : Listed = record { key = j; named = f j } in e) order) ≡ order
+keys-map f order = map-map (λ (e : Listed). e.key) (entry_of f) order ∙ map-id order
 
 -- the other entries, of an order in which the key was put
 others-placed : (f : ℕ → NamedObject) (key : ℕ) (base : List ℕ) (place : Option ℕ) → count_by (nat_eq key) base ≡ 0
-    → untouched (Some key) (map (entry_of f) (placed base place key)) ≡ map (entry_of f) base
+    → unedited (Some key) (map (entry_of f) (placed base place key)) ≡ map (entry_of f) base
 others-placed f key base place fresh =
-    filter-mapped (is_other (Some key)) (λ (e : Entry). is_other (Some key) e.key) (entry_of f) (λ k. refl)
+    filter-mapped (is_other (Some key)) (λ (e : Listed). is_other (Some key) e.key) (entry_of f) (λ k. refl)
     (placed base place key)
     ∙ ap (map (entry_of f)) (filter-placed key base place fresh)
 
@@ -50,44 +50,44 @@ among : (f : ℕ → NamedObject) (key : ℕ) (base : List ℕ) (place : Option 
     → IsWithin place (length base) → IsAmong (Some key) place (map (entry_of f) (placed base place key))
 among f key base None fresh within = sym (others-placed f key base None fresh)
 among f key base (Some p) fresh within =
-    let entries : List Entry = map (entry_of f) (insert base p key) in
-    let rest : untouched (Some key) entries ≡ map (entry_of f) base = others-placed f key base (Some p) fresh in
-    let long : length (untouched (Some key) entries) ≡ length base =
-    ap (λ (es : List Entry). length es) rest ∙ length-map base (entry_of f) in
+    let entries : List Listed = map (entry_of f) (insert base p key) in
+    let rest : unedited (Some key) entries ≡ map (entry_of f) base = others-placed f key base (Some p) fresh in
+    let long : length (unedited (Some key) entries) ≡ length base =
+    ap (λ (es : List Listed). length es) rest ∙ length-map base (entry_of f) in
     let here : one_if (nat_eq key key) ≡ 1 = ap one_if (eq-eqb key key refl) in
     let listed : 0 < count_by (nat_eq key) (insert base p key) =
     omega (arith, count_by-insert (nat_eq key) base p key, here) in
     let named : named_under entries key ≡ f key = named_under-map f (insert base p key) key listed in (
       omega (arith, long),
       map-placed (entry_of f) base (Some p) key
-          ∙ (ap (λ (es : List Entry). insert es p (entry_of f key)) (sym rest)
-          ∙ ap (λ (o : NamedObject). insert (untouched (Some key) entries) p (entry_of (λ _. o) key)) (sym named)),
+          ∙ (ap (λ (es : List Listed). insert es p (entry_of f key)) (sym rest)
+          ∙ ap (λ (o : NamedObject). insert (unedited (Some key) entries) p (entry_of (λ _. o) key)) (sym named)),
     )
 
 -- nothing is put under another key than the touched one
-put_elsewhere : (step : Step) (key k : ℕ) → touched_key step ≡ Some key → nat_eq k key ≡ false
+put_elsewhere : (step : Step) (key k : ℕ) → edited_key step ≡ Some key → nat_eq k key ≡ false
     → put_under step k ≡ None
-put_elsewhere (Put new named) key k touched other =
+put_elsewhere (Put new named) key k edited other =
     let same : new ≡ key = grind arith in
     ap (λ (b : Bool). cond b (Some named) None) (ap (nat_eq k) same ∙ other)
-put_elsewhere (Remove old) key k touched other = refl
-put_elsewhere (Move moved) key k touched other = refl
-put_elsewhere Stay key k touched other = refl
+put_elsewhere (Remove old) key k edited other = refl
+put_elsewhere (Move moved) key k edited other = refl
+put_elsewhere Stay key k edited other = refl
 
 pub arranged : (slots : Slab NamedObject) (order : List ℕ) (s : StagedObjects) (key : ℕ) (base : List ℕ)
-    → Touches order s key base → IsArranged (map (entry_at slots) order) s
+    → Touches order s key base → ChangesOneObject (map (entry_at slots) order) s
 arranged slots order s key base h = record {
   keys = keys-map (next_named entries s.step) s.order.items;
   orders = as_touched (λ t. filter (is_other t) (keys_of entries) ≡ filter (is_other t) s.order.items)
       (ap (filter (is_other (Some key))) keys
       ∙ (filter-placed key base s.places.before h.fresh
       ∙ sym (ap (filter (is_other (Some key))) h.new ∙ filter-placed key base s.places.after h.fresh)));
-  others = as_touched (λ t. untouched t (map next s.order.items) ≡ untouched t entries)
-      (ap (λ (ks : List ℕ). untouched (Some key) (map next ks)) h.new
+  others = as_touched (λ t. unedited t (map next s.order.items) ≡ unedited t entries)
+      (ap (λ (ks : List ℕ). unedited (Some key) (map next ks)) h.new
       ∙ (others-placed (next_named entries s.step) key base s.places.after h.fresh
       ∙ (map-same next (entry_at slots) base same_entry
       ∙ (sym (others-placed (named_at slots) key base s.places.before h.fresh)
-      ∙ ap (λ (ks : List ℕ). untouched (Some key) (map (entry_at slots) ks)) (sym h.old)))));
+      ∙ ap (λ (ks : List ℕ). unedited (Some key) (map (entry_at slots) ks)) (sym h.old)))));
   place_before = as_touched (λ t. s.places.before ≡ place_in (keys_of entries) t)
       (sym (ap (position (nat_eq key)) keys ∙ position-placed key base s.places.before h.fresh h.within_before));
   place_after = as_touched (λ t. s.places.after ≡ place_in (keys_of (map next s.order.items)) t)
@@ -101,14 +101,14 @@ arranged slots order s key base h = record {
       (among (next_named entries s.step) key base s.places.after h.fresh h.within_after));
 }
   where
-    entries : List Entry
+    entries : List Listed
     entries = map (entry_at slots) order
 
-    next : ℕ → Entry
+    next : ℕ → Listed
     next = next_entry (map (entry_at slots) order) s.step
 
-    as_touched : (P : Option ℕ → Type 0) → P (Some key) → P (touched_key s.step)
-    as_touched P p = subst P (sym h.touched) p
+    as_touched : (P : Option ℕ → Type 0) → P (Some key) → P (edited_key s.step)
+    as_touched P p = subst P (sym h.edited) p
 
     keys : keys_of (map (entry_at slots) order) ≡ placed base s.places.before key
     keys = keys-map (named_at slots) order ∙ h.old
@@ -129,27 +129,27 @@ arranged slots order s key base h = record {
         → next_entry (map (entry_at slots) order) s.step k ≡ entry_at slots k
     same_entry k q =
         let none : put_under s.step k ≡ None =
-        put_elsewhere s.step key k h.touched (other_key k (nat_eq k key) refl q) in
+        put_elsewhere s.step key k h.edited (other_key k (nat_eq k key) refl q) in
         ap (λ (o : NamedObject). entry_of (λ _. o) k)
         (ap (λ (o : Option NamedObject). unwrap_or o (named_under (map (entry_at slots) order) k)) none
         ∙ named_under-entries slots order k (listed k q))
 
-untouched-none : (entries : List Entry) → untouched None entries ≡ entries
-untouched-none [] = refl
-untouched-none (e ∷ es) = ap (λ (xs : List Entry). e ∷ xs) (untouched-none es)
+unedited-none : (entries : List Listed) → unedited None entries ≡ entries
+unedited-none [] = refl
+unedited-none (e ∷ es) = ap (λ (xs : List Listed). e ∷ xs) (unedited-none es)
 
 -- an edit that touches no object
 pub arranged_same : (slots : Slab NamedObject) (order : List ℕ) (v : Vec ℕ Global) → v.items ≡ order
-    → IsArranged (map (entry_at slots) order)
+    → ChangesOneObject (map (entry_at slots) order)
     (record { order = v; step = Stay; places = record { before = None; after = None } })
 arranged_same slots order v e = record {
   keys = keys-map (next_named (map (entry_at slots) order) Stay) v.items;
   orders = ap (filter (is_other None)) (keys-map (named_at slots) order ∙ sym e);
-  others = ap (untouched None) same;
+  others = ap (unedited None) same;
   place_before = refl;
   place_after = refl;
-  before = sym (untouched-none (map (entry_at slots) order));
-  after = sym (untouched-none (map (next_entry (map (entry_at slots) order) Stay) v.items));
+  before = sym (unedited-none (map (entry_at slots) order));
+  after = sym (unedited-none (map (next_entry (map (entry_at slots) order) Stay) v.items));
 }
   where
     same : map (next_entry (map (entry_at slots) order) Stay) v.items ≡ map (entry_at slots) order

@@ -3,9 +3,9 @@ pub mod Listing
 pub mod Slots
 pub mod Next
 pub mod Tags
-pub mod Touched
+pub mod Edited
 pub mod Staging
-pub mod Holding
+pub mod ProjectState
 pub mod Inputs
 pub mod ByPlace
 pub mod Read

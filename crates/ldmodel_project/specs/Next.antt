@@ -4,13 +4,13 @@ use Rattle.std.specs.Prelude.{unwrap_or}
 use Rattle.slab.specs.Slab.{Slab, get, ContainsKey, HasRoomFor}
 use Rattle.ldmodel.specs.Edits.{unnamed, AreNamesDistinct}
 use Rattle.ldmodel.specs.Project.{NamedObject}
-use Rattle.ldmodel_project.specs.Listing.{Entry, Contents, objects_of, key_count, found_under}
+use Rattle.ldmodel_project.specs.Listing.{Listed, Contents, objects_of, key_count, found_under}
 use Rattle.ldmodel_project.specs.declared.staged.StagedObjects.{StagedObjects}
 use Rattle.ldmodel_project.specs.declared.staged.Step.{Step}
 use Rattle.ldmodel_project.specs.declared.staged.Step.TheVariants.{Put, Remove, Move, Stay}
 
 -- the object under a key that is listed
-abbrev pub named_under : List Entry → ℕ → NamedObject
+abbrev pub named_under : List Listed → ℕ → NamedObject
 named_under entries key = unwrap_or (found_under entries key) unnamed
 
 -- the object that a step puts under a key
@@ -28,32 +28,32 @@ removed_key (Move moved) = None
 removed_key Stay = None
 
 -- the key that a step touches: of the object that it puts, removes or moves
-abbrev pub touched_key : Step → Option ℕ
-touched_key (Put new named) = Some new
-touched_key (Remove old) = Some old
-touched_key (Move moved) = Some moved
-touched_key Stay = None
+abbrev pub edited_key : Step → Option ℕ
+edited_key (Put new named) = Some new
+edited_key (Remove old) = Some old
+edited_key (Move moved) = Some moved
+edited_key Stay = None
 
 -- what is under a key after a step
-abbrev pub next_found : List Entry → Step → ℕ → Option NamedObject
+abbrev pub next_found : List Listed → Step → ℕ → Option NamedObject
 next_found entries (Put new named) key = if nat_eq key new then Some named else found_under entries key
 next_found entries (Remove old) key = if nat_eq key old then None else found_under entries key
 next_found entries (Move moved) key = found_under entries key
 next_found entries Stay key = found_under entries key
 
 -- the object under a key after a step
-abbrev pub next_named : List Entry → Step → ℕ → NamedObject
+abbrev pub next_named : List Listed → Step → ℕ → NamedObject
 next_named entries step key = unwrap_or (put_under step key) (named_under entries key)
 
-abbrev pub next_entry : List Entry → Step → ℕ → Entry
+abbrev pub next_entry : List Listed → Step → ℕ → Listed
 next_entry entries step key = record { key = key; named = next_named entries step key }
 
 -- the objects in the staged order, the new one among them
-abbrev pub next_entries : List Entry → StagedObjects → List Entry
+abbrev pub next_entries : List Listed → StagedObjects → List Listed
 next_entries entries s = map (next_entry entries s.step) s.order.items
 
 -- how often a key is listed after a step
-abbrev pub next_count : List Entry → Step → ℕ → ℕ
+abbrev pub next_count : List Listed → Step → ℕ → ℕ
 next_count entries (Put new named) key = if nat_eq key new then 1 else key_count entries key
 next_count entries (Remove old) key = if nat_eq key old then 0 else key_count entries key
 next_count entries (Move moved) key = key_count entries key
@@ -75,7 +75,7 @@ pub record Fits (c : Contents) (s : StagedObjects) : Type 0 where
   pub step : CanStep c s.step
 
 -- a key that is listed before and after has one name
-abbrev pub KeysAreStable : List Entry → List Entry → Type 0
+abbrev pub KeysAreStable : List Listed → List Listed → Type 0
 KeysAreStable old new =
     (key : ℕ) → 0 < key_count old key → 0 < key_count new key → (named_under new key).name ≡ (named_under old key).name
 

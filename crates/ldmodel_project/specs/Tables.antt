@@ -2,13 +2,13 @@
 use Rattle.std.specs.Prelude.{◌≡◌, ℕ, ◌≤◌, List, filter, insert, length, map, nat_eq, not, position, unwrap_or, Option}
 use Rattle.std.specs.Prelude.{Some, None}
 use Rattle.elfobj.specs.Symbols.{NamedSymbol}
-use Rattle.ldmodel_project.specs.Listing.{Entry}
+use Rattle.ldmodel_project.specs.Listing.{Listed}
 use Rattle.ldmodel_project.specs.Next.{named_under}
 
-abbrev pub tables_under : List Entry → List (ℕ × List NamedSymbol)
-tables_under entries = map (λ (e : Entry). (e.key, e.named.object.symbols)) entries
+abbrev pub tables_under : List Listed → List (ℕ × List NamedSymbol)
+tables_under entries = map (λ (e : Listed). (e.key, e.named.object.symbols)) entries
 
-abbrev pub symbols_under : List Entry → ℕ → List NamedSymbol
+abbrev pub symbols_under : List Listed → ℕ → List NamedSymbol
 symbols_under entries key = (named_under entries key).object.symbols
 
 -- the tables of other objects

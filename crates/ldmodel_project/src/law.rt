@@ -5,21 +5,21 @@ ghost use Rattle.std.specs.List.{enumerate_from};
 ghost use Rattle.elfobj.specs.Symbols.{NamedSymbol};
 ghost use Rattle.ldmodel.specs.Names.{symbol_tables};
 ghost use Rattle.ldmodel.specs.Project.{NamedObject};
-ghost use Rattle.ldmodel_project.specs.Listing.{AreKeysDistinct, Entry, found_under, keys_of};
-ghost use Rattle.ldmodel_project.specs.Next.{next_entries, touched_key};
+ghost use Rattle.ldmodel_project.specs.Listing.{AreKeysDistinct, Listed, found_under, keys_of};
+ghost use Rattle.ldmodel_project.specs.Next.{next_entries, edited_key};
 ghost use Rattle.ldmodel_project.specs.Tables.{HasTableAt, place_or_0, symbols_under, tables_under, without_table};
-ghost use Rattle.ldmodel_project.specs.Touched.{IsArranged};
+ghost use Rattle.ldmodel_project.specs.Edited.{ChangesOneObject};
 ghost use Rattle.ldmodel_project.specs.declared.staged.StagedObjects.{StagedObjects};
 
 /// Symbol tables under keys follow an edit: before it and after it they are the tables of the other objects, and among
 /// them, where the touched object stands, the table of that.
 pub fn tables_follow()
-    ensures before { (entries : List Entry) (s : StagedObjects) (key : ℕ) → IsArranged entries s
-        → touched_key s.step ≡ Some key
+    ensures before { (entries : List Listed) (s : StagedObjects) (key : ℕ) → ChangesOneObject entries s
+        → edited_key s.step ≡ Some key
         → HasTableAt key (symbols_under entries key) s.places.before (without_table key (tables_under entries))
         (tables_under entries) }
-    ensures after { (entries : List Entry) (s : StagedObjects) (key : ℕ) → IsArranged entries s
-        → touched_key s.step ≡ Some key
+    ensures after { (entries : List Listed) (s : StagedObjects) (key : ℕ) → ChangesOneObject entries s
+        → edited_key s.step ≡ Some key
         → HasTableAt key (symbols_under (next_entries entries s) key) s.places.after
         (without_table key (tables_under entries)) (tables_under (next_entries entries s)) }
 {}
@@ -35,6 +35,6 @@ pub fn tables_by_place()
 
 /// A key stands somewhere exactly where an object is under it.
 pub fn found_where_placed()
-    ensures { (entries : List Entry) (key : ℕ)
+    ensures { (entries : List Listed) (key : ℕ)
         → is_some (position (nat_eq key) (keys_of entries)) ≡ is_some (found_under entries key) }
 {}

@@ -2,14 +2,14 @@
 //! Takes edits; gives a `Staged` edit or a refusal, and lends a project, or the next one, to a link.
 //!
 //! - `project`: with its tests that need no payload (`early`), `staging`, `lending`, `looking`; `edit`: tests of edits;
-//! - `kept` with `growing`, `tagged` and `tags`: objects under keys; `staged`, `named`; `order`: keys by place, places
-//!   by key;
+//! - `keyed_objects` with `growing`, `tagged` and `tags`: objects under keys; `staged`, `named`; `order`: keys by
+//!   place, places by key;
 //! - `input`, `view`: a project as it is lent to a link; `law`: tables that follow an edit.
 #![tactic(auto)]
 
 pub mod edit;
 pub mod input;
-pub mod kept;
+pub mod keyed_objects;
 pub mod law;
 pub mod named;
 pub mod order;

@@ -4,7 +4,7 @@ ghost use Rattle.std.specs.Prelude.{◌≡◌, ◌==◌, ◌<◌, ℕ, length, S
 ghost use Rattle.ldmodel.specs.EditMeaning.{change_of, refusal_of};
 ghost use Rattle.ldmodel.specs.Edits.{After, RefusedAs};
 ghost use Rattle.ldmodel.specs.Project.{empty_project};
-ghost use Rattle.ldmodel_project.specs.Holding.{held, listing_of, next_listing};
+ghost use Rattle.ldmodel_project.specs.ProjectState.{held, listing_of, next_listing};
 ghost use Rattle.ldmodel_project.specs.Inputs.{shown_inputs};
 ghost use Rattle.ldmodel_project.specs.Listing.{found_under, objects_of};
 ghost use Rattle.ldmodel_project.specs.Next.{Fits, KeysAreStable, next_found};
@@ -15,7 +15,7 @@ mod looking;
 mod staging;
 
 use crate::input::InputObject;
-use crate::kept::KeyedObjects;
+use crate::keyed_objects::KeyedObjects;
 use crate::named::NamedObject;
 use crate::staged::Staged;
 use ldmodel::edit::{Edit, EditRefusal};
@@ -40,9 +40,9 @@ pub struct Project {
 impl Model for Project {
     ghost use Rattle.std.specs.Coded.{codes};
     ghost use Rattle.ldscript.specs.statements.contracts.formula.Formula as formula;
-    ghost use Rattle.ldmodel_project.specs.Holding.{Holding};
+    ghost use Rattle.ldmodel_project.specs.ProjectState.{ProjectState};
 
-    ghost Value = { Holding };
+    ghost Value = { ProjectState };
 
     ghost coded = { Prim.hlevel (codes, formula.the_row.coded) };
 
@@ -120,13 +120,13 @@ pub struct Next<'a> {
 impl<'a> Model for Next<'a> {
     ghost use Rattle.std.specs.Coded.{codes};
     ghost use Rattle.ldscript.specs.statements.contracts.formula.Formula as formula;
-    ghost use Rattle.ldmodel_project.specs.Holding.{Listing};
+    ghost use Rattle.ldmodel_project.specs.ProjectState.{Listing};
 
     ghost Value = { Listing };
 
     ghost coded = { Prim.hlevel (codes, formula.the_row.coded) };
 
-    ghost use Rattle.ldmodel_project.specs.Holding.{next_listing};
+    ghost use Rattle.ldmodel_project.specs.ProjectState.{next_listing};
     ghost use Rattle.ldmodel_project.specs.Inputs.{shown_inputs};
     ghost use Rattle.ldmodel_project.specs.Next.{Fits};
 

@@ -3,9 +3,9 @@
 ghost use Rattle.std.specs.Prelude.{◌≡◌, ℕ, Some, None, IfSome, IfNone};
 ghost use Rattle.std.specs.Option.{option_copied, option_map};
 ghost use Rattle.ldmodel.specs.declared.names.ObjectKey.{ObjectKey};
-ghost use Rattle.ldmodel_project.specs.Next.{next_found, put_under, removed_key, touched_key};
+ghost use Rattle.ldmodel_project.specs.Next.{next_found, put_under, removed_key, edited_key};
 
-use crate::kept::KeyedObjects;
+use crate::keyed_objects::KeyedObjects;
 use crate::named::NamedObject;
 use ldmodel::names::ObjectKey;
 use ldscript::Script;
@@ -84,7 +84,7 @@ impl Staged {
     pub fn put(&self) -> Option<(ObjectKey, &NamedObject)>
         ensures some { IfSome result (λ p. put_under self.now.objects.step p.0.0 ≡ Some p.1.now) }
         ensures none { IfNone result ((key : ℕ) → put_under self.now.objects.step key ≡ None) }
-        ensures touched { IfSome result (λ p. touched_key self.now.objects.step ≡ Some p.0.0) }
+        ensures edited { IfSome result (λ p. edited_key self.now.objects.step ≡ Some p.0.0) }
     {
         match &self.objects.step {
             Step::Put { key, named } => Some((ObjectKey(*key), named)),
@@ -95,7 +95,7 @@ impl Staged {
     /// The key that the edit removes.
     pub fn removed(&self) -> Option<ObjectKey>
         ensures removed { option_map (λ (k : ObjectKey). k.0) result ≡ removed_key self.now.objects.step }
-        ensures touched { IfSome result (λ k. touched_key self.now.objects.step ≡ Some k.0) }
+        ensures edited { IfSome result (λ k. edited_key self.now.objects.step ≡ Some k.0) }
     {
         match &self.objects.step {
             Step::Remove { key } => Some(ObjectKey(*key)),
@@ -104,8 +104,8 @@ impl Staged {
     }
 
     /// The key of the object that the edit puts, removes or moves; none for an edit of the script.
-    pub fn touched(&self) -> Option<ObjectKey>
-        ensures { option_map (λ (k : ObjectKey). k.0) result ≡ touched_key self.now.objects.step }
+    pub fn edited(&self) -> Option<ObjectKey>
+        ensures { option_map (λ (k : ObjectKey). k.0) result ≡ edited_key self.now.objects.step }
     {
         match &self.objects.step {
             Step::Put { key, .. } => Some(ObjectKey(*key)),

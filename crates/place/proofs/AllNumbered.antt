@@ -18,11 +18,11 @@ use Rattle.ldmodel.specs.declared.sections.Part.{Part}
 use Rattle.ldmodel_project.specs.ByPlace.{piece_in, rows_in}
 use Rattle.gather.specs.sections.OfObjects.{IsOfObject}
 use Rattle.gather.specs.sections.SectionTable.{IsTableOf, number_of}
-use Rattle.gather.specs.sections.declared.section_table.SectionTable.{SectionTable}
+use Rattle.gather.specs.sections.declared.input_section_table.InputSectionTable.{InputSectionTable}
 use Rattle.place.specs.Columns.{HaveNumbers}
 use Rattle.place.specs.Entries.{all_entries, row_entries}
 use Rattle.place.specs.InPlace.{IsOwned}
-use Rattle.place.specs.declared.entry.Entry.{Entry}
+use Rattle.place.specs.declared.indexed_section.IndexedSection.{IndexedSection}
 use Rattle.place.proofs.Lists.{each_append}
 use Rattle.place.proofs.Members.{each_join}
 use Rattle.place.proofs.Numbers.{same_key}
@@ -33,9 +33,9 @@ each_all P [] h k d below = absurd (omega (arith, below))
 each_all P (x ∷ xs) h zero d below = h.0
 each_all P (x ∷ xs) h (suc k) d below = each_all P xs h.1 k d (omega (arith, below))
 
-module _ (p : Project) (t : SectionTable) (distinct : AreNamesDistinct p.objects) (table : IsTableOf p t)
+module _ (p : Project) (t : InputSectionTable) (distinct : AreNamesDistinct p.objects) (table : IsTableOf p t)
     (of_objects : (s : InputSection) → Contains (input_sections p) s → IsOfObject p s) where
-  abbrev IsNumbered : Entry → Type 0
+  abbrev IsNumbered : IndexedSection → Type 0
   IsNumbered e = IsSome (number_of t e.object e.part)
 
   -- the part of an object that an input section is has its number
@@ -76,7 +76,7 @@ module _ (p : Project) (t : SectionTable) (distinct : AreNamesDistinct p.objects
       (all_entries (n + 1) rows (drop (length row.items) starts)) (row_numbered n row.items starts owned.0 parts.0)
       (rows_numbered (n + 1) rows (drop (length row.items) starts) owned.1 parts.1)
 
-  pub all_numbered : (rows : List (Vec Piece Global)) (starts : List ℕ) (collected : List Entry)
+  pub all_numbered : (rows : List (Vec Piece Global)) (starts : List ℕ) (collected : List IndexedSection)
       → rows_in p rows ≡ model.rows p → Each (IsOwned p) (flat_map (λ (row : List model.Piece). row) (model.rows p))
       → Each OfInput (flat_map (λ (row : List model.Piece). row) (model.rows p))
       → collected ≡ all_entries 0 rows starts → HaveNumbers t collected

@@ -8,10 +8,10 @@ use Rattle.std.proofs.lemmas.List.{append_assoc}
 use Rattle.std.specs.List.{zip}
 use Rattle.ldmodel.specs.declared.rows.Piece.{Piece}
 use Rattle.place.specs.Entries.{all_entries, entry_of, row_entries}
-use Rattle.place.specs.declared.entry.Entry.{Entry}
+use Rattle.place.specs.declared.indexed_section.IndexedSection.{IndexedSection}
 
 -- one more of a row
-pub row_more : (n k : ℕ) (row : List Piece) (starts : List ℕ) (xs all : List Entry) (x : Piece) (t : ℕ)
+pub row_more : (n k : ℕ) (row : List Piece) (starts : List ℕ) (xs all : List IndexedSection) (x : Piece) (t : ℕ)
     → k < length row → k < length starts → x ≡ get_or row k x → t ≡ get_or starts k t
     → xs ++ row_entries n (drop k row) (drop k starts) ≡ all
     → (xs ++ entry_of n (x, t) ∷ []) ++ row_entries n (drop (k + 1) row) (drop (k + 1) starts) ≡ all
@@ -37,12 +37,12 @@ zip_none [] = refl
 zip_none (x ∷ row) = refl
 
 -- all of a row
-pub row_whole : (n k : ℕ) (row : List Piece) (starts : List ℕ) (xs all : List Entry)
+pub row_whole : (n k : ℕ) (row : List Piece) (starts : List ℕ) (xs all : List IndexedSection)
     → k ≡ min (length row) (length starts) → xs ++ row_entries n (drop k row) (drop k starts) ≡ all → xs ≡ all
 row_whole n k row starts xs all end before =
     sym (append_nil xs) ∙ ap (λ l. xs ++ l) (sym (none (cases_lt k (length row)))) ∙ before
   where
-    append_nil : (xs : List Entry) → xs ++ [] ≡ xs
+    append_nil : (xs : List IndexedSection) → xs ++ [] ≡ xs
     append_nil [] = refl
     append_nil (x ∷ xs) = ap (λ l. x ∷ l) (append_nil xs)
 
@@ -63,7 +63,7 @@ drop_at_most n xs = go (cases_lt n (length xs))
         drop_of_length-le xs e ∙ sym (drop_of_length-le xs h)
 
 -- one more row
-pub rows_more : (i : ℕ) (rows : List (Vec Piece Global)) (left : List ℕ) (xs all : List Entry)
+pub rows_more : (i : ℕ) (rows : List (Vec Piece Global)) (left : List ℕ) (xs all : List IndexedSection)
     (row : Vec Piece Global) → i < length rows → row ≡ get_or rows i row
     → xs ++ all_entries i (drop i rows) left ≡ all
     → (xs ++ row_entries i row.items left)

@@ -16,17 +16,17 @@ use Rattle.ldmodel.specs.Project.{Project}
 use Rattle.ldmodel.specs.Sections.{is_same_part}
 use Rattle.place.specs.Columns.{AreOwners, HaveNumbers, has_number, is_number}
 use Rattle.place.specs.Entries.{is_part_of}
-use Rattle.place.specs.declared.entry.Entry.{Entry}
+use Rattle.place.specs.declared.indexed_section.IndexedSection.{IndexedSection}
 use Rattle.gather.specs.sections.SectionTable.{IsTableOf, len_of, number_of}
-use Rattle.gather.specs.sections.declared.section_table.SectionTable.{SectionTable}
-use Rattle.place.specs.declared.arranged.PartPlace.{PartPlace}
+use Rattle.gather.specs.sections.declared.input_section_table.InputSectionTable.{InputSectionTable}
+use Rattle.place.specs.declared.indexed_layout.SectionAddress.{SectionAddress}
 use Rattle.place.proofs.Members.{both_of, of_both}
 
 -- ---- what is found
 
 -- tests that agree on all members find the same one
-find_same : (p q : Entry → Bool) (xs : List Entry)
-    → ((k : ℕ) (d : Entry) → k < length xs → p (get_or xs k d) ≡ q (get_or xs k d)) → find p xs ≡ find q xs
+find_same : (p q : IndexedSection → Bool) (xs : List IndexedSection)
+    → ((k : ℕ) (d : IndexedSection) → k < length xs → p (get_or xs k d) ≡ q (get_or xs k d)) → find p xs ≡ find q xs
 find_same p q [] h = refl
 find_same p q (x ∷ xs) h =
     go (p x) (q x) (h 0 x (omega arith)) (find_same p q xs (λ k d l. h (suc k) d (omega arith)))
@@ -37,11 +37,11 @@ find_same p q (x ∷ xs) h =
     go false true e same = cc
     go false false e same = same
 
-find_none : (p : Entry → Bool) (xs : List Entry)
-    → ((k : ℕ) (d : Entry) → k < length xs → p (get_or xs k d) ≡ false) → find p xs ≡ None
+find_none : (p : IndexedSection → Bool) (xs : List IndexedSection)
+    → ((k : ℕ) (d : IndexedSection) → k < length xs → p (get_or xs k d) ≡ false) → find p xs ≡ None
 find_none p xs h = find_same p (λ e. false) xs h ∙ never xs
   where
-    never : (xs : List Entry) → find (λ (e : Entry). false) xs ≡ None
+    never : (xs : List IndexedSection) → find (λ (e : IndexedSection). false) xs ≡ None
     never [] = refl
     never (x ∷ xs) = never xs
 
@@ -49,7 +49,7 @@ number_is : (o : Option ℕ) (at : ℕ) → is_number at o ≡ true → o ≡ So
 number_is None at h = absurd (false≢true h)
 number_is (Some n) at h = ap Some (sym (eqb-true at n h))
 
-abbrev place_of : Entry → PartPlace
+abbrev place_of : IndexedSection → SectionAddress
 place_of e = e.place
 
 same_part : (q r : Part) → is_same_part q r ≡ true → q ≡ r
@@ -63,24 +63,24 @@ part_itself (InTable k) = eq-eqb k.0 k.0 refl
 part_itself (InCommon s) = eq-eqb s.0 s.0 refl
 
 -- a column of the first entries has the place of the first entry of each part
-module _ (p : Project) (entries : List Entry) (t : SectionTable) (owners : List ℕ)
+module _ (p : Project) (entries : List IndexedSection) (t : InputSectionTable) (owners : List ℕ)
     (table : IsTableOf p t) (numbers : HaveNumbers t entries) (owned : AreOwners t entries owners)
     (n : ℕ) (part : Part) where
-  abbrev sought : Entry → Bool
+  abbrev sought : IndexedSection → Bool
   sought = is_part_of n part
 
-  same_number : (e : Entry) → sought e ≡ true → number_of t e.object e.part ≡ number_of t n part
+  same_number : (e : IndexedSection) → sought e ≡ true → number_of t e.object e.part ≡ number_of t n part
   same_number e h =
       let k = both_of (e.object == n) (is_same_part e.part part) h in
       ap (λ i. number_of t i e.part) (eqb-true e.object n k.0) ∙ ap (number_of t n) (same_part e.part part k.1)
 
-  is_sought : (e : Entry) → (e.object ≡ n) × (e.part ≡ part) → sought e ≡ true
+  is_sought : (e : IndexedSection) → (e.object ≡ n) × (e.part ≡ part) → sought e ≡ true
   is_sought e k =
       of_both (e.object == n) (is_same_part e.part part) (eq-eqb e.object n k.0)
       (subst (λ (q : Part). is_same_part e.part q ≡ true) k.1 (part_itself e.part))
 
   module _ (at : ℕ) (is : number_of t n part ≡ Some at) where
-    same_test : (e : Entry) → sought e ≡ has_number t at e
+    same_test : (e : IndexedSection) → sought e ≡ has_number t at e
     same_test e =
         both_ways (sought e) (has_number t at e)
         (λ h. ap (is_number at) (same_number e h ∙ is) ∙ eq-eqb at at refl)
@@ -94,7 +94,8 @@ module _ (p : Project) (entries : List Entry) (t : SectionTable) (owners : List 
         ∙ owned.firsts at low
         ∙ sym (find_same sought (has_number t at) entries (λ i d l. same_test (get_or entries i d)))
 
-  unranked : number_of t n part ≡ None → (i : ℕ) (d : Entry) → i < length entries → sought (get_or entries i d) ≡ false
+  unranked : number_of t n part ≡ None → (i : ℕ) (d : IndexedSection) → i < length entries → sought (get_or entries i d)
+      ≡ false
   unranked e i d l = go (sought (get_or entries i d)) refl
     where
       go : (b : Bool) → sought (get_or entries i d) ≡ b → b ≡ false
@@ -118,27 +119,31 @@ module _ (p : Project) (entries : List Entry) (t : SectionTable) (owners : List 
 -- ---- a column that is filled, entry by entry
 
 -- under each number stands the first of these many entries that has it
-pub record OwnFirst (p : ℕ → Entry → Bool) (entries : List Entry) (total count : ℕ) (owners : List ℕ) : Type 0 where
+pub record OwnFirst (p : ℕ → IndexedSection → Bool) (entries : List IndexedSection) (total count : ℕ)
+    (owners : List ℕ) : Type 0 where
   pub long : length owners ≡ total
   pub firsts : (at : ℕ) → at < total → slice_get entries (get_or owners at 0) ≡ find (p at) (take count entries)
 
 -- the first of one more entry
-next_find : (p : Entry → Bool) (xs : List Entry) (i : ℕ) (x : Entry) → i < length xs → x ≡ get_or xs i x
+next_find : (p : IndexedSection → Bool) (xs : List IndexedSection) (i : ℕ) (x : IndexedSection) → i < length xs → x
+    ≡ get_or xs i x
     → find p (take (i + 1) xs) ≡ option_or (find p (take i xs)) (cond (p x) (Some x) None)
 next_find p xs i x h e =
     ap (find p) (take_more xs i x h ∙ ap (λ y. take i xs ++ y ∷ []) (sym e)) ∙ find-append p (take i xs) (x ∷ [])
 
-or_none : (o : Option Entry) → option_or o None ≡ o
+or_none : (o : Option IndexedSection) → option_or o None ≡ o
 or_none None = refl
 or_none (Some x) = refl
 
-other_find : (p : Entry → Bool) (xs : List Entry) (i : ℕ) (x : Entry) → i < length xs → x ≡ get_or xs i x
+other_find : (p : IndexedSection → Bool) (xs : List IndexedSection) (i : ℕ) (x : IndexedSection) → i < length xs → x
+    ≡ get_or xs i x
     → p x ≡ false → find p (take (i + 1) xs) ≡ find p (take i xs)
 other_find p xs i x h e other =
     next_find p xs i x h e ∙ ap (λ b. option_or (find p (take i xs)) (cond b (Some x) None)) other
     ∙ or_none (find p (take i xs))
 
-module _ (p : ℕ → Entry → Bool) (entries : List Entry) (total i : ℕ) (owners : List ℕ) (x : Entry)
+module _ (p : ℕ → IndexedSection → Bool) (entries : List IndexedSection) (total i : ℕ) (owners : List ℕ)
+    (x : IndexedSection)
     (inside : i < length entries) (is : x ≡ get_or entries i x)
     (before : OwnFirst p entries total i owners) where
   -- an entry without a number
@@ -213,9 +218,9 @@ module _ (p : ℕ → Entry → Bool) (entries : List Entry) (total i : ℕ) (ow
             ap (slice_get entries) (get_or-set_other owners own_at at i 0 other)
             ∙ before.firsts at h ∙ sym (other_find (p at) entries i x inside is (others at other))
 
-module _ (t : SectionTable) (entries : List Entry) (i : ℕ) (owners now : List ℕ) (d : Entry)
+module _ (t : InputSectionTable) (entries : List IndexedSection) (i : ℕ) (owners now : List ℕ) (d : IndexedSection)
     (inside_now : i < length entries) (before : OwnFirst (has_number t) entries (len_of t) i owners) where
-  abbrev this : Entry
+  abbrev this : IndexedSection
   this = get_or entries i d
 
   this_is : this ≡ get_or entries i this

@@ -6,8 +6,8 @@ use Rattle.std.proofs.Common.{◌==◌, arith, if◌then◌else◌}
 use Rattle.std.proofs.Math.Nat.{min-eq_left}
 use Rattle.std.proofs.lemmas.Nat.{mod_below}
 use Rattle.std.specs.List.{AllZip}
-use Rattle.ldmodel.specs.Layout.{PlacedSection}
-use Rattle.ldmodel.specs.Lent.{IsSegment}
+use Rattle.ldmodel.specs.Layout.{PlacedOutput}
+use Rattle.ldmodel.specs.PlacementView.{IsSegment}
 use Rattle.ldmodel.specs.Segments.{Group, Segment, begun, begun_from, congruent, file_end, file_size, groups}
 use Rattle.ldmodel.specs.Segments.{headers_end, nonempty, segments}
 use Rattle.ldmodel.specs.declared.segment.Segment as code
@@ -15,7 +15,7 @@ use Rattle.place.specs.declared.group.Group as code_group
 use Rattle.place.specs.Grouping.{IsGroup}
 use Rattle.place.specs.Placing.{Follow, past, segment_at, segments_from}
 
-segment_is : (s : List PlacedSection) (end : ℕ) (g : Group) (x : code_group.Group) → IsGroup s g x
+segment_is : (s : List PlacedOutput) (end : ℕ) (g : Group) (x : code_group.Group) → IsGroup s g x
     → IsSegment s (begun end g) (segment_at end x)
 segment_is s end g x is = record {
   offset = ap (λ n. congruent end n) is.start;
@@ -30,13 +30,13 @@ segment_is s end g x is = record {
 }
 
 -- the file bytes end at one place
-pub ends_equal : (s : List PlacedSection) (end : ℕ) (g : Segment) (x : code.Segment) → IsSegment s g x
+pub ends_equal : (s : List PlacedOutput) (end : ℕ) (g : Segment) (x : code.Segment) → IsSegment s g x
     → past end x ≡ file_end end g
 ends_equal s end g x is =
     ap (λ n. if n == 0 then end else x.offset + n) is.in_file
     ∙ ap (λ n. if file_size g.group == 0 then end else n + file_size g.group) is.offset
 
-pub placed_are : (s : List PlacedSection) (end : ℕ) (gs : List Group) (xs : List code_group.Group)
+pub placed_are : (s : List PlacedOutput) (end : ℕ) (gs : List Group) (xs : List code_group.Group)
     → AllZip (IsGroup s) gs xs → AllZip (IsSegment s) (begun_from end gs) (segments_from end xs)
 unfolding segments_from
 placed_are s end [] [] are = tt
@@ -98,7 +98,7 @@ placing_all all done end k h past_all =
     sym (h.same ∙ ap (λ l. done ++ segments_from end l) (drop_all k all past_all) ∙ append-nil done)
 
 -- they are the segments of output sections whose groups these are
-pub segments_are : (s : List PlacedSection) (xs : List code_group.Group)
+pub segments_are : (s : List PlacedOutput) (xs : List code_group.Group)
     → AllZip (IsGroup s) (groups (nonempty s)) xs
     → AllZip (IsSegment s) (segments s) (segments_from (headers_end (length xs)) xs)
 unfolding segments
@@ -114,7 +114,7 @@ pub room : (n k end cap : ℕ) → end ≤ headers_end n + k * (2 ^ 64 + 4096) �
 room n k end cap near below fits small = omega (arith, near, below, fits, small)
 
 -- segments that are those of groups follow one another, and their file bytes end where those of the definition do
-pub follow_are : (s : List PlacedSection) (end : ℕ) (gs : List Group) (xs : List code.Segment)
+pub follow_are : (s : List PlacedOutput) (end : ℕ) (gs : List Group) (xs : List code.Segment)
     → AllZip (IsSegment s) (begun_from end gs) xs → Follow end xs
 unfolding Follow
 follow_are s end [] [] are = tt
@@ -126,7 +126,7 @@ follow_are s end (g ∷ gs) (x ∷ xs) are = (
       (subst (λ n. AllZip (IsSegment s) (begun_from n gs) xs) (sym (ends_equal s end (begun end g) x are.0)) are.1),
 )
 
-pub ends_are : (s : List PlacedSection) (end : ℕ) (gs : List Segment) (xs : List code.Segment)
+pub ends_are : (s : List PlacedOutput) (end : ℕ) (gs : List Segment) (xs : List code.Segment)
     → AllZip (IsSegment s) gs xs → fold past end xs ≡ fold file_end end gs
 ends_are s end [] [] are = refl
 ends_are s end [] (x ∷ xs) are = absurd are

@@ -1,7 +1,7 @@
 -- The groups of the code, from the first output section to the last, are those of the definition.
 use Rattle.std.proofs.Common.{◌≡◌, ◌∙◌, sym, refl, ap, List, [], ◌∷◌, ◌++◌, append_assoc}
 use Rattle.std.proofs.Common.{None, Bool, true, false, if◌then◌else◌}
-use Rattle.ldmodel.specs.Layout.{PlacedSection}
+use Rattle.ldmodel.specs.Layout.{PlacedOutput}
 use Rattle.ldmodel.specs.Segments.{Group, groups, group_sections, shares_segment, with_front}
 use Rattle.place.specs.Grouping.{Current, single, extended, groups_after, groups_from}
 
@@ -16,11 +16,11 @@ continue c (g ∷ gs) =
     } ∷ gs
     else (c.group ∷ g ∷ gs)
 
-abbrev joint : PlacedSection → Group → Group
+abbrev joint : PlacedOutput → Group → Group
 joint q g = record { first = q; others = group_sections g }
 
 -- the same with one more section before those groups
-over_front : (c : Current) (q : PlacedSection) (gs : List Group)
+over_front : (c : Current) (q : PlacedOutput) (gs : List Group)
     → continue c (with_front q gs)
     ≡ (if shares_segment c.last q then continue (record { group = extended c.group q; last = q }) gs
     else (c.group ∷ continue (record { group = single q; last = q }) gs))
@@ -36,7 +36,7 @@ over_front c q (g ∷ gs) = by_case (shares_segment q g.first) where
       (extended c.group q ∷ g ∷ gs))
       else (c.group ∷ (if b then joint q g ∷ gs else (single q ∷ g ∷ gs))))
   by_case true =
-      ap (λ (o : List PlacedSection).
+      ap (λ (o : List PlacedOutput).
       if shares_segment c.last q then record {
         first = c.group.first;
         others =
@@ -45,7 +45,7 @@ over_front c q (g ∷ gs) = by_case (shares_segment q g.first) where
       (sym (append_assoc c.group.others (q ∷ []) (group_sections g)))
   by_case false = refl
 
-pub after_is : (c : Current) (qs : List PlacedSection) → groups_after c qs ≡ continue c (groups qs)
+pub after_is : (c : Current) (qs : List PlacedOutput) → groups_after c qs ≡ continue c (groups qs)
 unfolding groups_after groups
 after_is c [] = refl
 after_is c (q ∷ qs) =
@@ -59,11 +59,11 @@ after_is c (q ∷ qs) =
     ∙ sym (over_front c q (groups qs))
 
 -- a section in front begins a group
-front_is : (q : PlacedSection) (gs : List Group) → continue (record { group = single q; last = q }) gs ≡ with_front q gs
+front_is : (q : PlacedOutput) (gs : List Group) → continue (record { group = single q; last = q }) gs ≡ with_front q gs
 front_is q [] = refl
 front_is q (g ∷ gs) = refl
 
-pub from_none : (qs : List PlacedSection) → groups qs ≡ groups_from None qs
+pub from_none : (qs : List PlacedOutput) → groups qs ≡ groups_from None qs
 unfolding groups_from groups
 from_none [] = refl
 from_none (q ∷ qs) = sym (after_is (record { group = single q; last = q }) qs ∙ front_is q (groups qs))

@@ -3,7 +3,7 @@ use Rattle.std.proofs.Common.{◌≡◌, ◌∙◌, ℕ, List, [], Ok, map, refl
 use Rattle.std.specs.List.{AllZip}
 use Rattle.ldmodel_laws.specs.ImageBytes.{AreNamed}
 use Rattle.ldmodel.specs.Layout.{Layout}
-use Rattle.ldmodel.specs.Lent.{AreSegments, placed_of}
+use Rattle.ldmodel.specs.PlacementView.{AreSegments, placed_of}
 use Rattle.ldmodel.specs.Link.{layout, of_length}
 use Rattle.ldmodel.specs.Names.{provided}
 use Rattle.ldmodel.specs.Overlaps.{overlaps}

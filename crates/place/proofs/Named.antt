@@ -7,7 +7,7 @@ use Rattle.std.proofs.lemmas.Slice.Eq.{bytes_eq-Decides}
 use Rattle.ldmodel_laws.specs.ImageBytes.{AreNamed}
 use Rattle.ldmodel_laws.specs.Spread.{EachLater}
 use Rattle.ldmodel.specs.Each.{Each}
-use Rattle.ldmodel.specs.Layout.{PlacedSection}
+use Rattle.ldmodel.specs.Layout.{PlacedOutput}
 use Rattle.place_sections.specs.Meetings.{AreOutputs}
 use Rattle.ldscript.specs.Script.{IsSound}
 use Rattle.ldscript.specs.statements.Mentions.{Clashes, Mention, SectionNamed, in_item_command, in_items}
@@ -125,7 +125,7 @@ all_differ before (mentioned {n = n} {ms = ms} r) h =
     )
 
 -- the output sections of a script have different names
-pub are_named : (p : Project) (qs : List PlacedSection) → IsSound p.script → AreOutputs p qs → AreNamed qs
+pub are_named : (p : Project) (qs : List PlacedOutput) → IsSound p.script → AreOutputs p qs → AreNamed qs
 are_named p qs sound same =
     let none : NoClash [] (mentions p.script) =
     λ more m after e clash. sound.no_clash (record {
@@ -135,5 +135,5 @@ are_named p qs sound same =
       place = e;
       clash = clash;
     }) in
-    later_of_map (λ n k. bytes_eq n k ≡ false) (λ (q : PlacedSection). q.name) qs
+    later_of_map (λ n k. bytes_eq n k ≡ false) (λ (q : PlacedOutput). q.name) qs
     (subst (EachLater (λ n k. bytes_eq n k ≡ false)) (sym same) (all_differ [] (in_script p.script) none))

@@ -4,7 +4,7 @@ use Rattle.std.proofs.Common.{List, [], ◌∷◌, length, filter, flat_map}
 use Rattle.std.specs.List.{Contains, enumerate_from, range_with_len}
 use Rattle.ldscript.specs.statements.Numbering.{InputStatementAt, input_statements, output_sections}
 use Rattle.ldmodel.specs.Each.{Each}
-use Rattle.ldmodel.specs.Gathering.{candidates, is_out}
+use Rattle.ldmodel.specs.Gathering.{candidates, is_discarded}
 use Rattle.ldmodel.specs.InputSections.{input_sections}
 use Rattle.ldmodel.specs.Live.{live}
 use Rattle.ldmodel.specs.Project.{NamedObject, Project}
@@ -66,7 +66,7 @@ module _ (p : Project) (Holds : List ℕ → Part → Type 0)
   of_live =
       subst (Each OfInput) (sym in_order.1)
       (each_filter OfInput in_order.0 (candidates p)
-      (each_filter OfInput (λ s. not (is_out p s)) (input_sections p) of_all))
+      (each_filter OfInput (λ s. not (is_discarded p s)) (input_sections p) of_all))
 
   abbrev OfPiece : Piece → Type 0
   OfPiece x = Holds x.object x.part

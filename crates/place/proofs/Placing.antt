@@ -11,8 +11,8 @@ use Rattle.std.specs.Option.{is_some, option_map, option_or}
 use Rattle.std.specs.Vec.{vec_items}
 use Rattle.ldmodel.specs.Edits.{AreNamesDistinct}
 use Rattle.ldmodel.specs.Each.{Each}
-use Rattle.ldmodel.specs.Layout.{Layout, PlacedPiece, PlacedSection}
-use Rattle.ldmodel.specs.Lent.{starts_of}
+use Rattle.ldmodel.specs.Layout.{Layout, PlacedPiece, PlacedOutput}
+use Rattle.ldmodel.specs.PlacementView.{starts_of}
 use Rattle.ldmodel.specs.NameFaults.{object_name}
 use Rattle.ldmodel.specs.Project.{Project}
 use Rattle.ldmodel.specs.Rows as model
@@ -27,17 +27,17 @@ use Rattle.place.specs.Entries.{all_entries, entry_of, is_part_of, row_entries}
 use Rattle.place.specs.LinkLayout.{IsLinkLayout}
 use Rattle.place.specs.InPlace.{AreInPlace, IsOwned, entries_of}
 use Rattle.gather.specs.sections.SectionTable.{IsTableOf}
-use Rattle.place.specs.Arranged.{IsArranged, IsPartPlace, place_in}
-use Rattle.place.specs.declared.entry.Entry.{Entry}
-use Rattle.place.specs.declared.arranged.PartPlace.{PartPlace}
-use Rattle.place.specs.declared.arranged.Arranged.{Arranged}
+use Rattle.place.specs.IndexedLayout.{IsIndexedLayout, IsSectionAddress, place_in}
+use Rattle.place.specs.declared.indexed_section.IndexedSection.{IndexedSection}
+use Rattle.place.specs.declared.indexed_layout.SectionAddress.{SectionAddress}
+use Rattle.place.specs.declared.indexed_layout.IndexedLayout.{IndexedLayout}
 use Rattle.place.proofs.Lists.{each_append}
 use Rattle.place.proofs.Numbers.{same_key}
 use Rattle.place.proofs.Column.{has_first}
 
 module _ (p : Project) (distinct : AreNamesDistinct p.objects) (k : SectionKey) where
   -- an entry is the one that is looked for
-  abbrev sought : Entry → Bool
+  abbrev sought : IndexedSection → Bool
   sought = is_part_of k.object.0 k.part
 
   -- and so is a piece
@@ -52,13 +52,13 @@ module _ (p : Project) (distinct : AreNamesDistinct p.objects) (k : SectionKey) 
       (subst (λ (z : model.Piece). 0 < length z.object) e owned.some))
       ∙ ap (λ (z : model.Piece). bytes_eq z.object (object_name p k.object.0) && is_same_part z.part k.part) (sym e)
 
-  abbrev place_with : ℕ → ℕ → ℕ → PartPlace
+  abbrev place_with : ℕ → ℕ → ℕ → SectionAddress
   place_with n start size = record { start = start; size = size; section = record { 0 = n } }
 
-  abbrev place_at : ℕ → PlacedPiece → PartPlace
+  abbrev place_at : ℕ → PlacedPiece → SectionAddress
   place_at n y = place_with n y.start y.piece.size
 
-  abbrev place_of : Entry → PartPlace
+  abbrev place_of : IndexedSection → SectionAddress
   place_of e = e.place
 
   -- the first of a row
@@ -76,7 +76,7 @@ module _ (p : Project) (distinct : AreNamesDistinct p.objects) (k : SectionKey) 
       go one (sought (entry_of n (x, y.start))) (test y) (same_test n y.start x y one owned.0)
       (in_row n row ys more others owned.1)
     where
-      rest : Option Entry
+      rest : Option IndexedSection
       rest = find sought (row_entries n row (map (λ (y : PlacedPiece). y.start) ys ++ more))
 
       go : y.piece ≡ piece_in p x → (a b : Bool) → a ≡ b
@@ -89,11 +89,11 @@ module _ (p : Project) (distinct : AreNamesDistinct p.objects) (k : SectionKey) 
       go one false false same e = e
 
   -- the first of all sections from a number on
-  abbrev place_from : ℕ → List PlacedSection → Option PartPlace
+  abbrev place_from : ℕ → List PlacedOutput → Option SectionAddress
   place_from n [] = None
   place_from n (q ∷ qs) = option_or (option_map (place_at n) (find test q.pieces)) (place_from (n + 1) qs)
 
-  map_or : (a b : Option Entry) → option_map place_of (option_or a b)
+  map_or : (a b : Option IndexedSection) → option_map place_of (option_or a b)
       ≡ option_or (option_map place_of a) (option_map place_of b)
   map_or None b = refl
   map_or (Some x) b = refl
@@ -108,7 +108,7 @@ module _ (p : Project) (distinct : AreNamesDistinct p.objects) (k : SectionKey) 
       go false e = e
 
   -- the first entry of all rows
-  in_rows : (n : ℕ) (rows : List (Vec Piece Global)) (qs : List PlacedSection)
+  in_rows : (n : ℕ) (rows : List (Vec Piece Global)) (qs : List PlacedOutput)
       → map entries_in qs ≡ map (λ (row : List Piece). map (piece_in p) row) (map vec_items rows)
       → Each (IsOwned p) (flat_map (λ (row : List model.Piece). row) (map entries_in qs))
       → option_map place_of (find sought (all_entries n rows (flat_map starts_of qs))) ≡ place_from n qs
@@ -121,8 +121,8 @@ module _ (p : Project) (distinct : AreNamesDistinct p.objects) (k : SectionKey) 
       let here : entries_in q ≡ map (piece_in p) row.items = cc in
       let later : map entries_in qs ≡ map (λ (row : List Piece). map (piece_in p) row) (map vec_items rows) = cc in
       let more : List ℕ = flat_map starts_of qs in
-      let own : List Entry = row_entries n row.items (starts_of q ++ more) in
-      let others : List Entry =
+      let own : List IndexedSection = row_entries n row.items (starts_of q ++ more) in
+      let others : List IndexedSection =
       all_entries (n + 1) rows (drop (length row.items) (starts_of q ++ more)) in
       ap (option_map place_of) (find-append sought own others)
       ∙ map_or (find sought own) (find sought others)
@@ -132,27 +132,27 @@ module _ (p : Project) (distinct : AreNamesDistinct p.objects) (k : SectionKey) 
       (drop_at (starts_of q) more (length row.items) (as_long q row here))
       ∙ ap (option_or (option_map (place_at n) (find test q.pieces))) (in_rows (n + 1) rows qs later owns.1)
     where
-      as_long : (q : PlacedSection) (row : Vec Piece Global) → entries_in q ≡ map (piece_in p) row.items
+      as_long : (q : PlacedOutput) (row : Vec Piece Global) → entries_in q ≡ map (piece_in p) row.items
           → length (starts_of q) ≡ length row.items
       as_long q row e =
           length-map q.pieces (λ (y : PlacedPiece). y.start) ∙ sym (length-map q.pieces (λ (y : PlacedPiece). y.piece))
           ∙ ap length e ∙ length-map row.items (piece_in p)
 
-  abbrev all_pieces : List PlacedSection → List PlacedPiece
-  all_pieces qs = flat_map (λ (q : PlacedSection). q.pieces) qs
+  abbrev all_pieces : List PlacedOutput → List PlacedPiece
+  all_pieces qs = flat_map (λ (q : PlacedOutput). q.pieces) qs
 
   -- the number of the first section that has the part, where the first of all has this number
-  abbrev first_section : ℕ → List PlacedSection → Option ℕ
-  first_section n qs = position_from (λ (q : PlacedSection). list_any test q.pieces) n qs
+  abbrev first_section : ℕ → List PlacedOutput → Option ℕ
+  first_section n qs = position_from (λ (q : PlacedOutput). list_any test q.pieces) n qs
 
   -- whether a place is that of the first piece, in the first section that has one
-  abbrev IsPlace : Option PlacedPiece → Option ℕ → Option PartPlace → Type 0
+  abbrev IsPlace : Option PlacedPiece → Option ℕ → Option SectionAddress → Type 0
   IsPlace o i None = o ≡ None
   IsPlace o i (Some x) =
       (option_map (λ (y : PlacedPiece). y.start) o ≡ Some x.start) × (i ≡ Some x.section.0)
       × (option_map (λ (y : PlacedPiece). y.piece.size) o ≡ Some x.size)
 
-  place_is : (n : ℕ) (qs : List PlacedSection) → IsPlace (find test (all_pieces qs))
+  place_is : (n : ℕ) (qs : List PlacedOutput) → IsPlace (find test (all_pieces qs))
       (first_section n qs) (place_from n qs)
   place_is n [] = refl
   place_is n (q ∷ qs) =
@@ -163,7 +163,7 @@ module _ (p : Project) (distinct : AreNamesDistinct p.objects) (k : SectionKey) 
       (cond b (Some n) (first_section (n + 1) qs)) (place_from n (q ∷ qs))) (sym (any_found q.pieces))
       (go (find test q.pieces) (find test (all_pieces qs)) (place_from (n + 1) qs) (place_is (n + 1) qs)))
     where
-      go : (o later : Option PlacedPiece) (r : Option PartPlace)
+      go : (o later : Option PlacedPiece) (r : Option SectionAddress)
           → IsPlace later (first_section (n + 1) qs) r
           → IsPlace (option_or o later)
           (cond (is_some o) (Some n) (first_section (n + 1) qs))
@@ -174,38 +174,39 @@ module _ (p : Project) (distinct : AreNamesDistinct p.objects) (k : SectionKey) 
   -- the first entry is where the part stands
   pub is_place : (s : Layout) (rows : List (Vec Piece Global)) → map entries_in s.sections ≡ rows_in p rows
       → Each (IsOwned p) (entries_of s)
-      → IsPartPlace p s k
+      → IsSectionAddress p s k
       (option_map place_of (find sought (all_entries 0 rows (flat_map starts_of s.sections))))
   is_place s rows e owned =
-      subst (IsPartPlace p s k) (sym (in_rows 0 rows s.sections e owned))
+      subst (IsSectionAddress p s k) (sym (in_rows 0 rows s.sections e owned))
       (go (place_from 0 s.sections) (place_is 0 s.sections))
     where
-      go : (r : Option PartPlace) → IsPlace (find test (all_pieces s.sections))
+      go : (r : Option SectionAddress) → IsPlace (find test (all_pieces s.sections))
           (first_section 0 s.sections) r
-          → IsPartPlace p s k r
+          → IsSectionAddress p s k r
       go None h = h
       go (Some x) h =
-          (h.0, position_from-zero (λ (q : PlacedSection). list_any test q.pieces) s.sections ∙ h.1, h.2)
+          (h.0, position_from-zero (λ (q : PlacedOutput). list_any test q.pieces) s.sections ∙ h.1, h.2)
 
 -- where all entries have their numbers, everything is arranged
-pub all_places : (p : Project) (s : Layout) (starts : List ℕ) (x : Arranged) → AreNamesDistinct p.objects
+pub all_places : (p : Project) (s : Layout) (starts : List ℕ) (x : IndexedLayout) → AreNamesDistinct p.objects
     → AreInPlace p s → map entries_in s.sections ≡ rows_in p x.rows.items → starts ≡ flat_map starts_of s.sections
     → x.entries.items ≡ all_entries 0 x.rows.items starts → IsTableOf p x.table → rows_in p x.rows.items ≡ model.rows p
     → IsLinkLayout p s x.link_layout → HaveNumbers x.table x.entries.items
-    → AreOwners x.table x.entries.items x.owners.items → IsArranged p s x
+    → AreOwners x.table x.entries.items x.owners.items → IsIndexedLayout p s x
 all_places p s starts x distinct apart placed begin all table rows link_layout numbers owned =
     record {
       table = table;
       rows = rows;
       link_layout = link_layout;
-      places = λ k. subst (IsPartPlace p s k) (sym (same k)) (is_place p distinct k s x.rows.items placed apart.owned);
+      places = λ k. subst (IsSectionAddress p s k) (sym (same k))
+          (is_place p distinct k s x.rows.items placed apart.owned);
       apart = apart;
     }
   where
     same : (k : SectionKey) → place_in x k
-        ≡ option_map (λ (e : Entry). e.place)
+        ≡ option_map (λ (e : IndexedSection). e.place)
         (find (is_part_of k.object.0 k.part) (all_entries 0 x.rows.items (flat_map starts_of s.sections)))
     same k =
         has_first p x.entries.items x.table x.owners.items table numbers owned k.object.0 k.part
-        ∙ ap (λ xs. option_map (λ (e : Entry). e.place) (find (is_part_of k.object.0 k.part) xs))
+        ∙ ap (λ xs. option_map (λ (e : IndexedSection). e.place) (find (is_part_of k.object.0 k.part) xs))
         (all ∙ ap (all_entries 0 x.rows.items) begin)

@@ -8,8 +8,8 @@ use Rattle.std.proofs.lemmas.Bool.{false_from_ne_true}
 use Rattle.std.proofs.lemmas.Bool.Decides.{Decides-eqb}
 use Rattle.std.proofs.lemmas.List.{append-nil, drop_all, length-map}
 use Rattle.std.specs.List.{AllZip, last_or}
-use Rattle.ldmodel.specs.Layout.{PlacedSection}
-use Rattle.ldmodel.specs.Lent.{placed_of}
+use Rattle.ldmodel.specs.Layout.{PlacedOutput}
+use Rattle.ldmodel.specs.PlacementView.{placed_of}
 use Rattle.ldmodel.specs.Segments.{Group, file_size, groups, nonempty, reach, shares_segment}
 use Rattle.ldmodel.specs.declared.placed.OutputIndex.{OutputIndex}
 use Rattle.ldmodel.specs.declared.placed.Placed.{Placed}
@@ -31,7 +31,7 @@ last_more o [] x = refl
 last_more o (y ∷ ys) x = last_more (Some y) ys x
 
 -- an output section alone
-pub begun_is : (s : List PlacedSection) (q : PlacedSection) (number : OutputIndex) → slice_get s number.0 ≡ Some q
+pub begun_is : (s : List PlacedOutput) (q : PlacedOutput) (number : OutputIndex) → slice_get s number.0 ≡ Some q
     → IsGroup s (single q) (begun number (placed_of q))
 begun_is s q number at = record {
   start = refl;
@@ -48,11 +48,11 @@ begun_is s q number at = record {
   in_file false = refl
 
 -- the reach of a section with file bytes, else as before
-abbrev farther : Group → ℕ → PlacedSection → ℕ
+abbrev farther : Group → ℕ → PlacedOutput → ℕ
 farther g n q = if q.has_file_bytes then reach g q else n
 
 -- a group and one more
-pub joined_is : (s : List PlacedSection) (g : Group) (x : code.Group) (q : PlacedSection) (number : OutputIndex)
+pub joined_is : (s : List PlacedOutput) (g : Group) (x : code.Group) (q : PlacedOutput) (number : OutputIndex)
     → slice_get s number.0 ≡ Some q → IsGroup s g x → IsGroup s (extended g q) (joined x number (placed_of q))
 joined_is s g x q number at is = record {
   start = is.start;
@@ -60,7 +60,7 @@ joined_is s g x q number at is = record {
   in_file = in_file q.has_file_bytes ∙ sym (fold-append (farther g) (farther g 0 g.first) g.others (q ∷ []));
   in_memory =
       ap (λ n. (q.start + q.size) - n) is.start
-      ∙ sym (fold-append (λ n (r : PlacedSection). reach g r) (reach g g.first) g.others (q ∷ []));
+      ∙ sym (fold-append (λ n (r : PlacedOutput). reach g r) (reach g g.first) g.others (q ∷ []));
   writable = is.writable;
   executable = is.executable;
   first = is.first;
@@ -71,11 +71,11 @@ joined_is s g x q number at is = record {
   in_file true = ap (λ n. (q.start + q.size) - n) is.start
   in_file false = is.in_file
 
-pub starts : (s : List PlacedSection) → Grouped s s [] None
+pub starts : (s : List PlacedOutput) → Grouped s s [] None
 starts s = record { complete = []; current = None; are = tt; is = tt; same = from_none (nonempty s) }
 
 -- a section of size 0 is in no group
-pub skips : (s rest : List PlacedSection) (q : PlacedSection) (done : List code.Group) (running : Option Running)
+pub skips : (s rest : List PlacedOutput) (q : PlacedOutput) (done : List code.Group) (running : Option Running)
     → (q.size == 0) ≡ true → Grouped s (q ∷ rest) done running → Grouped s rest done running
 skips s rest q done running empty h = record {
   complete = h.complete;
@@ -87,12 +87,12 @@ skips s rest q done running empty h = record {
 }
 
 -- a section of nonzero size is the first of those left
-filled_is : (q : PlacedSection) (rest : List PlacedSection) → (q.size == 0) ≡ false
+filled_is : (q : PlacedOutput) (rest : List PlacedOutput) → (q.size == 0) ≡ false
     → nonempty (q ∷ rest) ≡ q ∷ nonempty rest
 filled_is q rest filled = ap (λ b. if not b then q ∷ nonempty rest else nonempty rest) filled
 
 -- the first group begins
-pub begins : (s rest : List PlacedSection) (q : PlacedSection) (number : OutputIndex) (done : List code.Group)
+pub begins : (s rest : List PlacedOutput) (q : PlacedOutput) (number : OutputIndex) (done : List code.Group)
     → slice_get s number.0 ≡ Some q → (q.size == 0) ≡ false → Grouped s (q ∷ rest) done None
     → Grouped s rest done (Some (record { group = begun number (placed_of q); last = placed_of q }))
 unfolding groups_from
@@ -110,10 +110,10 @@ begins s rest q number done at filled h = with_none h.current h.is h.same where
   with_none (Some c) is same = absurd is
 
 -- a group goes on
-pub goes_on : (s rest : List PlacedSection) (q : PlacedSection) (number : OutputIndex) (done : List code.Group)
+pub goes_on : (s rest : List PlacedOutput) (q : PlacedOutput) (number : OutputIndex) (done : List code.Group)
     (x : Running)
     → slice_get s number.0 ≡ Some q → (q.size == 0) ≡ false → Grouped s (q ∷ rest) done (Some x)
-    → ((p : PlacedSection) → placed_of p ≡ x.last → shares_segment p q ≡ true)
+    → ((p : PlacedOutput) → placed_of p ≡ x.last → shares_segment p q ≡ true)
     → Grouped s rest done (Some (record { group = joined x.group number (placed_of q); last = placed_of q }))
 unfolding groups_from groups_after
 goes_on s rest q number done x at filled h shared = with_some h.current h.is h.same where
@@ -135,10 +135,10 @@ goes_on s rest q number done x at filled h shared = with_some h.current h.is h.s
   }
 
 -- a group ends, and the next one begins
-pub ends : (s rest : List PlacedSection) (q : PlacedSection) (number : OutputIndex) (done : List code.Group)
+pub ends : (s rest : List PlacedOutput) (q : PlacedOutput) (number : OutputIndex) (done : List code.Group)
     (x : Running)
     → slice_get s number.0 ≡ Some q → (q.size == 0) ≡ false → Grouped s (q ∷ rest) done (Some x)
-    → ((p : PlacedSection) → placed_of p ≡ x.last → shares_segment p q ≡ false)
+    → ((p : PlacedOutput) → placed_of p ≡ x.last → shares_segment p q ≡ false)
     → Grouped s rest (done ++ x.group ∷ []) (Some (record { group = begun number (placed_of q); last = placed_of q }))
 unfolding groups_from groups_after
 ends s rest q number done x at filled h apart = with_some h.current h.is h.same where
@@ -162,7 +162,7 @@ ends s rest q number done x at filled h apart = with_some h.current h.is h.same 
             ∙ sym (append_assoc h.complete (c.group ∷ []) next);
       }
 
-pub none_left : (s : List PlacedSection) (done : List code.Group) → Grouped s [] done None
+pub none_left : (s : List PlacedOutput) (done : List code.Group) → Grouped s [] done None
     → AllZip (IsGroup s) (groups (nonempty s)) done
 unfolding groups_from
 none_left s done h = with_none h.current h.is h.same where
@@ -172,7 +172,7 @@ none_left s done h = with_none h.current h.is h.same where
       subst (λ gs. AllZip (IsGroup s) gs done) (sym (same ∙ append-nil h.complete)) h.are
   with_none (Some c) is same = absurd is
 
-pub last_left : (s : List PlacedSection) (done : List code.Group) (x : Running) → Grouped s [] done (Some x)
+pub last_left : (s : List PlacedOutput) (done : List code.Group) (x : Running) → Grouped s [] done (Some x)
     → AllZip (IsGroup s) (groups (nonempty s)) (done ++ x.group ∷ [])
 unfolding groups_from groups_after
 last_left s done x h = with_some h.current h.is h.same where
@@ -188,7 +188,7 @@ abbrev running_at : code.Group → Placed → Running
 running_at g last = record { group = g; last = last }
 
 -- whether two share a segment is a question of their numbers
-shared_by_numbers : (p q : PlacedSection) (x y : Placed) (b : Bool) → placed_of p ≡ x → placed_of q ≡ y
+shared_by_numbers : (p q : PlacedOutput) (x y : Placed) (b : Bool) → placed_of p ≡ x → placed_of q ≡ y
     → shares_segment (bare x) (bare y) ≡ b → shares_segment p q ≡ b
 shared_by_numbers p q x y b px qy same =
     ap (λ a. shares_segment (bare a) (bare (placed_of q))) px ∙ ap (λ a. shares_segment (bare x) (bare a)) qy ∙ same
@@ -242,13 +242,13 @@ take_ends done x k placed number g same filled made apart = record {
 }
 
 -- what stands at a place of the output sections whose numbers these are
-pub record At (s : List PlacedSection) (k : ℕ) (placed : Placed) : Type 0 where
-  pub section : PlacedSection
+pub record At (s : List PlacedOutput) (k : ℕ) (placed : Placed) : Type 0 where
+  pub section : PlacedOutput
   pub at : slice_get s k ≡ Some section
   pub numbers : placed_of section ≡ placed
   pub front : drop k s ≡ section ∷ drop (suc k) s
 
-at_next : (q : PlacedSection) (s : List PlacedSection) (k : ℕ) (placed : Placed) → At s k placed
+at_next : (q : PlacedOutput) (s : List PlacedOutput) (k : ℕ) (placed : Placed) → At s k placed
     → At (q ∷ s) (suc k) placed
 at_next q s k placed h = record {
   section = h.section;
@@ -257,14 +257,14 @@ at_next q s k placed h = record {
   front = h.front;
 }
 
-pub stands_at : (s : List PlacedSection) (k : ℕ) (d : Placed) → k < length (map placed_of s)
+pub stands_at : (s : List PlacedOutput) (k : ℕ) (d : Placed) → k < length (map placed_of s)
     → At s k (get_or (map placed_of s) k d)
 stands_at [] k d below = absurd (omega (arith, below))
 stands_at (q ∷ s) zero d below = record { section = q; at = refl; numbers = refl; front = refl }
 stands_at (q ∷ s) (suc k) d below = at_next q s k _ (stands_at s k d (omega (arith, below)))
 
 -- the step over the section at a place
-pub take_at : (s : List PlacedSection) (sections : List Placed) (k : ℕ) (d : Placed)
+pub take_at : (s : List PlacedOutput) (sections : List Placed) (k : ℕ) (d : Placed)
     (done new_done : List code.Group) (running new_running : Option Running)
     → map placed_of s ≡ sections → k < length sections
     → Takes done running k (get_or sections k d) new_done new_running
@@ -277,7 +277,7 @@ take_at s sections k d done new_done running new_running same below takes h =
     (subst (λ l. Grouped s l done running) here.front h))
 
 -- after the last one no section is left
-pub at_end : (s : List PlacedSection) (sections : List Placed) (k : ℕ) (done : List code.Group)
+pub at_end : (s : List PlacedOutput) (sections : List Placed) (k : ℕ) (done : List code.Group)
     (running : Option Running)
     → map placed_of s ≡ sections → length sections ≤ k → Grouped s (drop k s) done running → Grouped s [] done running
 at_end s sections k done running same past h =

@@ -4,8 +4,8 @@ use Rattle.std.proofs.Common.{flat_map, length-append, subst, suc}
 use Rattle.std.proofs.lemmas.List.FromFn.{length-enumerate_from}
 use Rattle.std.specs.Int.{next_multiple_of}
 use Rattle.std.specs.List.{enumerate_from}
-use Rattle.ldmodel.specs.Layout.{Layout, PlacedSection}
-use Rattle.ldmodel.specs.Lent.{AreSegments, IsSegment}
+use Rattle.ldmodel.specs.Layout.{Layout, PlacedOutput}
+use Rattle.ldmodel.specs.PlacementView.{AreSegments, IsSegment}
 use Rattle.ldmodel.specs.Project.{Project}
 use Rattle.ldmodel.specs.SectionHeaders.{SectionHeader, header_bytes, header_name_table, header_names, header_part}
 use Rattle.ldmodel.specs.SectionHeaders.{image_length, output_header, section_headers, table_headers, tables}
@@ -61,7 +61,7 @@ begun_length end [] = refl
 begun_length end (g ∷ gs) = ap (λ n. suc n) (begun_length (file_end end (begun end g)) gs)
 
 -- the segments of a link follow one another
-pub follow_all : (sections : List PlacedSection) (xs : List code.Segment) → AreSegments sections (segments sections) xs
+pub follow_all : (sections : List PlacedOutput) (xs : List code.Segment) → AreSegments sections (segments sections) xs
     → Follow (headers_end (length xs)) xs
 unfolding segments
 follow_all sections xs are =
@@ -72,7 +72,7 @@ follow_all sections xs are =
     subst (λ n. Follow (headers_end n) xs) long (follow_are sections (headers_end (length gs)) gs xs are)
 
 -- their file bytes end where the loaded part of the file does
-pub loaded_is : (sections : List PlacedSection) (xs : List code.Segment) → AreSegments sections (segments sections) xs
+pub loaded_is : (sections : List PlacedOutput) (xs : List code.Segment) → AreSegments sections (segments sections) xs
     → fold past (headers_end (length xs)) xs ≡ loaded_end (segments sections)
 loaded_is sections xs are =
     ends_are sections (headers_end (length xs)) (segments sections) xs are

@@ -13,8 +13,8 @@ use Rattle.ldmodel_laws.specs.ImageBytes.{AreNamed}
 use Rattle.ldmodel_laws.specs.Spread.{EachLater}
 use Rattle.ldmodel.specs.Each.{Each}
 use Rattle.ldmodel_laws.specs.FileLayout.{IsFileLayout, IsTogether, Neighbours, Shares, last_from}
-use Rattle.ldmodel.specs.Layout.{Layout, PlacedSection}
-use Rattle.ldmodel.specs.Lent.{AreSegments, IsSegment, placed_of}
+use Rattle.ldmodel.specs.Layout.{Layout, PlacedOutput}
+use Rattle.ldmodel.specs.PlacementView.{AreSegments, IsSegment, placed_of}
 use Rattle.ldmodel.specs.Placement.{difference_of}
 use Rattle.ldmodel.specs.Segments.{Group, SectionInFile, Segment, end_of, file_offset, in_file}
 use Rattle.ldmodel.specs.Segments.{in_segment, nonempty, page_size, reach, group_sections, segments, segment_start}
@@ -26,17 +26,17 @@ use Rattle.place.specs.Offsets.{is_last, offset_at, offsets_in}
 use Rattle.place.specs.Offsets.{IsOffset}
 
 -- sections of nonzero size, and where they begin in the file, in the segments from one on
-data Ahead : List code.Segment → List PlacedSection → List ℕ → Type 0 where
+data Ahead : List code.Segment → List PlacedOutput → List ℕ → Type 0 where
   over : Ahead [] [] []
-  last : {x : code.Segment} {xs : List code.Segment} {q : PlacedSection} {qs : List PlacedSection} {o : ℕ}
+  last : {x : code.Segment} {xs : List code.Segment} {q : PlacedOutput} {qs : List PlacedOutput} {o : ℕ}
       {os : List ℕ} → is_last x (placed_of q) ≡ true → offset_at x (placed_of q) ≡ o → Ahead xs qs os
       → Ahead (x ∷ xs) (q ∷ qs) (o ∷ os)
-  inner : {x : code.Segment} {xs : List code.Segment} {q : PlacedSection} {qs : List PlacedSection} {o : ℕ}
+  inner : {x : code.Segment} {xs : List code.Segment} {q : PlacedOutput} {qs : List PlacedOutput} {o : ℕ}
       {os : List ℕ} → is_last x (placed_of q) ≡ false → offset_at x (placed_of q) ≡ o → Ahead (x ∷ xs) qs os
       → Ahead (x ∷ xs) (q ∷ qs) (o ∷ os)
 
 -- offsets of the sections of nonzero size, and 0 for the others
-abbrev spread : List PlacedSection → List ℕ → List ℕ
+abbrev spread : List PlacedOutput → List ℕ → List ℕ
 spread [] os = []
 spread (q ∷ qs) [] = cond (q.size == 0) (0 ∷ spread qs []) []
 spread (q ∷ qs) (o ∷ os) = cond (q.size == 0) (0 ∷ spread qs (o ∷ os)) (o ∷ spread qs os)
@@ -56,16 +56,16 @@ walk_more q qs x xs b e l =
     (offset_at x q ∷ cond (is_last x q) (offsets_in qs xs) (offsets_in qs (x ∷ xs)))) e
     ∙ ap (λ t. offset_at x q ∷ cond t (offsets_in qs xs) (offsets_in qs (x ∷ xs))) l
 
-spread_zero : (q : PlacedSection) (qs : List PlacedSection) (os : List ℕ) → (q.size == 0) ≡ true
+spread_zero : (q : PlacedOutput) (qs : List PlacedOutput) (os : List ℕ) → (q.size == 0) ≡ true
     → spread (q ∷ qs) os ≡ 0 ∷ spread qs os
 spread_zero q qs [] e = ap (λ b. cond b (0 ∷ spread qs []) []) e
 spread_zero q qs (o ∷ os) e = ap (λ b. cond b (0 ∷ spread qs (o ∷ os)) (o ∷ spread qs os)) e
 
-spread_more : (q : PlacedSection) (qs : List PlacedSection) (o : ℕ) (os : List ℕ) → (q.size == 0) ≡ false
+spread_more : (q : PlacedOutput) (qs : List PlacedOutput) (o : ℕ) (os : List ℕ) → (q.size == 0) ≡ false
     → spread (q ∷ qs) (o ∷ os) ≡ o ∷ spread qs os
 spread_more q qs o os e = ap (λ b. cond b (0 ∷ spread qs (o ∷ os)) (o ∷ spread qs os)) e
 
-walk_full : (q : PlacedSection) (qs ns : List PlacedSection) (xs : List code.Segment) (os : List ℕ)
+walk_full : (q : PlacedOutput) (qs ns : List PlacedOutput) (xs : List code.Segment) (os : List ℕ)
     → (q.size == 0) ≡ false
     → ((xs : List code.Segment) (os : List ℕ) → Ahead xs ns os → offsets_in (map placed_of qs) xs ≡ spread qs os)
     → Ahead xs (q ∷ ns) os → offsets_in (placed_of q ∷ map placed_of qs) xs ≡ spread (q ∷ qs) os
@@ -80,7 +80,7 @@ walk_full q qs ns (x ∷ xs) (o ∷ os) e rest (inner l a r) =
     ∙ ap (λ n. n ∷ offsets_in (map placed_of qs) (x ∷ xs)) a ∙ ap (λ vs. o ∷ vs) (rest (x ∷ xs) os r)
     ∙ sym (spread_more q qs o os e)
 
-walk : (qs : List PlacedSection) (xs : List code.Segment) (os : List ℕ) → Ahead xs (nonempty qs) os
+walk : (qs : List PlacedOutput) (xs : List code.Segment) (os : List ℕ) → Ahead xs (nonempty qs) os
     → offsets_in (map placed_of qs) xs ≡ spread qs os
 walk [] xs os h = refl
 walk (q ∷ qs) xs os h = go (q.size == 0) refl h (walk qs)
@@ -96,7 +96,7 @@ walk (q ∷ qs) xs os h = go (q.size == 0) refl h (walk qs)
 
 -- ---- the segments are ahead of all sections of nonzero size
 
-abbrev Sized : PlacedSection → Type 0
+abbrev Sized : PlacedOutput → Type 0
 Sized q = (q.size == 0) ≡ false
 
 both : (a b : Bool) → (a && b) ≡ true → (a ≡ true) × (b ≡ true)
@@ -109,7 +109,7 @@ no_zero : (n : ℕ) → (n == 0) ≡ false → 0 < n
 no_zero zero h = absurd (let none : ⊥ = cc in none)
 no_zero (suc n) h = omega arith
 
-follows : (p q : PlacedSection) → Shares p q → end_of p ≤ q.start
+follows : (p q : PlacedOutput) → Shares p q → end_of p ≤ q.start
 follows p q h =
     let flags : Bool = beq p.writable q.writable && beq p.executable q.executable in
     let one = both (flags && (difference_of p == difference_of q) && nat_le (end_of p) q.start
@@ -119,7 +119,7 @@ follows p q h =
     let three = both (flags && (difference_of p == difference_of q)) (nat_le (end_of p) q.start) two.0 in
     leb-true (end_of p) q.start three.1
 
-last_after : (p : PlacedSection) (ps : List PlacedSection) → Neighbours Shares (p ∷ ps)
+last_after : (p : PlacedOutput) (ps : List PlacedOutput) → Neighbours Shares (p ∷ ps)
     → end_of p ≤ end_of (last_from p ps)
 last_after p [] h = omega arith
 last_after p (q ∷ qs) h =
@@ -133,12 +133,12 @@ same_number m n e = eq-eqb m n e
 other_number : (m n : ℕ) → m < n → (m == n) ≡ false
 other_number m n l = false_from_ne_true (m == n) (λ t. absurd (omega (arith, l, eqb-true m n t)))
 
-module _ (g : Segment) (x : code.Segment) (xs : List code.Segment) (ns : List PlacedSection) (os : List ℕ)
+module _ (g : Segment) (x : code.Segment) (xs : List code.Segment) (ns : List PlacedOutput) (os : List ℕ)
     (offset : x.offset ≡ g.offset) (start : x.start ≡ segment_start g) (rest : Ahead xs ns os) where
-  offset_is : (p : PlacedSection) → offset_at x (placed_of p) ≡ g.offset + (p.start - segment_start g)
+  offset_is : (p : PlacedOutput) → offset_at x (placed_of p) ≡ g.offset + (p.start - segment_start g)
   offset_is p = ap (λ n. n + (p.start - x.start)) offset ∙ ap (λ n. g.offset + (p.start - n)) start
 
-  ahead_group : (p : PlacedSection) (ps : List PlacedSection) → x.memory_size ≡ reach g.group (last_from p ps)
+  ahead_group : (p : PlacedOutput) (ps : List PlacedOutput) → x.memory_size ≡ reach g.group (last_from p ps)
       → segment_start g ≤ p.start → Neighbours Shares (p ∷ ps) → Each Sized (p ∷ ps)
       → Ahead (x ∷ xs) ((p ∷ ps) ++ ns) (map (λ y. y.offset) (map (in_segment g) (p ∷ ps)) ++ os)
   ahead_group p [] size from together sized =
@@ -155,15 +155,15 @@ module _ (g : Segment) (x : code.Segment) (xs : List code.Segment) (ns : List Pl
       (offset_is p)
       (ahead_group q qs size (omega (arith, from, next)) together.1 sized.1)
 
-fold_last : (g : Group) (n : ℕ) (p : PlacedSection) (ps : List PlacedSection)
-    → fold (λ m (q : PlacedSection). reach g q) n (p ∷ ps) ≡ reach g (last_from p ps)
+fold_last : (g : Group) (n : ℕ) (p : PlacedOutput) (ps : List PlacedOutput)
+    → fold (λ m (q : PlacedOutput). reach g q) n (p ∷ ps) ≡ reach g (last_from p ps)
 fold_last g n p [] = refl
 fold_last g n p (q ∷ qs) = fold_last g (reach g p) q qs
 
-abbrev parts_of : List Segment → List PlacedSection
+abbrev parts_of : List Segment → List PlacedOutput
 parts_of gs = flat_map group_sections (map (λ (g : Segment). g.group) gs)
 
-ahead_all : (sections : List PlacedSection) (gs : List Segment) (xs : List code.Segment)
+ahead_all : (sections : List PlacedOutput) (gs : List Segment) (xs : List code.Segment)
     → AllZip (IsSegment sections) gs xs → Each IsTogether (map (λ (g : Segment). g.group) gs)
     → Each Sized (parts_of gs) → Ahead xs (parts_of gs) (map (λ y. y.offset) (in_file gs))
 ahead_all sections [] [] z t h = over
@@ -180,7 +180,7 @@ ahead_all sections (g ∷ gs) (x ∷ xs) z t h =
 
 -- ---- what is found under a name
 
-map_sections : (g : Segment) (qs : List PlacedSection)
+map_sections : (g : Segment) (qs : List PlacedOutput)
     → map (λ (y : SectionInFile). y.section) (map (in_segment g) qs) ≡ qs
 map_sections g [] = refl
 map_sections g (q ∷ qs) = ap (λ l. q ∷ l) (map_sections g qs)
@@ -219,33 +219,33 @@ name_back n m h = false_from_ne_true (bytes_eq m n) (λ t.
     absurd (let none : ⊥ = cc in none))
 
 -- no section of nonzero size has the name of one of size 0
-none_named : (qs : List PlacedSection) → AreNamed qs → (k : ℕ) (q : PlacedSection) → slice_get qs k ≡ Some q
-    → (q.size == 0) ≡ true → Each (λ (r : PlacedSection). bytes_eq r.name q.name ≡ false) (nonempty qs)
+none_named : (qs : List PlacedOutput) → AreNamed qs → (k : ℕ) (q : PlacedOutput) → slice_get qs k ≡ Some q
+    → (q.size == 0) ≡ true → Each (λ (r : PlacedOutput). bytes_eq r.name q.name ≡ false) (nonempty qs)
 none_named [] h k q e z = tt
 none_named (r ∷ rs) h zero q e z =
     let is : r ≡ q = same_Some _ _ e in
-    subst (λ l. Each (λ (x : PlacedSection). bytes_eq x.name q.name ≡ false) l)
-    (sym (ap (λ b. cond (not b) (r ∷ nonempty rs) (nonempty rs)) (ap (λ (x : PlacedSection). x.size == 0) is ∙ z)))
-    (each_filter (λ (x : PlacedSection). bytes_eq x.name q.name ≡ false) (λ (x : PlacedSection). not (x.size == 0)) rs
-    (each_by (λ (x : PlacedSection). bytes_eq x.name q.name ≡ false) rs
+    subst (λ l. Each (λ (x : PlacedOutput). bytes_eq x.name q.name ≡ false) l)
+    (sym (ap (λ b. cond (not b) (r ∷ nonempty rs) (nonempty rs)) (ap (λ (x : PlacedOutput). x.size == 0) is ∙ z)))
+    (each_filter (λ (x : PlacedOutput). bytes_eq x.name q.name ≡ false) (λ (x : PlacedOutput). not (x.size == 0)) rs
+    (each_by (λ (x : PlacedOutput). bytes_eq x.name q.name ≡ false) rs
     (λ k x at. name_back q.name x.name
-    (subst (λ (y : PlacedSection). bytes_eq y.name x.name ≡ false) is
-    (each_at (λ (y : PlacedSection). bytes_eq r.name y.name ≡ false) rs k x h.0 at)))))
+    (subst (λ (y : PlacedOutput). bytes_eq y.name x.name ≡ false) is
+    (each_at (λ (y : PlacedOutput). bytes_eq r.name y.name ≡ false) rs k x h.0 at)))))
 none_named (r ∷ rs) h (suc k) q e z = go (r.size == 0) (none_named rs h.1 k q e z)
   where
-    go : (b : Bool) → Each (λ (x : PlacedSection). bytes_eq x.name q.name ≡ false) (nonempty rs)
-        → Each (λ (x : PlacedSection). bytes_eq x.name q.name ≡ false) (cond (not b) (r ∷ nonempty rs) (nonempty rs))
+    go : (b : Bool) → Each (λ (x : PlacedOutput). bytes_eq x.name q.name ≡ false) (nonempty rs)
+        → Each (λ (x : PlacedOutput). bytes_eq x.name q.name ≡ false) (cond (not b) (r ∷ nonempty rs) (nonempty rs))
     go true rest = rest
-    go false rest = (each_at (λ (y : PlacedSection). bytes_eq r.name y.name ≡ false) rs k q h.0 e, rest)
+    go false rest = (each_at (λ (y : PlacedOutput). bytes_eq r.name y.name ≡ false) rs k q h.0 e, rest)
 
-module _ (s : List PlacedSection) (gs : List Segment) (named : AreNamed s) (parts : parts_of gs ≡ nonempty s) where
+module _ (s : List PlacedOutput) (gs : List Segment) (named : AreNamed s) (parts : parts_of gs ≡ nonempty s) where
   names_differ : EachLater (λ x y. same_name x y ≡ false) (in_file gs)
   names_differ =
-      later_of_map (λ (q r : PlacedSection). bytes_eq q.name r.name ≡ false) (λ (y : SectionInFile). y.section)
+      later_of_map (λ (q r : PlacedOutput). bytes_eq q.name r.name ≡ false) (λ (y : SectionInFile). y.section)
       (in_file gs)
-      (subst (EachLater (λ (q r : PlacedSection). bytes_eq q.name r.name ≡ false))
+      (subst (EachLater (λ (q r : PlacedOutput). bytes_eq q.name r.name ≡ false))
       (sym (sections_in_file gs ∙ parts))
-      (later_filter (λ (q r : PlacedSection). bytes_eq q.name r.name ≡ false) (λ (q : PlacedSection). not (q.size == 0))
+      (later_filter (λ (q r : PlacedOutput). bytes_eq q.name r.name ≡ false) (λ (q : PlacedOutput). not (q.size == 0))
       s named))
 
   found_at : (k : ℕ) (x : SectionInFile) → slice_get (in_file gs) k ≡ Some x → file_offset gs x.section ≡ x.offset
@@ -254,15 +254,15 @@ module _ (s : List PlacedSection) (gs : List Segment) (named : AreNamed s) (part
       (find_at same_name (λ y. own_name y.section.name) (in_file gs) names_differ k x e)
 
   -- each section in the file with where it begins
-  pub in_file_are : in_file gs ≡ map (λ (q : PlacedSection). record { offset = file_offset gs q; section = q })
+  pub in_file_are : in_file gs ≡ map (λ (q : PlacedOutput). record { offset = file_offset gs q; section = q })
       (nonempty s)
   in_file_are =
       sym (map_at (λ (x : SectionInFile). record { offset = file_offset gs x.section; section = x.section })
       (λ (x : SectionInFile). x) (in_file gs)
       (λ k x e. ap (λ n. record { offset = n; section = x.section }) (found_at k x e)) ∙ map_own (in_file gs))
-      ∙ sym (map_map (λ (q : PlacedSection). record { offset = file_offset gs q; section = q })
+      ∙ sym (map_map (λ (q : PlacedOutput). record { offset = file_offset gs q; section = q })
       (λ (x : SectionInFile). x.section) (in_file gs))
-      ∙ ap (map (λ (q : PlacedSection). record { offset = file_offset gs q; section = q }))
+      ∙ ap (map (λ (q : PlacedOutput). record { offset = file_offset gs q; section = q }))
       (sections_in_file gs ∙ parts)
     where
       map_own : (xs : List SectionInFile) → map (λ (x : SectionInFile). x) xs ≡ xs
@@ -273,19 +273,19 @@ module _ (s : List PlacedSection) (gs : List Segment) (named : AreNamed s) (part
   offsets_are =
       ap (map (λ (y : SectionInFile). y.offset)) in_file_are
       ∙ map_map (λ (y : SectionInFile). y.offset)
-      (λ (q : PlacedSection). record { offset = file_offset gs q; section = q }) (nonempty s)
+      (λ (q : PlacedOutput). record { offset = file_offset gs q; section = q }) (nonempty s)
 
-  none_at : (k : ℕ) (q : PlacedSection) → slice_get s k ≡ Some q → (q.size == 0) ≡ true → file_offset gs q ≡ 0
+  none_at : (k : ℕ) (q : PlacedOutput) → slice_get s k ≡ Some q → (q.size == 0) ≡ true → file_offset gs q ≡ 0
   none_at k q e z =
       ap (λ o. option_map_or (λ (y : SectionInFile). y.offset) o 0)
       (find_none (λ (x : SectionInFile). bytes_eq x.section.name q.name) (in_file gs)
-      (each_of_map (λ (r : PlacedSection). bytes_eq r.name q.name ≡ false) (λ (x : SectionInFile). x.section)
+      (each_of_map (λ (r : PlacedOutput). bytes_eq r.name q.name ≡ false) (λ (x : SectionInFile). x.section)
       (in_file gs)
-      (subst (Each (λ (r : PlacedSection). bytes_eq r.name q.name ≡ false)) (sym (sections_in_file gs ∙ parts))
+      (subst (Each (λ (r : PlacedOutput). bytes_eq r.name q.name ≡ false)) (sym (sections_in_file gs ∙ parts))
       (none_named s named k q e z))))
 
-spread_are : (f : PlacedSection → ℕ) (qs : List PlacedSection)
-    → ((k : ℕ) (q : PlacedSection) → slice_get qs k ≡ Some q → (q.size == 0) ≡ true → f q ≡ 0)
+spread_are : (f : PlacedOutput → ℕ) (qs : List PlacedOutput)
+    → ((k : ℕ) (q : PlacedOutput) → slice_get qs k ≡ Some q → (q.size == 0) ≡ true → f q ≡ 0)
     → AllZip (λ q o. o ≡ f q) qs (spread qs (map f (nonempty qs)))
 spread_are f [] h = tt
 spread_are f (q ∷ qs) h = go (q.size == 0) refl (spread_are f qs (λ k r e. h (suc k) r e))
@@ -299,7 +299,7 @@ spread_are f (q ∷ qs) h = go (q.size == 0) refl (spread_are f qs (λ k r e. h 
         subst (λ l. AllZip (λ r o. o ≡ f r) (q ∷ qs) l) (sym (spread_more q qs (f q) (map f (nonempty qs)) e))
         (refl, rest)
 
-each_sized : (qs : List PlacedSection) → Each Sized (nonempty qs)
+each_sized : (qs : List PlacedOutput) → Each Sized (nonempty qs)
 each_sized [] = tt
 each_sized (q ∷ qs) = go (q.size == 0) refl (each_sized qs)
   where

@@ -2,8 +2,8 @@
 use Rattle.std.specs.Prelude.{◌≡◌, ⊤, ℕ, ◌+◌, ◌-◌, ◌<◌, ◌^◌, List, [], ◌∷◌, ◌++◌, map, Option, Some, None}
 use Rattle.std.specs.Prelude.{slice_get, if◌then◌else◌}
 use Rattle.std.specs.List.{All, AllZip, last_or}
-use Rattle.ldmodel.specs.Layout.{PlacedSection}
-use Rattle.ldmodel.specs.Lent.{placed_of}
+use Rattle.ldmodel.specs.Layout.{PlacedOutput}
+use Rattle.ldmodel.specs.PlacementView.{placed_of}
 use Rattle.ldmodel.specs.Segments.{Group, file_size, groups, memory_size, nonempty, shares_segment}
 use Rattle.ldmodel.specs.declared.placed.OutputIndex.{OutputIndex}
 use Rattle.ldmodel.specs.declared.placed.Placed.{Placed}
@@ -15,7 +15,7 @@ abbrev pub Ends : List Placed → Type 0
 Ends sections = All (λ (q : Placed). q.start + q.size < 2 ^ 64) sections
 
 -- an output section with these numbers, and nothing else
-abbrev pub bare : Placed → PlacedSection
+abbrev pub bare : Placed → PlacedOutput
 bare q = record {
   name = [];
   region = None;
@@ -33,7 +33,7 @@ bare q = record {
 }
 
 -- a group of the code
-pub record IsGroup (sections : List PlacedSection) (g : Group) (x : code.Group) : Type 0 where
+pub record IsGroup (sections : List PlacedOutput) (g : Group) (x : code.Group) : Type 0 where
   pub start : x.start ≡ g.first.start
   pub load : x.load ≡ g.first.load
   pub in_file : x.file_size ≡ file_size g
@@ -46,7 +46,7 @@ pub record IsGroup (sections : List PlacedSection) (g : Group) (x : code.Group) 
 -- the groups of output sections that have these numbers
 abbrev pub AreGroups : List Placed → List code.Group → Type 0
 AreGroups placed xs =
-    (s : List PlacedSection) → map placed_of s ≡ placed → AllZip (IsGroup s) (groups (nonempty s)) xs
+    (s : List PlacedOutput) → map placed_of s ≡ placed → AllZip (IsGroup s) (groups (nonempty s)) xs
 
 -- an output section alone
 abbrev pub begun : OutputIndex → Placed → code.Group
@@ -68,41 +68,41 @@ joined g number q =
     record g { file_size = if q.has_file_bytes then reach else g.file_size; memory_size = reach; last = number }
 
 -- a group alone
-abbrev pub single : PlacedSection → Group
+abbrev pub single : PlacedOutput → Group
 single q = record { first = q; others = [] }
 
-abbrev pub extended : Group → PlacedSection → Group
+abbrev pub extended : Group → PlacedOutput → Group
 extended g q = record { first = g.first; others = g.others ++ q ∷ [] }
 
 -- a group that may go on, and its last output section
 pub record Current : Type 0 where
   pub group : Group
-  pub last : PlacedSection
+  pub last : PlacedOutput
 
 -- the groups of a group that may go on, and of those after it
-unfoldable pub groups_after : Current → List PlacedSection → List Group
+unfoldable pub groups_after : Current → List PlacedOutput → List Group
 groups_after c [] = c.group ∷ []
 groups_after c (q ∷ qs) =
     if shares_segment c.last q then groups_after (record { group = extended c.group q; last = q }) qs
     else (c.group ∷ groups_after (record { group = single q; last = q }) qs)
 
-unfoldable pub groups_from : Option Current → List PlacedSection → List Group
+unfoldable pub groups_from : Option Current → List PlacedOutput → List Group
 groups_from None [] = []
 groups_from None (q ∷ qs) = groups_after (record { group = single q; last = q }) qs
 groups_from (Some c) qs = groups_after c qs
 
 -- the code's group that may go on
-pub record IsCurrent (sections : List PlacedSection) (c : Current) (x : Running) : Type 0 where
+pub record IsCurrent (sections : List PlacedOutput) (c : Current) (x : Running) : Type 0 where
   pub group : IsGroup sections c.group x.group
   pub last : placed_of c.last ≡ x.last
 
-abbrev pub IsRunning : List PlacedSection → Option Current → Option Running → Type 0
+abbrev pub IsRunning : List PlacedOutput → Option Current → Option Running → Type 0
 IsRunning sections None None = ⊤
 IsRunning sections (Some c) (Some x) = IsCurrent sections c x
 IsRunning sections _ _ = ⊥
 
 -- the groups so far, where the output sections that are left are these
-pub record Grouped (sections rest : List PlacedSection) (done : List code.Group) (running : Option Running)
+pub record Grouped (sections rest : List PlacedOutput) (done : List code.Group) (running : Option Running)
     : Type 0 where
   pub complete : List Group
   pub current : Option Current
@@ -113,5 +113,5 @@ pub record Grouped (sections rest : List PlacedSection) (done : List code.Group)
 -- the step over output section number k
 pub record Takes (done : List code.Group) (running : Option Running) (k : ℕ) (placed : Placed)
     (new_done : List code.Group) (new_running : Option Running) : Type 0 where
-  pub at : (sections rest : List PlacedSection) (q : PlacedSection) → slice_get sections k ≡ Some q
+  pub at : (sections rest : List PlacedOutput) (q : PlacedOutput) → slice_get sections k ≡ Some q
       → placed_of q ≡ placed → Grouped sections (q ∷ rest) done running → Grouped sections rest new_done new_running

@@ -1,7 +1,7 @@
 -- The length of the image, of the sizes of its parts.
 use Rattle.std.specs.Prelude.{◌≡◌, ℕ, List, length}
 use Rattle.ldmodel.specs.Layout.{Layout}
-use Rattle.ldmodel.specs.Lent.{AreSegments}
+use Rattle.ldmodel.specs.PlacementView.{AreSegments}
 use Rattle.ldmodel.specs.Project.{Project}
 use Rattle.ldmodel.specs.SectionHeaders.{header_name_table, image_length}
 use Rattle.ldmodel.specs.Segments.{segments}

@@ -8,4 +8,4 @@ pub mod Offsets
 pub mod Entries
 pub mod InPlace
 pub mod Columns
-pub mod Arranged
+pub mod IndexedLayout

@@ -3,7 +3,7 @@ use Rattle.std.specs.Prelude.{◌≡◌, [], ◌∷◌, ⊤, Ok, Err}
 use Rattle.std.specs.List.{AllZip}
 use Rattle.ldmodel_laws.specs.ImageBytes.{AreNamed}
 use Rattle.ldmodel.specs.Layout.{Layout}
-use Rattle.ldmodel.specs.Lent.{AreSegments}
+use Rattle.ldmodel.specs.PlacementView.{AreSegments}
 use Rattle.ldmodel.specs.Link.{layout, of_length}
 use Rattle.ldmodel.specs.Names.{provided}
 use Rattle.ldmodel.specs.Overlaps.{overlaps}

@@ -1,12 +1,12 @@
 -- Where output sections begin in the file, and how that is found beside the segments that they stand in.
 use Rattle.std.specs.Prelude.{◌≡◌, ℕ, ◌+◌, ◌-◌, List, [], ◌∷◌, Bool, ◌==◌, if◌then◌else◌}
-use Rattle.ldmodel.specs.Layout.{Layout, PlacedSection}
+use Rattle.ldmodel.specs.Layout.{Layout, PlacedOutput}
 use Rattle.ldmodel.specs.Segments.{file_offset, segments}
 use Rattle.ldmodel.specs.declared.placed.Placed.{Placed}
 use Rattle.ldmodel.specs.declared.segment.Segment.{Segment}
 
 -- where an output section begins in the file
-abbrev pub IsOffset : Layout → PlacedSection → ℕ → Type 0
+abbrev pub IsOffset : Layout → PlacedOutput → ℕ → Type 0
 IsOffset s q o = o ≡ file_offset (segments s.sections) q
 
 -- where an output section of a segment begins in the file

@@ -1,7 +1,7 @@
 -- Where groups stand in the file.
 use Rattle.std.specs.Prelude.{◌≡◌, ⊤, ℕ, ◌+◌, ◌≤◌, List, [], ◌∷◌, map, ◌==◌, if◌then◌else◌}
-use Rattle.ldmodel.specs.Layout.{PlacedSection}
-use Rattle.ldmodel.specs.Lent.{AreSegments, placed_of}
+use Rattle.ldmodel.specs.Layout.{PlacedOutput}
+use Rattle.ldmodel.specs.PlacementView.{AreSegments, placed_of}
 use Rattle.ldmodel.specs.Segments.{congruent, segments}
 use Rattle.ldmodel.specs.declared.placed.Placed.{Placed}
 use Rattle.ldmodel.specs.declared.segment.Segment.{Segment}
@@ -9,7 +9,7 @@ use Rattle.place.specs.declared.group.Group.{Group}
 
 -- the segments of any output sections that have these numbers
 abbrev pub AreAllSegments : List Placed → List Segment → Type 0
-AreAllSegments placed xs = (s : List PlacedSection) → map placed_of s ≡ placed → AreSegments s (segments s) xs
+AreAllSegments placed xs = (s : List PlacedOutput) → map placed_of s ≡ placed → AreSegments s (segments s) xs
 
 -- a group at the first place past an end
 abbrev pub segment_at : ℕ → Group → Segment

@@ -3,8 +3,8 @@
 ghost use Rattle.std.specs.Prelude.{◌≡◌, ◌++◌, IfOk, OnOk};
 ghost use Rattle.place.specs.Entries.{all_entries, row_entries};
 
-use crate::arranged::PartPlace;
-use crate::entry::Entry;
+use crate::indexed_layout::SectionAddress;
+use crate::indexed_section::IndexedSection;
 use ldmodel::impossible::impossible;
 use ldmodel::memory::NoMemory;
 use ldmodel::placed::OutputIndex;
@@ -13,7 +13,7 @@ use std::alloc::Global;
 
 /// Adds the input sections of a row, which start at these addresses.
 fn add_row(
-    entries: &mut Vec<Entry>,
+    entries: &mut Vec<IndexedSection>,
     section: OutputIndex,
     row: &[Piece],
     starts: &[u64],
@@ -22,10 +22,10 @@ fn add_row(
         ≡ entries.old.items ++ row_entries section.0 row.now starts.now) }
 {
     for (piece, start) in row.iter().zip(starts) {
-        entries.push(Entry {
+        entries.push(IndexedSection {
             object: piece.section.object.0,
             part: piece.section.part,
-            place: PartPlace {
+            place: SectionAddress {
                 start: *start,
                 size: piece.size,
                 section,
@@ -44,7 +44,7 @@ pub(crate) fn collect(
     alloc: Global,
     rows: &[Vec<Piece>],
     starts: &[u64],
-) -> Result<Vec<Entry>, NoMemory>
+) -> Result<Vec<IndexedSection>, NoMemory>
     ensures { IfOk result (λ v. v.items ≡ all_entries 0 rows.now starts.now) }
 {
     let mut entries = Vec::with_capacity(alloc, starts.len())?;

@@ -1,20 +1,20 @@
 //! Layout, a phase of a link: where everything stands in memory and in the file. Takes a project, its rows and names,
-//! the numbers of its input sections, and perhaps an earlier layout; gives the layout or its faults, and where an input
-//! section stands, by its key.
+//! the numbers of its input sections, and perhaps an previous layout; gives the layout or its faults, and where an
+//! input section stands, by its key.
 //!
 //! - `link_layout`: the phase, over `place_sections`;
 //! - `segments` over `group`: what is loaded as one, and its offset in the file; `offsets`: where output sections begin
 //!   in the file; `length`: how long the image is;
-//! - `arranged` over `collected` and `entry`: all of that, and where each input section stands; `numbered`: the
-//!   sections of an object have different numbers;
+//! - `indexed_layout` over `collected` and `indexed_section`: all of that, and where each input section stands;
+//!   `numbered`: the sections of an object have different numbers;
 //! - the parts `terms` (values of expressions, what a layout keeps) and `sections` (output sections placed). Other
 //!   families name this crate alone.
 #![tactic(auto)]
 
-pub mod arranged;
 mod collected;
-mod entry;
 mod group;
+pub mod indexed_layout;
+mod indexed_section;
 pub mod length;
 pub mod link_layout;
 pub mod numbered;

@@ -75,7 +75,7 @@ fn reported(alloc: Global, fault: PlaceFault) -> LayoutFault
 {
     match fault {
         PlaceFault::First(fault) => one(alloc, fault),
-        PlaceFault::Meeting(faults) => LayoutFault::Faulty(faults),
+        PlaceFault::Overlapping(faults) => LayoutFault::Faulty(faults),
         PlaceFault::NoMemory => LayoutFault::NoMemory,
     }
 }
@@ -113,7 +113,7 @@ impl LinkLayout {
     /// image isn't looked at: it is known only when the symbols have their values. The entries of the rows are counted
     /// as placed.
     ///
-    /// With `kept`, an earlier placement of the script and the number of a row before which no row differs from the
+    /// With `kept`, an previous placement of the script and the number of a row before which no row differs from the
     /// earlier ones, the layout is the same, and the entries of the rows from that one on are counted.
     ///
     /// # Errors

@@ -4,7 +4,7 @@ ghost use Rattle.std.specs.Prelude.{◌≡◌, ◌∷◌, IfOk, List, drop, map}
 ghost use Rattle.std.specs.List.{AllZip};
 ghost use Rattle.ldmodel_laws.specs.ImageBytes.{AreNamed};
 ghost use Rattle.ldmodel.specs.Layout.{Layout};
-ghost use Rattle.ldmodel.specs.Lent.{AreSegments, placed_of};
+ghost use Rattle.ldmodel.specs.PlacementView.{AreSegments, placed_of};
 ghost use Rattle.ldmodel.specs.Segments as model;
 ghost use Rattle.place.specs.Offsets.{is_last, offset_at, offsets_in};
 ghost use Rattle.place.specs.Offsets.{IsOffset};

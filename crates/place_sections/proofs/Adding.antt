@@ -5,7 +5,7 @@ use Rattle.std.specs.List.{enumerate_from}
 use Rattle.ldscript.specs.statements.declared.section.OutputSection.{OutputSection}
 use Rattle.ldmodel.specs.Placement.{Body, body_step}
 use Rattle.ldmodel.specs.Chain.{run}
-use Rattle.ldmodel.specs.Layout.{Layout, PlacedSection, address}
+use Rattle.ldmodel.specs.Layout.{Layout, PlacedOutput, address}
 use Rattle.ldmodel.specs.Placement.{opened, section_step}
 use Rattle.ldmodel.specs.Rows.{Piece}
 use Rattle.ldmodel.specs.Placement.{find_region, freed_from, load_region, placed_section, section_end, with_room}
@@ -24,7 +24,7 @@ enumerate_more k (x ∷ xs) ys =
 
 -- what an output section adds to a layout, and where its regions go on
 pub record SectionGrown (row : List Piece) (s : Layout) (o : OutputSection) (t : Layout) : Type 0 where
-  pub section : PlacedSection
+  pub section : PlacedOutput
   pub added : t.sections ≡ s.sections ++ section ∷ []
   pub name : section.name ≡ o.name
   pub region : section.region ≡ o.region
@@ -42,7 +42,7 @@ pub end_is : (line : ℕ) (o : OutputSection) (h : Head) (b : Body) (t : Layout)
     → with_section b.layout o (placed_section o h b) ≡ t
 unfolding section_end
 end_is line o h b t e =
-    let q : PlacedSection = placed_section o h b in
+    let q : PlacedOutput = placed_section o h b in
     let x = chained (with_room (find_region b.layout o.region) q.start q.size q) _ t e in
     let y = chained (with_room (find_region b.layout (load_region o.load)) q.load q.load_size q) _ t x.second in
     let z = chained (address line (q.load + q.load_size)) _ t y.second in

@@ -1,4 +1,4 @@
--- The body of an output section goes on alongside that of an earlier layout.
+-- The body of an output section goes on alongside that of an previous layout.
 use Rattle.std.proofs.Common.{◌≡◌, ℕ, ◌+◌, ◌==◌, List, [], ◌∷◌, ◌++◌, Bool, true, false, Ok, refl, sym, ap, subst, ◌∙◌}
 use Rattle.std.proofs.Common.{append_assoc, drop, length, map, ◌<◌, suc, arith, cond, eq-eqb, get_or, Bor}
 use Rattle.std.proofs.Common.{Option, Some, None, IfSome, Result}
@@ -12,8 +12,8 @@ use Rattle.ldscript.specs.statements.declared.section.OutputSection.{OutputSecti
 use Rattle.ldmodel.specs.Placement.{Body, body_command_step, body_step, input_step, piece_placed, piece_start}
 use Rattle.ldmodel.specs.Placement.{pieces_placed, with_dot}
 use Rattle.ldmodel.specs.Chain.{and_then, run}
-use Rattle.ldmodel.specs.Layout.{Layout, PlacedPiece, PlacedSection, address, noted}
-use Rattle.ldmodel.specs.Lent.{starts_of}
+use Rattle.ldmodel.specs.Layout.{Layout, PlacedPiece, PlacedOutput, address, noted}
+use Rattle.ldmodel.specs.PlacementView.{starts_of}
 use Rattle.ldmodel.specs.Placement.{opened, section_step}
 use Rattle.ldmodel.specs.Rows.{Piece}
 use Rattle.ldmodel.specs.Placement.{placed_section, section_end, with_section, Head, head_of}
@@ -35,8 +35,8 @@ use Rattle.place_sections.specs.Alongside.{BodyAlongside, IfInput, SectionAlongs
 use Rattle.place_sections.specs.Counted.{Counted}
 use Rattle.place_sections.specs.Leads.{Begins}
 use Rattle.place_sections.specs.State.{body_of}
-use Rattle.place_sections.specs.declared.state.Frame.{Frame}
-use Rattle.place_sections.specs.declared.state.Here.{Here}
+use Rattle.place_sections.specs.declared.state.CurrentOutput.{CurrentOutput}
+use Rattle.place_sections.specs.declared.state.LayoutCursor.{LayoutCursor}
 
 -- a list from an element on
 pub from_here : {X : Type 0} (xs : List X) (k : ℕ) (x : X) → k < length xs → x ≡ get_or xs k x
@@ -187,7 +187,8 @@ module _ (all : List ℕ) (b : Body) (x : BodyStatement) (xs : List BodyStatemen
             (input_kept x.line begun first.value all is begins)
 
 -- the entries of the next input statement of the present body start where they did
-pub input_stays : (n : Naming) (h : Here) (f : Frame) (xs : List BodyStatement) (k : ℕ) (x : BodyStatement)
+pub input_stays : (n : Naming) (h : LayoutCursor) (f : CurrentOutput) (xs : List BodyStatement) (k : ℕ)
+    (x : BodyStatement)
     → k < length xs → x ≡ get_or xs k x
     → IfSome f.starts (λ s. BodyAlongside s.now (body_of n h f) (drop k xs)) → IfInput x.command (StartsThere n h f)
 input_stays n h f xs k x l at alongside = by_starts f.starts alongside
@@ -211,7 +212,8 @@ input_stays n h f xs k x l at alongside = by_starts f.starts alongside
         (subst (BodyAlongside s.now (body_of n h f)) (from_here xs k x l at) a))
 
 -- and the bodies stay alongside
-pub alongside_on : BodiesStayAlike → (n : Naming) (old new : Here) (f : Frame) (provided : List (List ℕ))
+pub alongside_on : BodiesStayAlike → (n : Naming) (old new : LayoutCursor) (f : CurrentOutput)
+    (provided : List (List ℕ))
     (xs : List BodyStatement) (k : ℕ) (x : BodyStatement) → k < length xs → x ≡ get_or xs k x
     → body_step provided (body_of n old f) x ≡ Ok (body_of n new f)
     → IfSome f.starts (λ s. BodyAlongside s.now (body_of n old f) (drop k xs))
@@ -231,7 +233,7 @@ run_next step s t u xs k x l at h e =
     h ∙ (ap (run step t) (from_here xs k x l at)
     ∙ ap (λ r. and_then r (λ v. run step v (drop (k + 1) xs))) e)
 
-pub counted_on : (a b c : Here) (f : Frame) → Counted a b f → Counted b c f → Counted a c f
+pub counted_on : (a b c : LayoutCursor) (f : CurrentOutput) → Counted a b f → Counted b c f → Counted a c f
 counted_on a b c f h k = record {
   script = k.script ∙ h.script;
   anew = omega (arith, h.anew, k.anew);
@@ -261,7 +263,7 @@ section_opened law row s line o all a h e =
     section_end line o k.value b) a.after k.second in
     let after = end_is line o k.value b.value a.after b.second in
     let g = body_grows a.provided o.body (opened a.state row k.value) b.value b.first in
-    let q : PlacedSection = placed_section o k.value b.value in
+    let q : PlacedOutput = placed_section o k.value b.value in
     let lists : a.state.sections ++ q ∷ [] ≡ a.state.sections ++ a.section ∷ [] =
     ap (λ l. l ++ q ∷ []) (sym g.sections) ∙ (ap (λ (z : Layout). z.sections) after ∙ a.added) in
     let one : q ≡ a.section =
@@ -277,5 +279,5 @@ section_opened law row s line o all a h e =
       starts_are = ap starts_of one ∙ a.starts_are;
     }
   where
-    given_some : (x y : PlacedSection) → Some x ≡ Some y → x ≡ y
+    given_some : (x y : PlacedOutput) → Some x ≡ Some y → x ≡ y
     given_some x y f = cc

@@ -1,4 +1,4 @@
--- The statements of SECTIONS, and those of a script, go on alongside an earlier layout.
+-- The statements of SECTIONS, and those of a script, go on alongside an previous layout.
 use Rattle.std.proofs.Common.{◌≡◌, ℕ, ◌+◌, ◌≤◌, ◌<◌, List, [], ◌∷◌, ◌++◌, Ok, refl, sym, ap, subst, ◌∙◌, arith}
 use Rattle.std.proofs.Common.{false, get_or, length, map}
 use Rattle.std.proofs.Math.ListN.{get_or-map}
@@ -20,12 +20,12 @@ use Rattle.ldscript.specs.statements.declared.statement.ItemCommand.TheVariants 
 use Rattle.ldscript.specs.statements.declared.statement.Statement.{Statement}
 use Rattle.ldmodel.specs.Chain.{and_then, run}
 use Rattle.ldmodel.specs.Layout.{Layout, noted}
-use Rattle.ldmodel.specs.Lent.{starts_of}
+use Rattle.ldmodel.specs.PlacementView.{starts_of}
 use Rattle.ldmodel.specs.Placement.{item_command_step, item_step, next_row, section_step, statement_step}
 use Rattle.ldmodel.specs.Rows.{Piece}
 use Rattle.ldmodel.specs.declared.rows.Piece as rows
 use Rattle.ldmodel_laws.specs.Alike.{AreAlike, ItemsStayAlike, StatementsStayAlike, names_given}
-use Rattle.place_terms.specs.Earlier.{AreStartsOf}
+use Rattle.place_terms.specs.PreviousLayout.{AreStartsOf}
 use Rattle.place_terms.specs.Keyed.{KeyedSection, section_of}
 use Rattle.place_terms.specs.Naming.{Naming, row_named}
 use Rattle.place_terms.specs.Wholes.{starts_in}
@@ -195,7 +195,7 @@ items_alongside n i script script' s t statements items law same_script same_ite
           (statements_on a.rows a.provided after k.value a.leads.layout k.second) k.first a.leads refl;
     }))
 
--- where the next statement is an output section, an earlier layout goes on with it
+-- where the next statement is an output section, an previous layout goes on with it
 pub next_alongside : (n : Naming) (i : Input) (script : List Statement) (s : Layout) (x : Item) (xs : List Item)
     (sections : List KeyedSection) → s.sections ≡ map (section_of n) sections
     → (i.kept.same_provided ≡ false → 0 < i.kept.first → length sections ≤ i.kept.first

@@ -6,7 +6,7 @@ use Rattle.std.proofs.Math.Seq.{take-append_seam}
 use Rattle.std.proofs.lemmas.Grind.{flat_map-append}
 use Rattle.std.proofs.lemmas.List.{append-nil, drop-map, map-append, take-map}
 use Rattle.place_sections.specs.Leads.{Begins}
-use Rattle.place_terms.specs.Earlier.{part_of}
+use Rattle.place_terms.specs.PreviousLayout.{part_of}
 
 pub begins_on : {X : Type 0} (xs ys zs : List X) → Begins xs ys → Begins ys zs → Begins xs zs
 begins_on xs ys zs a b = record {

@@ -14,8 +14,8 @@ use Rattle.place_terms.specs.Wholes.{counts_in}
 use Rattle.place_sections.specs.Counted.{Adds, CountsAlong, PlacesAnew, Resumes, entries, first_of, left_after}
 use Rattle.place_sections.specs.Counted.{placed_from}
 use Rattle.place_sections.specs.declared.script.Input.{Input}
-use Rattle.place_sections.specs.declared.state.Here.{Here}
-use Rattle.place_sections.specs.declared.stop.Stop.{Stop}
+use Rattle.place_sections.specs.declared.state.LayoutCursor.{LayoutCursor}
+use Rattle.place_sections.specs.declared.stop.LayoutStop.{LayoutStop}
 
 pub entries_more : (k : ℕ) (rows : List (List Piece)) → entries k rows
     ≡ length (get_or rows k []) + entries (k + 1) rows
@@ -25,7 +25,8 @@ entries_more (suc k) (row ∷ rows) = let h = entries_more k rows in let e : suc
     rw e h
 
 -- one more output section, whose input sections were placed anew
-placed_resumes : {T : Type 0} (r : Result T Stop) (i : Input) (old new : Here) (before after : List KeyedSection)
+placed_resumes : {T : Type 0} (r : Result T LayoutStop) (i : Input) (old new : LayoutCursor)
+    (before after : List KeyedSection)
     (row : List Piece)
     → OnOk r (length after ≡ length before + 1) → new.anew ≤ old.anew + length row
     → row ≡ get_or (map (λ v. v.items) i.rows.now) (length before) []
@@ -45,7 +46,8 @@ placed_resumes (Ok u) i old new before after row one few same past =
     omega (arith, here, later, more, few, long)
 
 -- one more, whose input sections stay where they were
-kept_resumes : {T : Type 0} (r : Result T Stop) (i : Input) (old new : Here) (before after : List KeyedSection)
+kept_resumes : {T : Type 0} (r : Result T LayoutStop) (i : Input) (old new : LayoutCursor)
+    (before after : List KeyedSection)
     → OnOk r (length after ≡ length before + 1) → new.anew ≡ old.anew → length before < i.kept.first
     → OnOk r (Resumes i old new before after)
 unfolding left_after
@@ -61,7 +63,7 @@ kept_resumes (Ok u) i old new before after one none first =
     omega (arith, here, later, none)
 
 -- one more, whichever of both
-pub section_resumes : {T K : Type 0} (starts : Option K) (r : Result T Stop) (i : Input) (old new : Here)
+pub section_resumes : {T K : Type 0} (starts : Option K) (r : Result T LayoutStop) (i : Input) (old new : LayoutCursor)
     (before after : List KeyedSection) (row : List Piece)
     → OnOk r (length after ≡ length before + 1) → new.anew ≤ old.anew + length row
     → row ≡ get_or (map (λ v. v.items) i.rows.now) (length before) []
@@ -126,7 +128,7 @@ placed_more k xs x past =
     ≡ placed_from k (counts_in xs) + length x.pieces = omega (arith, last) in one)
 
 -- one more output section
-pub section_adds : {T K : Type 0} (starts : Option K) (r : Result T Stop) (i : Input) (old new : Here)
+pub section_adds : {T K : Type 0} (starts : Option K) (r : Result T LayoutStop) (i : Input) (old new : LayoutCursor)
     (before after : List KeyedSection) → OnOk r (IfNone starts (PlacesAnew old new before after))
     → OnOk r (length after ≡ length before + 1) → IfSome starts (λ k. new.anew ≡ old.anew)
     → IfSome starts (λ k. length before < i.kept.first) → IfNone starts (i.kept.first ≤ length before)
@@ -160,7 +162,7 @@ begun_anew None x y z n k e none h = record {
 begun_anew (Some s) x y z n k e none h = tt
 
 -- and its end
-pub ended_anew : {K : Type 0} (starts : Option K) (old new : Here) (y n : ℕ) (before after : List KeyedSection)
+pub ended_anew : {K : Type 0} (starts : Option K) (old new : LayoutCursor) (y n : ℕ) (before after : List KeyedSection)
     → IfNone starts (CountsAlong old.anew y 0 n) → new.anew ≡ y
     → ((section : KeyedSection) × (after ≡ before ++ section ∷ []) × (length section.pieces ≡ n))
     → IfNone starts (PlacesAnew old new before after)

@@ -7,7 +7,7 @@ use Rattle.ldmodel.specs.Chain.{and_then}
 use Rattle.ldmodel.specs.Fault.{Fault}
 use Rattle.ldmodel.specs.Arithmetic.{is_address}
 use Rattle.ldmodel.specs.Fault.{PastAddressSpace}
-use Rattle.ldmodel.specs.Layout.{PlacedSection, address, region_named}
+use Rattle.ldmodel.specs.Layout.{PlacedOutput, address, region_named}
 use Rattle.ldmodel.specs.Placement.{placed_section, section_end, with_section, with_room, load_region, Head}
 use Rattle.place_terms.specs.Keyed.{KeyedSection, section_of}
 use Rattle.place_terms.specs.Naming.{Naming}
@@ -18,8 +18,8 @@ use Rattle.ldmodel.specs.Layout.{MemoryRegion}
 use Rattle.ldmodel.specs.Placement.{freed_from}
 use Rattle.ldmodel.specs.declared.rows.Piece as rows
 use Rattle.place_sections.specs.State.{body_from, layout_of}
-use Rattle.place_sections.specs.declared.state.Done.{Done}
-use Rattle.place_sections.specs.declared.state.Here.{Here}
+use Rattle.place_sections.specs.declared.state.PlacedOutputs.{PlacedOutputs}
+use Rattle.place_sections.specs.declared.state.LayoutCursor.{LayoutCursor}
 
 regrouped : {X Y Z W : Type 0} (a : Result X Fault) (b : Result Y Fault) (c : Result Z Fault) (r : Result W Fault)
     → and_then a (λ _. and_then b (λ _. and_then c (λ _. r)))
@@ -28,13 +28,14 @@ regrouped (Ok x) (Ok y) c r = refl
 regrouped (Ok x) (Err f) c r = refl
 regrouped (Err f) b c r = refl
 
-alone_same : (n : Naming) (h : Here) (d : Done) (o : OutputSection) (head : Head)
+alone_same : (n : Naming) (h : LayoutCursor) (d : PlacedOutputs) (o : OutputSection) (head : Head)
     → placed_section o head (ended_body n h d) ≡ placed_section o head (body_alone n h)
 unfolding placed_section
 alone_same n h d o head = refl
 
 -- the end, by the load end
-pub end_is : (n : Naming) (h : Here) (d : Done) (line : ℕ) (o : OutputSection) (head : Head) (q : PlacedSection) → q
+pub end_is : (n : Naming) (h : LayoutCursor) (d : PlacedOutputs) (line : ℕ) (o : OutputSection) (head : Head)
+    (q : PlacedOutput) → q
     ≡ placed_section o head (body_alone n h)
     → section_end line o head (ended_body n h d)
     ≡ and_then (load_end line o d.regions q) (λ _. Ok (with_section (ended_body n h d).layout o q))
@@ -46,12 +47,12 @@ end_is n h d line o head q e =
     (address line (q.load + q.load_size)) (Ok (with_section (ended_body n h d).layout o q)))
 
 -- where a section ends
-pub ends_there : (n : Naming) (h : Here) (o : OutputSection) (head : Head) (q : PlacedSection) → q
+pub ends_there : (n : Naming) (h : LayoutCursor) (o : OutputSection) (head : Head) (q : PlacedOutput) → q
     ≡ placed_section o head (body_alone n h) → q.start + q.size ≡ max h.dot head.start
 unfolding placed_section
 ends_there n h o head q e =
-    let a : q.start ≡ head.start = ap (λ (p : PlacedSection). p.start) e in
-    let b : q.size ≡ h.dot - head.start = ap (λ (p : PlacedSection). p.size) e in
+    let a : q.start ≡ head.start = ap (λ (p : PlacedOutput). p.start) e in
+    let b : q.size ≡ h.dot - head.start = ap (λ (p : PlacedOutput). p.size) e in
     omega (arith, a, b)
 
 -- a chain that ends well
@@ -72,7 +73,8 @@ address_is line x y e = go (is_address x) e
     go true h = cc
     go false h = absurd (let no : ⊥ = cc in no)
 
-pub load_end_is : (line : ℕ) (o : OutputSection) (d : Done) (q : PlacedSection) (x : ℕ) → load_end line o d.regions q
+pub load_end_is : (line : ℕ) (o : OutputSection) (d : PlacedOutputs) (q : PlacedOutput) (x : ℕ)
+    → load_end line o d.regions q
     ≡ Ok x → x ≡ q.load + q.load_size
 load_end_is line o d q x e =
     let a = chained (with_room (option_and_then (region_named d.regions) o.region) q.start q.size q) _ x e in
@@ -81,7 +83,8 @@ load_end_is line o d q x e =
     address_is line (q.load + q.load_size) x b.second
 
 -- the layout after a section, part by part
-pub joined : (n : Naming) (h t : Here) (d : Done) (o : OutputSection) (x : KeyedSection) (sections : Outputs)
+pub joined : (n : Naming) (h t : LayoutCursor) (d : PlacedOutputs) (o : OutputSection) (x : KeyedSection)
+    (sections : Outputs)
     (first second : List MemoryRegion) (end loaded : ℕ)
     → t.dot ≡ h.dot → t.dots.items ≡ h.dots.items → t.inputs ≡ h.inputs → t.symbols ≡ h.symbols
     → first ≡ freed_from o.region end d.regions → second ≡ freed_from (load_region o.load) loaded first → sections.list
@@ -93,7 +96,8 @@ joined n h t d o x sections first second end loaded a b c e f g s i j =
     rw (a, b, c, e, s, map-append (section_of n) d.sections.list (x ∷ []), g, f, j, i) refl
 
 -- no end turns on where the section starts or on what is left of its row
-pub end_alone : (n : Naming) (h : Here) (d : Done) (line : ℕ) (o : OutputSection) (head : Head) (start : ℕ)
+pub end_alone : (n : Naming) (h : LayoutCursor) (d : PlacedOutputs) (line : ℕ) (o : OutputSection) (head : Head)
+    (start : ℕ)
     (row : List rows.Piece) → section_end line o head (body_from n h d start row)
     ≡ section_end line o head (ended_body n h d)
 unfolding section_end placed_section

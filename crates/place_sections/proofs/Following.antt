@@ -12,7 +12,7 @@ use Rattle.ldscript.specs.statements.declared.statement.ItemCommand.{ItemCommand
 use Rattle.ldscript.specs.statements.declared.statement.ItemCommand.TheVariants as item
 use Rattle.ldscript.specs.statements.declared.statement.Statement.{Statement}
 use Rattle.ldmodel.specs.Chain.{run}
-use Rattle.ldmodel.specs.Layout.{Layout, PlacedSection, noted}
+use Rattle.ldmodel.specs.Layout.{Layout, PlacedOutput, noted}
 use Rattle.ldmodel.specs.Placement.{item_step}
 use Rattle.ldmodel.specs.Rows.{Piece}
 use Rattle.place_sections.proofs.Outputs.{item_names, items_names, sections_of_both}
@@ -56,9 +56,9 @@ pub grown_by : (rows : List (List Piece)) (provided : List (List ℕ)) (s t : La
     → length t.sections ≡ length (s.sections) + length (item_sections x.line x.command)
 grown_by rows provided s t x e =
     let names = ap length (item_names rows provided x.line (noted s) x.command t e) in
-    let a = length-map t.sections (λ (q : PlacedSection). q.name) in
-    let b = length-map s.sections (λ (q : PlacedSection). q.name) in
-    let c = length-append (map (λ (q : PlacedSection). q.name) s.sections)
+    let a = length-map t.sections (λ (q : PlacedOutput). q.name) in
+    let b = length-map s.sections (λ (q : PlacedOutput). q.name) in
+    let c = length-append (map (λ (q : PlacedOutput). q.name) s.sections)
     (map (λ (y : OutputSectionAt). y.section.name) (item_sections x.line x.command)) in
     let d = length-map (item_sections x.line x.command) (λ (y : OutputSectionAt). y.section.name) in
     omega (arith, names, a, b, c, d)
@@ -69,9 +69,9 @@ module _ (rows : List (List Piece)) (provided : List (List ℕ)) (script : List 
   many : length s.sections ≡ length (sections_in (take k items))
   many =
       let names = ap length (items_names rows provided (take k items) start s comes) in
-      let a = length-map s.sections (λ (q : PlacedSection). q.name) in
-      let b = length-map start.sections (λ (q : PlacedSection). q.name) in
-      let c = length-append (map (λ (q : PlacedSection). q.name) start.sections)
+      let a = length-map s.sections (λ (q : PlacedOutput). q.name) in
+      let b = length-map start.sections (λ (q : PlacedOutput). q.name) in
+      let c = length-append (map (λ (q : PlacedOutput). q.name) start.sections)
       (map (λ (y : OutputSectionAt). y.section.name) (sections_in (take k items))) in
       let d = length-map (sections_in (take k items)) (λ (y : OutputSectionAt). y.section.name) in
       let n = ap length none in

@@ -8,10 +8,10 @@ use Rattle.place_terms.specs.Naming.{Naming}
 use Rattle.place_sections.specs.State.{layout_of, fault_of as fault_named}
 use Rattle.place_sections.specs.declared.fault.PlaceFault.{PlaceFault}
 use Rattle.place_sections.specs.declared.fault.PlaceFault.TheVariants as place_fault
-use Rattle.place_sections.specs.declared.state.Done.{Done}
-use Rattle.place_sections.specs.declared.state.Here.{Here}
-use Rattle.place_sections.specs.declared.stop.Stop.{Stop}
-use Rattle.place_sections.specs.declared.stop.Stop.TheVariants as stop
+use Rattle.place_sections.specs.declared.state.PlacedOutputs.{PlacedOutputs}
+use Rattle.place_sections.specs.declared.state.LayoutCursor.{LayoutCursor}
+use Rattle.place_sections.specs.declared.stop.LayoutStop.{LayoutStop}
+use Rattle.place_sections.specs.declared.stop.LayoutStop.TheVariants as stop
 use Rattle.ldscript.specs.statements.Numbering.{OutputSectionAt, output_sections}
 use Rattle.ldscript.specs.statements.declared.statement.Statement.{Statement}
 use Rattle.ldmodel.specs.FaultCode.{fault_of}
@@ -60,11 +60,11 @@ module _ (script : List Statement) (rows : List (List Piece)) (provided : List (
       emptied (g ∷ gs) e = absurd (let no : ⊥ = cc in no)
 
 -- where a layout begins
-pub nothing_there : (n : Naming) (h : Here) (d : Done) → h.dot ≡ 0 → h.dots.items ≡ [] → h.inputs ≡ 0
+pub nothing_there : (n : Naming) (h : LayoutCursor) (d : PlacedOutputs) → h.dot ≡ 0 → h.dots.items ≡ [] → h.inputs ≡ 0
     → h.symbols.list ≡ [] → d.sections.list ≡ [] → d.regions ≡ [] → layout_of n h d ≡ nothing_placed
 nothing_there n h d a b c e f g = rw (a, b, c, e, f, g) refl
 
-pub begins : (n : Naming) (h : Here) (d : Done) (rows : List (List Piece)) (provided : List (List ℕ))
+pub begins : (n : Naming) (h : LayoutCursor) (d : PlacedOutputs) (rows : List (List Piece)) (provided : List (List ℕ))
     (script : List Statement)
     → h.dot ≡ 0 → h.dots.items ≡ [] → h.inputs ≡ 0 → h.symbols.list ≡ [] → d.sections.list ≡ [] → d.regions ≡ []
     → run (statement_step rows provided) (layout_of n h d) script ≡ placement script rows provided
@@ -72,7 +72,7 @@ unfolding placement
 begins n h d rows provided script a b c e f g =
     ap (λ s. run (statement_step rows provided) s script) (nothing_there n h d a b c e f g)
 
-pub stops_at : (script : List Statement) (rows : List (List Piece)) (provided : List (List ℕ)) (s : Stop)
+pub stops_at : (script : List Statement) (rows : List (List Piece)) (provided : List (List ℕ)) (s : LayoutStop)
     (r : PlaceFault)
     → (placement script rows provided ≡ Err (fault_named s)) ⊎ (s ≡ stop.NoMemory) → Reports script (fault_named s) r
     → (s ≡ stop.NoMemory → r ≡ place_fault.NoMemory) → Stops script rows provided r
@@ -80,7 +80,7 @@ stops_at script rows provided s (place_fault.First f) (inl h) shown memory =
     record { fault = fault_named s; stops = h; shown = shown }
 stops_at script rows provided s (place_fault.First f) (inr m) shown memory = let e = memory m in
     absurd (let no : ⊥ = cc in no)
-stops_at script rows provided s (place_fault.Meeting fs) h shown memory = absurd shown
+stops_at script rows provided s (place_fault.Overlapping fs) h shown memory = absurd shown
 stops_at script rows provided s place_fault.NoMemory h shown memory = tt
 
 pub empty_list : {X : Type 0} (xs ys : List X) (b : Bool) → ys ≡ xs → b ≡ (length ys == 0) → b ≡ true → xs ≡ []

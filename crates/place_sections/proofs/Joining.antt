@@ -1,4 +1,4 @@
--- The layout of a script from those of its parts, and what an earlier layout of the script tells of its SECTIONS.
+-- The layout of a script from those of its parts, and what an previous layout of the script tells of its SECTIONS.
 use Rattle.std.proofs.Common.{◌≡◌, ℕ, List, Result, Ok, Err, ◌⊎◌, inl, inr, refl, sym, ap, subst, ◌∙◌}
 use Rattle.ldscript.specs.statements.declared.statement.Item.{Item}
 use Rattle.ldscript.specs.statements.declared.statement.Statement.{Statement}
@@ -13,13 +13,13 @@ use Rattle.place_sections.proofs.Grows.{given_is}
 use Rattle.place_sections.proofs.InParts.{before_same, in_parts}
 use Rattle.place_sections.proofs.Onward.{leads_before, statements_on}
 use Rattle.place_sections.specs.Boundaries.{AreBoundaries}
-use Rattle.place_sections.specs.Earlier.{Earlier, EarlierScript}
+use Rattle.place_sections.specs.PreviousPlacement.{PreviousPlacement, EarlierScript}
 use Rattle.place_sections.specs.Inputs.{rows_of}
 use Rattle.place_sections.specs.Parts.{after_sections, before_sections, items_within}
 use Rattle.place_sections.specs.State.{fault_of, Gives}
 use Rattle.place_sections.specs.declared.script.Input.{Input}
-use Rattle.place_sections.specs.declared.stop.Stop.{Stop}
-use Rattle.place_sections.specs.declared.stop.Stop.TheVariants.{NoMemory}
+use Rattle.place_sections.specs.declared.stop.LayoutStop.{LayoutStop}
+use Rattle.place_sections.specs.declared.stop.LayoutStop.TheVariants.{NoMemory}
 
 module _ (rows : List (List Piece)) (provided : List (List ℕ)) (script : List Statement) (s : Layout) where
   -- where the statements before SECTIONS come to
@@ -54,7 +54,7 @@ module _ (rows : List (List Piece)) (provided : List (List ℕ)) (script : List 
 pub earlier_items : (n : Naming) (i : Input) (script script' : List Statement) (s t : Layout)
     (statements : List Statement) (items : List Item) → script' ≡ script → items ≡ items_within statements
     → run (statement_step (rows_of n i) i.provided.now) s (before_sections statements) ≡ Ok t
-    → EarlierScript n i script s statements → Earlier n i script' t items
+    → EarlierScript n i script s statements → PreviousPlacement n i script' t items
 earlier_items n i script script' s t statements items same_script same_items comes e =
     let provided : List (List ℕ) = i.provided.now in
     let first : run (statement_step e.rows provided) s (before_sections statements) ≡ Ok t =
@@ -63,8 +63,8 @@ earlier_items n i script script' s t statements items same_script same_items com
     let goes = sym (first_part_gives e.rows provided statements s (Ok t) first) ∙ e.leads.comes in
     let h = chained (run (item_step e.rows provided) t (items_within statements))
     (λ u. run (statement_step e.rows provided) u (after_sections statements)) e.leads.layout goes in
-    subst (λ z. Earlier n i z t items) (sym same_script)
-    (subst (λ z. Earlier n i script t z) (sym same_items) (record {
+    subst (λ z. PreviousPlacement n i z t items) (sym same_script)
+    (subst (λ z. PreviousPlacement n i script t z) (sym same_items) (record {
       rows = e.rows;
       same = e.same;
       leads = leads_before script i.kept h.value e.leads.layout
@@ -77,7 +77,7 @@ earlier_items n i script script' s t statements items same_script same_items com
     }))
 
 -- where a part stops, or memory runs out, so does the whole
-pub stops_so : {T : Type 0} (wanted whole : Result Layout Fault) (t : Layout) (r : Result T Stop) (f : Stop)
+pub stops_so : {T : Type 0} (wanted whole : Result Layout Fault) (t : Layout) (r : Result T LayoutStop) (f : LayoutStop)
     → (wanted ≡ Err (fault_of f)) ⊎ (f ≡ NoMemory) → (wanted ≡ Err (fault_of f) → whole ≡ Err (fault_of f)) → r ≡ Err f
     → Gives whole t r
 stops_so wanted whole t r f (inl e) so is = subst (Gives whole t) (sym is) (inl (so e))

@@ -6,7 +6,7 @@ use Rattle.ldscript.specs.statements.Numbering.{all_directives}
 use Rattle.ldscript.specs.statements.declared.statement.Statement.{Statement}
 use Rattle.ldmodel.specs.Chain.{run}
 use Rattle.ldmodel.specs.Layout.{Layout, nothing_placed}
-use Rattle.ldmodel.specs.Lent.{data_of, placed_of, starts_of, symbol_of}
+use Rattle.ldmodel.specs.PlacementView.{data_of, placed_of, starts_of, symbol_of}
 use Rattle.ldmodel.specs.Placement.{placement, statement_step}
 use Rattle.ldmodel.specs.Rows.{Piece}
 use Rattle.ldmodel.specs.declared.script_symbol.DirectiveIndex.{DirectiveIndex}
@@ -17,7 +17,7 @@ use Rattle.place_terms.specs.LayoutSymbols.{AreFound, Rises}
 use Rattle.place_sections.proofs.Beginning.{begins_same}
 use Rattle.place_sections.specs.Boundaries.{data_in, AreBoundariesOf}
 use Rattle.place_sections.specs.Alongside.{ScriptAlongside}
-use Rattle.place_sections.specs.Earlier.{EarlierScript, Same}
+use Rattle.place_sections.specs.PreviousPlacement.{EarlierScript, Same}
 use Rattle.place_sections.specs.Inputs.{rows_of}
 use Rattle.place_sections.specs.Kept.{IsKept}
 use Rattle.place_sections.specs.Leads.{Keeps, Leads, counts_of}
@@ -29,7 +29,7 @@ whole_run : (rows : List (List Piece)) (provided : List (List ℕ)) (script : Li
 unfolding placement
 whole_run rows provided script = refl
 
--- with a placement that is kept there is an earlier layout, with the PROVIDEs that were in force
+-- with a placement that is kept there is an previous layout, with the PROVIDEs that were in force
 module _ (n : Naming) (i : Input) (script : List Statement) (p : Places) (first : ℕ) (numbers : List DirectiveIndex)
     (k : IsKept script (rows_of n i) p first) (a : Keeps p first numbers i.kept) where
   same_rows : Same i.kept.first k.earlier (rows_of n i)

@@ -5,14 +5,14 @@ use Rattle.ldscript.specs.statements.Numbering.{OutputSectionAt, output_sections
 use Rattle.ldscript.specs.statements.declared.section.OutputSection.{OutputSection}
 use Rattle.ldscript.specs.statements.declared.statement.Region.{Region}
 use Rattle.ldmodel_laws.specs.Traces.{AddsSection, Trace, all_added, nothing_added, region_added, section_added}
-use Rattle.ldmodel.specs.Layout.{Layout, PlacedSection, nothing_placed}
+use Rattle.ldmodel.specs.Layout.{Layout, PlacedOutput, nothing_placed}
 use Rattle.ldmodel.specs.Project.{Project}
 use Rattle.ldmodel.specs.Placement.{placed_section}
 use Rattle.place_sections.specs.Meetings.{AreOutputs}
 
 -- the names of the output sections so far
 abbrev names : Layout → List (List ℕ)
-names s = map (λ (q : PlacedSection). q.name) s.sections
+names s = map (λ (q : PlacedOutput). q.name) s.sections
 
 abbrev names_of : List OutputSectionAt → List (List ℕ)
 names_of os = map (λ (o : OutputSectionAt). o.section.name) os
@@ -21,7 +21,7 @@ names_of os = map (λ (o : OutputSectionAt). o.section.name) os
 name_added : (s : Layout) (o : OutputSection) (t : Layout) → AddsSection s o t → names s ++ o.name ∷ [] ≡ names t
 unfolding placed_section
 name_added s o t h =
-    let name : PlacedSection → List ℕ = λ q. q.name in
+    let name : PlacedOutput → List ℕ = λ q. q.name in
     ap (λ l. map name l ++ o.name ∷ []) (sym h.nothing.sections)
     ∙ sym (map-append name h.last.layout.sections (placed_section o h.head h.last ∷ []))
     ∙ ap names h.after
@@ -31,7 +31,7 @@ names_traced : (s u : Layout) (rs : List Region) (os : List OutputSectionAt) →
     → names s ++ names_of os ≡ names u
 names_traced s u [] [] all_added = append-nil (names s)
 names_traced s u rs os (nothing_added {t = t} h more) =
-    ap (λ l. map (λ (q : PlacedSection). q.name) l ++ names_of os) (sym h.sections) ∙ names_traced t u rs os more
+    ap (λ l. map (λ (q : PlacedOutput). q.name) l ++ names_of os) (sym h.sections) ∙ names_traced t u rs os more
 names_traced s u (r ∷ rs) os (region_added origin extent more) = names_traced _ u rs os more
 names_traced s u rs (o ∷ os) (section_added {t = t} h more) =
     sym (append_assoc (names s) (o.section.name ∷ []) (names_of os))

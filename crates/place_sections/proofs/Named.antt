@@ -13,8 +13,8 @@ use Rattle.ldscript.specs.statements.Numbering.{OutputSectionAt, output_sections
 use Rattle.ldmodel.specs.Fault.{Fault}
 use Rattle.ldmodel.specs.Fault as fault
 use Rattle.ldmodel.specs.FaultCode.{fault_of, name_of_output}
-use Rattle.ldmodel.specs.Layout.{PlacedSection}
-use Rattle.ldmodel.specs.Lent.{placed_of}
+use Rattle.ldmodel.specs.Layout.{PlacedOutput}
+use Rattle.ldmodel.specs.PlacementView.{placed_of}
 use Rattle.ldmodel.specs.Overlaps.{addresses_meet, load_addresses_meet, meetings, met, overlaps}
 use Rattle.ldmodel.specs.Project.{Project}
 use Rattle.ldmodel.specs.declared.fault.Fault as code
@@ -26,10 +26,10 @@ use Rattle.place_sections.specs.declared.extent.Extent.{Extent}
 use Rattle.place_sections.specs.declared.overlaps.Space.{Space}
 use Rattle.place_sections.specs.declared.overlaps.Space.TheVariants.{Memory, Load}
 
-abbrev extent_of : Space → PlacedSection → Extent
+abbrev extent_of : Space → PlacedOutput → Extent
 extent_of space q = extent_in space (placed_of q)
 
-abbrev meets_in : Space → PlacedSection → PlacedSection → Bool
+abbrev meets_in : Space → PlacedOutput → PlacedOutput → Bool
 meets_in Memory = addresses_meet
 meets_in Load = load_addresses_meet
 
@@ -38,7 +38,7 @@ fault_named Memory = fault.AddressesMeet
 fault_named Load = fault.LoadAddressesMeet
 
 -- the test on ranges is that on sections
-meets_are : (space : Space) (q : PlacedSection) → (λ x. meet (extent_of space q) (extent_of space x)) ≡ meets_in space q
+meets_are : (space : Space) (q : PlacedOutput) → (λ x. meet (extent_of space q) (extent_of space x)) ≡ meets_in space q
 meets_are Memory q = refl
 meets_are Load q = refl
 
@@ -66,17 +66,17 @@ mapped_or : {A B : Type 0} (f : A → B) (o : Option A) (d : B) → option_map_o
 mapped_or f None d = refl
 mapped_or f (Some x) d = refl
 
-abbrev NamesStand : Project → List PlacedSection → Type 0
-NamesStand p s = (k : ℕ) (q : PlacedSection) → slice_get s k ≡ Some q → name_of_output p k ≡ q.name
+abbrev NamesStand : Project → List PlacedOutput → Type 0
+NamesStand p s = (k : ℕ) (q : PlacedOutput) → slice_get s k ≡ Some q → name_of_output p k ≡ q.name
 
-names_stand : (p : Project) (s : List PlacedSection) → AreOutputs p s → NamesStand p s
+names_stand : (p : Project) (s : List PlacedOutput) → AreOutputs p s → NamesStand p s
 names_stand p s outputs k q at =
     mapped_or (λ (o : OutputSectionAt). o.section.name) (slice_get (output_sections p.script) k) []
     ∙ ap (λ o. unwrap_or o [])
     (sym (slice_get-map (λ (o : OutputSectionAt). o.section.name) (output_sections p.script) k)
     ∙ ap (λ l. slice_get l k) (sym outputs)
-    ∙ slice_get-map (λ (x : PlacedSection). x.name) s k
-    ∙ ap (λ o. option_map (λ (x : PlacedSection). x.name) o) at)
+    ∙ slice_get-map (λ (x : PlacedOutput). x.name) s k
+    ∙ ap (λ o. option_map (λ (x : PlacedOutput). x.name) o) at)
 
 get_left : {A : Type 0} (xs ys : List A) (i : ℕ) (x : A) → slice_get xs i ≡ Some x → slice_get (xs ++ ys) i ≡ Some x
 get_left [] ys i x at = absurd (cc at)
@@ -88,13 +88,13 @@ get_middle [] ys x = refl
 get_middle (z ∷ zs) ys x = get_middle zs ys x
 
 -- the fault of one section
-met_is : (p : Project) (number : ℕ → ℕ) (space : Space) (earlier rest : List PlacedSection) (q : PlacedSection)
+met_is : (p : Project) (number : ℕ → ℕ) (space : Space) (earlier rest : List PlacedOutput) (q : PlacedOutput)
     → NamesStand p (earlier ++ q ∷ rest)
     → map (fault_of p number) (fault_with space (length earlier) (position (meets_in space q) earlier))
     ≡ met (fault_named space) q (find (meets_in space q) earlier)
 met_is p number space earlier rest q names = elim (cases_lt i (length earlier)) [
   | inl within ↦
-      let x : PlacedSection = get_or earlier i q in
+      let x : PlacedOutput = get_or earlier i q in
       let at : slice_get earlier i ≡ Some x = slice_get-get_or earlier i q within in
       ap (λ o. map (fault_of p number) (fault_with space (length earlier) o))
       (ap (λ b. cond b (Some i) None) (lt-ltb i (length earlier) within))
@@ -110,7 +110,7 @@ met_is p number space earlier rest q names = elim (cases_lt i (length earlier)) 
   i : ℕ
   i = position_or_len (meets_in space q) earlier
 
-pub all_met : (p : Project) (number : ℕ → ℕ) (space : Space) (earlier rest : List PlacedSection)
+pub all_met : (p : Project) (number : ℕ → ℕ) (space : Space) (earlier rest : List PlacedOutput)
     → NamesStand p (earlier ++ rest)
     → map (fault_of p number) (met_after space (map (extent_of space) earlier) (map (extent_of space) rest))
     ≡ meetings (meets_in space) (fault_named space) earlier rest

@@ -4,14 +4,14 @@ use Rattle.std.proofs.Common.{ap, ◌∙◌}
 use Rattle.std.specs.Prelude.{bytes_eq}
 use Rattle.std.specs.Option.{option_map}
 use mathlib.Core.Path.{fun_ext}
-use Rattle.ldmodel.specs.Layout.{PlacedSection, scope_of, section_named}
+use Rattle.ldmodel.specs.Layout.{PlacedOutput, scope_of, section_named}
 use Rattle.ldmodel.specs.Value.{SectionNumbers}
 use Rattle.ldmodel.specs.declared.placed.Placed.{Placed}
 use Rattle.place_terms.specs.Keyed.{KeyedSection, section_of}
 use Rattle.place_terms.specs.Naming.{Naming}
 use Rattle.place_sections.specs.State.{layout_of}
-use Rattle.place_sections.specs.declared.state.Done.{Done}
-use Rattle.place_sections.specs.declared.state.Here.{Here}
+use Rattle.place_sections.specs.declared.state.PlacedOutputs.{PlacedOutputs}
+use Rattle.place_sections.specs.declared.state.LayoutCursor.{LayoutCursor}
 
 abbrev pub asked : Placed → SectionNumbers
 asked q = record { start = q.start; load = q.load; size = q.size }
@@ -19,23 +19,24 @@ asked q = record { start = q.start; load = q.load; size = q.size }
 pub numbers_found : (n : Naming) (xs : List KeyedSection) (name : List ℕ)
     → option_map asked (option_map (λ (x : KeyedSection).
     x.placed) (find (λ (x : KeyedSection). bytes_eq x.name name) xs))
-    ≡ option_map (λ (q : PlacedSection). record { start = q.start; load = q.load; size = q.size })
+    ≡ option_map (λ (q : PlacedOutput). record { start = q.start; load = q.load; size = q.size })
     (section_named (map (section_of n) xs) name)
 numbers_found n [] name = refl
 numbers_found n (x ∷ xs) name = go (bytes_eq x.name name) (numbers_found n xs name)
   where
     go : (b : Bool) → option_map asked
         (option_map (λ (y : KeyedSection). y.placed) (find (λ (y : KeyedSection). bytes_eq y.name name) xs))
-        ≡ option_map (λ (q : PlacedSection). record { start = q.start; load = q.load; size = q.size })
+        ≡ option_map (λ (q : PlacedOutput). record { start = q.start; load = q.load; size = q.size })
         (section_named (map (section_of n) xs) name)
         → option_map asked (option_map (λ (y : KeyedSection).
         y.placed) (cond b (Some x) (find (λ (y : KeyedSection). bytes_eq y.name name) xs)))
-        ≡ option_map (λ (q : PlacedSection). record { start = q.start; load = q.load; size = q.size })
+        ≡ option_map (λ (q : PlacedOutput). record { start = q.start; load = q.load; size = q.size })
         (cond b (Some (section_of n x)) (section_named (map (section_of n) xs) name))
     go true h = refl
     go false h = h
 
-pub same_scope : (n m : Naming) (h : Here) (d : Done) → scope_of (layout_of n h d) ≡ scope_of (layout_of m h d)
+pub same_scope : (n m : Naming) (h : LayoutCursor) (d : PlacedOutputs) → scope_of (layout_of n h d)
+    ≡ scope_of (layout_of m h d)
 same_scope n m h d =
     ap (λ (f : List ℕ → Option SectionNumbers).
     record {

@@ -20,10 +20,10 @@ use Rattle.place_sections.specs.Boundaries.{AreNoted, IsAt, IsBoundary, sections
 use Rattle.place_sections.specs.Next.{AreFirst, IsNext}
 use Rattle.place_sections.specs.State.{layout_of, fault_of, Gives}
 use Rattle.place_sections.specs.declared.boundary.Boundary.{Boundary}
-use Rattle.place_sections.specs.declared.state.Done.{Done}
-use Rattle.place_sections.specs.declared.state.Here.{Here}
-use Rattle.place_sections.specs.declared.stop.Stop.{Stop}
-use Rattle.place_sections.specs.declared.stop.Stop.TheVariants as stop
+use Rattle.place_sections.specs.declared.state.PlacedOutputs.{PlacedOutputs}
+use Rattle.place_sections.specs.declared.state.LayoutCursor.{LayoutCursor}
+use Rattle.place_sections.specs.declared.stop.LayoutStop.{LayoutStop}
+use Rattle.place_sections.specs.declared.stop.LayoutStop.TheVariants as stop
 
 -- an element of a list with one more
 among_more : {X : Type 0} (xs : List X) (x : X) (k : ℕ) (y : X) → slice_get (xs ++ x ∷ []) k ≡ Some y
@@ -37,14 +37,14 @@ among_more (z ∷ zs) x (suc k) y e = elim (among_more zs x k y e) [
 ]
 
 module _ (n : Naming) (rows : List (List Piece)) (provided : List (List ℕ)) (start : Layout) (items : List Item)
-    (h : Here) (d : Done) (k : ℕ) (x : Item)
+    (h : LayoutCursor) (d : PlacedOutputs) (k : ℕ) (x : Item)
     (comes : run (item_step rows provided) start (take k items) ≡ Ok (layout_of n h d))
     (l : k < length items) (at : x ≡ get_or items k x) where
   there : slice_get items k ≡ Some x
   there = slice_get_read items (length items) k x refl l at
 
   -- where a statement stops, all do
-  pub stops_there : {T : Type 0} (s : Layout) (f : Stop) (r : Result T Stop)
+  pub stops_there : {T : Type 0} (s : Layout) (f : LayoutStop) (r : Result T LayoutStop)
       → (item_step rows provided (layout_of n h d) x ≡ Err (fault_of f)) ⊎ (f ≡ stop.NoMemory) → r ≡ Err f
       → Gives (run (item_step rows provided) start items) s r
   stops_there s f r (inl e) is =
@@ -52,7 +52,8 @@ module _ (n : Naming) (rows : List (List Piece)) (provided : List (List ℕ)) (s
       (inl (run_stops (item_step rows provided) items k x start (layout_of n h d) (fault_of f) comes there e))
   stops_there s f r (inr m) is = subst (Gives (run (item_step rows provided) start items) s) (sym is) (inr m)
 
-  module _ (h' : Here) (d' : Done) (step : item_step rows provided (layout_of n h d) x ≡ Ok (layout_of n h' d')) where
+  module _ (h' : LayoutCursor) (d' : PlacedOutputs) (step : item_step rows provided (layout_of n h d) x
+      ≡ Ok (layout_of n h' d')) where
     pub comes_on : run (item_step rows provided) start (take (k + 1) items) ≡ Ok (layout_of n h' d')
     comes_on =
         let e : suc k ≡ k + 1 = omega arith in
@@ -80,7 +81,8 @@ module _ (n : Naming) (rows : List (List Piece)) (provided : List (List ℕ)) (s
 
 -- where all statements have come to
 pub all_there : (n : Naming) (rows : List (List Piece)) (provided : List (List ℕ)) (start : Layout) (items : List Item)
-    (h : Here) (d : Done) (k : ℕ) → run (item_step rows provided) start (take k items) ≡ Ok (layout_of n h d)
+    (h : LayoutCursor) (d : PlacedOutputs) (k : ℕ) → run (item_step rows provided) start (take k items)
+    ≡ Ok (layout_of n h d)
     → length items ≤ k → run (item_step rows provided) start (take (length items) items) ≡ Ok (layout_of n h d)
 all_there n rows provided start items h d k comes l =
     ap (run (item_step rows provided) start) (take_all (length items) items (omega arith) ∙ sym (take_all k items l))
@@ -88,7 +90,8 @@ all_there n rows provided start items h d k comes l =
 
 -- one boundary more
 pub noted_more : (n : Naming) (rows : List (List Piece)) (provided : List (List ℕ)) (start : Layout) (items : List Item)
-    (h : Here) (d : Done) (k : ℕ) → run (item_step rows provided) start (take k items) ≡ Ok (layout_of n h d)
+    (h : LayoutCursor) (d : PlacedOutputs) (k : ℕ) → run (item_step rows provided) start (take k items)
+    ≡ Ok (layout_of n h d)
     → (bs more : List Boundary) (b : Boundary) → AreNoted rows provided start items bs (length d.sections.list)
     → b.items ≡ k → IsAt b (layout_of n h d) → (length (sections_at items k) ≡ 1) ⊎ (k ≡ length items)
     → more ≡ bs ++ b ∷ [] → AreNoted rows provided start items more (length d.sections.list + 1)

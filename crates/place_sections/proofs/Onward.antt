@@ -19,8 +19,8 @@ use Rattle.ldmodel.specs.Arithmetic.{plus_modulo}
 use Rattle.ldmodel.specs.Placement.{directive_step}
 use Rattle.ldmodel.specs.Chain.{run}
 use Rattle.ldmodel.specs.Fault.{Fault}
-use Rattle.ldmodel.specs.Layout.{Layout, PlacedSection, noted, number}
-use Rattle.ldmodel.specs.Lent.{data_of, numbered, placed_of, starts_of, symbol_of}
+use Rattle.ldmodel.specs.Layout.{Layout, PlacedOutput, noted, number}
+use Rattle.ldmodel.specs.PlacementView.{data_of, numbered, placed_of, starts_of, symbol_of}
 use Rattle.ldmodel.specs.Placement.{command_step, free_dot_step, item_command_step, item_step, next_row}
 use Rattle.ldmodel.specs.Placement.{region_step, section_step, statement_step, with_region}
 use Rattle.ldmodel.specs.Rows.{Piece}
@@ -30,7 +30,7 @@ use Rattle.place_sections.proofs.Ending.{chained}
 use Rattle.place_sections.proofs.Grows.{directive_adds, directive_keeps, directive_leaves, given_is}
 use Rattle.place_sections.specs.Boundaries.{data_in}
 use Rattle.place_sections.specs.Leads.{Begins, Leads, counts_of}
-use Rattle.place_sections.specs.declared.kept.Kept.{Kept}
+use Rattle.place_sections.specs.declared.reusable_placement.ReusablePlacement.{ReusablePlacement}
 
 -- output sections, symbols and values of `.`, and more of each
 pub record On (s t : Layout) : Type 0 where
@@ -141,7 +141,8 @@ statements_on rows provided =
     run_on (statement_step rows provided) (λ s x t e. command_on rows provided x.line s x.command t e)
 
 -- what leads to a later layout leads to an earlier one
-pub leads_before : (script : List Statement) (k : Kept) (s t : Layout) (r q : Result Layout Fault) → On s t → r ≡ Ok s
+pub leads_before : (script : List Statement) (k : ReusablePlacement) (s t : Layout) (r q : Result Layout Fault) → On s t
+    → r ≡ Ok s
     → (l : Leads script k q) → l.layout ≡ t
     → Leads script k r
 leads_before script k s t r q o e l m =
@@ -152,7 +153,7 @@ leads_before script k s t r q o e l m =
       sections = begins_on (map placed_of s.sections) (map placed_of l.layout.sections) k.earlier.sections.now
           (begins_mapped placed_of s.sections l.layout.sections v.sections) l.sections;
       counts = begins_on (counts_of s.sections) (counts_of l.layout.sections) k.earlier.counts.now
-          (begins_mapped (λ (x : PlacedSection). length x.pieces) s.sections l.layout.sections v.sections) l.counts;
+          (begins_mapped (λ (x : PlacedOutput). length x.pieces) s.sections l.layout.sections v.sections) l.counts;
       starts = begins_on (flat_map starts_of s.sections) (flat_map starts_of l.layout.sections) k.earlier.starts.now
           (begins_flat starts_of s.sections l.layout.sections v.sections) l.starts;
       data_commands = begins_on (data_in s.sections) (data_in l.layout.sections)
@@ -164,7 +165,7 @@ leads_before script k s t r q o e l m =
       rises = l.rises;
     }
   where
-    begins_data : (xs ys : List PlacedSection) → Begins xs ys → Begins (data_in xs) (data_in ys)
+    begins_data : (xs ys : List PlacedOutput) → Begins xs ys → Begins (data_in xs) (data_in ys)
     begins_data xs ys b = record {
       later = flat_map numbered (enumerate_from (0 + length xs) b.later);
       is = ap data_in b.is

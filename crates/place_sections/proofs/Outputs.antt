@@ -16,7 +16,7 @@ use Rattle.ldscript.specs.statements.declared.statement.Statement.{Statement}
 use Rattle.ldmodel.specs.Arithmetic.{plus_modulo}
 use Rattle.ldmodel.specs.Placement.{Body, body_step}
 use Rattle.ldmodel.specs.Chain.{run}
-use Rattle.ldmodel.specs.Layout.{Layout, PlacedSection, address, nothing_placed, noted, number}
+use Rattle.ldmodel.specs.Layout.{Layout, PlacedOutput, address, nothing_placed, noted, number}
 use Rattle.ldmodel.specs.Placement.{command_step, free_dot_step, item_command_step, item_step, next_row, opened}
 use Rattle.ldmodel.specs.Placement.{placement, region_step, section_step, statement_step, with_region}
 use Rattle.ldmodel.specs.Rows.{Piece}
@@ -26,8 +26,8 @@ use Rattle.place_sections.proofs.Ending.{chained}
 use Rattle.place_sections.proofs.Grows.{body_grows, directive_keeps, given_is}
 use Rattle.ldmodel.specs.Placement.{Body}
 
-abbrev names_of : List PlacedSection → List (List ℕ)
-names_of sections = map (λ (q : PlacedSection). q.name) sections
+abbrev names_of : List PlacedOutput → List (List ℕ)
+names_of sections = map (λ (q : PlacedOutput). q.name) sections
 
 abbrev names_in : List OutputSectionAt → List (List ℕ)
 names_in sections = map (λ (s : OutputSectionAt). s.section.name) sections
@@ -37,7 +37,7 @@ pub end_adds : (line : ℕ) (o : OutputSection) (h : Head) (b : Body) (t : Layou
     → t.sections ≡ b.layout.sections ++ placed_section o h b ∷ []
 unfolding section_end
 end_adds line o h b t e =
-    let q : PlacedSection = placed_section o h b in
+    let q : PlacedOutput = placed_section o h b in
     let x = chained (with_room (find_region b.layout o.region) q.start q.size q) _ t e in
     let y = chained (with_room (find_region b.layout (load_region o.load)) q.load q.load_size q) _ t x.second in
     let z = chained (address line (q.load + q.load_size)) _ t y.second in
@@ -56,7 +56,7 @@ section_names_it provided row s line o t e =
     h.second in
     let g = body_grows provided o.body (opened s row h.value) b.value b.first in
     let a = end_adds line o h.value b.value t b.second in
-    ap names_of a ∙ (map-append (λ (q : PlacedSection). q.name) b.value.layout.sections
+    ap names_of a ∙ (map-append (λ (q : PlacedOutput). q.name) b.value.layout.sections
     (placed_section o h.value b.value ∷ [])
     ∙ (ap (λ l. names_of l ++ (placed_section o h.value b.value).name ∷ []) g.sections
     ∙ ap (λ n. names_of s.sections ++ n ∷ []) (section_name o h.value b.value)))
@@ -68,7 +68,7 @@ free_dot_keeps s line (Set e) t h = let k = chained (number s line e) _ t h in
 free_dot_keeps s line (Add e) t h = let k = chained (number s line e) _ t h in
     ap (λ (u : Layout). u.sections) (sym (given_is (record s { dot = plus_modulo s.dot k.value }) t k.second))
 
-unnamed : (xs ys : List PlacedSection) → xs ≡ ys → names_of xs ≡ names_of ys ++ []
+unnamed : (xs ys : List PlacedOutput) → xs ≡ ys → names_of xs ≡ names_of ys ++ []
 unnamed xs ys e = ap names_of e ∙ sym (append-nil (names_of ys))
 
 pub item_names : (rows : List (List Piece)) (provided : List (List ℕ)) (line : ℕ) (s : Layout) (c : ItemCommand)
@@ -145,7 +145,7 @@ statements_names rows provided (x ∷ xs) s t e =
 
 -- the sections of a layout are the script's
 pub outputs_are : (script : List Statement) (rows : List (List Piece)) (provided : List (List ℕ)) (s : Layout)
-    → placement script rows provided ≡ Ok s → map (λ (q : PlacedSection). q.name) s.sections
+    → placement script rows provided ≡ Ok s → map (λ (q : PlacedOutput). q.name) s.sections
     ≡ map (λ (x : OutputSectionAt). x.section.name) (output_sections script)
 unfolding placement
 outputs_are script rows provided s e = statements_names rows provided script nothing_placed s e

@@ -12,7 +12,7 @@ use Rattle.ldscript.specs.statements.declared.statement.ItemCommand.TheVariants 
 use Rattle.ldscript.specs.statements.declared.statement.Statement.{Statement}
 use Rattle.ldmodel.specs.Chain.{run}
 use Rattle.ldmodel.specs.Layout.{Layout, noted}
-use Rattle.ldmodel.specs.Lent.{symbol_of}
+use Rattle.ldmodel.specs.PlacementView.{symbol_of}
 use Rattle.ldmodel.specs.Placement.{item_command_step, item_step, next_row, section_step}
 use Rattle.ldmodel.specs.Rows.{Piece}
 use Rattle.ldmodel.specs.Placement.{freed_from, load_region}
@@ -30,7 +30,7 @@ use Rattle.place_sections.proofs.Runs.{drop_at, run_first, run_more, run_none, r
 use Rattle.place_sections.proofs.Still.{still_two}
 use Rattle.place_sections.proofs.Taking.{grown, section_taken}
 use Rattle.place_sections.specs.Boundaries.{data_in, AreNoted, IsBoundary}
-use Rattle.place_sections.specs.Earlier.{Earlier, Same}
+use Rattle.place_sections.specs.PreviousPlacement.{PreviousPlacement, Same}
 use Rattle.place_sections.specs.Inputs.{rows_of}
 use Rattle.place_sections.specs.Leads.{Begins, Leads}
 use Rattle.place_sections.specs.Next.{AreFirst, IsNextAt}
@@ -38,8 +38,8 @@ use Rattle.place_sections.specs.State.{layout_of}
 use Rattle.place_sections.specs.Taken.{Takes}
 use Rattle.place_sections.specs.declared.boundary.Boundary.{Boundary}
 use Rattle.place_sections.specs.declared.script.Input.{Input}
-use Rattle.place_sections.specs.declared.state.Done.{Done}
-use Rattle.place_sections.specs.declared.state.Here.{Here}
+use Rattle.place_sections.specs.declared.state.PlacedOutputs.{PlacedOutputs}
+use Rattle.place_sections.specs.declared.state.LayoutCursor.{LayoutCursor}
 
 -- a step looks at one row at most, that of an output section
 command_same : (provided : List (List ℕ)) (first : ℕ) (earlier rows : List (List Piece)) (line : ℕ) (s : Layout)
@@ -80,7 +80,8 @@ boundary_same provided first earlier rows items s b k a l i = record {
 }
 
 -- this many output sections are taken over, as earlier rows had them
-pub record Reached (n : Naming) (i : Input) (s : Layout) (items : List Item) (rows : List (List Piece)) (d : Done)
+pub record Reached (n : Naming) (i : Input) (s : Layout) (items : List Item) (rows : List (List Piece))
+    (d : PlacedOutputs)
     (count : ℕ) : Type 0 where
   pub place : ℕ
   pub state : Layout
@@ -89,7 +90,8 @@ pub record Reached (n : Naming) (i : Input) (s : Layout) (items : List Item) (ro
   pub regions : d.regions ≡ state.regions
   pub many : length d.sections.list ≡ count
 
-pub none_reached : (n : Naming) (i : Input) (h : Here) (items : List Item) (rows : List (List Piece)) (d : Done)
+pub none_reached : (n : Naming) (i : Input) (h : LayoutCursor) (items : List Item) (rows : List (List Piece))
+    (d : PlacedOutputs)
     → d.sections.list ≡ [] → Reached n i (layout_of n h d) items rows d 0
 none_reached n i h items rows d none = record {
   place = 0;
@@ -106,7 +108,7 @@ step_is : (rows : List (List Piece)) (provided : List (List ℕ)) (s t : Layout)
 unfolding item_command_step
 step_is rows provided s t x line o same e = sym (ap (item_step rows provided s) same) ∙ e
 
--- the output section at a boundary, from a layout on, where the earlier layout had come to after it
+-- the output section at a boundary, from a layout on, where the previous layout had come to after it
 record Stepped (script : List Statement) (i : Input) (rows : List (List Piece)) (s : Layout) (items : List Item)
     (b : Boundary) (row : List Piece) (state : Layout) (line : ℕ) (o : OutputSection) : Type 0 where
   after : Layout
@@ -115,7 +117,8 @@ record Stepped (script : List Statement) (i : Input) (rows : List (List Piece)) 
   leads : Leads script i.kept (section_step i.provided.now row (noted state) line o)
 
 module _ (n : Naming) (i : Input) (script : List Statement) (s : Layout) (items : List Item)
-    (e : Earlier n i script s items) (b : Boundary) (k : ℕ) (there : slice_get i.kept.boundaries.now k ≡ Some b) where
+    (e : PreviousPlacement n i script s items) (b : Boundary) (k : ℕ) (there : slice_get i.kept.boundaries.now k
+    ≡ Some b) where
   abbrev at : IsBoundary e.rows i.provided.now s items b k
   at = e.boundaries k b there
 
@@ -175,7 +178,7 @@ module _ (n : Naming) (i : Input) (script : List Statement) (s : Layout) (items 
 
   -- one more, the data commands of which end at the next boundary
   pub reached_on : (next : Boundary) → slice_get i.kept.boundaries.now (k + 1) ≡ Some next → k < i.kept.first
-      → (old new : Done) → Reached n i s items e.rows old k → Takes i items b next old new
+      → (old new : PlacedOutputs) → Reached n i s items e.rows old k → Takes i items b next old new
       → Reached n i s items e.rows new (k + 1)
   reached_on next there_next l old new r t =
       let provided : List (List ℕ) = i.provided.now in
@@ -216,8 +219,9 @@ module _ (n : Naming) (i : Input) (script : List Statement) (s : Layout) (items 
             omega (arith, m, z);
       }
 
-  -- where the earlier layout had come to
-  state_is : (h : Here) (d : Done) → Reached n i s items e.rows d k → h.symbols.script ≡ script → h.dot ≡ b.dot
+  -- where the previous layout had come to
+  state_is : (h : LayoutCursor) (d : PlacedOutputs) → Reached n i s items e.rows d k → h.symbols.script ≡ script → h.dot
+      ≡ b.dot
       → h.dots.items ≡ take b.dots i.kept.dots.now → h.inputs ≡ b.inputs
       → h.symbols.list ≡ take b.symbols i.kept.symbols.now → layout_of n h d ≡ at.state
   state_is h d r same dot dots inputs symbols =
@@ -239,7 +243,8 @@ module _ (n : Naming) (i : Input) (script : List Statement) (s : Layout) (items 
       at.at.symbols)) in
       rw (dot ∙ at.at.dot, dots_are, inputs ∙ at.at.inputs, names, r.regions ∙ two.1, r.sections ∙ two.0) refl
 
-  pub goes_on : (h : Here) (d : Done) → k ≤ i.kept.first → Reached n i s items e.rows d k → h.symbols.script ≡ script
+  pub goes_on : (h : LayoutCursor) (d : PlacedOutputs) → k ≤ i.kept.first → Reached n i s items e.rows d k
+      → h.symbols.script ≡ script
       → h.dot ≡ b.dot → h.dots.items ≡ take b.dots i.kept.dots.now → h.inputs ≡ b.inputs
       → h.symbols.list ≡ take b.symbols i.kept.symbols.now
       → run (item_step (rows_of n i) i.provided.now) s (take b.items items) ≡ Ok (layout_of n h d)
@@ -249,7 +254,7 @@ module _ (n : Naming) (i : Input) (script : List Statement) (s : Layout) (items 
       ∙ ap Ok (sym (state_is h d r same dot dots inputs symbols))
 
   -- the statement there is the next output section of the script, if it is one
-  pub taken_next : (outputs : List Statement) → s.sections ≡ [] → AreFirst outputs items → (d : Done)
+  pub taken_next : (outputs : List Statement) → s.sections ≡ [] → AreFirst outputs items → (d : PlacedOutputs)
       → Reached n i s items e.rows d k → d.sections.script ≡ outputs
       → IsNextAt d.sections.script (length d.sections.list) items b.items
   taken_next outputs none first d r same =
@@ -268,7 +273,7 @@ among_first (suc m) (y ∷ ys) (suc k) x e = let h = among_first m ys k x e in (
 
 -- what is taken over up to a boundary
 module _ (n : Naming) (i : Input) (script : List Statement) (s : Layout) (items : List Item)
-    (e : Earlier n i script s items) (count : ℕ) (few : count ≤ i.kept.first) where
+    (e : PreviousPlacement n i script s items) (count : ℕ) (few : count ≤ i.kept.first) where
   pub all_noted : (boundaries : List Boundary) (complete : ℕ) → boundaries ≡ take count i.kept.boundaries.now
       → count < length i.kept.boundaries.now → complete ≡ count
       → AreNoted (rows_of n i) i.provided.now s items boundaries complete

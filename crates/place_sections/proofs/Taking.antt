@@ -8,8 +8,8 @@ use Rattle.std.proofs.lemmas.Grind.{flat_map-append}
 use Rattle.std.proofs.lemmas.List.{append-nil, length-map, map-append}
 use Rattle.ldscript.specs.statements.declared.section.OutputSection.{OutputSection}
 use Rattle.ldscript.specs.statements.declared.statement.Statement.{Statement}
-use Rattle.ldmodel.specs.Layout.{Layout, PlacedData, PlacedPiece, PlacedSection}
-use Rattle.ldmodel.specs.Lent.{NumberedData, data_of, numbered, placed_of, starts_of}
+use Rattle.ldmodel.specs.Layout.{Layout, PlacedData, PlacedPiece, PlacedOutput}
+use Rattle.ldmodel.specs.PlacementView.{NumberedData, data_of, numbered, placed_of, starts_of}
 use Rattle.ldmodel.specs.Placement.{section_step}
 use Rattle.ldmodel.specs.Rows.{Piece}
 use Rattle.ldmodel.specs.declared.placed.Placed.{Placed}
@@ -25,8 +25,8 @@ use Rattle.place_sections.proofs.Grows.{the_piece}
 use Rattle.place_sections.proofs.Wholes.{data_whole, starts_whole}
 use Rattle.place_sections.specs.Boundaries.{data_in}
 use Rattle.place_sections.specs.Leads.{Begins, Leads, counts_of}
-use Rattle.place_terms.specs.Earlier.{IsTaken, earlier_of, part_of}
-use Rattle.place_sections.specs.declared.kept.Kept.{Kept}
+use Rattle.place_terms.specs.PreviousLayout.{IsTaken, earlier_of, part_of}
+use Rattle.place_sections.specs.declared.reusable_placement.ReusablePlacement.{ReusablePlacement}
 
 -- the one after the first ones of a list
 pub after_first : {X : Type 0} (xs : List X) (x : X) (ys : List X) → slice_get (xs ++ x ∷ ys) (length xs) ≡ Some x
@@ -72,7 +72,7 @@ plain_data : (ds : List code_data.PlacedData) → map data_at (map data_at_of ds
 plain_data [] = refl
 plain_data (d ∷ ds) = ap (λ l. data_at (data_at_of d) ∷ l) (plain_data ds)
 
-plain_numbered : (k : ℕ) (q : PlacedSection) → map plain (numbered (k, q)) ≡ q.data_commands
+plain_numbered : (k : ℕ) (q : PlacedOutput) → map plain (numbered (k, q)) ≡ q.data_commands
 plain_numbered k q = go q.data_commands
   where
     go : (ds : List PlacedData)
@@ -80,7 +80,8 @@ plain_numbered k q = go q.data_commands
     go [] = refl
     go (d ∷ ds) = ap (λ l. d ∷ l) (go ds)
 
-module _ (n : Naming) (script : List Statement) (k : Kept) (provided : List (List ℕ)) (row : List rows.Piece)
+module _ (n : Naming) (script : List Statement) (k : ReusablePlacement) (provided : List (List ℕ))
+    (row : List rows.Piece)
     (s : Layout) (line : ℕ) (o : OutputSection) (before : List KeyedSection)
     (sections : s.sections ≡ map (section_of n) before)
     (l : Leads script k (section_step provided (row_named n row) s line o)) where
@@ -90,7 +91,7 @@ module _ (n : Naming) (script : List Statement) (k : Kept) (provided : List (Lis
   pub grown : SectionGrown (row_named n row) s o t
   grown = section_grows provided (row_named n row) s line o t l.comes
 
-  abbrev pub q : PlacedSection
+  abbrev pub q : PlacedOutput
   q = grown.section
 
   many : length before ≡ length s.sections
@@ -107,8 +108,8 @@ module _ (n : Naming) (script : List Statement) (k : Kept) (provided : List (Lis
   count_is m e =
       let at = next_element (counts_of s.sections) (length q.pieces) (counts_of t.sections) k.earlier.counts.now
       (length before) (ap counts_of grown.added
-      ∙ map-append (λ (x : PlacedSection). length x.pieces) s.sections (q ∷ [])) l.counts
-      (many ∙ sym (length-map s.sections (λ (x : PlacedSection). length x.pieces))) in
+      ∙ map-append (λ (x : PlacedOutput). length x.pieces) s.sections (q ∷ [])) l.counts
+      (many ∙ sym (length-map s.sections (λ (x : PlacedOutput). length x.pieces))) in
       cc
 
   pub starts_are : (m : ℕ) → m ≡ length q.pieces

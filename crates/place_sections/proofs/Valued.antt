@@ -9,10 +9,11 @@ use Rattle.place_terms.specs.Naming.{Naming}
 use Rattle.place_terms.specs.SectionTable.{nameless}
 use Rattle.place_sections.proofs.Naming.{same_scope}
 use Rattle.place_sections.specs.State.{layout_of}
-use Rattle.place_sections.specs.declared.state.Done.{Done}
-use Rattle.place_sections.specs.declared.state.Here.{Here}
+use Rattle.place_sections.specs.declared.state.PlacedOutputs.{PlacedOutputs}
+use Rattle.place_sections.specs.declared.state.LayoutCursor.{LayoutCursor}
 
-pub number_is : (n : Naming) (h : Here) (d : Done) (line : ℕ) (e : Expr) (r : Result ℕ code.ValueFault) → outcome_of r
+pub number_is : (n : Naming) (h : LayoutCursor) (d : PlacedOutputs) (line : ℕ) (e : Expr) (r : Result ℕ code.ValueFault)
+    → outcome_of r
     ≡ value (scope_of (layout_of nameless h d)) h.dot e → value_at line (outcome_of r) ≡ number (layout_of n h d) line e
 unfolding number
 number_is n h d line e r found =

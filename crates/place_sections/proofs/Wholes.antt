@@ -2,11 +2,11 @@
 use Rattle.std.proofs.Common.{◌≡◌, ℕ, zero, suc, arith, ◌+◌, List, [], ◌∷◌, ◌++◌, map, refl, sym, ap, ◌∙◌, ◌<◌, length}
 use Rattle.std.proofs.Common.{get_or, drop, append_assoc}
 use Rattle.std.proofs.lemmas.List.{drop_more, length-map}
-use Rattle.ldmodel.specs.Layout.{PlacedSection}
+use Rattle.ldmodel.specs.Layout.{PlacedOutput}
 use Rattle.std.specs.Prelude.{flat_map}
 use Rattle.std.specs.List.{enumerate_from}
 use Rattle.ldmodel.specs.Layout.{PlacedPiece}
-use Rattle.ldmodel.specs.Lent.{placed_of, starts_of, numbered}
+use Rattle.ldmodel.specs.PlacementView.{placed_of, starts_of, numbered}
 use Rattle.place_terms.specs.Keyed.{KeyedPiece, KeyedSection, section_of, piece_at}
 use Rattle.place_terms.specs.Naming.{Naming}
 use Rattle.place_terms.specs.SectionTable.{Ends as KeyedEnds}
@@ -18,7 +18,7 @@ placed_whole n [] = refl
 placed_whole n (x ∷ xs) = ap (λ l. x.placed ∷ l) (placed_whole n xs)
 
 pub counts_whole : (n : Naming) (xs : List KeyedSection) → counts_in xs
-    ≡ map (λ (q : PlacedSection). length q.pieces) (map (section_of n) xs)
+    ≡ map (λ (q : PlacedOutput). length q.pieces) (map (section_of n) xs)
 counts_whole n [] = refl
 counts_whole n (x ∷ xs) =
     ap (λ k. k ∷ counts_in xs) (sym (length-map x.pieces (piece_at n)))

@@ -1,5 +1,5 @@
--- An earlier layout alongside the present one, whose rows are the same before a number. Other PROVIDEs may have been in
--- force in it: so it differs in symbols alone.
+-- An previous layout alongside the present one, whose rows are the same before a number. Other PROVIDEs may have been
+-- in force in it: so it differs in symbols alone.
 use Rattle.std.specs.Prelude.{◌≡◌, ℕ, ◌+◌, ◌<◌, ◌≤◌, List, [], ◌∷◌, ◌++◌, ⊤, true, false, ◌==◌, drop, length, map, Ok}
 use Rattle.std.specs.Prelude.{IfSome, slice_index_or}
 use Rattle.ldscript.specs.statements.Numbering.{all_directives, directives_in, items_directives}
@@ -13,21 +13,21 @@ use Rattle.ldscript.specs.statements.declared.statement.ItemCommand.TheVariants 
 use Rattle.ldscript.specs.statements.declared.statement.Statement.{Statement}
 use Rattle.ldmodel.specs.Placement.{Body, body_step, piece_start}
 use Rattle.ldmodel.specs.Chain.{run}
-use Rattle.ldmodel.specs.Layout.{Layout, PlacedPiece, PlacedSection}
-use Rattle.ldmodel.specs.Lent.{starts_of}
+use Rattle.ldmodel.specs.Layout.{Layout, PlacedPiece, PlacedOutput}
+use Rattle.ldmodel.specs.PlacementView.{starts_of}
 use Rattle.ldmodel.specs.Placement.{item_step, section_step, statement_step}
 use Rattle.ldmodel.specs.Rows.{Piece}
 use Rattle.ldmodel_laws.specs.Alike.{AreAlike, AreBodiesAlike, names_given}
-use Rattle.place_terms.specs.Earlier.{AreStartsOf}
+use Rattle.place_terms.specs.PreviousLayout.{AreStartsOf}
 use Rattle.place_terms.specs.Keyed.{KeyedSection}
 use Rattle.place_terms.specs.Naming.{Naming, row_named}
 use Rattle.place_terms.specs.Wholes.{starts_in}
-use Rattle.place_sections.specs.Earlier.{Same}
+use Rattle.place_sections.specs.PreviousPlacement.{Same}
 use Rattle.place_sections.specs.Inputs.{rows_of}
 use Rattle.place_sections.specs.Leads.{Leads}
 use Rattle.place_sections.specs.declared.script.Input.{Input}
-use Rattle.place_sections.specs.declared.state.Frame.{Frame}
-use Rattle.place_sections.specs.declared.state.Here.{Here}
+use Rattle.place_sections.specs.declared.state.CurrentOutput.{CurrentOutput}
+use Rattle.place_sections.specs.declared.state.LayoutCursor.{LayoutCursor}
 
 -- the entries of an input statement, with which a row begins, start at these, where `.` is at a number
 abbrev pub StartAt : ℕ → ℕ → List Piece → List ℕ → Type 0
@@ -37,7 +37,7 @@ StartAt statement dot (p ∷ rest) (x ∷ starts) =
     (p.statement == statement) ≡ true → (x ≡ piece_start dot p) × StartAt statement (x + p.size) rest starts
 
 -- the entries of the next input statement start where they did, if it is known where that is
-abbrev pub StartsThere : Naming → Here → Frame → Type 0
+abbrev pub StartsThere : Naming → LayoutCursor → CurrentOutput → Type 0
 StartsThere n h f =
     IfSome f.starts (λ s.
     StartAt h.inputs h.dot (row_named n (drop (length h.pieces.items) f.row.now)) (drop (length h.pieces.items) s.now))
@@ -59,7 +59,7 @@ pub record BodyAlongside (starts : List ℕ) (b : Body) (xs : List BodyStatement
   pub comes : run (body_step provided) body xs ≡ Ok last
   pub starts_are : map (λ (x : PlacedPiece). x.start) last.pieces ≡ starts
 
--- an earlier layout, which differs in symbols alone, goes on with this output section, whose input sections have these
+-- an previous layout, which differs in symbols alone, goes on with this output section, whose input sections have these
 -- starts
 pub record SectionAlongside (row : List Piece) (s : Layout) (line : ℕ) (o : OutputSection) (starts : List ℕ)
     : Type 0 where
@@ -69,11 +69,11 @@ pub record SectionAlongside (row : List Piece) (s : Layout) (line : ℕ) (o : Ou
   pub alike : AreAlike (names_given (directives_in o.body) ++ names) state s
   pub after : Layout
   pub comes : section_step provided row state line o ≡ Ok after
-  pub section : PlacedSection
+  pub section : PlacedOutput
   pub added : after.sections ≡ state.sections ++ section ∷ []
   pub starts_are : starts_of section ≡ starts
 
--- where an output section is the next statement, and its row is as it was, an earlier layout goes on with it
+-- where an output section is the next statement, and its row is as it was, an previous layout goes on with it
 abbrev pub IsAlongside : Naming → Input → Layout → List KeyedSection → ℕ → ItemCommand → Type 0
 IsAlongside n i s sections line (item.Section o) =
     (starts : List ℕ) → i.kept.same_provided ≡ false → length sections < i.kept.first
@@ -83,7 +83,7 @@ IsAlongside n i s sections line (item.Dot c) = ⊤
 IsAlongside n i s sections line (item.Directive c) = ⊤
 IsAlongside n i s sections line (item.Discard inputs) = ⊤
 
--- an earlier layout, which differs in symbols alone, goes on with these statements of SECTIONS to one with which the
+-- an previous layout, which differs in symbols alone, goes on with these statements of SECTIONS to one with which the
 -- kept one begins
 pub record ItemsAlongside (n : Naming) (i : Input) (script : List Statement) (s : Layout) (xs : List Item)
     : Type 0 where

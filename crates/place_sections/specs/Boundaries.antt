@@ -6,15 +6,15 @@ use Rattle.ldscript.specs.statements.Numbering.{OutputSectionAt, item_sections}
 use Rattle.ldscript.specs.statements.declared.statement.Item.{Item}
 use Rattle.ldscript.specs.statements.declared.statement.Statement.{Statement}
 use Rattle.ldmodel.specs.Chain.{run}
-use Rattle.ldmodel.specs.Layout.{Layout, PlacedSection}
-use Rattle.ldmodel.specs.Lent.{NumberedData, numbered}
+use Rattle.ldmodel.specs.Layout.{Layout, PlacedOutput}
+use Rattle.ldmodel.specs.PlacementView.{NumberedData, numbered}
 use Rattle.ldmodel.specs.Placement.{item_step, statement_step}
 use Rattle.ldmodel.specs.Rows.{Piece}
 use Rattle.place_sections.specs.Parts.{before_sections, items_within}
 use Rattle.place_sections.specs.declared.boundary.Boundary.{Boundary}
 
 -- the data commands of output sections, with the numbers of these
-abbrev pub data_in : List PlacedSection → List NumberedData
+abbrev pub data_in : List PlacedOutput → List NumberedData
 data_in sections = flat_map numbered (enumerate_from 0 sections)
 
 -- the numbers of a layout

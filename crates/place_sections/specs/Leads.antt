@@ -1,17 +1,17 @@
--- What is to come, told by an earlier layout.
+-- What is to come, told by an previous layout.
 use Rattle.std.specs.Prelude.{◌≡◌, ℕ, List, ◌++◌, length, map, flat_map, Result, Ok, true}
 use Rattle.ldscript.specs.statements.declared.statement.Statement.{Statement}
 use Rattle.ldmodel.specs.Fault.{Fault}
-use Rattle.ldmodel.specs.Layout.{Layout, PlacedSection}
-use Rattle.ldmodel.specs.Lent.{data_of, placed_of, starts_of, symbol_of}
+use Rattle.ldmodel.specs.Layout.{Layout, PlacedOutput}
+use Rattle.ldmodel.specs.PlacementView.{data_of, placed_of, starts_of, symbol_of}
 use Rattle.ldmodel.specs.declared.script_symbol.DirectiveIndex.{DirectiveIndex}
 use Rattle.place_terms.specs.LayoutSymbols.{AreFound, Rises}
 use Rattle.place_sections.specs.Boundaries.{data_in}
 use Rattle.place_sections.specs.Places.{Places}
-use Rattle.place_sections.specs.declared.kept.Kept.{Kept}
+use Rattle.place_sections.specs.declared.reusable_placement.ReusablePlacement.{ReusablePlacement}
 
 -- all of a placement, before the row of a number, where these PROVIDEs are in force now
-pub record Keeps (p : Places) (first : ℕ) (provided : List DirectiveIndex) (k : Kept) : Type 0 where
+pub record Keeps (p : Places) (first : ℕ) (provided : List DirectiveIndex) (k : ReusablePlacement) : Type 0 where
   pub sections : k.earlier.sections.now ≡ p.sections
   pub counts : k.earlier.counts.now ≡ p.counts
   pub starts : k.earlier.starts.now ≡ p.starts
@@ -27,11 +27,11 @@ pub record Begins {X : Type 0} (xs ys : List X) : Type 0 where
   pub later : List X
   pub is : ys ≡ xs ++ later
 
-abbrev pub counts_of : List PlacedSection → List ℕ
-counts_of sections = map (λ (q : PlacedSection). length q.pieces) sections
+abbrev pub counts_of : List PlacedOutput → List ℕ
+counts_of sections = map (λ (q : PlacedOutput). length q.pieces) sections
 
 -- it comes to a layout with which the kept one begins; symbols are those of a script
-pub record Leads (script : List Statement) (k : Kept) (wanted : Result Layout Fault) : Type 0 where
+pub record Leads (script : List Statement) (k : ReusablePlacement) (wanted : Result Layout Fault) : Type 0 where
   pub layout : Layout
   pub comes : wanted ≡ Ok layout
   pub sections : Begins (map placed_of layout.sections) k.earlier.sections.now

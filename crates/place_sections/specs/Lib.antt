@@ -17,5 +17,5 @@ pub mod Ends
 pub mod Counted
 pub mod Kept
 pub mod Leads
-pub mod Earlier
+pub mod PreviousPlacement
 pub mod Alongside

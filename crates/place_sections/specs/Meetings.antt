@@ -2,20 +2,20 @@
 use Rattle.std.specs.Prelude.{◌≡◌, ℕ, List, map}
 use Rattle.ldscript.specs.statements.Numbering.{OutputSectionAt, output_sections}
 use Rattle.ldmodel.specs.FaultCode.{fault_of}
-use Rattle.ldmodel.specs.Layout.{PlacedSection}
-use Rattle.ldmodel.specs.Lent.{placed_of}
+use Rattle.ldmodel.specs.Layout.{PlacedOutput}
+use Rattle.ldmodel.specs.PlacementView.{placed_of}
 use Rattle.ldmodel.specs.Overlaps.{overlaps}
 use Rattle.ldmodel.specs.Project.{Project}
 use Rattle.ldmodel.specs.declared.fault.Fault as code
 use Rattle.ldmodel.specs.declared.placed.Placed.{Placed}
 
 -- output sections with the names of those of a script, in its order
-abbrev pub AreOutputs : Project → List PlacedSection → Type 0
+abbrev pub AreOutputs : Project → List PlacedOutput → Type 0
 AreOutputs p s =
-    map (λ (q : PlacedSection). q.name) s ≡ map (λ (o : OutputSectionAt). o.section.name) (output_sections p.script)
+    map (λ (q : PlacedOutput). q.name) s ≡ map (λ (o : OutputSectionAt). o.section.name) (output_sections p.script)
 
 -- faults are those of output sections that meet, in each project whose output sections stand so
 abbrev pub AreOverlaps : List Placed → List code.Fault → Type 0
 AreOverlaps placed faults =
-    (p : Project) (number : ℕ → ℕ) (s : List PlacedSection) → map placed_of s ≡ placed → AreOutputs p s
+    (p : Project) (number : ℕ → ℕ) (s : List PlacedOutput) → map placed_of s ≡ placed → AreOutputs p s
     → map (fault_of p number) faults ≡ overlaps s

@@ -13,18 +13,18 @@ use Rattle.place_terms.specs.ProvidedTable.{provided_names}
 use Rattle.place_sections.specs.Boundaries.{AreBoundariesOf}
 use Rattle.place_sections.specs.Places.{AreOf, IsFirstFault, Places, StandsFor}
 use Rattle.place_sections.specs.declared.fault.PlaceFault.{PlaceFault}
-use Rattle.place_sections.specs.declared.fault.PlaceFault.TheVariants.{First, Meeting, NoMemory}
+use Rattle.place_sections.specs.declared.fault.PlaceFault.TheVariants.{First, Overlapping, NoMemory}
 
 -- a fault by its names is reported
 abbrev pub Reports : List Statement → Fault → PlaceFault → Type 0
 Reports script fault (First f) = StandsFor script f fault
-Reports script fault (Meeting fs) = ⊥
+Reports script fault (Overlapping fs) = ⊥
 Reports script fault NoMemory = ⊤
 
 -- the placement stops at its first fault, or memory ran out
 abbrev pub Stops : List Statement → List (List Piece) → List (List ℕ) → PlaceFault → Type 0
 Stops script rows provided (First f) = IsFirstFault script rows provided f
-Stops script rows provided (Meeting fs) = ⊥
+Stops script rows provided (Overlapping fs) = ⊥
 Stops script rows provided NoMemory = ⊤
 
 -- places of a layout in which no output sections meet
@@ -49,5 +49,5 @@ pub record AreMeetings (script : List Statement) (rows : List (List Piece)) (pro
 -- why there are no such places
 abbrev pub IsWhy : List Statement → List (List Piece) → List (List ℕ) → PlaceFault → Type 0
 IsWhy script rows provided (First f) = IsFirstFault script rows provided f
-IsWhy script rows provided (Meeting fs) = AreMeetings script rows provided fs.items
+IsWhy script rows provided (Overlapping fs) = AreMeetings script rows provided fs.items
 IsWhy script rows provided NoMemory = ⊤

@@ -4,8 +4,8 @@ use Rattle.std.specs.List.{All, enumerate_from}
 use Rattle.ldscript.specs.statements.declared.statement.Statement.{Statement}
 use Rattle.ldmodel.specs.Fault.{Fault}
 use Rattle.ldmodel.specs.FaultCode.{fault_of}
-use Rattle.ldmodel.specs.Layout.{Layout, PlacedSection, nothing_placed}
-use Rattle.ldmodel.specs.Lent.{data_of, numbered, placed_of, region_of, starts_of, symbol_of}
+use Rattle.ldmodel.specs.Layout.{Layout, PlacedOutput, nothing_placed}
+use Rattle.ldmodel.specs.PlacementView.{data_of, numbered, placed_of, region_of, starts_of, symbol_of}
 use Rattle.ldmodel.specs.Placement.{placement}
 use Rattle.ldmodel.specs.Project.{Project}
 use Rattle.ldmodel.specs.Rows.{Piece}
@@ -39,7 +39,7 @@ Ends sections = All (λ (q : Placed). q.start + q.size < 2 ^ 64) sections
 -- they are those of the layout of a script, and its symbols are found under the numbers of their commands, which rise
 pub record AreOf (script : List Statement) (s : Layout) (p : Places) : Type 0 where
   pub sections : p.sections ≡ map placed_of s.sections
-  pub counts : p.counts ≡ map (λ (q : PlacedSection). length q.pieces) s.sections
+  pub counts : p.counts ≡ map (λ (q : PlacedOutput). length q.pieces) s.sections
   pub starts : p.starts ≡ flat_map starts_of s.sections
   pub data_commands : map data_of p.data_commands ≡ flat_map numbered (enumerate_from 0 s.sections)
   pub dots : p.dots ≡ s.dots

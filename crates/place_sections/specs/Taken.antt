@@ -1,14 +1,14 @@
--- An output section that is taken over from an earlier layout.
+-- An output section that is taken over from an previous layout.
 use Rattle.std.specs.Prelude.{◌≡◌, ℕ, ◌+◌, List, [], ◌∷◌, ◌++◌, length, map, Some, slice_get, slice_index_or}
 use Rattle.ldscript.specs.statements.declared.section.OutputSection.{OutputSection}
 use Rattle.ldscript.specs.statements.declared.statement.Item.{Item}
 use Rattle.ldscript.specs.statements.declared.statement.ItemCommand.TheVariants.{Section}
 use Rattle.ldmodel.specs.Placement.{freed_from, load_region}
-use Rattle.place_terms.specs.Earlier.{IsTaken, earlier_of}
+use Rattle.place_terms.specs.PreviousLayout.{IsTaken, earlier_of}
 use Rattle.place_terms.specs.Keyed.{KeyedSection}
 use Rattle.place_sections.specs.declared.boundary.Boundary.{Boundary}
 use Rattle.place_sections.specs.declared.script.Input.{Input}
-use Rattle.place_sections.specs.declared.state.Done.{Done}
+use Rattle.place_sections.specs.declared.state.PlacedOutputs.{PlacedOutputs}
 
 -- the statement at a place is an output section
 pub record IsSection (items : List Item) (place : ℕ) (o : OutputSection) : Type 0 where
@@ -17,7 +17,7 @@ pub record IsSection (items : List Item) (place : ℕ) (o : OutputSection) : Typ
 
 -- the output section at a boundary is taken over, with the data commands up to the next one, and its regions go on at
 -- its ends
-pub record Takes (i : Input) (items : List Item) (b next : Boundary) (old new : Done) : Type 0 where
+pub record Takes (i : Input) (items : List Item) (b next : Boundary) (old new : PlacedOutputs) : Type 0 where
   pub output : OutputSection
   pub at : IsSection items b.items output
   pub section : KeyedSection

@@ -5,14 +5,19 @@ ghost use Rattle.ldmodel.specs.Placement.{assigned, directive_step};
 ghost use Rattle.place_terms.specs.Naming.{Naming};
 ghost use Rattle.place_sections.specs.State.{layout_of, Gives};
 
-use crate::state::{Done, Here};
-use crate::stop::Stop;
+use crate::state::{LayoutCursor, PlacedOutputs};
+use crate::stop::LayoutStop;
 use ldscript::tree::{Assignment, Directive};
 use place_terms::provided::Provided;
 
-impl<'a> Here<'a> {
+impl<'a> LayoutCursor<'a> {
     /// `NAME = e`.
-    fn assign(&mut self, done: &Done<'a>, line: u32, a: &'a Assignment) -> Result<(), Stop<'a>>
+    fn assign(
+        &mut self,
+        done: &PlacedOutputs<'a>,
+        line: u32,
+        a: &'a Assignment,
+    ) -> Result<(), LayoutStop<'a>>
         ghost naming: { Naming }
         ensures gives { Gives (assigned (layout_of naming self.old done.now) line a.now)
             (layout_of naming self.new done.now) result }
@@ -30,11 +35,11 @@ impl<'a> Here<'a> {
     #[tactic(auto, unfolding(ldmodel::specs::Placement::directive_step))]
     pub fn directive(
         &mut self,
-        done: &Done<'a>,
+        done: &PlacedOutputs<'a>,
         provided: &Provided<'a>,
         line: u32,
         command: &'a Directive,
-    ) -> Result<(), Stop<'a>>
+    ) -> Result<(), LayoutStop<'a>>
         ghost naming: { Naming }
         ensures gives { Gives (directive_step provided.now (layout_of naming self.old done.now) line command.now)
             (layout_of naming self.new done.now) result }
@@ -49,7 +54,7 @@ impl<'a> Here<'a> {
                 Some(true) => self.assign(done, line, a),
                 Some(false) => Ok(()),
                 // Unreachable: the name is one that the script gives a value
-                None => Err(Stop::NoMemory),
+                None => Err(LayoutStop::NoMemory),
             },
             Directive::Assert(_) => Ok(()),
         }

@@ -11,23 +11,23 @@ ghost use Rattle.place_sections.specs.Alongside.{BodyAlongside, IfInput, StartAt
 ghost use Rattle.place_sections.specs.Counted.{Counted, CountsAlong, Entered, StaysThere};
 ghost use Rattle.place_sections.specs.State.{body_of, Gives};
 
-use crate::state::{Frame, Here};
-use crate::stop::Stop;
+use crate::state::{CurrentOutput, LayoutCursor};
+use crate::stop::LayoutStop;
 use ldmodel::rows::Piece;
 use ldmodel_laws::layout::steps_stay_alike;
 use ldscript::tree::{BodyCommand, BodyStatement, DotCommand, DotForm, Expr, Formula, Width};
 use place_terms::sections::{DataAt, PieceAt};
 
-impl<'d, 'a> Frame<'d, 'a> {
+impl<'d, 'a> CurrentOutput<'d, 'a> {
     /// The next entry of the row takes its place, which starts there.
     #[tactic(auto, unfolding(ldmodel::specs::Placement::piece_placed))]
     fn put_piece(
         &self,
-        here: &mut Here<'a>,
+        here: &mut LayoutCursor<'a>,
         line: u32,
         piece: &'a Piece,
         start: u64,
-    ) -> Result<(), Stop<'a>>
+    ) -> Result<(), LayoutStop<'a>>
         ghost naming: { Naming }
         requires { start ≡ piece_start here.now.dot (piece_named naming piece.now) }
         ensures gives { Gives
@@ -44,7 +44,7 @@ impl<'d, 'a> Frame<'d, 'a> {
         ensures no_more { length here.new.pieces.items ≤ length here.old.pieces.items + 1 }
     {
         let Some(end) = start.checked_add(piece.size) else {
-            return Err(Stop::PastAddressSpace { line });
+            return Err(LayoutStop::PastAddressSpace { line });
         };
         here.pieces.push(PieceAt { start, piece })?;
         here.dot = end;
@@ -53,7 +53,12 @@ impl<'d, 'a> Frame<'d, 'a> {
 
     /// The next entry of the row is placed anew.
     #[tactic(auto, unfolding(ldmodel::specs::Placement::piece_placed))]
-    fn place_piece(&self, here: &mut Here<'a>, line: u32, piece: &'a Piece) -> Result<(), Stop<'a>>
+    fn place_piece(
+        &self,
+        here: &mut LayoutCursor<'a>,
+        line: u32,
+        piece: &'a Piece,
+    ) -> Result<(), LayoutStop<'a>>
         ghost naming: { Naming }
         ensures gives { Gives
             (piece_placed line (body_of naming here.old self.now) (piece_named naming piece.now)
@@ -66,7 +71,7 @@ impl<'d, 'a> Frame<'d, 'a> {
         ensures few { length here.new.pieces.items ≤ length here.old.pieces.items + 1 }
     {
         let Some(start) = here.dot.checked_next_multiple_of(piece.alignment.max(1)) else {
-            return Err(Stop::PastAddressSpace { line });
+            return Err(LayoutStop::PastAddressSpace { line });
         };
         self.put_piece(here, line, piece, start)?;
         here.anew = here.anew.saturating_add(1);
@@ -75,7 +80,12 @@ impl<'d, 'a> Frame<'d, 'a> {
 
     /// The entries of an input statement are placed anew.
     #[tactic(auto, unfolding(ldmodel::specs::Placement::pieces_placed))]
-    fn place_pieces(&self, here: &mut Here<'a>, line: u32, number: u64) -> Result<(), Stop<'a>>
+    fn place_pieces(
+        &self,
+        here: &mut LayoutCursor<'a>,
+        line: u32,
+        number: u64,
+    ) -> Result<(), LayoutStop<'a>>
         ghost naming: { Naming }
         ensures gives { Gives
             (pieces_placed line number (body_of naming here.old self.now)
@@ -97,11 +107,11 @@ impl<'d, 'a> Frame<'d, 'a> {
     #[tactic(auto, unfolding(ldmodel::specs::Placement::pieces_placed))]
     fn keep_pieces(
         &self,
-        here: &mut Here<'a>,
+        here: &mut LayoutCursor<'a>,
         line: u32,
         number: u64,
         starts: &[u64],
-    ) -> Result<(), Stop<'a>>
+    ) -> Result<(), LayoutStop<'a>>
         ghost naming: { Naming }
         requires { StartAt number here.now.dot
             (row_named naming (drop (length here.now.pieces.items) self.now.row.now))
@@ -121,7 +131,7 @@ impl<'d, 'a> Frame<'d, 'a> {
             }
             let Some(start) = starts.get(place) else {
                 // Unreachable: the earlier row had as many entries
-                return Err(Stop::NoMemory);
+                return Err(LayoutStop::NoMemory);
             };
             self.put_piece(here, line, piece, *start)?;
         }
@@ -129,7 +139,7 @@ impl<'d, 'a> Frame<'d, 'a> {
     }
 
     /// An input statement.
-    fn place_input(&self, here: &mut Here<'a>, line: u32) -> Result<(), Stop<'a>>
+    fn place_input(&self, here: &mut LayoutCursor<'a>, line: u32) -> Result<(), LayoutStop<'a>>
         ghost naming: { Naming }
         requires { StartsThere naming here.now self.now }
         ensures gives { Gives (input_step line (body_of naming here.old self.now)) (body_of naming here.new self.now)
@@ -139,7 +149,7 @@ impl<'d, 'a> Frame<'d, 'a> {
         let number = here.inputs;
         let Some(next) = number.checked_add(1) else {
             // Unreachable: no script has 2^64 input statements
-            return Err(Stop::NoMemory);
+            return Err(LayoutStop::NoMemory);
         };
         match self.starts {
             Some(starts) => self.keep_pieces(here, line, number, starts)?,
@@ -152,11 +162,11 @@ impl<'d, 'a> Frame<'d, 'a> {
     /// BYTE, SHORT, LONG or QUAD.
     fn place_data(
         &self,
-        here: &mut Here<'a>,
+        here: &mut LayoutCursor<'a>,
         line: u32,
         width: Width,
         formula: &'a Formula,
-    ) -> Result<(), Stop<'a>>
+    ) -> Result<(), LayoutStop<'a>>
         ghost naming: { Naming }
         ensures gives { Gives (data_step line (body_of naming here.old self.now) width formula.now)
             (body_of naming here.new self.now) result }
@@ -164,7 +174,7 @@ impl<'d, 'a> Frame<'d, 'a> {
     {
         let value = here.formula(self.done, line, formula)?;
         let Some(end) = here.dot.checked_add(u64::from(width.byte_count())) else {
-            return Err(Stop::PastAddressSpace { line });
+            return Err(LayoutStop::PastAddressSpace { line });
         };
         let start = here.dot;
         here.data_commands.push(DataAt {
@@ -177,7 +187,13 @@ impl<'d, 'a> Frame<'d, 'a> {
     }
 
     /// `.` goes on to a number and some more.
-    fn go_to(&self, here: &mut Here<'a>, line: u32, from: u64, more: u64) -> Result<(), Stop<'a>>
+    fn go_to(
+        &self,
+        here: &mut LayoutCursor<'a>,
+        line: u32,
+        from: u64,
+        more: u64,
+    ) -> Result<(), LayoutStop<'a>>
         ghost naming: { Naming }
         ensures gives { Gives (moved_on line (body_of naming here.old self.now) (from + more))
             (body_of naming here.new self.now) result }
@@ -185,17 +201,22 @@ impl<'d, 'a> Frame<'d, 'a> {
     {
         let dot = here.dot;
         let Some(to) = from.checked_add(more) else {
-            return Err(Stop::PastAddressSpace { line });
+            return Err(LayoutStop::PastAddressSpace { line });
         };
         if to < dot {
-            return Err(Stop::MovedBack { line });
+            return Err(LayoutStop::MovedBack { line });
         }
         here.dot = to;
         Ok(())
     }
 
     /// `. += e` and `. = . + e`.
-    fn advance(&self, here: &mut Here<'a>, line: u32, by: &'a Expr) -> Result<(), Stop<'a>>
+    fn advance(
+        &self,
+        here: &mut LayoutCursor<'a>,
+        line: u32,
+        by: &'a Expr,
+    ) -> Result<(), LayoutStop<'a>>
         ghost naming: { Naming }
         ensures gives { Gives (advanced line (body_of naming here.old self.now) (expr_of by.now))
             (body_of naming here.new self.now) result }
@@ -208,7 +229,12 @@ impl<'d, 'a> Frame<'d, 'a> {
     }
 
     /// `. = e`.
-    fn set_dot(&self, here: &mut Here<'a>, line: u32, to: &'a Expr) -> Result<(), Stop<'a>>
+    fn set_dot(
+        &self,
+        here: &mut LayoutCursor<'a>,
+        line: u32,
+        to: &'a Expr,
+    ) -> Result<(), LayoutStop<'a>>
         ghost naming: { Naming }
         ensures gives { Gives (set_to line (body_of naming here.old self.now) (dot_form (expr_of to.now)))
             (body_of naming here.new self.now) result }
@@ -231,10 +257,10 @@ impl<'d, 'a> Frame<'d, 'a> {
     #[tactic(auto, unfolding(ldmodel::specs::Placement::body_command_step))]
     fn place_command(
         &self,
-        here: &mut Here<'a>,
+        here: &mut LayoutCursor<'a>,
         line: u32,
         command: &'a BodyCommand,
-    ) -> Result<(), Stop<'a>>
+    ) -> Result<(), LayoutStop<'a>>
         ghost naming: { Naming }
         requires { IfInput command.now (StartsThere naming here.now self.now) }
         ensures gives { Gives
@@ -258,9 +284,9 @@ impl<'d, 'a> Frame<'d, 'a> {
 
     fn place_statement(
         &self,
-        here: &mut Here<'a>,
+        here: &mut LayoutCursor<'a>,
         statement: &'a BodyStatement,
-    ) -> Result<(), Stop<'a>>
+    ) -> Result<(), LayoutStop<'a>>
         ghost naming: { Naming }
         requires { IfInput statement.now.command (StartsThere naming here.now self.now) }
         ensures gives { Gives (body_step self.now.provided.now (body_of naming here.old self.now) statement.now)
@@ -273,7 +299,11 @@ impl<'d, 'a> Frame<'d, 'a> {
 
     /// The statements of the body.
     #[tactic(auto, unfolding(ldmodel::specs::Chain::run))]
-    pub fn place_body(&self, here: &mut Here<'a>, body: &'a [BodyStatement]) -> Result<(), Stop<'a>>
+    pub fn place_body(
+        &self,
+        here: &mut LayoutCursor<'a>,
+        body: &'a [BodyStatement],
+    ) -> Result<(), LayoutStop<'a>>
         ghost naming: { Naming }
         requires { IfSome self.now.starts (λ s. BodyAlongside s.now (body_of naming here.now self.now) body.now) }
         ensures gives { Gives (run (body_step self.now.provided.now) (body_of naming here.old self.now) body.now)

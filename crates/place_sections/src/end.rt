@@ -15,8 +15,8 @@ ghost use Rattle.place_sections.specs.Heads.{head_from, Yields};
 ghost use Rattle.place_sections.specs.State.{layout_of, Gives};
 
 use crate::head::{Head, region_name};
-use crate::state::{Done, Here};
-use crate::stop::Stop;
+use crate::state::{LayoutCursor, PlacedOutputs};
+use crate::stop::LayoutStop;
 use elfobj::file::constants::{SHF_EXECINSTR, SHF_WRITE};
 use ldmodel::placed::Placed;
 use ldscript::tree::{Load, OutputSection};
@@ -51,7 +51,7 @@ fn check_room<'a>(
     name: Option<&[u8]>,
     at: u64,
     size: u64,
-) -> Result<(), Stop<'a>>
+) -> Result<(), LayoutStop<'a>>
     ghost naming: { Naming }
     ensures { Yields (λ _. section_of naming (keyed section.now))
         (with_room (option_and_then (region_named regions.now) (option_copied name.entry)) at size
@@ -66,7 +66,7 @@ fn check_room<'a>(
     if is_within(&region, at, size) {
         Ok(())
     } else {
-        Err(Stop::RegionFull {
+        Err(LayoutStop::RegionFull {
             section: section.output.name.as_bytes(),
             region: region.name,
         })
@@ -82,14 +82,14 @@ pub(crate) fn free(regions: &mut Regions<'_>, name: Option<&[u8]>, next: u64)
     }
 }
 
-impl<'a> Done<'a> {
+impl<'a> PlacedOutputs<'a> {
     /// The load end of an output section, for which its regions must have room.
     fn load_end(
         &self,
         line: u32,
         section: &Closed<'a>,
         output: &OutputSection,
-    ) -> Result<u64, Stop<'a>>
+    ) -> Result<u64, LayoutStop<'a>>
         ghost naming: { Naming }
         ensures { Yields (λ x. x) (load_end line output.now self.now.regions (section_of naming (keyed section.now)))
             result }
@@ -111,7 +111,7 @@ impl<'a> Done<'a> {
         )?;
         match at.load.checked_add(at.load_size) {
             Some(end) => Ok(end),
-            None => Err(Stop::PastAddressSpace { line }),
+            None => Err(LayoutStop::PastAddressSpace { line }),
         }
     }
 }
@@ -123,7 +123,7 @@ fn size_if(condition: bool, size: u64) -> u64
     if condition { size } else { 0 }
 }
 
-impl<'a> Here<'a> {
+impl<'a> LayoutCursor<'a> {
     /// Whether an output section of this size has bytes in the file.
     fn has_file_bytes(&self, size: u64) -> bool
         ghost naming: { Naming }
@@ -180,11 +180,11 @@ impl<'a> Here<'a> {
     pub fn end(
         &mut self,
         alloc: Global,
-        done: &mut Done<'a>,
+        done: &mut PlacedOutputs<'a>,
         line: u32,
         output: &'a OutputSection,
         head: Head,
-    ) -> Result<(), Stop<'a>>
+    ) -> Result<(), LayoutStop<'a>>
         ghost naming: { Naming }
         requires next { IsOutput done.now.sections.script (length done.now.sections.list) output.now }
         ensures anew { self.new.anew ≡ self.old.anew }

@@ -5,10 +5,10 @@ ghost use Rattle.ldmodel.specs.Fault.{NotReady, RegionFull};
 ghost use Rattle.ldmodel.specs.Mentioned.{mentioned_names};
 ghost use Rattle.place_sections.specs.Outcomes.{Reports};
 ghost use Rattle.place_sections.specs.State.{fault_of};
-ghost use Rattle.place_sections.specs.declared.stop.Stop.TheVariants.{NoMemory as OutOfMemory};
+ghost use Rattle.place_sections.specs.declared.stop.LayoutStop.TheVariants.{NoMemory as OutOfMemory};
 ghost use Rattle.place_sections.specs.declared.fault.PlaceFault.TheVariants.{NoMemory};
 
-use crate::stop::Stop;
+use crate::stop::LayoutStop;
 use ldmodel::fault::{Fault, MentionIndex};
 use ldscript::Script;
 use place_terms::mentioned::{mention_of, mentioned_names};
@@ -21,7 +21,7 @@ pub enum PlaceFault {
     /// The first fault of the layout: `F4` to `F8`.
     First(Fault),
     /// The layout has no such fault, but output sections share addresses: all `F9`, then all `F10`.
-    Meeting(Vec<Fault>),
+    Overlapping(Vec<Fault>),
     /// Out of memory.
     NoMemory,
 }
@@ -70,16 +70,18 @@ fn region_full(script: &Script, section: &[u8], name: &[u8]) -> PlaceFault
 
 /// The fault at which a layout stops.
 #[tactic(auto, using(crate::proofs::Reporting::stands_no_value, crate::proofs::Reporting::stands_moved_back, crate::proofs::Reporting::stands_past))]
-pub(crate) fn reported(alloc: Global, script: &Script, stop: Stop<'_>) -> PlaceFault
+pub(crate) fn reported(alloc: Global, script: &Script, stop: LayoutStop<'_>) -> PlaceFault
     ensures fault { Reports script.now (fault_of stop.entry) result }
     ensures memory { stop.entry ≡ OutOfMemory → result ≡ NoMemory }
 {
     match stop {
-        Stop::NotReady { line, name } => not_ready(alloc, script, line, name),
-        Stop::NoValue { line } => PlaceFault::First(Fault::NoValue { line }),
-        Stop::MovedBack { line } => PlaceFault::First(Fault::MovedBack { line }),
-        Stop::RegionFull { section, region } => region_full(script, section, region),
-        Stop::PastAddressSpace { line } => PlaceFault::First(Fault::PastAddressSpace { line }),
-        Stop::NoMemory => PlaceFault::NoMemory,
+        LayoutStop::NotReady { line, name } => not_ready(alloc, script, line, name),
+        LayoutStop::NoValue { line } => PlaceFault::First(Fault::NoValue { line }),
+        LayoutStop::MovedBack { line } => PlaceFault::First(Fault::MovedBack { line }),
+        LayoutStop::RegionFull { section, region } => region_full(script, section, region),
+        LayoutStop::PastAddressSpace { line } => PlaceFault::First(Fault::PastAddressSpace {
+            line,
+        }),
+        LayoutStop::NoMemory => PlaceFault::NoMemory,
     }
 }

@@ -10,8 +10,8 @@ ghost use Rattle.place_terms.specs.Naming.{Naming, row_named};
 ghost use Rattle.place_sections.specs.Heads.{given_of, head_from, Yields};
 ghost use Rattle.place_sections.specs.State.{layout_of, outcome};
 
-use crate::state::{Done, Here};
-use crate::stop::Stop;
+use crate::state::{LayoutCursor, PlacedOutputs};
+use crate::stop::LayoutStop;
 use ldmodel::rows::Piece;
 use ldscript::tree::{Formula, Load, OutputSection};
 
@@ -35,7 +35,7 @@ pub(crate) struct Head {
 }
 
 /// The alignment that a head gives, 1 where it gives none.
-fn alignment_of<'a>(line: u32, number: Option<u64>) -> Result<u64, Stop<'a>>
+fn alignment_of<'a>(line: u32, number: Option<u64>) -> Result<u64, LayoutStop<'a>>
     ensures value { outcome result ≡ given_alignment line number }
     ensures positive { IfOk result (λ a. 0 < a) }
 {
@@ -45,7 +45,7 @@ fn alignment_of<'a>(line: u32, number: Option<u64>) -> Result<u64, Stop<'a>>
             if alignment.is_power_of_two() {
                 Ok(alignment)
             } else {
-                Err(Stop::NoValue { line })
+                Err(LayoutStop::NoValue { line })
             }
         }
     }
@@ -76,17 +76,17 @@ pub(crate) fn region_name(section: &OutputSection) -> Option<&[u8]>
 }
 
 /// A multiple of the alignment, not below the number; it must be an address.
-fn align<'a>(line: u32, number: u64, alignment: u64) -> Result<u64, Stop<'a>>
+fn align<'a>(line: u32, number: u64, alignment: u64) -> Result<u64, LayoutStop<'a>>
     requires { 0 < alignment }
     ensures { outcome result ≡ address line (next_multiple_of number alignment) }
 {
     match number.checked_next_multiple_of(alignment) {
         Some(start) => Ok(start),
-        None => Err(Stop::PastAddressSpace { line }),
+        None => Err(LayoutStop::PastAddressSpace { line }),
     }
 }
 
-impl<'a> Done<'a> {
+impl<'a> PlacedOutputs<'a> {
     /// The next free address of a region.
     fn next_free(&self, region: &[u8]) -> u64
         ensures { result ≡ option_map_or (λ (x : MemoryRegion). x.next) (region_named self.now.regions region.now) 0 }
@@ -98,14 +98,14 @@ impl<'a> Done<'a> {
     }
 }
 
-impl<'a> Here<'a> {
+impl<'a> LayoutCursor<'a> {
     /// The number of an expression that may be absent.
     fn optional(
         &self,
-        done: &Done<'a>,
+        done: &PlacedOutputs<'a>,
         line: u32,
         formula: &'a Option<Formula>,
-    ) -> Result<Option<u64>, Stop<'a>>
+    ) -> Result<Option<u64>, LayoutStop<'a>>
         ghost naming: { Naming }
         ensures { outcome result ≡ number_if_given (layout_of naming self.now done.now) line formula.now }
     {
@@ -116,7 +116,12 @@ impl<'a> Here<'a> {
     }
 
     /// The number of `AT(e)`.
-    fn loaded_at(&self, done: &Done<'a>, line: u32, load: &'a Load) -> Result<Option<u64>, Stop<'a>>
+    fn loaded_at(
+        &self,
+        done: &PlacedOutputs<'a>,
+        line: u32,
+        load: &'a Load,
+    ) -> Result<Option<u64>, LayoutStop<'a>>
         ghost naming: { Naming }
         ensures { outcome result ≡ number_if_given (layout_of naming self.now done.now) line (given_load load.now) }
     {
@@ -130,10 +135,10 @@ impl<'a> Here<'a> {
     #[tactic(auto, unfolding(ldmodel::specs::Placement::given))]
     fn given(
         &self,
-        done: &Done<'a>,
+        done: &PlacedOutputs<'a>,
         line: u32,
         section: &'a OutputSection,
-    ) -> Result<GivenHead, Stop<'a>>
+    ) -> Result<GivenHead, LayoutStop<'a>>
         ghost naming: { Naming }
         ensures given { Yields given_of (given (layout_of naming self.now done.now) line section.now) result }
         ensures positive { IfOk result (λ g. 0 < g.alignment) }
@@ -153,12 +158,12 @@ impl<'a> Here<'a> {
     #[tactic(auto, unfolding(ldmodel::specs::Placement::section_start))]
     fn start(
         &self,
-        done: &Done<'a>,
+        done: &PlacedOutputs<'a>,
         line: u32,
         section: &OutputSection,
         given: Option<u64>,
         alignment: u64,
-    ) -> Result<u64, Stop<'a>>
+    ) -> Result<u64, LayoutStop<'a>>
         ghost naming: { Naming }
         requires { 0 < alignment }
         ensures { outcome result
@@ -177,11 +182,11 @@ impl<'a> Here<'a> {
     #[tactic(auto, using(crate::proofs::Differences::difference_named))]
     fn unstated(
         &self,
-        done: &Done<'a>,
+        done: &PlacedOutputs<'a>,
         section: &OutputSection,
         given: Option<u64>,
         start: u64,
-    ) -> Result<u64, Stop<'a>>
+    ) -> Result<u64, LayoutStop<'a>>
         ghost naming: { Naming }
         ensures { Yields (λ x.
             x) (Ok (unstated_load (layout_of naming self.now done.now) section.now.region given start)) result }
@@ -191,7 +196,7 @@ impl<'a> Here<'a> {
             None => match done.sections.difference(region_name(section)) {
                 Some(difference) => Ok(start.wrapping_sub(difference)),
                 // Unreachable: a script declares the regions that it names
-                None => Err(Stop::NoMemory),
+                None => Err(LayoutStop::NoMemory),
             },
         }
     }
@@ -200,13 +205,13 @@ impl<'a> Here<'a> {
     #[tactic(auto, unfolding(ldmodel::specs::Placement::load_address))]
     fn load(
         &self,
-        done: &Done<'a>,
+        done: &PlacedOutputs<'a>,
         line: u32,
         section: &OutputSection,
         given: GivenHead,
         alignment: u64,
         start: u64,
-    ) -> Result<u64, Stop<'a>>
+    ) -> Result<u64, LayoutStop<'a>>
         ghost naming: { Naming }
         requires { 0 < alignment }
         ensures { Yields (λ x.
@@ -226,11 +231,11 @@ impl<'a> Here<'a> {
     #[tactic(auto, unfolding(ldmodel::specs::Placement::head_of))]
     pub fn head(
         &self,
-        done: &Done<'a>,
+        done: &PlacedOutputs<'a>,
         row: &[Piece],
         line: u32,
         section: &'a OutputSection,
-    ) -> Result<Head, Stop<'a>>
+    ) -> Result<Head, LayoutStop<'a>>
         ghost naming: { Naming }
         ensures { Yields head_from
             (head_of (layout_of naming self.now done.now) (row_named naming row.now) line section.now) result }

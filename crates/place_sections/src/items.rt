@@ -7,22 +7,22 @@ ghost use Rattle.ldscript.specs.statements.Numbering.{item_sections};
 ghost use Rattle.ldmodel.specs.Chain.{run};
 ghost use Rattle.ldmodel.specs.Layout.{noted};
 ghost use Rattle.ldmodel.specs.Placement.{free_dot_step, item_command_step, item_step};
-ghost use Rattle.place_terms.specs.Earlier.{earlier_of, AreStartsOf};
+ghost use Rattle.place_terms.specs.PreviousLayout.{earlier_of, AreStartsOf};
 ghost use Rattle.place_terms.specs.Naming.{Naming};
 ghost use Rattle.place_terms.specs.Wholes.{counts_in, starts_in};
 ghost use Rattle.place_sections.specs.Alongside.{IsAlongside, ItemsAlongside};
 ghost use Rattle.place_sections.specs.Boundaries.{AreBoundaries, IsAt};
 ghost use Rattle.place_sections.specs.Counted.{Adds, CountsAlong, Resumes, entries, placed_from};
-ghost use Rattle.place_sections.specs.Earlier.{Earlier};
+ghost use Rattle.place_sections.specs.PreviousPlacement.{PreviousPlacement};
 ghost use Rattle.place_sections.specs.Inputs.{rows_of};
 ghost use Rattle.place_sections.specs.Next.{AreFirst, IsNext};
 ghost use Rattle.place_sections.specs.State.{layout_of, Gives};
-ghost use Rattle.place_sections.specs.declared.stop.Stop.TheVariants.{NoMemory};
+ghost use Rattle.place_sections.specs.declared.stop.LayoutStop.TheVariants.{NoMemory};
 
 use crate::boundary::Boundary;
 use crate::script::Input;
-use crate::state::{Done, Here};
-use crate::stop::Stop;
+use crate::state::{LayoutCursor, PlacedOutputs};
+use crate::stop::LayoutStop;
 use ldmodel::rows::Piece;
 use ldmodel_laws::layout::steps_stay_alike;
 use ldscript::tree::{DotCommand, Item, ItemCommand};
@@ -44,14 +44,14 @@ fn is_output(item: &Item) -> bool
     matches!(&item.command, ItemCommand::Section(_))
 }
 
-impl<'a> Here<'a> {
+impl<'a> LayoutCursor<'a> {
     /// `. = e` and `. += e` outside output sections.
     fn move_freely(
         &mut self,
-        done: &Done<'a>,
+        done: &PlacedOutputs<'a>,
         line: u32,
         command: &'a DotCommand,
-    ) -> Result<(), Stop<'a>>
+    ) -> Result<(), LayoutStop<'a>>
         ghost naming: { Naming }
         ensures anew { self.new.anew ≡ self.old.anew }
         ensures script { self.new.symbols.script ≡ self.old.symbols.script }
@@ -72,7 +72,7 @@ impl<'a> Here<'a> {
     }
 
     /// Where the layout has come to, after this many statements of SECTIONS.
-    fn boundary(&self, done: &Done<'a>, items: usize) -> Boundary
+    fn boundary(&self, done: &PlacedOutputs<'a>, items: usize) -> Boundary
         ghost naming: { Naming }
         ensures items { result.items ≡ items }
         ensures at { IsAt result (layout_of naming self.now done.now) }
@@ -89,8 +89,8 @@ impl<'a> Here<'a> {
 }
 
 impl<'i, 'a> Input<'i, 'a> {
-    /// Where the input sections of the next output section start, if its row is as it was in an earlier layout.
-    fn kept_starts(&self, done: &Done<'a>) -> Result<Option<&'a [u64]>, Stop<'a>>
+    /// Where the input sections of the next output section start, if its row is as it was in an previous layout.
+    fn kept_starts(&self, done: &PlacedOutputs<'a>) -> Result<Option<&'a [u64]>, LayoutStop<'a>>
         ensures first { IfOk result (λ o. IfSome o (λ _. length done.now.sections.list < self.now.kept.first)) }
         ensures past { IfOk result (λ o. IfNone o (self.now.kept.first ≤ length done.now.sections.list)) }
         ensures other { IfOk result (λ o. IfSome o (λ _. self.now.kept.same_provided ≡ false)) }
@@ -106,23 +106,23 @@ impl<'i, 'a> Input<'i, 'a> {
         }
         if self.kept.same_provided {
             // Unreachable: these are taken over
-            return Err(Stop::NoMemory);
+            return Err(LayoutStop::NoMemory);
         }
         match self.kept.earlier.starts_of(number, done.sections.count()) {
             Some(starts) => Ok(Some(starts)),
-            // Unreachable: the earlier layout has this output section
-            None => Err(Stop::NoMemory),
+            // Unreachable: the previous layout has this output section
+            None => Err(LayoutStop::NoMemory),
         }
     }
 
     #[tactic(auto, unfolding(ldmodel::specs::Placement::item_command_step), using(crate::proofs::Rows::next_row_is, crate::proofs::Counting::entries_more))]
     fn place_command(
         &self,
-        here: &mut Here<'a>,
-        done: &mut Done<'a>,
+        here: &mut LayoutCursor<'a>,
+        done: &mut PlacedOutputs<'a>,
         line: u32,
         command: &'a ItemCommand,
-    ) -> Result<(), Stop<'a>>
+    ) -> Result<(), LayoutStop<'a>>
         ghost naming: { Naming }
         requires next { IsNext done.now.sections.script (length done.now.sections.list) command.now }
         requires kept { IsAlongside naming self.now (layout_of naming here.now done.now) done.now.sections.list line
@@ -154,7 +154,7 @@ impl<'i, 'a> Input<'i, 'a> {
             ItemCommand::Discard(inputs) => {
                 let Some(next) = here.inputs.checked_add(inputs.as_slice().len() as u64) else {
                     // Unreachable: no script has 2^64 input statements
-                    return Err(Stop::NoMemory);
+                    return Err(LayoutStop::NoMemory);
                 };
                 here.inputs = next;
                 Ok(())
@@ -165,10 +165,10 @@ impl<'i, 'a> Input<'i, 'a> {
     /// A statement of SECTIONS.
     fn place_item(
         &self,
-        here: &mut Here<'a>,
-        done: &mut Done<'a>,
+        here: &mut LayoutCursor<'a>,
+        done: &mut PlacedOutputs<'a>,
         item: &'a Item,
-    ) -> Result<(), Stop<'a>>
+    ) -> Result<(), LayoutStop<'a>>
         ghost naming: { Naming }
         requires next { IsNext done.now.sections.script (length done.now.sections.list) item.now.command }
         requires kept { IsAlongside naming self.now (noted (layout_of naming here.now done.now))
@@ -196,16 +196,16 @@ impl<'i, 'a> Input<'i, 'a> {
     /// before each output section, and after all.
     pub fn place_items(
         &self,
-        here: &mut Here<'a>,
-        done: &mut Done<'a>,
+        here: &mut LayoutCursor<'a>,
+        done: &mut PlacedOutputs<'a>,
         items: &'a [Item],
-    ) -> Result<Vec<Boundary>, Stop<'a>>
+    ) -> Result<Vec<Boundary>, LayoutStop<'a>>
         ghost naming: { Naming }
         requires none { done.now.sections.list ≡ [] }
         requires first { AreFirst done.now.sections.script items.now }
         requires kept { done.now.sections.earlier ≡ earlier_of self.now.kept.earlier }
         requires earlier { self.now.kept.same_provided ≡ true → 0 < self.now.kept.first
-            → Earlier naming self.now here.now.symbols.script (layout_of naming here.now done.now) items.now }
+            → PreviousPlacement naming self.now here.now.symbols.script (layout_of naming here.now done.now) items.now }
         requires alongside { self.now.kept.same_provided ≡ false → 0 < self.now.kept.first
             → ItemsAlongside naming self.now here.now.symbols.script (layout_of naming here.now done.now) items.now }
         ensures script { here.new.symbols.script ≡ here.old.symbols.script }

@@ -1,10 +1,11 @@
 //! Layout: where the output sections of a script, their input sections and its symbols stand. Takes the script, the
-//! rows, the PROVIDEs in force and perhaps an earlier placement; gives a `Placement`, or its first fault, or all that
+//! rows, the PROVIDEs in force and perhaps an previous placement; gives a `Placement`, or its first fault, or all that
 //! meet.
 //!
 //! - `place`, `placement`; `script` over `parts`: the statements before SECTIONS, in it and after it;
 //! - `items`, `assign`, `memory`, `section`, `head` (address, load address), `body` (`.`), `end` (size, regions);
-//! - `boundary`, `kept`, `taken`: what an earlier placement gives; `ready`, `state`, `stop`, `fault`, `whole`;
+//! - `boundary`, `reusable_placement`, `reuse`: what an previous placement gives; `ready`, `state`, `stop`, `fault`,
+//!   `whole`;
 //! - `overlaps` over `firsts`, `hull`, `extent`: output sections that meet, in memory or where they are loaded; `law`.
 #![tactic(auto)]
 
@@ -18,7 +19,6 @@ mod firsts;
 mod head;
 mod hull;
 mod items;
-mod kept;
 pub mod law;
 mod memory;
 pub mod overlaps;
@@ -26,9 +26,10 @@ mod parts;
 pub mod place;
 pub mod placement;
 mod ready;
+mod reusable_placement;
+mod reuse;
 mod script;
 mod section;
 mod state;
 mod stop;
-mod taken;
 mod whole;

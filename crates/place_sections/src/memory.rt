@@ -6,14 +6,18 @@ ghost use Rattle.ldmodel.specs.Placement.{region_step};
 ghost use Rattle.place_terms.specs.Naming.{Naming};
 ghost use Rattle.place_sections.specs.State.{layout_of, Gives};
 
-use crate::state::{Done, Here};
-use crate::stop::Stop;
+use crate::state::{LayoutCursor, PlacedOutputs};
+use crate::stop::LayoutStop;
 use ldscript::Region;
 
-impl<'a> Here<'a> {
+impl<'a> LayoutCursor<'a> {
     /// A region of MEMORY.
     #[tactic(auto, unfolding(ldmodel::specs::Placement::region_step))]
-    fn declare(&self, done: &mut Done<'a>, region: &'a Region) -> Result<(), Stop<'a>>
+    fn declare(
+        &self,
+        done: &mut PlacedOutputs<'a>,
+        region: &'a Region,
+    ) -> Result<(), LayoutStop<'a>>
         ghost naming: { Naming }
         ensures sections { done.new.sections ≡ done.old.sections }
         ensures gives { Gives (region_step (layout_of naming self.now done.old) region.now)
@@ -27,7 +31,11 @@ impl<'a> Here<'a> {
 
     /// The regions of MEMORY.
     #[tactic(auto, unfolding(ldmodel::specs::Chain::run))]
-    pub fn declare_all(&self, done: &mut Done<'a>, regions: &'a [Region]) -> Result<(), Stop<'a>>
+    pub fn declare_all(
+        &self,
+        done: &mut PlacedOutputs<'a>,
+        regions: &'a [Region],
+    ) -> Result<(), LayoutStop<'a>>
         ghost naming: { Naming }
         ensures sections { done.new.sections ≡ done.old.sections }
         ensures gives { Gives (run region_step (layout_of naming self.now done.old) regions.now)

@@ -10,11 +10,11 @@ ghost use Rattle.place_sections.specs.Outcomes.{IsGood, IsWhy, Stops};
 ghost use Rattle.place_sections.specs.Places.{IsPlacement};
 
 use crate::fault::{PlaceFault, reported};
-use crate::kept::Kept;
 use crate::overlaps::overlaps;
 use crate::placement::Placement;
+use crate::reusable_placement::ReusablePlacement;
 use crate::script::Input;
-use crate::state::{Done, Here};
+use crate::state::{LayoutCursor, PlacedOutputs};
 use crate::whole::whole;
 use ldmodel::meter::{Count, Meter};
 use ldmodel::rows::Piece;
@@ -32,7 +32,7 @@ use std::alloc::{AllocError, Global};
 fn no_symbols<'a>(
     alloc: Global,
     script: &'a Script,
-    kept: Kept<'_>,
+    kept: ReusablePlacement<'_>,
     sections: usize,
 ) -> Result<AssignedSymbols<'a>, AllocError>
     ensures script { IfOk result (λ s. s.script ≡ script.now) }
@@ -49,9 +49,9 @@ fn no_symbols<'a>(
 fn nowhere<'a>(
     alloc: Global,
     script: &'a Script,
-    kept: Kept<'_>,
+    kept: ReusablePlacement<'_>,
     sections: usize,
-) -> Result<Here<'a>, AllocError>
+) -> Result<LayoutCursor<'a>, AllocError>
     ensures dot { IfOk result (λ h. h.dot ≡ 0) }
     ensures dots { IfOk result (λ h. h.dots.items ≡ []) }
     ensures inputs { IfOk result (λ h. h.inputs ≡ 0) }
@@ -61,7 +61,7 @@ fn nowhere<'a>(
 {
     let symbols = no_symbols(alloc, script, kept, sections)?;
     let dots = Vec::with_capacity(alloc, kept.dots.len())?;
-    Ok(Here {
+    Ok(LayoutCursor {
         dot: 0,
         dots,
         inputs: 0,
@@ -99,12 +99,12 @@ fn lay_out(
 {
     steps_stay_alike();
     let in_force = Provided::new(alloc, script, provided)?;
-    let kept = Kept::new(kept, provided);
+    let kept = ReusablePlacement::new(kept, provided);
     let mut here = nowhere(alloc, script, kept, rows.len())?;
     let taken = kept.count().unwrap_or(0);
     let sections = Sections::new(alloc, script, rows.len(), kept.earlier, taken)?;
     let regions = Regions::new(alloc, script);
-    let mut done = Done { sections, regions };
+    let mut done = PlacedOutputs { sections, regions };
     let input = Input {
         alloc,
         provided: &in_force,
@@ -122,7 +122,7 @@ fn lay_out(
 /// Lays a script out: one pass over its statements, in which the rows' entries take their places.
 ///
 /// `rows` has one row for each output section, in the order of the script, `provided` the PROVIDEs that are in force.
-/// With `kept`, an earlier placement of the script and the number of the first row that differs from the earlier ones,
+/// With `kept`, an previous placement of the script and the number of the first row that differs from the earlier ones,
 /// the input sections of the rows before it stay where they were, and the layout is the same with and without `kept`.
 /// Where the same PROVIDEs were in force, the pass goes on right before the output section of that row: those before it
 /// and all statements of SECTIONS up to it are taken over, and none of them is evaluated. Memory regions end where the
@@ -133,7 +133,7 @@ fn lay_out(
 ///
 /// # Errors
 ///
-/// `First` is the first fault of the layout (`F4` to `F8`). Without one, `Meeting` has one fault for each output
+/// `First` is the first fault of the layout (`F4` to `F8`). Without one, `Overlapping` has one fault for each output
 /// section that shares an address with an earlier one (`F9`), and then one for each that shares a load address (`F10`).
 pub fn place(
     alloc: Global,
@@ -166,6 +166,6 @@ pub fn place(
     if meeting.as_slice().is_empty() {
         Ok(placement)
     } else {
-        Err(PlaceFault::Meeting(meeting))
+        Err(PlaceFault::Overlapping(meeting))
     }
 }

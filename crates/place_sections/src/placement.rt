@@ -3,15 +3,15 @@
 ghost use Rattle.std.specs.Prelude.{◌≡◌, List, slice_get};
 ghost use Rattle.ldscript.specs.statements.declared.statement.Statement.{Statement};
 ghost use Rattle.ldmodel.specs.Layout.{Layout};
-ghost use Rattle.ldmodel.specs.Lent.{IsPlacementView};
+ghost use Rattle.ldmodel.specs.PlacementView.{IsPlacementView};
 ghost use Rattle.place_sections.specs.Leads.{Keeps};
 ghost use Rattle.place_sections.specs.Places.{AreOf, Ends};
 
 use crate::boundary::Boundary;
-use crate::kept::Kept;
+use crate::reusable_placement::ReusablePlacement;
 use ldmodel::placed::{Placed, PlacedData, PlacedRegion, PlacementView};
 use ldmodel::script_symbol::{DirectiveIndex, ScriptSymbol};
-use place_terms::earlier::EarlierLayout;
+use place_terms::previous_layout::PreviousLayout;
 use std::marker::Model;
 
 /// Where everything of a script stands: its output sections, their input sections and data commands, `.` before its
@@ -83,11 +83,11 @@ impl Placement {
     }
 
     /// What is kept of the placement where rows are as they were before a number, and these PROVIDEs are in force now.
-    pub(crate) fn kept(&self, first: usize, provided: &[DirectiveIndex]) -> Kept<'_>
+    pub(crate) fn kept(&self, first: usize, provided: &[DirectiveIndex]) -> ReusablePlacement<'_>
         ensures { Keeps self.now first provided.now result }
     {
-        Kept {
-            earlier: EarlierLayout {
+        ReusablePlacement {
+            earlier: PreviousLayout {
                 sections: &self.sections,
                 counts: &self.counts,
                 starts: &self.starts,

@@ -6,8 +6,8 @@ ghost use Rattle.ldmodel.specs.Layout.{number};
 ghost use Rattle.place_terms.specs.Naming.{Naming};
 ghost use Rattle.place_sections.specs.State.{layout_of, outcome};
 
-use crate::state::{Done, Here};
-use crate::stop::Stop;
+use crate::state::{LayoutCursor, PlacedOutputs};
+use crate::stop::LayoutStop;
 use ldmodel::placed::{Placed, PlacedRegion};
 use ldscript::tree::{Expr, Formula};
 use place_terms::scope::Scope;
@@ -16,8 +16,8 @@ use place_terms::value::{ValueFault, value};
 /// What an expression may name where the layout has come to.
 #[derive(Clone, Copy)]
 struct Ready<'s, 'a> {
-    here: &'s Here<'a>,
-    done: &'s Done<'a>,
+    here: &'s LayoutCursor<'a>,
+    done: &'s PlacedOutputs<'a>,
 }
 
 impl<'s, 'a> Scope for Ready<'s, 'a> {
@@ -47,22 +47,32 @@ impl<'s, 'a> Scope for Ready<'s, 'a> {
     }
 }
 
-impl<'a> Here<'a> {
+impl<'a> LayoutCursor<'a> {
     /// The number of an expression on a line.
-    pub fn number(&self, done: &Done<'a>, line: u32, expr: &'a Expr) -> Result<u64, Stop<'a>>
+    pub fn number(
+        &self,
+        done: &PlacedOutputs<'a>,
+        line: u32,
+        expr: &'a Expr,
+    ) -> Result<u64, LayoutStop<'a>>
         ghost naming: { Naming }
         ensures { outcome result ≡ number (layout_of naming self.now done.now) line (expr_of expr.now) }
     {
         let scope = Ready { here: self, done };
         match value(expr, &scope, self.dot) {
             Ok(number) => Ok(number),
-            Err(ValueFault::NotReady(name)) => Err(Stop::NotReady { line, name }),
-            Err(ValueFault::NoValue) => Err(Stop::NoValue { line }),
+            Err(ValueFault::NotReady(name)) => Err(LayoutStop::NotReady { line, name }),
+            Err(ValueFault::NoValue) => Err(LayoutStop::NoValue { line }),
         }
     }
 
     /// The number of a formula on a line.
-    pub fn formula(&self, done: &Done<'a>, line: u32, formula: &'a Formula) -> Result<u64, Stop<'a>>
+    pub fn formula(
+        &self,
+        done: &PlacedOutputs<'a>,
+        line: u32,
+        formula: &'a Formula,
+    ) -> Result<u64, LayoutStop<'a>>
         ghost naming: { Naming }
         ensures { outcome result ≡ number (layout_of naming self.now done.now) line formula.now }
     {

@@ -3,21 +3,21 @@
 ghost use Rattle.std.specs.Prelude.{◌≡◌, ◌≤◌, ◌<◌, ◌+◌, [], length, map, OnOk, IfOk, false, true};
 ghost use Rattle.ldmodel.specs.Chain.{run};
 ghost use Rattle.ldmodel.specs.Placement.{statement_step};
-ghost use Rattle.place_terms.specs.Earlier.{earlier_of};
+ghost use Rattle.place_terms.specs.PreviousLayout.{earlier_of};
 ghost use Rattle.place_terms.specs.Naming.{Naming};
 ghost use Rattle.place_terms.specs.Wholes.{counts_in};
 ghost use Rattle.place_sections.specs.Alongside.{ScriptAlongside};
 ghost use Rattle.place_sections.specs.Boundaries.{AreBoundariesOf};
 ghost use Rattle.place_sections.specs.Counted.{CountsAlong, entries, placed_from};
-ghost use Rattle.place_sections.specs.Earlier.{EarlierScript};
+ghost use Rattle.place_sections.specs.PreviousPlacement.{EarlierScript};
 ghost use Rattle.place_sections.specs.Inputs.{rows_of};
 ghost use Rattle.place_sections.specs.State.{layout_of, Gives};
 
 use crate::boundary::Boundary;
-use crate::kept::Kept;
 use crate::parts::ScriptParts;
-use crate::state::{Done, Here};
-use crate::stop::Stop;
+use crate::reusable_placement::ReusablePlacement;
+use crate::state::{LayoutCursor, PlacedOutputs};
+use crate::stop::LayoutStop;
 use ldmodel::rows::Piece;
 use ldmodel_laws::layout::steps_stay_alike;
 use ldscript::tree::{Command, Statement};
@@ -33,8 +33,8 @@ pub(crate) struct Input<'i, 'a> {
     pub provided: &'i Provided<'a>,
     /// The rows of the output sections.
     pub rows: &'a [Vec<Piece>],
-    /// What is kept of an earlier layout.
-    pub kept: Kept<'a>,
+    /// What is kept of an previous layout.
+    pub kept: ReusablePlacement<'a>,
 }
 
 impl<'i, 'a> Input<'i, 'a> {
@@ -42,10 +42,10 @@ impl<'i, 'a> Input<'i, 'a> {
     #[tactic(auto, unfolding(ldmodel::specs::Placement::command_step))]
     fn place_statement(
         &self,
-        here: &mut Here<'a>,
-        done: &mut Done<'a>,
+        here: &mut LayoutCursor<'a>,
+        done: &mut PlacedOutputs<'a>,
         statement: &'a Statement,
-    ) -> Result<(), Stop<'a>>
+    ) -> Result<(), LayoutStop<'a>>
         ghost naming: { Naming }
         ensures script { here.new.symbols.script ≡ here.old.symbols.script }
         ensures anew { here.new.anew ≡ here.old.anew }
@@ -58,7 +58,7 @@ impl<'i, 'a> Input<'i, 'a> {
             Command::Entry(_) => Ok(()),
             Command::Memory(regions) => here.declare_all(done, regions.as_slice()),
             // Unreachable: a script has one SECTIONS
-            Command::Sections(_) => Err(Stop::NoMemory),
+            Command::Sections(_) => Err(LayoutStop::NoMemory),
             Command::Directive(command) => {
                 here.directive(done, self.provided, statement.line, command)
             }
@@ -69,10 +69,10 @@ impl<'i, 'a> Input<'i, 'a> {
     #[tactic(auto, unfolding(ldmodel::specs::Chain::run))]
     fn place_statements(
         &self,
-        here: &mut Here<'a>,
-        done: &mut Done<'a>,
+        here: &mut LayoutCursor<'a>,
+        done: &mut PlacedOutputs<'a>,
         statements: &'a [Statement],
-    ) -> Result<(), Stop<'a>>
+    ) -> Result<(), LayoutStop<'a>>
         ghost naming: { Naming }
         ensures script { here.new.symbols.script ≡ here.old.symbols.script }
         ensures anew { here.new.anew ≡ here.old.anew }
@@ -91,10 +91,10 @@ impl<'i, 'a> Input<'i, 'a> {
     /// had come to before each output section, and after the last statement of SECTIONS.
     pub fn place_script(
         &self,
-        here: &mut Here<'a>,
-        done: &mut Done<'a>,
+        here: &mut LayoutCursor<'a>,
+        done: &mut PlacedOutputs<'a>,
         statements: &'a [Statement],
-    ) -> Result<Vec<Boundary>, Stop<'a>>
+    ) -> Result<Vec<Boundary>, LayoutStop<'a>>
         ghost naming: { Naming }
         requires none { done.now.sections.list ≡ [] }
         requires all { done.now.sections.script ≡ statements.now }

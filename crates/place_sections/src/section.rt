@@ -10,20 +10,20 @@ ghost use Rattle.place_sections.specs.Alongside.{BodyAlongside, SectionAlongside
 ghost use Rattle.place_sections.specs.Counted.{CountsAlong, PlacesAnew};
 ghost use Rattle.place_sections.specs.Heads.{head_from};
 ghost use Rattle.place_sections.specs.State.{body_from, layout_of, Gives};
-ghost use Rattle.place_sections.specs.declared.stop.Stop.TheVariants.{NoMemory};
+ghost use Rattle.place_sections.specs.declared.stop.LayoutStop.TheVariants.{NoMemory};
 
 use crate::head::Head;
-use crate::state::{Done, Frame, Here};
-use crate::stop::Stop;
+use crate::state::{CurrentOutput, LayoutCursor, PlacedOutputs};
+use crate::stop::LayoutStop;
 use ldmodel::rows::Piece;
 use ldmodel_laws::layout::steps_stay_alike;
 use ldscript::tree::OutputSection;
 use place_terms::provided::Provided;
 use std::alloc::Global;
 
-impl<'a> Here<'a> {
+impl<'a> LayoutCursor<'a> {
     /// Begins to place an output section, of which this many input sections are expected. Fails where memory runs out.
-    fn open(&mut self, alloc: Global, start: u64, count: usize) -> Result<(), Stop<'a>>
+    fn open(&mut self, alloc: Global, start: u64, count: usize) -> Result<(), LayoutStop<'a>>
         ensures dot { OnOk result (self.new.dot ≡ start) }
         ensures dots { OnOk result (self.new.dots.items ≡ self.old.dots.items) }
         ensures inputs { OnOk result (self.new.inputs ≡ self.old.inputs) }
@@ -43,13 +43,13 @@ impl<'a> Here<'a> {
     fn body(
         &mut self,
         alloc: Global,
-        done: &Done<'a>,
+        done: &PlacedOutputs<'a>,
         provided: &Provided<'a>,
         row: &'a [Piece],
         starts: Option<&'a [u64]>,
         head: Head,
         output: &'a OutputSection,
-    ) -> Result<(), Stop<'a>>
+    ) -> Result<(), LayoutStop<'a>>
         ghost naming: { Naming }
         requires kept { IfSome starts (λ s.
             BodyAlongside s.now
@@ -64,7 +64,7 @@ impl<'a> Here<'a> {
             (opened (layout_of naming self.old done.now) (row_named naming row.now) (head_from head)) output.now.body)
             (body_from naming self.new done.now head.start row.now) result }
     {
-        let frame = Frame {
+        let frame = CurrentOutput {
             done,
             provided,
             row,
@@ -81,13 +81,13 @@ impl<'a> Here<'a> {
     pub fn place_section(
         &mut self,
         alloc: Global,
-        done: &mut Done<'a>,
+        done: &mut PlacedOutputs<'a>,
         provided: &Provided<'a>,
         row: &'a [Piece],
         starts: Option<&'a [u64]>,
         line: u32,
         output: &'a OutputSection,
-    ) -> Result<(), Stop<'a>>
+    ) -> Result<(), LayoutStop<'a>>
         ghost naming: { Naming }
         requires next { IsOutput done.now.sections.script (length done.now.sections.list) output.now }
         requires kept { IfSome starts (λ s.

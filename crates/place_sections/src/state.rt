@@ -8,7 +8,7 @@ use place_terms::symbols::AssignedSymbols;
 
 /// Where a layout has come to: what changes from statement to statement, in the body of an output section too.
 #[derive(Drop)]
-pub(crate) struct Here<'a> {
+pub(crate) struct LayoutCursor<'a> {
     /// `.`, the location counter.
     pub dot: u64,
     /// `.` before each statement so far.
@@ -27,7 +27,7 @@ pub(crate) struct Here<'a> {
 
 /// What is complete: it changes between output sections alone.
 #[derive(Drop)]
-pub(crate) struct Done<'a> {
+pub(crate) struct PlacedOutputs<'a> {
     /// The output sections.
     pub sections: Sections<'a>,
     /// The memory regions.
@@ -36,14 +36,14 @@ pub(crate) struct Done<'a> {
 
 /// The present output section: what does not change while its body is placed.
 #[derive(Clone, Copy)]
-pub(crate) struct Frame<'d, 'a> {
+pub(crate) struct CurrentOutput<'d, 'a> {
     /// What is complete.
-    pub done: &'d Done<'a>,
+    pub done: &'d PlacedOutputs<'a>,
     /// The PROVIDEs that are in force.
     pub provided: &'d Provided<'a>,
     /// The row.
     pub row: &'a [Piece],
-    /// Where the entries of the row start, if they stay where they were in an earlier layout.
+    /// Where the entries of the row start, if they stay where they were in an previous layout.
     pub starts: Option<&'a [u64]>,
     /// Where the output section starts.
     pub start: u64,

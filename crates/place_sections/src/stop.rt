@@ -4,7 +4,7 @@ use std::alloc::{AllocError, AllocFailed};
 
 /// Why a layout stops, with names in place of their numbers.
 #[derive(Clone, Copy)]
-pub(crate) enum Stop<'a> {
+pub(crate) enum LayoutStop<'a> {
     /// An expression names what is not complete where it stands.
     NotReady {
         /// The line of the statement.
@@ -38,24 +38,24 @@ pub(crate) enum Stop<'a> {
     NoMemory,
 }
 
-impl<'a, T: Drop> From<AllocFailed<T>> for Stop<'a> {
+impl<'a, T: Drop> From<AllocFailed<T>> for LayoutStop<'a> {
     ghost use Rattle.std.specs.Prelude.{◌≡◌};
-    ghost use Rattle.place_sections.specs.declared.stop.Stop.TheVariants.{NoMemory};
+    ghost use Rattle.place_sections.specs.declared.stop.LayoutStop.TheVariants.{NoMemory};
 
     ghost from_gives = { λ _ e. e ≡ NoMemory };
 
-    fn from(_failed: AllocFailed<T>) -> Stop<'a> {
-        Stop::NoMemory
+    fn from(_failed: AllocFailed<T>) -> LayoutStop<'a> {
+        LayoutStop::NoMemory
     }
 }
 
-impl<'a> From<AllocError> for Stop<'a> {
+impl<'a> From<AllocError> for LayoutStop<'a> {
     ghost use Rattle.std.specs.Prelude.{◌≡◌};
-    ghost use Rattle.place_sections.specs.declared.stop.Stop.TheVariants.{NoMemory};
+    ghost use Rattle.place_sections.specs.declared.stop.LayoutStop.TheVariants.{NoMemory};
 
     ghost from_gives = { λ _ e. e ≡ NoMemory };
 
-    fn from(_failed: AllocError) -> Stop<'a> {
-        Stop::NoMemory
+    fn from(_failed: AllocError) -> LayoutStop<'a> {
+        LayoutStop::NoMemory
     }
 }

@@ -7,7 +7,7 @@ ghost use Rattle.place_sections.specs.State.{layout_of};
 
 use crate::boundary::Boundary;
 use crate::placement::Placement;
-use crate::state::{Done, Here};
+use crate::state::{LayoutCursor, PlacedOutputs};
 use ldmodel::script_symbol::DirectiveIndex;
 use place_terms::wholes::{counts_of, data_commands_of, numbers_of, regions_of, starts_of};
 use std::alloc::{AllocError, Global};
@@ -17,8 +17,8 @@ use std::alloc::{AllocError, Global};
 #[tactic(auto, using(crate::proofs::Wholes::placed_whole, crate::proofs::Wholes::counts_whole, crate::proofs::Wholes::starts_whole, crate::proofs::Wholes::data_whole))]
 pub(crate) fn whole(
     alloc: Global,
-    here: Here<'_>,
-    done: &Done<'_>,
+    here: LayoutCursor<'_>,
+    done: &PlacedOutputs<'_>,
     boundaries: Vec<Boundary>,
     provided: &[DirectiveIndex],
 ) -> Result<Placement, AllocError>

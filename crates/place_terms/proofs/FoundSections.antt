@@ -16,13 +16,13 @@ use Rattle.ldscript.specs.Script.{IsSound}
 use Rattle.ldscript.specs.statements.Given.{section_number, region_number}
 use Rattle.ldscript.specs.statements.declared.section.OutputSection.{OutputSection}
 use Rattle.ldscript.specs.statements.declared.statement.Statement.{Statement}
-use Rattle.ldmodel.specs.Layout.{PlacedSection}
+use Rattle.ldmodel.specs.Layout.{PlacedOutput}
 use Rattle.ldmodel.specs.Placement.{difference_in, difference_of, same_region}
 use Rattle.ldmodel.specs.declared.placed.Placed.{Placed}
 use Rattle.place_terms.proofs.Lists.{same_name, is_same_name}
 use Rattle.place_terms.proofs.Numbers.{sections_told, regions_told}
 use Rattle.place_terms.proofs.Ordered.{output_number}
-use Rattle.place_terms.specs.Earlier.{EarlierOutputs}
+use Rattle.place_terms.specs.PreviousLayout.{PreviousOutputs}
 use Rattle.place_terms.specs.Outputs.{IsOutput, Outputs}
 use Rattle.place_terms.proofs.Tabled.{found_under}
 use Rattle.place_terms.proofs.Counting.{data_grow, starts_grow}
@@ -32,7 +32,7 @@ use Rattle.place_terms.specs.SectionTable.{both, keyed, keyed_taken, section_nam
 use Rattle.place_terms.specs.SectionTable.{AreSectionsOf, Fits, IsKeptAt}
 use Rattle.place_terms.specs.Tables.{AreInOrder}
 use Rattle.place_terms.specs.declared.sections.Closed.{Closed}
-use Rattle.place_terms.specs.declared.earlier.Taken.{Taken}
+use Rattle.place_terms.specs.declared.previous_layout.ReusedOutput.{ReusedOutput}
 
 abbrev placed_under : List KeyedSection → List ℕ → Option Placed
 placed_under xs name =
@@ -59,7 +59,7 @@ module _ (script : List Statement) (xs : List KeyedSection) (name : List ℕ)
       under ∙ ap (option_map (λ (x : KeyedSection). x.placed)) (ap (option_and_then (λ j. slice_get xs j)) n)
 
 -- those that were placed follow those that are taken over
-pub after_taken : (ts : List Taken) (xs : List Closed) (k j : ℕ) → k ≡ length ts + j
+pub after_taken : (ts : List ReusedOutput) (xs : List Closed) (k j : ℕ) → k ≡ length ts + j
     → slice_get (both ts xs) k ≡ option_map keyed (slice_get xs j)
 after_taken [] xs k j e =
     let same : k ≡ j = omega (arith, e) in
@@ -67,14 +67,15 @@ after_taken [] xs k j e =
 after_taken (t ∷ ts) xs zero j e = absurd (omega (arith, e))
 after_taken (t ∷ ts) xs (suc k) j e = after_taken ts xs k j (omega (arith, e))
 
-pub among_taken : (ts : List Taken) (xs : List Closed) (k : ℕ) (t : Taken) → k < length ts → t ≡ get_or ts k t
+pub among_taken : (ts : List ReusedOutput) (xs : List Closed) (k : ℕ) (t : ReusedOutput) → k < length ts → t
+    ≡ get_or ts k t
     → slice_get (both ts xs) k ≡ Some (keyed_taken t)
 among_taken [] xs k t l e = absurd (omega (arith, l))
 among_taken (y ∷ ts) xs zero t l e = ap (λ x. Some (keyed_taken x)) (sym e)
 among_taken (y ∷ ts) xs (suc k) t l e = among_taken ts xs k t (omega (arith, l)) e
 
 -- an output section that has the name is the one of its number
-pub guessed_right : (number : List ℕ → Option ℕ) (ts : List Taken) (xs : List Closed) (j : ℕ) (r : Closed)
+pub guessed_right : (number : List ℕ → Option ℕ) (ts : List ReusedOutput) (xs : List Closed) (j : ℕ) (r : Closed)
     (name : List ℕ) → AreInOrder number (section_names (both ts xs)) → slice_get xs j ≡ Some r
     → r.output.now.name ≡ name → number name ≡ Some (length ts + j)
 guessed_right number ts xs j r name o e same =
@@ -89,7 +90,7 @@ guessed_right number ts xs j r name o e same =
     ∙ o k (omega (arith, inside, length-map (both ts xs) (λ (x : KeyedSection). x.name)))
 
 -- one more
-pub both_pushed : (ts : List Taken) (xs : List Closed) (x : Closed) → both ts (xs ++ x ∷ [])
+pub both_pushed : (ts : List ReusedOutput) (xs : List Closed) (x : Closed) → both ts (xs ++ x ∷ [])
     ≡ both ts xs ++ keyed x ∷ []
 both_pushed ts xs x =
     ap (λ l. map keyed_taken ts ++ l) (map-append keyed xs (x ∷ []))
@@ -99,14 +100,14 @@ pub none_there : {X : Type 0} (xs : List X) → length xs ≡ 0 → xs ≡ []
 none_there [] e = refl
 none_there (x ∷ xs) e = absurd (omega (arith, e))
 
-pub both_taken : (ts : List Taken) (xs : List Closed) (t : Taken) → xs ≡ [] → both (ts ++ t ∷ []) xs
+pub both_taken : (ts : List ReusedOutput) (xs : List Closed) (t : ReusedOutput) → xs ≡ [] → both (ts ++ t ∷ []) xs
     ≡ both ts xs ++ keyed_taken t ∷ []
 both_taken ts xs t e = rw e
     (append-nil (map keyed_taken (ts ++ t ∷ []))
     ∙ (map-append keyed_taken ts (t ∷ [])
     ∙ ap (λ l. l ++ keyed_taken t ∷ []) (sym (append-nil (map keyed_taken ts)))))
 
-pub no_sections : (script : List Statement) (ts : List Taken) (xs : List Closed) (ds : List ℕ) (n : ℕ) → ts ≡ []
+pub no_sections : (script : List Statement) (ts : List ReusedOutput) (xs : List Closed) (ds : List ℕ) (n : ℕ) → ts ≡ []
     → xs ≡ [] → ds ≡ replicate n 0 → AreSectionsOf script (both ts xs) ds 0 0 0
 unfolding difference_by difference_in
 no_sections script ts xs ds n a b c = rw (a, b, c) (record {
@@ -129,7 +130,7 @@ unfolding difference_by difference_in
 difference_same xs x region e =
     rw (
       map-append (section_of nameless) xs (x ∷ []),
-      filter-append (λ (q : PlacedSection). same_region q.region region) (map (section_of nameless) xs)
+      filter-append (λ (q : PlacedOutput). same_region q.region region) (map (section_of nameless) xs)
           (section_of nameless x ∷ []),
       e,
       last_or_push,
@@ -141,14 +142,14 @@ unfolding difference_by difference_in
 difference_other xs x region e =
     rw (
       map-append (section_of nameless) xs (x ∷ []),
-      filter-append (λ (q : PlacedSection). same_region q.region region) (map (section_of nameless) xs)
+      filter-append (λ (q : PlacedOutput). same_region q.region region) (map (section_of nameless) xs)
           (section_of nameless x ∷ []),
       e,
       append-nil,
     ) refl
 
 -- the number of the next one
-pub next_number : (script : List Statement) (e : EarlierOutputs) (xs : List KeyedSection) (v : Outputs)
+pub next_number : (script : List Statement) (e : PreviousOutputs) (xs : List KeyedSection) (v : Outputs)
     (output : OutputSection) → record { script = script; earlier = e; list = xs } ≡ v → IsSound script
     → IsOutput v.script (length v.list) output
     → section_number script output.name ≡ Some (length xs)

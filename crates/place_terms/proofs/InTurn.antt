@@ -15,7 +15,7 @@ use Rattle.std.proofs.lemmas.List.{get_or_default, take-append-drop}
 use Rattle.std.proofs.lemmas.List.Elements.{All-append, All-cons, All-nil}
 use Rattle.ldscript.specs.statements.declared.statement.Statement.{Statement}
 use Rattle.ldmodel.specs.Layout.{ScriptSymbol}
-use Rattle.ldmodel.specs.Lent.{name_given_by, symbol_of}
+use Rattle.ldmodel.specs.PlacementView.{name_given_by, symbol_of}
 use Rattle.ldmodel.specs.declared.script_symbol.ScriptSymbol as code
 use Rattle.place_terms.proofs.Lists.{same_name, is_same_name}
 use Rattle.place_terms.proofs.Numbers.{symbols_told}

@@ -12,7 +12,7 @@ use Rattle.ldscript.specs.statements.declared.directive.Directive.{Directive}
 use Rattle.ldscript.specs.statements.declared.directive.Directive.TheVariants as directive
 use Rattle.ldscript.specs.statements.declared.statement.Region.{Region}
 use Rattle.ldscript.specs.statements.declared.statement.Statement.{Statement}
-use Rattle.ldmodel.specs.Lent.{given_name, name_given_by, symbol_of}
+use Rattle.ldmodel.specs.PlacementView.{given_name, name_given_by, symbol_of}
 use Rattle.ldmodel.specs.declared.script_symbol.ScriptSymbol as code
 use Rattle.place_terms.proofs.Lists.{same_name}
 use Rattle.place_terms.specs.LayoutSymbols.{named, IsFound, Numbered}

@@ -1,4 +1,4 @@
--- Output sections that are taken over are the first ones of the earlier layout.
+-- Output sections that are taken over are the first ones of the previous layout.
 use Rattle.std.proofs.Common.{◌≡◌, ℕ, zero, suc, ◌+◌, ◌≤◌, List, [], ◌∷◌, ◌++◌, length, map, take, Some}
 use Rattle.std.proofs.Common.{◌-◌, refl, sym, ap, subst, ◌∙◌, arith, append_assoc, append-nil, length-append}
 use Rattle.std.specs.Prelude.{slice_get}
@@ -10,13 +10,13 @@ use Rattle.ldmodel.specs.declared.placed.PlacedData.{PlacedData}
 use Rattle.ldmodel.specs.declared.rows.Piece.{Piece}
 use Rattle.place_terms.proofs.Counting.{starts_push}
 use Rattle.place_terms.proofs.FoundSections.{both_taken}
-use Rattle.place_terms.specs.Earlier.{AreTaken, EarlierOutputs, IsSectionOf, IsWithTaken, earlier_of, part_of}
+use Rattle.place_terms.specs.PreviousLayout.{AreTaken, PreviousOutputs, IsSectionOf, IsWithTaken, earlier_of, part_of}
 use Rattle.place_terms.specs.Keyed.{KeyedPiece, KeyedSection, data_at_of}
 use Rattle.place_terms.specs.Outputs.{Outputs}
 use Rattle.place_terms.specs.SectionTable.{both, keyed, keyed_taken, taken_pieces, AreSectionsOf}
 use Rattle.place_terms.specs.Wholes.{counts_in, placed_in, starts_in}
-use Rattle.place_terms.specs.declared.earlier.EarlierLayout.{EarlierLayout}
-use Rattle.place_terms.specs.declared.earlier.Taken.{Taken}
+use Rattle.place_terms.specs.declared.previous_layout.PreviousLayout.{PreviousLayout}
+use Rattle.place_terms.specs.declared.previous_layout.ReusedOutput.{ReusedOutput}
 use Rattle.place_terms.specs.declared.sections.Closed.{Closed}
 
 take_one : {X : Type 0} (xs : List X) (k : ℕ) (x : X) → slice_get xs k ≡ Some x → take (suc k) xs ≡ take k xs ++ x ∷ []
@@ -42,11 +42,11 @@ starts_both (x ∷ xs) ys =
     ap (λ l. map (λ (p : KeyedPiece). p.start) x.pieces ++ l) (starts_both xs ys)
     ∙ sym (append_assoc (map (λ (p : KeyedPiece). p.start) x.pieces) (starts_in xs) (starts_in ys))
 
-pub none_taken : (e : EarlierOutputs) (ts : List Taken) → ts ≡ [] → AreTaken e ts 0
+pub none_taken : (e : PreviousOutputs) (ts : List ReusedOutput) → ts ≡ [] → AreTaken e ts 0
 none_taken e ts none = rw none (record { placed = refl; counts = refl; starts = refl; counted = refl })
 
 -- the parts of all
-module _ (e : EarlierOutputs) (ts : List Taken) (count : ℕ) (a : AreTaken e ts count) (xs : List Closed) where
+module _ (e : PreviousOutputs) (ts : List ReusedOutput) (count : ℕ) (a : AreTaken e ts count) (xs : List Closed) where
   pub placed_parts : placed_in (both ts xs) ≡ take (length ts) e.sections ++ placed_in (map keyed xs)
   placed_parts =
       map-append (λ (x : KeyedSection). x.placed) (map keyed_taken ts) (map keyed xs)
@@ -61,11 +61,11 @@ module _ (e : EarlierOutputs) (ts : List Taken) (count : ℕ) (a : AreTaken e ts
   starts_parts = starts_both (map keyed_taken ts) (map keyed xs) ∙ ap (λ l. l ++ starts_in (map keyed xs)) a.starts
 
 -- one more is taken over
-module _ (script : List Statement) (e : EarlierLayout) (ts : List Taken) (xs : List Closed) (ds : List ℕ)
+module _ (script : List Statement) (e : PreviousLayout) (ts : List ReusedOutput) (xs : List Closed) (ds : List ℕ)
     (elsewhere count commands_count taken_count : ℕ) (none : xs ≡ [])
     (of : AreSectionsOf script (both ts xs) ds elsewhere count commands_count)
     (a : AreTaken (earlier_of e) ts taken_count) (number : ℕ) (o : OutputSection) (row : List Piece)
-    (commands : List PlacedData) (t : Taken) (number_is : number ≡ length ts)
+    (commands : List PlacedData) (t : ReusedOutput) (number_is : number ≡ length ts)
     (i : IsSectionOf e number count o row commands t) where
   pieces_long : length (taken_pieces t.starts.now t.row.now) ≡ length t.starts.now
   pieces_long = taken_long t.starts.now t.row.now
@@ -90,7 +90,7 @@ module _ (script : List Statement) (e : EarlierLayout) (ts : List Taken) (xs : L
       ∙ ap (λ l. starts_in (map keyed_taken ts) ++ l)
       (taken_starts t.starts.now t.row.now (let l = i.enough in let r = ap length i.row_is in omega (arith, l, r))))
 
-  pub taken_more : (new : List Taken) (all : ℕ) → new ≡ ts ++ t ∷ [] → all ≡ count + length t.starts.now
+  pub taken_more : (new : List ReusedOutput) (all : ℕ) → new ≡ ts ++ t ∷ [] → all ≡ count + length t.starts.now
       → AreTaken (earlier_of e) new all
   taken_more new all is sum = subst (λ l. AreTaken (earlier_of e) l all) (sym is) (record {
     placed = ap placed_in more
@@ -130,9 +130,9 @@ module _ (script : List Statement) (e : EarlierLayout) (ts : List Taken) (xs : L
       let c = ap length i.data_commands in
       omega (arith, sum, l, c)
 
-  -- it is the next one of the earlier layout
+  -- it is the next one of the previous layout
   pub with_taken : (v : Outputs) → record { script = script; earlier = earlier_of e; list = both ts xs } ≡ v
-      → (new : List Taken) → new ≡ ts ++ t ∷ [] → (end : ℕ)
+      → (new : List ReusedOutput) → new ≡ ts ++ t ∷ [] → (end : ℕ)
       → commands ≡ part_of e.data_commands.now commands_count (end - commands_count)
       → commands_count + length commands ≡ end → IsWithTaken v.earlier v.list row o end (both new xs)
   with_taken v view new is end part sum =

@@ -2,7 +2,7 @@
 use Rattle.std.specs.Prelude.{ℕ, List, map, Option}
 use Rattle.byteorder.specs.Endian.{little_bytes}
 use Rattle.ldscript.specs.statements.Widths.{byte_count}
-use Rattle.ldmodel.specs.Layout.{PlacedPiece, PlacedSection, PlacedData}
+use Rattle.ldmodel.specs.Layout.{PlacedPiece, PlacedOutput, PlacedData}
 use Rattle.ldmodel.specs.declared.placed.Placed.{Placed}
 use Rattle.ldmodel.specs.declared.placed.PlacedData as code
 use Rattle.ldmodel.specs.declared.rows.Piece as rows
@@ -26,14 +26,14 @@ pub record KeyedSection : Type 0 where
 abbrev pub piece_at : Naming → KeyedPiece → PlacedPiece
 piece_at n x = record { start = x.start; piece = piece_named n x.piece }
 
--- a data command of an earlier layout
+-- a data command of an previous layout
 abbrev pub data_at_of : code.PlacedData → DataAt
 data_at_of d = record { start = d.start; width = d.width; value = d.value }
 
 abbrev pub data_at : DataAt → PlacedData
 data_at d = record { start = d.start; bytes = little_bytes (byte_count d.width) d.value }
 
-abbrev pub section_of : Naming → KeyedSection → PlacedSection
+abbrev pub section_of : Naming → KeyedSection → PlacedOutput
 section_of n x = record {
   name = x.name;
   region = x.region;

@@ -5,7 +5,7 @@ use Rattle.std.specs.List.{All}
 use Rattle.std.specs.Option.{option_map}
 use Rattle.ldscript.specs.statements.declared.statement.Statement.{Statement}
 use Rattle.ldmodel.specs.Layout.{ScriptSymbol}
-use Rattle.ldmodel.specs.Lent.{name_given_by, symbol_of}
+use Rattle.ldmodel.specs.PlacementView.{name_given_by, symbol_of}
 use Rattle.ldmodel.specs.declared.script_symbol.ScriptSymbol as code
 use Rattle.place_terms.specs.Tables.{symbol_number, entry_under}
 

@@ -11,5 +11,5 @@ pub mod RegionTable
 pub mod ProvidedTable
 pub mod Wholes
 pub mod SectionTable
-pub mod Earlier
+pub mod PreviousLayout
 pub mod Outputs

@@ -3,13 +3,13 @@ use Rattle.std.specs.Prelude.{◌≡◌, ℕ, List, Some, slice_get}
 use Rattle.ldscript.specs.statements.Numbering.{output_sections}
 use Rattle.ldscript.specs.statements.declared.section.OutputSection.{OutputSection}
 use Rattle.ldscript.specs.statements.declared.statement.Statement.{Statement}
-use Rattle.place_terms.specs.Earlier.{EarlierOutputs}
+use Rattle.place_terms.specs.PreviousLayout.{PreviousOutputs}
 use Rattle.place_terms.specs.Keyed.{KeyedSection}
 
--- output sections in their places, of a script, and those of an earlier layout
+-- output sections in their places, of a script, and those of an previous layout
 pub record Outputs : Type 0 where
   pub script : List Statement
-  pub earlier : EarlierOutputs
+  pub earlier : PreviousOutputs
   pub list : List KeyedSection
 
 -- the output section of a number

@@ -5,7 +5,7 @@ use Rattle.std.specs.List.{list_any}
 use Rattle.std.specs.Option.{option_map_or}
 use Rattle.ldscript.specs.statements.Numbering.{DirectiveAt, all_directives}
 use Rattle.ldscript.specs.statements.declared.statement.Statement.{Statement}
-use Rattle.ldmodel.specs.Lent.{given_name}
+use Rattle.ldmodel.specs.PlacementView.{given_name}
 use Rattle.ldmodel.specs.declared.script_symbol.DirectiveIndex.{DirectiveIndex}
 use Rattle.place_terms.specs.Tables.{symbol_number}
 

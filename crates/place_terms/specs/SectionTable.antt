@@ -11,7 +11,7 @@ use Rattle.place_terms.specs.Tables.{AreInOrder}
 use Rattle.place_terms.specs.Wholes.{all_data_in, starts_in}
 use Rattle.place_terms.specs.declared.sections.Closed.{Closed}
 use Rattle.place_terms.specs.declared.sections.PieceAt.{PieceAt}
-use Rattle.place_terms.specs.declared.earlier.Taken.{Taken}
+use Rattle.place_terms.specs.declared.previous_layout.ReusedOutput.{ReusedOutput}
 use Rattle.ldmodel.specs.declared.rows.Piece as rows
 
 abbrev pub keyed_piece : PieceAt → KeyedPiece
@@ -35,7 +35,7 @@ keyed x = record {
 }
 
 -- one that is taken over
-abbrev pub keyed_taken : Taken → KeyedSection
+abbrev pub keyed_taken : ReusedOutput → KeyedSection
 keyed_taken x = record {
   name = x.output.now.name;
   region = x.output.now.region;
@@ -46,7 +46,7 @@ keyed_taken x = record {
 }
 
 -- those that are taken over, and then those that were placed
-abbrev pub both : List Taken → List Closed → List KeyedSection
+abbrev pub both : List ReusedOutput → List Closed → List KeyedSection
 both taken placed = map keyed_taken taken ++ map keyed placed
 
 abbrev pub section_names : List KeyedSection → List (List ℕ)

@@ -1,7 +1,7 @@
 -- The parts of all output sections, one section after another.
 use Rattle.std.specs.Prelude.{ℕ, ◌+◌, List, [], ◌∷◌, ◌++◌, length, map}
 use Rattle.ldmodel.specs.Layout.{PlacedData}
-use Rattle.ldmodel.specs.Lent.{NumberedData}
+use Rattle.ldmodel.specs.PlacementView.{NumberedData}
 use Rattle.ldmodel.specs.declared.placed.Placed.{Placed}
 use Rattle.place_terms.specs.Keyed.{KeyedPiece, KeyedSection, data_at}
 use Rattle.place_terms.specs.declared.sections.DataAt.{DataAt}

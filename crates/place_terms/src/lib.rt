@@ -2,18 +2,18 @@
 //! trees and what is in scope; gives numbers or faults, and tables that find what was put into them.
 //!
 //! - `value` over `scope` and `operator`: the value of an expression; `mentioned`: the names in it;
-//! - `commands` over `guesses` and `named`: the numbers of names;
-//! - `symbols`, `provided`, `sections` over `earlier`, `regions`: symbols' values, PROVIDEs in force, output sections,
-//!   memory regions; `pieces`, `wholes`: what input sections bring, and the parts of a whole layout.
+//! - `directives_by_name` over `guesses` and `named`: the numbers of names;
+//! - `symbols`, `provided`, `sections` over `previous_layout`, `regions`: symbols' values, PROVIDEs in force, output
+//!   sections, memory regions; `pieces`, `wholes`: what input sections bring, and the parts of a whole layout.
 #![tactic(auto)]
 
-pub mod commands;
-pub mod earlier;
+pub mod directives_by_name;
 pub mod guesses;
 pub mod mentioned;
 pub mod named;
 mod operator;
 pub mod pieces;
+pub mod previous_layout;
 pub mod provided;
 pub mod regions;
 pub mod scope;

@@ -6,7 +6,7 @@ ghost use Rattle.std.specs.Option.{option_map_or};
 ghost use Rattle.ldscript.specs.statements.Numbered.{shown_directives};
 ghost use Rattle.place_terms.specs.ProvidedTable.{name_in, provided_names, Marks};
 
-use crate::commands::number_in;
+use crate::directives_by_name::number_in;
 use ldmodel::script_symbol::DirectiveIndex;
 use ldscript::Script;
 use ldscript::tree::{Directive, DirectiveAt};

@@ -4,7 +4,7 @@ ghost use Rattle.std.specs.Prelude.{◌≡◌, ◌+◌, [], ◌∷◌, ◌++◌,
 ghost use Rattle.std.specs.Prelude.{bytes_eq, map, option_map, slice_get};
 ghost use Rattle.std.specs.Option.{option_copied};
 ghost use Rattle.ldscript.specs.statements.Given.{section_number};
-ghost use Rattle.place_terms.specs.Earlier.{earlier_of, IsWithTaken};
+ghost use Rattle.place_terms.specs.PreviousLayout.{earlier_of, IsWithTaken};
 ghost use Rattle.place_terms.specs.Keyed.{KeyedSection};
 ghost use Rattle.place_terms.specs.Outputs.{IsOutput};
 ghost use Rattle.place_terms.specs.SectionTable.{both, keyed, difference_by, section_names};
@@ -12,8 +12,8 @@ ghost use Rattle.place_terms.specs.SectionTable.{Ends, Fits, IsKeptAt};
 ghost use Rattle.place_terms.specs.Tables.{AreInOrder};
 ghost use Rattle.place_terms.specs.Wholes.{all_data_in, counts_in, placed_in, starts_in};
 
-use crate::earlier::{EarlierLayout, Taken, first};
 use crate::guesses::Guesses;
+use crate::previous_layout::{PreviousLayout, ReusedOutput, first};
 use ldmodel::impossible::impossible;
 use ldmodel::placed::Placed;
 use ldmodel::rows::Piece;
@@ -60,9 +60,9 @@ pub struct Closed<'a> {
 #[derive(Drop)]
 pub struct Sections<'a> {
     script: &'a Script,
-    earlier: EarlierLayout<'a>,
-    /// The output sections that are taken over from the earlier layout, which come first.
-    taken: Vec<Taken<'a>>,
+    earlier: PreviousLayout<'a>,
+    /// The output sections that are taken over from the previous layout, which come first.
+    taken: Vec<ReusedOutput<'a>>,
     /// How many input sections are in those that are taken over.
     taken_count: usize,
     list: Vec<Closed<'a>>,
@@ -83,7 +83,7 @@ impl<'a> Model for Sections<'a> {
 
     ghost coded = { Prim.hlevel (codes, formula.the_row.coded) };
 
-    ghost use Rattle.place_terms.specs.Earlier.{earlier_of, AreTaken};
+    ghost use Rattle.place_terms.specs.PreviousLayout.{earlier_of, AreTaken};
     ghost use Rattle.place_terms.specs.SectionTable.{both, AreSectionsOf};
 
     ghost view = { λ s. record {
@@ -97,7 +97,7 @@ impl<'a> Model for Sections<'a> {
         s.data_count × AreTaken (earlier_of s.earlier) s.taken.items s.taken_count };
 }
 
-/// Output sections in their places: those that are taken over from an earlier layout, and then those that were placed.
+/// Output sections in their places: those that are taken over from an previous layout, and then those that were placed.
 #[derive(Clone, Copy)]
 pub struct SectionParts<'s, 'a> {
     /// The numbers of the output sections that are taken over.
@@ -107,7 +107,7 @@ pub struct SectionParts<'s, 'a> {
     /// Where the input sections of these start, output section by output section.
     pub starts: &'s [u64],
     /// The output sections that are taken over.
-    pub taken: &'s [Taken<'a>],
+    pub taken: &'s [ReusedOutput<'a>],
     /// The output sections that were placed.
     pub placed: &'s [Closed<'a>],
 }
@@ -115,7 +115,7 @@ pub struct SectionParts<'s, 'a> {
 /// The number of the output section of a name, of which the guess is looked at first.
 fn number_of(
     script: &Script,
-    taken: &[Taken<'_>],
+    taken: &[ReusedOutput<'_>],
     list: &[Closed<'_>],
     guesses: &Guesses,
     name: &[u8],
@@ -134,7 +134,7 @@ fn number_of(
 }
 
 /// The numbers of the output section of this number, if there is one.
-fn placed_at(taken: &[Taken<'_>], list: &[Closed<'_>], number: usize) -> Option<Placed>
+fn placed_at(taken: &[ReusedOutput<'_>], list: &[Closed<'_>], number: usize) -> Option<Placed>
     ensures { result ≡ option_map (λ (x : KeyedSection). x.placed) (slice_get (both taken.now list.now) number) }
 {
     match number.checked_sub(taken.len()) {
@@ -178,12 +178,12 @@ fn sum(count: usize, more: usize) -> Result<usize, AllocError>
 
 impl<'a> Sections<'a> {
     /// No output section of this script yet. `count` says about how many there will be, and `taken` how many of them
-    /// will be taken over from an earlier layout.
+    /// will be taken over from an previous layout.
     pub fn new(
         alloc: Global,
         script: &'a Script,
         count: usize,
-        earlier: EarlierLayout<'a>,
+        earlier: PreviousLayout<'a>,
         taken: usize,
     ) -> Result<Sections<'a>, AllocError>
         ensures script { IfOk result (λ s. s.script ≡ script.now) }
@@ -331,12 +331,12 @@ impl<'a> Sections<'a> {
     {
         // so that what a script says of its statements is known
         let _statements = self.script.statements();
-        // Fails only where memory runs out: the first ones are taken over, and the earlier layout has them
+        // Fails only where memory runs out: the first ones are taken over, and the previous layout has them
         if !self.list.is_empty() {
             return Err(impossible());
         }
         let Some(commands) = self.earlier.data_between(self.data_count, data_end) else {
-            // The earlier layout has these data commands
+            // The previous layout has these data commands
             return Err(impossible());
         };
         let number = self.taken.len();
@@ -344,7 +344,7 @@ impl<'a> Sections<'a> {
             .earlier
             .section(number, self.count, output, row, commands)
         else {
-            // The earlier layout has this section
+            // The previous layout has this section
             return Err(impossible());
         };
         let kept_at = kept_at(self.script, self.differences.len(), output)?;

@@ -3,7 +3,7 @@
 ghost use Rattle.std.specs.Prelude.{◌≡◌, [], ◌∷◌, ◌++◌, length, take, IfOk, OnOk, Some};
 ghost use Rattle.place_terms.specs.LayoutSymbols.{named, risen, value_of, value_under, AreFound, IsFound, Rises};
 
-use crate::commands::Commands;
+use crate::directives_by_name::DirectivesByName;
 use ldmodel::impossible::impossible;
 use ldmodel::script_symbol::{DirectiveIndex, ScriptSymbol};
 use ldscript::Script;
@@ -14,7 +14,7 @@ use std::marker::Model;
 /// give them. A look-up takes the time of one among the script's commands, and of one among these.
 #[derive(Drop)]
 pub struct AssignedSymbols<'a> {
-    commands: Commands<'a>,
+    commands: DirectivesByName<'a>,
     list: Vec<ScriptSymbol>,
     /// The number of the command after the one that gave a symbol its value last.
     next: usize,
@@ -70,7 +70,7 @@ impl<'a> AssignedSymbols<'a> {
         ensures script { IfOk result (λ s. s.script ≡ script.now) }
         ensures none { IfOk result (λ s. s.list ≡ []) }
     {
-        let commands = Commands::new(alloc, script)?;
+        let commands = DirectivesByName::new(alloc, script)?;
         let list = Vec::with_capacity(alloc, commands.listed())?;
         Ok(AssignedSymbols {
             commands,
@@ -88,7 +88,7 @@ impl<'a> AssignedSymbols<'a> {
         ensures script { IfOk result (λ s. s.script ≡ script.now) }
         ensures none { IfOk result (λ s. s.list ≡ []) }
     {
-        let commands = Commands::unlisted(alloc, script)?;
+        let commands = DirectivesByName::unlisted(alloc, script)?;
         let list = Vec::with_capacity(alloc, count)?;
         Ok(AssignedSymbols {
             commands,
@@ -149,7 +149,7 @@ impl<'a> AssignedSymbols<'a> {
         ensures taken { OnOk result (self.new.list ≡ take count symbols.now) }
     {
         let Some(first) = symbols.get(..count) else {
-            // An earlier layout has no fewer
+            // An previous layout has no fewer
             return Err(impossible());
         };
         self.list.clear();

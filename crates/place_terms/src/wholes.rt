@@ -1,7 +1,7 @@
 //! The parts of a layout that is whole, handed on.
 
 ghost use Rattle.std.specs.Prelude.{◌≡◌, ◌++◌, map, IfOk, OnOk};
-ghost use Rattle.ldmodel.specs.Lent.{data_of, region_of as region_numbers};
+ghost use Rattle.ldmodel.specs.PlacementView.{data_of, region_of as region_numbers};
 ghost use Rattle.place_terms.specs.Keyed.{KeyedPiece, data_at_of};
 ghost use Rattle.place_terms.specs.RegionTable.{region_of};
 ghost use Rattle.place_terms.specs.SectionTable.{both, keyed, keyed_piece};

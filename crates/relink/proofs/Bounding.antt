@@ -4,8 +4,8 @@ use Rattle.std.proofs.Common.{None}
 use Rattle.std.proofs.Common.{Global, Vec, ap, arith, inl, inr, length, refl, subst, sym}
 use Rattle.std.specs.Prelude.{◌&&◌, Err, IfSome, Ok, if◌then◌else◌, is_some, nat_lt, take}
 use Rattle.elfobj.specs.Counts.{Counts, capped}
-use Rattle.relink_link.specs.First.{AreSameBefore, IsFirstChanged, IsNext}
-use Rattle.relink_link.specs.Stays.{IsLastOf, LastState}
+use Rattle.relink_driver.specs.Resume.{AreSameBefore, IsFirstChanged, IsNext}
+use Rattle.relink_driver.specs.StayedSections.{IsPreviousOf, PreviousState}
 use Rattle.ldmodel.specs.Edits.{Add, Change, Move, Remove, Replace, SetScript}
 use Rattle.ldmodel.specs.Fault.{Fault, ImageTooLong}
 use Rattle.ldmodel.specs.Layout.{Layout}
@@ -18,23 +18,24 @@ use Rattle.ldmodel.specs.SessionWork.{IsWork, Rises, bytes_to_write, entries_fro
 use Rattle.ldmodel.specs.SessionWork.{objects_read, sites_to_evaluate}
 use Rattle.ldmodel.specs.Stayed.{GoodLink}
 use Rattle.symres.specs.decisions.Counted.{CountsNames}
-use Rattle.ldmodel_project.specs.Holding.{Holding, Listing, StandsAsNamed, TouchesOne, held}
-use Rattle.ldmodel_project.specs.Holding.{listing_of, next_listing, project_of}
+use Rattle.ldmodel_project.specs.ProjectState.{ProjectState, Listing, StandsAsNamed, EditsOne, held}
+use Rattle.ldmodel_project.specs.ProjectState.{listing_of, next_listing, project_of}
 use Rattle.ldmodel_project.specs.Listing.{keys_of}
-use Rattle.ldmodel_project.specs.Next.{touched_key}
+use Rattle.ldmodel_project.specs.Next.{edited_key}
 use Rattle.ldmodel_project.specs.declared.staged.Staged.{Staged}
 use Rattle.ldscript.specs.statements.declared.statement.Statement.{Statement}
-use Rattle.relink_link.specs.Counted.{IsImageCount}
-use Rattle.relink_link.specs.Worked.{IsLinkWork, IsWorkBeside}
-use Rattle.relink.specs.Answer.{is_good, shown}
-use Rattle.relink.specs.Last.{HasFollowed, IsCurrent, IsEffect, IsFrom, IsLast, lent, lent_with, origin_of}
+use Rattle.relink_driver.specs.Counted.{IsImageCount}
+use Rattle.relink_driver.specs.Worked.{IsLinkWork, IsWorkBeside}
+use Rattle.relink.specs.Outcome.{is_good, shown}
+use Rattle.relink.specs.PreviousLink.{HasUpdateOutcome, IsCurrent, IsEffect, IsFrom, IsPreviousLink, lent}
+use Rattle.relink.specs.PreviousLink.{previous_view_with, origin_of}
 use Rattle.relink.specs.Work.{HasWorked, IsCounted, IsReadingWork, IsWholeWork, decided_by}
-use Rattle.relink.specs.declared.answer.Answer.{Answer}
-use Rattle.relink.specs.declared.answer.Answer.TheVariants as answer
-use Rattle.relink.specs.declared.last.Effect.{Effect}
-use Rattle.relink.specs.declared.last.Followed.{Followed}
-use Rattle.relink.specs.declared.last.Followed.TheVariants.{Faulty, Good, Retouched}
-use Rattle.relink.specs.declared.last.LastGood.{LastGood}
+use Rattle.relink.specs.declared.outcome.LinkOutcome.{LinkOutcome}
+use Rattle.relink.specs.declared.outcome.LinkOutcome.TheVariants as outcome
+use Rattle.relink.specs.declared.previous.EditEffect.{EditEffect}
+use Rattle.relink.specs.declared.previous.UpdateOutcome.{UpdateOutcome}
+use Rattle.relink.specs.declared.previous.UpdateOutcome.TheVariants.{Faulty, Good, RewrittenInPlace}
+use Rattle.relink.specs.declared.previous.PreviousLink.{PreviousLink}
 use Rattle.relink.proofs.Lending.{IsFollowing, from_edit, is_last_of, none_of_last}
 use Rattle.relink.proofs.Succession.{is_next}
 use Rattle.relink.proofs.FirstChanged.{fewer, same_before}
@@ -59,7 +60,7 @@ pub objects_link_nothing : (n : ℕ) (m0 m1 : Counts) → ReadsObjects n m0 m1 �
 objects_link_nothing n m0 m1 r = record { pieces = r.pieces; fields = r.fields; bytes = r.bytes }
 
 -- what is counted before it is no part of it
-pub link_work_from : (old new : GoodLink) (x : LastState) (m0 m1 m2 : Counts) → LinksNothing m0 m1
+pub link_work_from : (old new : GoodLink) (x : PreviousState) (m0 m1 m2 : Counts) → LinksNothing m0 m1
     → IsLinkWork old new x m1 m2 → IsLinkWork old new x m0 m2
 link_work_from old new x m0 m1 m2 none w = record {
   first = w.first;
@@ -76,12 +77,13 @@ link_work_from old new x m0 m1 m2 none w = record {
   };
 }
 
-pub worked_from : (p : Project) (last : Option LastState) (m0 m1 m2 : Counts) (f : Followed) → LinksNothing m0 m1
-    → HasWorked p last m1 m2 f → HasWorked p last m0 m2 f
-worked_from p last m0 m1 m2 (Faulty t) none w = tt
-worked_from p last m0 m1 m2 (Good x m) none w = λ old y s is of_new laid.
+pub worked_from : (p : Project) (previous : Option PreviousState) (m0 m1 m2 : Counts) (f : UpdateOutcome)
+    → LinksNothing m0 m1
+    → HasWorked p previous m1 m2 f → HasWorked p previous m0 m2 f
+worked_from p previous m0 m1 m2 (Faulty t) none w = tt
+worked_from p previous m0 m1 m2 (Good x m) none w = λ old y s is of_new laid.
     link_work_from old (record { project = p; layout = s }) y m0 m1 m2 none (w old y s is of_new laid)
-worked_from p last m0 m1 m2 (Retouched v) none w = λ old y s is of_new laid.
+worked_from p previous m0 m1 m2 (RewrittenInPlace v) none w = λ old y s is of_new laid.
     link_work_from old (record { project = p; layout = s }) y m0 m1 m2 none (w old y s is of_new laid)
 
 -- ---- the link that is kept
@@ -95,13 +97,13 @@ known_layout : (p : Project) (s t : Layout) → layout p ≡ of_length (image_le
 known_layout p s t is laid =
     ok_of (nat_lt max_image_length (image_length p s)) (ImageTooLong (image_length p s) ∷ []) s t (sym is ∙ laid)
 
-pub current_is : (l : Listing) (bytes : List ℕ) (x : LastGood) (p : Project) (s : Layout) (c : IsCurrent l bytes x)
+pub current_is : (l : Listing) (bytes : List ℕ) (x : PreviousLink) (p : Project) (s : Layout) (c : IsCurrent l bytes x)
     → project_of l ≡ p → layout p ≡ Ok s → c.kept.old ≡ (let g : GoodLink = record { project = p; layout = s } in g)
 current_is l bytes x p s c is laid =
     let link_of : Project → Layout → GoodLink = λ q t. record { project = q; layout = t } in
     let same : c.kept.old.project ≡ p = c.project ∙ is in
     let layout_is : c.kept.old.layout ≡ s =
-    known_layout c.kept.old.project c.kept.old.layout s c.kept.table.arranged.link_layout.layout (ap layout same
+    known_layout c.kept.old.project c.kept.old.layout s c.kept.table.indexed_layout.link_layout.layout (ap layout same
     ∙ laid) in
     ap (λ (q : Project). link_of q c.kept.old.layout) same ∙ ap (link_of p) layout_is
 
@@ -111,17 +113,17 @@ current_is l bytes x p s c is laid =
 stays_put : (n m most : ℕ) → m ≡ n → Rises n m most
 stays_put n m most e = record { onward = omega (arith, e); within = omega (arith, e) }
 
-not_zero : (bytes : List ℕ) (t : Answer) (k : Link) → is_good t ≡ false → shown bytes t ≡ k → k.status ≡ 0 → ⊥
-not_zero bytes (answer.Good m) k bad is zero = absurd (cc)
-not_zero bytes (answer.Faulty t) k bad is zero =
+not_zero : (bytes : List ℕ) (t : LinkOutcome) (k : Link) → is_good t ≡ false → shown bytes t ≡ k → k.status ≡ 0 → ⊥
+not_zero bytes (outcome.Good m) k bad is zero = absurd (cc)
+not_zero bytes (outcome.Faulty t) k bad is zero =
     let one : 1 ≡ 0 = ap (λ (l : Link). l.status) is ∙ zero in
     absurd (omega (arith, one))
 
-pub unchanged_work : (l : Listing) (bytes : List ℕ) (a : Answer) (last : Option LastGood) (p q : Project)
+pub unchanged_work : (l : Listing) (bytes : List ℕ) (a : LinkOutcome) (previous : Option PreviousLink) (p q : Project)
     (change : Change) (m0 m1 : Counts) → project_of l ≡ p → q ≡ p → AreSmall m0
-    → ReadsObjects (objects_read change) m0 m1 → shown bytes a ≡ link p → IsLast l bytes a last
+    → ReadsObjects (objects_read change) m0 m1 → shown bytes a ≡ link p → IsPreviousLink l bytes a previous
     → IsWholeWork p change q m0 m1
-unchanged_work l bytes a last p q change m0 m1 is same small read answers kept = (
+unchanged_work l bytes a previous p q change m0 m1 is same small read answers kept = (
   reading,
   (λ s t zero zero_too laid laid_too. record {
     objects = reading.objects;
@@ -136,7 +138,7 @@ unchanged_work l bytes a last p q change m0 m1 is same small read answers kept =
     reading : IsReadingWork p change q m0 m1
     reading = read_alone p change q m0 m1 small read
 
--- ---- an edit that is linked over the last link
+-- ---- an edit that is linked over the previous link
 
 no_script : (o : Option (List Statement)) (t : Option ℕ) → IfSome o (λ _. t ≡ None) → is_some t ≡ true → o ≡ None
 no_script None t one some = refl
@@ -152,16 +154,16 @@ LeavesScript (Move name to) s = s.script ≡ None
 LeavesScript (Remove name) s = s.script ≡ None
 LeavesScript (SetScript text) s = Unit {0}
 
-pub leaves_script : (h : Holding) (change : Change) (s : Staged) → TouchesOne s → StandsAsNamed change h.contents s
+pub leaves_script : (h : ProjectState) (change : Change) (s : Staged) → EditsOne s → StandsAsNamed change h.contents s
     → LeavesScript change s
 leaves_script h (Add name at bytes) s one stands =
-    no_script s.script (touched_key s.objects.step) one stands.0.touches
+    no_script s.script (edited_key s.objects.step) one stands.0.touches
 leaves_script h (Replace name bytes) s one stands =
-    no_script s.script (touched_key s.objects.step) one stands.touching.touches
+    no_script s.script (edited_key s.objects.step) one stands.touching.touches
 leaves_script h (Move name to) s one stands =
-    no_script s.script (touched_key s.objects.step) one stands.touching.touches
+    no_script s.script (edited_key s.objects.step) one stands.touching.touches
 leaves_script h (Remove name) s one stands =
-    no_script s.script (touched_key s.objects.step) one stands.touching.touches
+    no_script s.script (edited_key s.objects.step) one stands.touching.touches
 leaves_script h (SetScript text) s one stands = tt
 
 -- the input sections that are placed are no more than the bound says
@@ -174,7 +176,7 @@ few_placed old new p first is least =
     (ap (λ (r : Project). take (first_changed (rows p) (rows new.project)) (rows r)) is
     ∙ same_before (rows p) (rows new.project))
 
-placed : (old new : GoodLink) (x : LastState) (p : Project) (change : Change) (s : Staged) (m0 m2 : Counts)
+placed : (old new : GoodLink) (x : PreviousState) (p : Project) (change : Change) (s : Staged) (m0 m2 : Counts)
     → old.project ≡ p → m0.pieces < 2 ^ 64 → (s.script ≡ None → IsNext old.project new.project x)
     → LeavesScript change s → IsLinkWork old new x m0 m2
     → Rises m0.pieces m2.pieces (entries_to_place change (rows p) (rows new.project))
@@ -197,24 +199,26 @@ both_are : (a b : Bool) → a ≡ true → b ≡ true → (a && b) ≡ true
 both_are true b h k = k
 both_are false b h k = absurd (cc)
 
-pub whole_work : (h : Holding) (s : Staged) (same : Bool) (bytes new : List ℕ) (a : Answer) (e : Effect)
-    (last : Option LastGood) (from : Option (Vec (Option ℕ) Global)) (f : Followed) (change : Change)
-    (m0 m1 m2 : Counts) → IsFollowing h s same bytes a last e → shown bytes a ≡ link (held h)
-    → IsFrom last e.known e.gone (keys_of (next_listing h s).entries) from
-    → HasFollowed (next_listing h s) (lent last from e h.contents.entries s.objects) bytes new f
-    → HasWorked (project_of (next_listing h s)) (lent last from e h.contents.entries s.objects) m1 m2 f
+pub whole_work : (h : ProjectState) (s : Staged) (same : Bool) (bytes new : List ℕ) (a : LinkOutcome) (e : EditEffect)
+    (previous : Option PreviousLink) (from : Option (Vec (Option ℕ) Global)) (f : UpdateOutcome) (change : Change)
+    (m0 m1 m2 : Counts) → IsFollowing h s same bytes a previous e → shown bytes a ≡ link (held h)
+    → IsFrom previous e.known e.gone (keys_of (next_listing h s).entries) from
+    → HasUpdateOutcome (next_listing h s) (lent previous from e h.contents.entries s.objects) bytes new f
+    → HasWorked (project_of (next_listing h s)) (lent previous from e h.contents.entries s.objects) m1 m2 f
     → AreSmall m0 → ReadsObjects (objects_read change) m0 m1 → m2.objects ≡ m1.objects
     → m2.names ≡ capped m0.names (length (distinct (decided_by (held h) change (project_of (next_listing h s)))))
     → LeavesScript change s → IsReadingWork (held h) change (project_of (next_listing h s)) m0 m2
     → IsWholeWork (held h) change (project_of (next_listing h s)) m0 m2
-whole_work h s same bytes new a e last from f change m0 m1 m2 given answers origins followed worked small read none
+whole_work h s same bytes new a e previous from f change m0 m1 m2 given answers origins updated worked small read none
     exact leaves reading = (
       reading,
       (λ t u zero zero_too laid laid_too.
-          (between a last from f e.known refl given.effect given.kept answers origins followed worked t u zero zero_too
+          (between a previous from f e.known refl given.effect given.kept answers origins updated worked t u zero
+          zero_too
           laid laid_too).0),
       (λ t u zero zero_too laid laid_too. inr
-          (between a last from f e.known refl given.effect given.kept answers origins followed worked t u zero zero_too
+          (between a previous from f e.known refl given.effect given.kept answers origins updated worked t u zero
+          zero_too
           laid laid_too).1),
     )
   where
@@ -224,34 +228,34 @@ whole_work h s same bytes new a e last from f change m0 m1 m2 given answers orig
     q : Project
     q = project_of (next_listing h s)
 
-    next_of : (m : _) (x : LastGood) (v : Vec (Option ℕ) Global) (c : IsCurrent (listing_of h) bytes x)
-        → IsEffect h s same (answer.Good m) (Some x) e
+    next_of : (m : _) (x : PreviousLink) (v : Vec (Option ℕ) Global) (c : IsCurrent (listing_of h) bytes x)
+        → IsEffect h s same (outcome.Good m) (Some x) e
         → IsFrom (Some x) true e.gone (keys_of (next_listing h s).entries) (Some v) → s.script ≡ None
-        → IsNext c.kept.old.project q (lent_with x v.items e h.contents.entries s.objects)
+        → IsNext c.kept.old.project q (previous_view_with x v.items e h.contents.entries s.objects)
     next_of m x v c effect origins stays =
         is_next c.kept.old.project q h.contents.entries (next_listing h s).entries s.objects.step
         s.objects.places.after same (origin_of x.origins.items)
-        (lent_with x v.items e h.contents.entries s.objects) (ap (λ (r : Project). r.objects) c.project)
+        (previous_view_with x v.items e h.contents.entries s.objects) (ap (λ (r : Project). r.objects) c.project)
         refl given.edit.found given.edit.keys given.edit.placed given.edit.arranged.place_after given.edit.named
         given.edit.puts c.kept.since
         (both_are x.same_script e.same_script c.script (effect.stays stays))
         (from_edit h s same x e v effect.lost origins) refl
 
-    -- over the last link, whatever is kept of this one
-    over_last : (m : _) (x : LastGood) (v : Vec (Option ℕ) Global) (kept : IsCurrent (listing_of h) bytes x)
-        → e.known ≡ true → IsEffect h s same (answer.Good m) (Some x) e
+    -- over the previous link, whatever is kept of this one
+    over_last : (m : _) (x : PreviousLink) (v : Vec (Option ℕ) Global) (kept : IsCurrent (listing_of h) bytes x)
+        → e.known ≡ true → IsEffect h s same (outcome.Good m) (Some x) e
         → IsFrom (Some x) true e.gone (keys_of (next_listing h s).entries) (Some v)
-        → IsWorkBeside q (Some (lent_with x v.items e h.contents.entries s.objects)) m1 m2 → (t u : Layout)
+        → IsWorkBeside q (Some (previous_view_with x v.items e h.contents.entries s.objects)) m1 m2 → (t u : Layout)
         → layout p ≡ Ok t → layout q ≡ Ok u
         → IsWork (record { project = p; layout = t }) change (record { project = q; layout = u }) m0 m2
         × IsCounted (record { project = p; layout = t }) change (record { project = q; layout = u }) m0 m2
     over_last m x v kept are effect origins worked t u laid laid_too =
-        let state : LastState = lent_with x v.items e h.contents.entries s.objects in
+        let state : PreviousState = previous_view_with x v.items e h.contents.entries s.objects in
         let old : GoodLink = record { project = p; layout = t } in
         let now : GoodLink = record { project = q; layout = u } in
-        let of_last : IsLastOf kept.kept.old q state =
+        let of_last : IsPreviousOf kept.kept.old q state =
         is_last_of h s same bytes x v.items e kept.kept given.edit
-        (none_of_last h s same bytes (answer.Good m) x e kept given.edit effect are) effect.changed
+        (none_of_last h s same bytes (outcome.Good m) x e kept given.edit effect are) effect.changed
         (from_edit h s same x e v effect.lost origins) in
         let work : IsLinkWork kept.kept.old now state m0 m2 =
         link_work_from kept.kept.old now state m0 m1 m2 (objects_link_nothing (objects_read change) m0 m1 read)
@@ -278,40 +282,45 @@ whole_work h s same bytes new a e last from f change m0 m1 m2 given answers orig
           },
         )
 
-    between : (b : Answer) (last : Option LastGood) (from : Option (Vec (Option ℕ) Global)) (f : Followed)
-        (known : Bool) → e.known ≡ known → IsEffect h s same b last e → IsLast (listing_of h) bytes b last
+    between : (b : LinkOutcome) (previous : Option PreviousLink) (from : Option (Vec (Option ℕ) Global))
+        (f : UpdateOutcome)
+        (known : Bool) → e.known ≡ known → IsEffect h s same b previous e
+        → IsPreviousLink (listing_of h) bytes b previous
         → shown bytes b ≡ link p
-        → IsFrom last known e.gone (keys_of (next_listing h s).entries) from
-        → HasFollowed (next_listing h s) (lent last from e h.contents.entries s.objects) bytes new f
-        → HasWorked q (lent last from e h.contents.entries s.objects) m1 m2 f → (t u : Layout)
+        → IsFrom previous known e.gone (keys_of (next_listing h s).entries) from
+        → HasUpdateOutcome (next_listing h s) (lent previous from e h.contents.entries s.objects) bytes new f
+        → HasWorked q (lent previous from e h.contents.entries s.objects) m1 m2 f → (t u : Layout)
         → (link p).status ≡ 0 → (link q).status ≡ 0 → layout p ≡ Ok t → layout q ≡ Ok u
         → IsWork (record { project = p; layout = t }) change (record { project = q; layout = u }) m0 m2
         × IsCounted (record { project = p; layout = t }) change (record { project = q; layout = u }) m0 m2
-    between (answer.Faulty text) last from f known are effect kept answers origins followed worked = λ t u zero zero_too
-        laid laid_too. absurd (not_zero bytes (answer.Faulty text) (link p) refl answers zero)
-    between (answer.Good m) None from f known are effect kept answers origins followed worked = λ t u zero zero_too
+    between (outcome.Faulty text) previous from f known are effect kept answers origins updated worked =
+        λ t u zero zero_too
+        laid laid_too. absurd (not_zero bytes (outcome.Faulty text) (link p) refl answers zero)
+    between (outcome.Good m) None from f known are effect kept answers origins updated worked = λ t u zero zero_too
         laid laid_too. absurd kept
-    between (answer.Good m) (Some x) from (Faulty text) known are effect kept answers origins followed worked =
+    between (outcome.Good m) (Some x) from (Faulty text) known are effect kept answers origins updated worked =
         λ t u zero zero_too laid laid_too. (
-        let one : 0 ≡ 1 = sym zero_too ∙ ap (λ (k : Link). k.status) followed.0 in
+        let one : 0 ≡ 1 = sym zero_too ∙ ap (λ (k : Link). k.status) updated.0 in
         absurd (omega (arith, one)))
-    between (answer.Good m) (Some x) None (Good y n) true are effect kept answers origins followed worked =
+    between (outcome.Good m) (Some x) None (Good y n) true are effect kept answers origins updated worked =
         λ t u zero zero_too laid laid_too. absurd origins
-    between (answer.Good m) (Some x) None (Good y n) false are effect kept answers origins followed worked =
+    between (outcome.Good m) (Some x) None (Good y n) false are effect kept answers origins updated worked =
         λ t u zero zero_too laid laid_too. (
         let no : true ≡ false = sym (effect.current refl) ∙ are in
         absurd (cc))
-    between (answer.Good m) (Some x) (Some v) (Good y n) false are effect kept answers origins followed worked =
+    between (outcome.Good m) (Some x) (Some v) (Good y n) false are effect kept answers origins updated worked =
         λ t u zero zero_too laid laid_too. absurd origins
-    between (answer.Good m) (Some x) (Some v) (Good y n) true are effect kept answers origins followed worked =
+    between (outcome.Good m) (Some x) (Some v) (Good y n) true are effect kept answers origins updated worked =
         λ t u zero zero_too laid laid_too. over_last m x v kept are effect origins worked t u laid laid_too
-    between (answer.Good m) (Some x) None (Retouched w) true are effect kept answers origins followed worked =
+    between (outcome.Good m) (Some x) None (RewrittenInPlace w) true are effect kept answers origins updated worked =
         λ t u zero zero_too laid laid_too. absurd origins
-    between (answer.Good m) (Some x) None (Retouched w) false are effect kept answers origins followed worked =
+    between (outcome.Good m) (Some x) None (RewrittenInPlace w) false are effect kept answers origins updated worked =
         λ t u zero zero_too laid laid_too. (
         let no : true ≡ false = sym (effect.current refl) ∙ are in
         absurd (cc))
-    between (answer.Good m) (Some x) (Some v) (Retouched w) false are effect kept answers origins followed worked =
+    between (outcome.Good m) (Some x) (Some v)
+        (RewrittenInPlace w) false are effect kept answers origins updated worked =
         λ t u zero zero_too laid laid_too. absurd origins
-    between (answer.Good m) (Some x) (Some v) (Retouched w) true are effect kept answers origins followed worked =
+    between (outcome.Good m) (Some x) (Some v)
+        (RewrittenInPlace w) true are effect kept answers origins updated worked =
         λ t u zero zero_too laid laid_too. over_last m x v kept are effect origins worked t u laid laid_too

@@ -15,10 +15,10 @@ use Rattle.symres.specs.decisions.Change.{taken_out}
 use Rattle.symres.specs.decisions.Counted.{declared_in}
 use Rattle.symres.specs.decisions.declared.change.ObjectAt.{ObjectAt}
 use Rattle.symres.specs.decisions.declared.change.ObjectChange.{ObjectChange}
-use Rattle.ldmodel_project.specs.Listing.{Entry, found_under, keys_of}
-use Rattle.ldmodel_project.specs.Next.{next_entries, touched_key}
+use Rattle.ldmodel_project.specs.Listing.{Listed, found_under, keys_of}
+use Rattle.ldmodel_project.specs.Next.{next_entries, edited_key}
 use Rattle.ldmodel_project.specs.Tables.{HasTableAt, symbols_under, tables_under, without_table}
-use Rattle.ldmodel_project.specs.Touched.{IsArranged, place_in}
+use Rattle.ldmodel_project.specs.Edited.{ChangesOneObject, place_in}
 use Rattle.ldmodel_project.specs.declared.staged.StagedObjects.{StagedObjects}
 use Rattle.symres.specs.table.State.{IsFresh}
 use Rattle.relink.specs.Change.{IsChange, beside, names_at, place_at, shown_at}
@@ -122,15 +122,15 @@ comes key (Some i) (Some o) rest ts (Some y) e s h =
       names = ap (λ (d : ObjectData). declared_in d.symbols) object;
     }
 
-names_where : (b : Option ℕ) (entries : List Entry) (key : ℕ) → names_or b (found_under entries key)
+names_where : (b : Option ℕ) (entries : List Listed) (key : ℕ) → names_or b (found_under entries key)
     ≡ names_at b entries key
 names_where None entries key = refl
 names_where (Some i) entries key = refl
 
 -- the change of an edit
-pub is_change : (entries : List Entry) (s : StagedObjects) (key : ℕ) (c : ObjectChange) → c.key.0 ≡ key
-    → IsArranged entries s → touched_key s.step ≡ Some key
-    → ((es : List Entry) → is_some (position (nat_eq key) (keys_of es)) ≡ is_some (found_under es key))
+pub is_change : (entries : List Listed) (s : StagedObjects) (key : ℕ) (c : ObjectChange) → c.key.0 ≡ key
+    → ChangesOneObject entries s → edited_key s.step ≡ Some key
+    → ((es : List Listed) → is_some (position (nat_eq key) (keys_of es)) ≡ is_some (found_under es key))
     → shown_at c.out ≡ beside s.places.before (object_or (found_under entries key))
     → shown_at c.into ≡ beside s.places.after (object_or (found_under (next_entries entries s) key))
     → HasTableAt key (symbols_under entries key) s.places.before (without_table key (tables_under entries))
@@ -139,14 +139,14 @@ pub is_change : (entries : List Entry) (s : StagedObjects) (key : ℕ) (c : Obje
     (without_table key (tables_under entries)) (tables_under (next_entries entries s))
     → ((ts : List Table) → Fits ts c → changed_tables (changed_tables ts c) (reversed c) ≡ ts)
     → IsChange entries s key c
-is_change entries s key c is arranged touched found out into before after back =
-    let next : List Entry = next_entries entries s in
+is_change entries s key c is arranged edited found out into before after back =
+    let next : List Listed = next_entries entries s in
     let ts : List Table = tables_under entries in
     let rest : List Table = without_table key ts in
     let placed_before : is_some s.places.before ≡ is_some (found_under entries key) =
-    ap is_some (arranged.place_before ∙ ap (place_in (keys_of entries)) touched) ∙ found entries in
+    ap is_some (arranged.place_before ∙ ap (place_in (keys_of entries)) edited) ∙ found entries in
     let placed_after : is_some s.places.after ≡ is_some (found_under next key) =
-    ap is_some (arranged.place_after ∙ ap (place_in (keys_of next)) touched) ∙ found next in
+    ap is_some (arranged.place_after ∙ ap (place_in (keys_of next)) edited) ∙ found next in
     let g = goes key s.places.before (found_under entries key) ts c.out placed_before out before in
     let m = comes key s.places.after (found_under next key) rest (tables_under next) c.into placed_after into after in
     let fits : Fits ts c = record {

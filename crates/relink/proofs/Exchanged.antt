@@ -9,9 +9,9 @@ use Rattle.gather.specs.ProjectMatches.{IsMatched}
 use Rattle.gather.specs.declared.matches.Matches.{Matches}
 use Rattle.ldmodel.specs.Edits.{unnamed}
 use Rattle.ldmodel.specs.Project.{NamedObject}
-use Rattle.ldmodel_project.specs.Listing.{Entry, found_under, objects_of}
+use Rattle.ldmodel_project.specs.Listing.{Listed, found_under, objects_of}
 use Rattle.ldmodel_project.specs.Next.{named_under}
-use Rattle.ldmodel_project.specs.Touched.{IsAmong, untouched}
+use Rattle.ldmodel_project.specs.Edited.{IsAmong, unedited}
 use Rattle.ldscript.specs.statements.declared.statement.Statement.{Statement}
 use Rattle.relink.specs.Matches.{IsMatchedOr, exchanged, gone_at, put_at, taken_at}
 use Rattle.relink.proofs.Lists.{get_some, insert_get, map_insert, remove_insert, zip_insert, zip_remove}
@@ -44,47 +44,47 @@ exchanged_back ms (Some p) (Some q) (Some m) h k e =
     ap (λ (l : List Matches). put_at l (Some p) (slice_get ms p)) (remove_insert (remove ms p) q m k) ∙ put_back ms p h
 
 -- without the touched object the matches are those of the others
-pub zip_taken : (script : List Statement) (key : ℕ) (place : Option ℕ) (entries : List Entry) (ms : List Matches)
+pub zip_taken : (script : List Statement) (key : ℕ) (place : Option ℕ) (entries : List Listed) (ms : List Matches)
     → IsAmong (Some key) place entries → AllZip (IsMatched script) (objects_of entries) ms
-    → AllZip (IsMatched script) (objects_of (untouched (Some key) entries)) (taken_at ms place)
+    → AllZip (IsMatched script) (objects_of (unedited (Some key) entries)) (taken_at ms place)
 zip_taken script key None entries ms h all =
-    subst (λ (es : List Entry). AllZip (IsMatched script) (objects_of es) ms) h all
+    subst (λ (es : List Listed). AllZip (IsMatched script) (objects_of es) ms) h all
 zip_taken script key (Some p) entries ms h all =
-    let rest : List Entry = untouched (Some key) entries in
-    let here : Entry = record { key = key; named = named_under entries key } in
+    let rest : List Listed = unedited (Some key) entries in
+    let here : Listed = record { key = key; named = named_under entries key } in
     let objects : objects_of entries ≡ insert (objects_of rest) p here.named =
-    ap objects_of h.1 ∙ map_insert (λ (e : Entry). e.named) rest p here in
+    ap objects_of h.1 ∙ map_insert (λ (e : Listed). e.named) rest p here in
     subst (λ (os : List NamedObject). AllZip (IsMatched script) os (remove ms p))
     (ap (λ (os : List NamedObject). remove os p) objects
     ∙ remove_insert (objects_of rest) p here.named (objects_long rest p h.0))
     (zip_remove (IsMatched script) (objects_of entries) ms p all)
   where
-    objects_long : (es : List Entry) (i : ℕ) → i ≤ length es → i ≤ length (objects_of es)
-    objects_long es i l = omega (arith, l, length-map es (λ (e : Entry). e.named))
+    objects_long : (es : List Listed) (i : ℕ) → i ≤ length es → i ≤ length (objects_of es)
+    objects_long es i l = omega (arith, l, length-map es (λ (e : Listed). e.named))
 
 -- with it they are those of all
-pub zip_put : (script : List Statement) (key : ℕ) (place : Option ℕ) (next : List Entry) (ms : List Matches)
+pub zip_put : (script : List Statement) (key : ℕ) (place : Option ℕ) (next : List Listed) (ms : List Matches)
     (coming : Option Matches) → IsAmong (Some key) place next → is_some place ≡ is_some (found_under next key)
     → IsMatchedOr script (found_under next key) coming
-    → AllZip (IsMatched script) (objects_of (untouched (Some key) next)) ms
+    → AllZip (IsMatched script) (objects_of (unedited (Some key) next)) ms
     → AllZip (IsMatched script) (objects_of next) (put_at ms place coming)
 zip_put script key None next ms coming h e m all =
-    subst (λ (es : List Entry). AllZip (IsMatched script) (objects_of es) ms) (sym h) all
+    subst (λ (es : List Listed). AllZip (IsMatched script) (objects_of es) ms) (sym h) all
 zip_put script key (Some q) next ms coming h e m all =
-    let rest : List Entry = untouched (Some key) next in
-    let here : Entry = record { key = key; named = named_under next key } in
+    let rest : List Listed = unedited (Some key) next in
+    let here : Listed = record { key = key; named = named_under next key } in
     let objects : objects_of next ≡ insert (objects_of rest) q here.named =
-    ap objects_of h.1 ∙ map_insert (λ (x : Entry). x.named) rest q here in
+    ap objects_of h.1 ∙ map_insert (λ (x : Listed). x.named) rest q here in
     subst (λ (os : List NamedObject). AllZip (IsMatched script) os (put_at ms (Some q) coming)) (sym objects)
     (put_of (found_under next key) coming e m)
   where
     put_of : (f : Option NamedObject) (c : Option Matches) → true ≡ is_some f → IsMatchedOr script f c
-        → AllZip (IsMatched script) (insert (objects_of (untouched (Some key) next)) q (unwrap_or f unnamed))
+        → AllZip (IsMatched script) (insert (objects_of (unedited (Some key) next)) q (unwrap_or f unnamed))
         (put_at ms (Some q) c)
     put_of None c e m = absurd (cc)
     put_of (Some o) None e m = absurd m
     put_of (Some o) (Some c) e m =
-        zip_insert (IsMatched script) (objects_of (untouched (Some key) next)) ms q o c all m
+        zip_insert (IsMatched script) (objects_of (unedited (Some key) next)) ms q o c all m
 
 -- where something comes there is something to come
 pub comes_some : (script : List Statement) (f : Option NamedObject) (c : Option Matches) → IsMatchedOr script f c

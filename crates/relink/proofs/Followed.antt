@@ -1,45 +1,45 @@
 -- An edit has been followed: its link, what is kept, and the counts.
 use Rattle.std.proofs.Common.{◌≡◌, ◌∙◌, ◌++◌, ℕ, List, Option, Some, ap, subst, sym}
 use Rattle.elfobj.specs.Counts.{Counts}
-use Rattle.relink_link.specs.Reads.{ReadsNothing}
-use Rattle.relink_link.specs.Stays.{LastState}
+use Rattle.relink_driver.specs.Reads.{ReadsNothing}
+use Rattle.relink_driver.specs.StayedSections.{PreviousState}
 use Rattle.symres.specs.decisions.Change.{declared_by}
 use Rattle.symres.specs.decisions.Counted.{CountsNames}
 use Rattle.symres.specs.decisions.declared.change.ObjectChange.{ObjectChange}
-use Rattle.ldmodel_project.specs.Holding.{Holding, Listing, next_listing, project_of}
-use Rattle.ldmodel_project.specs.Listing.{Entry}
-use Rattle.ldmodel_project.specs.Next.{touched_key}
+use Rattle.ldmodel_project.specs.ProjectState.{ProjectState, Listing, next_listing, project_of}
+use Rattle.ldmodel_project.specs.Listing.{Listed}
+use Rattle.ldmodel_project.specs.Next.{edited_key}
 use Rattle.ldmodel_project.specs.declared.staged.Staged.{Staged}
 use Rattle.ldmodel_project.specs.declared.staged.StagedObjects.{StagedObjects}
 use Rattle.relink.specs.Change.{IsChange, names_at, names_of_edit, names_of_step}
-use Rattle.relink.specs.Follow.{IsFollowed}
+use Rattle.relink.specs.Update.{IsUpdated}
 use Rattle.relink.specs.Kept.{IsKept}
-use Rattle.relink.specs.Last.{HasFollowed}
+use Rattle.relink.specs.PreviousLink.{HasUpdateOutcome}
 use Rattle.relink.specs.Work.{Decides, HasWorked}
-use Rattle.relink.specs.declared.keeping.LinkTables.{LinkTables}
-use Rattle.relink.specs.declared.last.Followed.{Followed}
+use Rattle.relink.specs.declared.link_tables.LinkTables.{LinkTables}
+use Rattle.relink.specs.declared.previous.UpdateOutcome.{UpdateOutcome}
 use Rattle.relink.proofs.Bounding.{names_link_nothing, worked_from}
 use Rattle.relink.proofs.Working.{decides}
 
 -- what a change of an object declares is what the edit touches
-pub names_of_change : (entries : List Entry) (s : StagedObjects) (key : ℕ) (x : ObjectChange)
-    → touched_key s.step ≡ Some key → IsChange entries s key x
+pub names_of_change : (entries : List Listed) (s : StagedObjects) (key : ℕ) (x : ObjectChange)
+    → edited_key s.step ≡ Some key → IsChange entries s key x
     → (declared_by x.out ++ declared_by x.into) ≡ names_of_edit entries s
-names_of_change entries s key x touched is =
+names_of_change entries s key x edited is =
     ap (λ (names : List (List ℕ)). names ++ declared_by x.into) is.out
     ∙ (ap (λ (names : List (List ℕ)). names_at s.places.before entries key ++ names) is.into
-    ∙ ap (names_of_step entries s) (sym touched))
+    ∙ ap (names_of_step entries s) (sym edited))
 
 -- a link of the next project follows, over what is kept of that, after its names are decided
-pub is_followed : (h : Holding) (s : Staged) (lent : Option LastState) (t : LinkTables) (old new : List ℕ)
-    (m0 m1 m2 : Counts) (f : Followed) (l : Listing) (names : List (List ℕ)) → l ≡ next_listing h s
+pub is_followed : (h : ProjectState) (s : Staged) (lent : Option PreviousState) (t : LinkTables) (old new : List ℕ)
+    (m0 m1 m2 : Counts) (f : UpdateOutcome) (l : Listing) (names : List (List ℕ)) → l ≡ next_listing h s
     → IsKept (next_listing h s) t.symbol_table t.matches.items → CountsNames m0 m1 names
-    → names ≡ names_of_edit h.contents.entries s.objects → HasFollowed l lent old new f → ReadsNothing m1 m2
-    → HasWorked (project_of l) lent m1 m2 f → IsFollowed h s lent t old new m0 m2 f
-is_followed h s lent t old new m0 m1 m2 f l names is kept counted touched followed reads worked = record {
-  link = subst (λ (x : Listing). HasFollowed x lent old new f) is followed;
+    → names ≡ names_of_edit h.contents.entries s.objects → HasUpdateOutcome l lent old new f → ReadsNothing m1 m2
+    → HasWorked (project_of l) lent m1 m2 f → IsUpdated h s lent t old new m0 m2 f
+is_followed h s lent t old new m0 m1 m2 f l names is kept counted edited updated reads worked = record {
+  link = subst (λ (x : Listing). HasUpdateOutcome x lent old new f) is updated;
   kept = kept;
-  decides = subst (λ (ns : List (List ℕ)). Decides m0 m2 ns) touched (decides m0 m1 m2 names counted reads);
+  decides = subst (λ (ns : List (List ℕ)). Decides m0 m2 ns) edited (decides m0 m1 m2 names counted reads);
   worked = subst (λ (x : Listing). HasWorked (project_of x) lent m0 m2 f) is
       (worked_from (project_of l) lent m0 m1 m2 f (names_link_nothing m0 m1 names counted) worked);
 }

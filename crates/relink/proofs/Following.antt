@@ -15,11 +15,12 @@ use Rattle.symres.specs.decisions.Decisions.{AreKept}
 use Rattle.symres.specs.decisions.declared.change.ObjectAt.{ObjectAt}
 use Rattle.symres.specs.decisions.declared.change.ObjectChange.{ObjectChange}
 use Rattle.symres.specs.SymbolTable.{SymbolTableState}
-use Rattle.ldmodel_project.specs.Holding.{Holding, Listing, SameHolding, TouchesOne, held, listing_of, next_listing}
-use Rattle.ldmodel_project.specs.Listing.{Contents, Entry, found_under, keys_of, objects_of}
-use Rattle.ldmodel_project.specs.Next.{next_entries, touched_key}
+use Rattle.ldmodel_project.specs.ProjectState.{ProjectState, Listing, SameHolding, EditsOne, held, listing_of}
+use Rattle.ldmodel_project.specs.ProjectState.{next_listing}
+use Rattle.ldmodel_project.specs.Listing.{Contents, Listed, found_under, keys_of, objects_of}
+use Rattle.ldmodel_project.specs.Next.{next_entries, edited_key}
 use Rattle.ldmodel_project.specs.Tables.{tables_under}
-use Rattle.ldmodel_project.specs.Touched.{IsAmong, IsArranged, untouched}
+use Rattle.ldmodel_project.specs.Edited.{IsAmong, ChangesOneObject, unedited}
 use Rattle.ldmodel_project.specs.declared.staged.Staged.{Staged}
 use Rattle.ldmodel_project.specs.declared.staged.StagedObjects.{StagedObjects}
 use Rattle.ldscript.specs.statements.declared.statement.Statement.{Statement}
@@ -30,23 +31,23 @@ use Rattle.relink.proofs.Exchanged.{MayStand, Stands, comes_some, exchanged_back
 use Rattle.relink.proofs.Lists.{zip_length}
 
 -- the tables under keys are those of the objects
-pub tables_of_objects : (es : List Entry) → symbol_tables (objects_of es) ≡ map (λ (t : Table). t.1) (tables_under es)
+pub tables_of_objects : (es : List Listed) → symbol_tables (objects_of es) ≡ map (λ (t : Table). t.1) (tables_under es)
 tables_of_objects [] = refl
 tables_of_objects (e ∷ es) = ap (λ (l : List (List NamedSymbol)). e.named.object.symbols ∷ l) (tables_of_objects es)
 
-pub keys_of_tables : (es : List Entry) → map (λ (t : Table). t.0) (tables_under es) ≡ keys_of es
+pub keys_of_tables : (es : List Listed) → map (λ (t : Table). t.0) (tables_under es) ≡ keys_of es
 keys_of_tables [] = refl
 keys_of_tables (e ∷ es) = ap (λ (l : List ℕ). e.key ∷ l) (keys_of_tables es)
 
 -- an edit that touches an object leaves the script
-same_script_of : (new : Option (List Statement)) (touched : Option ℕ) (key : ℕ) (old : List Statement)
-    → IfSome new (λ _. touched ≡ None) → touched ≡ Some key → unwrap_or new old ≡ old
-same_script_of None touched key old one e = refl
-same_script_of (Some x) touched key old one e = absurd (cc)
+same_script_of : (new : Option (List Statement)) (edited : Option ℕ) (key : ℕ) (old : List Statement)
+    → IfSome new (λ _. edited ≡ None) → edited ≡ Some key → unwrap_or new old ≡ old
+same_script_of None edited key old one e = refl
+same_script_of (Some x) edited key old one e = absurd (cc)
 
-pub same_script : (h : Holding) (s : Staged) (key : ℕ) → TouchesOne s → touched_key s.objects.step ≡ Some key
+pub same_script : (h : ProjectState) (s : Staged) (key : ℕ) → EditsOne s → edited_key s.objects.step ≡ Some key
     → (next_listing h s).script ≡ h.script
-same_script h s key one e = same_script_of s.script (touched_key s.objects.step) key h.script one e
+same_script h s key one e = same_script_of s.script (edited_key s.objects.step) key h.script one e
 
 -- where the object stands among the matches, and where it may
 stands_out : (ts : List Table) (key : ℕ) (x : Option ObjectAt) (ms : List Matches) → length ts ≡ length ms
@@ -55,11 +56,11 @@ stands_out : (ts : List Table) (key : ℕ) (x : Option ObjectAt) (ms : List Matc
 stands_out ts key None ms l g = tt
 stands_out ts key (Some y) ms l g = omega (arith, l, g.within)
 
-many_tables : (es : List Entry) → length (tables_under es) ≡ length (objects_of es)
+many_tables : (es : List Listed) → length (tables_under es) ≡ length (objects_of es)
 many_tables [] = refl
 many_tables (e ∷ es) = ap suc (many_tables es)
 
-pub stands : (h : Holding) (s : Staged) (key : ℕ) (c : ObjectChange) (a : SymbolTableState) (ms : List Matches)
+pub stands : (h : ProjectState) (s : Staged) (key : ℕ) (c : ObjectChange) (a : SymbolTableState) (ms : List Matches)
     → IsChange h.contents.entries s.objects key c → IsKept (listing_of h) a ms → Stands ms (place_at c.out)
 stands h s key c a ms is kept =
     stands_out (tables_under h.contents.entries) c.key.0 c.out ms
@@ -68,35 +69,35 @@ stands h s key c a ms is kept =
     is.fits.out
 
 -- the others, as many as the matches without what goes
-among_long : (key : ℕ) (place : Option ℕ) (es : List Entry) (q : ℕ) → IsAmong (Some key) (Some q) es
-    → q ≤ length (untouched (Some key) es)
+among_long : (key : ℕ) (place : Option ℕ) (es : List Listed) (q : ℕ) → IsAmong (Some key) (Some q) es
+    → q ≤ length (unedited (Some key) es)
 among_long key place es q h = h.0
 
-pub may_stand : (h : Holding) (s : Staged) (key : ℕ) (c : ObjectChange) (a : SymbolTableState) (ms : List Matches)
-    → IsArranged h.contents.entries s.objects → touched_key s.objects.step ≡ Some key
+pub may_stand : (h : ProjectState) (s : Staged) (key : ℕ) (c : ObjectChange) (a : SymbolTableState) (ms : List Matches)
+    → ChangesOneObject h.contents.entries s.objects → edited_key s.objects.step ≡ Some key
     → IsChange h.contents.entries s.objects key c → IsKept (listing_of h) a ms
     → MayStand ms (place_at c.out) (place_at c.into)
-may_stand h s key c a ms arranged touched is kept =
+may_stand h s key c a ms arranged edited is kept =
     subst (λ (q : Option ℕ). MayStand ms (place_at c.out) q) (sym is.after)
     (stand_at s.objects.places.after
-    (subst (λ (t : Option ℕ). IsAmong t s.objects.places.after next) touched arranged.after))
+    (subst (λ (t : Option ℕ). IsAmong t s.objects.places.after next) edited arranged.after))
   where
-    next : List Entry
+    next : List Listed
     next = next_entries h.contents.entries s.objects
 
-    entries : List Entry
+    entries : List Listed
     entries = h.contents.entries
 
-    others : untouched (Some key) next ≡ untouched (Some key) entries
-    others = subst (λ (t : Option ℕ). untouched t next ≡ untouched t entries) touched arranged.others
+    others : unedited (Some key) next ≡ unedited (Some key) entries
+    others = subst (λ (t : Option ℕ). unedited t next ≡ unedited t entries) edited arranged.others
 
-    taken : AllZip (IsMatched h.script) (objects_of (untouched (Some key) entries)) (taken_at ms (place_at c.out))
+    taken : AllZip (IsMatched h.script) (objects_of (unedited (Some key) entries)) (taken_at ms (place_at c.out))
     taken =
-        subst (λ (p : Option ℕ). AllZip (IsMatched h.script) (objects_of (untouched (Some key) entries))
+        subst (λ (p : Option ℕ). AllZip (IsMatched h.script) (objects_of (unedited (Some key) entries))
         (taken_at ms p))
         (sym is.before)
         (zip_taken h.script key s.objects.places.before entries ms
-        (subst (λ (t : Option ℕ). IsAmong t s.objects.places.before entries) touched arranged.before) kept.matches)
+        (subst (λ (t : Option ℕ). IsAmong t s.objects.places.before entries) edited arranged.before) kept.matches)
 
     stand_at : (q : Option ℕ) → IsAmong (Some key) q next → MayStand ms (place_at c.out) q
     stand_at None i = tt
@@ -104,33 +105,34 @@ may_stand h s key c a ms arranged touched is kept =
         omega (
           arith,
           i.0,
-          ap (λ (l : List Entry). length l) others,
-          length-map (untouched (Some key) entries) (λ (e : Entry). e.named),
-          zip_length (IsMatched h.script) (objects_of (untouched (Some key) entries)) (taken_at ms (place_at c.out))
+          ap (λ (l : List Listed). length l) others,
+          length-map (unedited (Some key) entries) (λ (e : Listed). e.named),
+          zip_length (IsMatched h.script) (objects_of (unedited (Some key) entries)) (taken_at ms (place_at c.out))
               taken,
         )
 
 -- what is kept after an edit of an object
-pub kept_after : (h : Holding) (s : Staged) (key : ℕ) (c : ObjectChange) (a b : SymbolTableState) (ms : List Matches)
-    (coming : Option Matches) → IsArranged h.contents.entries s.objects → TouchesOne s
-    → touched_key s.objects.step ≡ Some key → IsChange h.contents.entries s.objects key c → IsKept (listing_of h) a ms
+pub kept_after : (h : ProjectState) (s : Staged) (key : ℕ) (c : ObjectChange) (a b : SymbolTableState)
+    (ms : List Matches)
+    (coming : Option Matches) → ChangesOneObject h.contents.entries s.objects → EditsOne s
+    → edited_key s.objects.step ≡ Some key → IsChange h.contents.entries s.objects key c → IsKept (listing_of h) a ms
     → b.kept.names.objects ≡ changed_tables a.kept.names.objects c → AreKept (next_listing h s).script b.kept
     → IsMatchedOr (next_listing h s).script (found_under (next_entries h.contents.entries s.objects) key) coming
     → IsKept (next_listing h s) b (exchanged ms (place_at c.out) (place_at c.into) coming)
-kept_after h s key c a b ms coming arranged one touched is kept objects names comes =
-    let entries : List Entry = h.contents.entries in
-    let next : List Entry = next_entries entries s.objects in
+kept_after h s key c a b ms coming arranged one edited is kept objects names comes =
+    let entries : List Listed = h.contents.entries in
+    let next : List Listed = next_entries entries s.objects in
     let script : List Statement = (next_listing h s).script in
     let old : AllZip (IsMatched script) (objects_of entries) ms =
-    subst (λ (t : List Statement). AllZip (IsMatched t) (objects_of entries) ms) (sym (same_script h s key one touched))
+    subst (λ (t : List Statement). AllZip (IsMatched t) (objects_of entries) ms) (sym (same_script h s key one edited))
     kept.matches in
     let taken = zip_taken script key s.objects.places.before entries ms
-    (subst (λ (t : Option ℕ). IsAmong t s.objects.places.before entries) touched arranged.before) old in
-    let others : untouched (Some key) next ≡ untouched (Some key) entries =
-    subst (λ (t : Option ℕ). untouched t next ≡ untouched t entries) touched arranged.others in
+    (subst (λ (t : Option ℕ). IsAmong t s.objects.places.before entries) edited arranged.before) old in
+    let others : unedited (Some key) next ≡ unedited (Some key) entries =
+    subst (λ (t : Option ℕ). unedited t next ≡ unedited t entries) edited arranged.others in
     let put = zip_put script key s.objects.places.after next (taken_at ms s.objects.places.before) coming
-    (subst (λ (t : Option ℕ). IsAmong t s.objects.places.after next) touched arranged.after) is.there comes
-    (subst (λ (l : List Entry). AllZip (IsMatched script) (objects_of l) (taken_at ms s.objects.places.before))
+    (subst (λ (t : Option ℕ). IsAmong t s.objects.places.after next) edited arranged.after) is.there comes
+    (subst (λ (l : List Listed). AllZip (IsMatched script) (objects_of l) (taken_at ms s.objects.places.before))
     (sym others) taken) in
     record {
       tables = objects ∙ (ap (λ (ts : List Table). changed_tables ts c) kept.tables ∙ is.tables);
@@ -142,7 +144,7 @@ kept_after h s key c a b ms coming arranged one touched is kept objects names co
     }
 
 -- a place for what comes, and what comes
-pub both_come : (h : Holding) (s : Staged) (key : ℕ) (c : ObjectChange) (coming : Option Matches)
+pub both_come : (h : ProjectState) (s : Staged) (key : ℕ) (c : ObjectChange) (coming : Option Matches)
     → IsChange h.contents.entries s.objects key c
     → IsMatchedOr (next_listing h s).script (found_under (next_entries h.contents.entries s.objects) key) coming
     → is_some (place_at c.into) ≡ is_some coming
@@ -152,7 +154,7 @@ both_come h s key c coming is comes =
     ∙ comes_some (next_listing h s).script (found_under (next_entries h.contents.entries s.objects) key) coming comes)
 
 -- what comes, said of the next listing
-pub coming_of : (h : Holding) (s : Staged) (key : ℕ) (l : Listing) (c : ObjectChange) (coming : Option Matches)
+pub coming_of : (h : ProjectState) (s : Staged) (key : ℕ) (l : Listing) (c : ObjectChange) (coming : Option Matches)
     → l ≡ next_listing h s → c.key.0 ≡ key → IsMatchedOr l.script (found_under l.entries c.key.0) coming
     → IsMatchedOr (next_listing h s).script (found_under (next_entries h.contents.entries s.objects) key) coming
 coming_of h s key l c coming same is m =
@@ -160,18 +162,19 @@ coming_of h s key l c coming same is m =
     (subst (λ (x : Listing). IsMatchedOr x.script (found_under x.entries c.key.0) coming) same m)
 
 -- what is kept after the change back
-pub kept_back : (h : Holding) (s : Staged) (key : ℕ) (c : ObjectChange) (a b d : SymbolTableState) (ms last : List
+pub kept_back : (h : ProjectState) (s : Staged) (key : ℕ) (c : ObjectChange) (a b d : SymbolTableState)
+    (ms previous : List
     Matches)
-    (coming : Option Matches) → IsArranged h.contents.entries s.objects → touched_key s.objects.step ≡ Some key
+    (coming : Option Matches) → ChangesOneObject h.contents.entries s.objects → edited_key s.objects.step ≡ Some key
     → IsChange h.contents.entries s.objects key c → IsKept (listing_of h) a ms
     → b.kept.names.objects ≡ changed_tables a.kept.names.objects c
     → d.kept.names.objects ≡ changed_tables b.kept.names.objects (reversed c) → AreKept h.script d.kept
     → IsMatchedOr (next_listing h s).script (found_under (next_entries h.contents.entries s.objects) key) coming
-    → last ≡ exchanged (exchanged ms (place_at c.out) (place_at c.into) coming) (place_at c.into) (place_at c.out)
-    (gone_at ms (place_at c.out)) → IsKept (listing_of h) d last
-kept_back h s key c a b d ms last coming arranged touched is kept forth back names comes put =
-    let entries : List Entry = h.contents.entries in
-    let next : List Entry = next_entries entries s.objects in
+    → previous ≡ exchanged (exchanged ms (place_at c.out) (place_at c.into) coming) (place_at c.into) (place_at c.out)
+    (gone_at ms (place_at c.out)) → IsKept (listing_of h) d previous
+kept_back h s key c a b d ms previous coming arranged edited is kept forth back names comes put =
+    let entries : List Listed = h.contents.entries in
+    let next : List Listed = next_entries entries s.objects in
     let both = both_come h s key c coming is comes in
     record {
       tables = back
@@ -181,54 +184,54 @@ kept_back h s key c a b d ms last coming arranged touched is kept forth back nam
       names = names;
       matches = subst (λ (l : List Matches). AllZip (IsMatched h.script) (objects_of entries) l)
           (sym (put ∙ exchanged_back ms (place_at c.out) (place_at c.into) coming (stands h s key c a ms is kept)
-          (may_stand h s key c a ms arranged touched is kept) both))
+          (may_stand h s key c a ms arranged edited is kept) both))
           kept.matches;
     }
 
 -- an edit that touches no object leaves the entries
-filter_all : (es : List Entry) → untouched None es ≡ es
+filter_all : (es : List Listed) → unedited None es ≡ es
 filter_all [] = refl
-filter_all (e ∷ es) = ap (λ (l : List Entry). e ∷ l) (filter_all es)
+filter_all (e ∷ es) = ap (λ (l : List Listed). e ∷ l) (filter_all es)
 
-pub entries_stay : (entries : List Entry) (s : StagedObjects) → IsArranged entries s → touched_key s.step ≡ None
+pub entries_stay : (entries : List Listed) (s : StagedObjects) → ChangesOneObject entries s → edited_key s.step ≡ None
     → next_entries entries s ≡ entries
-entries_stay entries s arranged touched =
-    let next : List Entry = next_entries entries s in
+entries_stay entries s arranged edited =
+    let next : List Listed = next_entries entries s in
     sym (filter_all next)
-    ∙ (subst (λ (t : Option ℕ). untouched t next ≡ untouched t entries) touched arranged.others ∙ filter_all entries)
+    ∙ (subst (λ (t : Option ℕ). unedited t next ≡ unedited t entries) edited arranged.others ∙ filter_all entries)
 
 -- what is kept after an edit of the script
-pub kept_scripted : (h : Holding) (s : Staged) (a b : SymbolTableState) (ms all : List Matches)
-    → IsArranged h.contents.entries s.objects → touched_key s.objects.step ≡ None → IsKept (listing_of h) a ms
+pub kept_scripted : (h : ProjectState) (s : Staged) (a b : SymbolTableState) (ms all : List Matches)
+    → ChangesOneObject h.contents.entries s.objects → edited_key s.objects.step ≡ None → IsKept (listing_of h) a ms
     → b.kept.names ≡ a.kept.names → AreKept (next_listing h s).script b.kept
     → AllZip (IsMatched (next_listing h s).script) (objects_of (next_listing h s).entries) all
     → IsKept (next_listing h s) b all
-kept_scripted h s a b ms all arranged touched kept same names matched = record {
+kept_scripted h s a b ms all arranged edited kept same names matched = record {
   tables = ap (λ n. n.objects) same
-      ∙ (kept.tables ∙ ap tables_under (sym (entries_stay h.contents.entries s.objects arranged touched)));
+      ∙ (kept.tables ∙ ap tables_under (sym (entries_stay h.contents.entries s.objects arranged edited)));
   names = names;
   matches = matched;
 }
 
 -- what is kept of no objects
-no_entries : (es : List Entry) → objects_of es ≡ [] → es ≡ []
+no_entries : (es : List Listed) → objects_of es ≡ [] → es ≡ []
 no_entries [] h = refl
 no_entries (e ∷ es) h = absurd (cc)
 
-pub kept_of_none : (l : Listing) (a : SymbolTableState) → objects_of l.entries ≡ [] → a.kept.names.objects ≡ []
+pub tables_of_empty : (l : Listing) (a : SymbolTableState) → objects_of l.entries ≡ [] → a.kept.names.objects ≡ []
     → AreKept l.script a.kept → IsKept l a []
-kept_of_none l a none objects names = record {
+tables_of_empty l a none objects names = record {
   tables = objects ∙ ap tables_under (sym (no_entries l.entries none));
   names = names;
   matches = subst (λ (os : List NamedObject). AllZip (IsMatched l.script) os []) (sym none) tt;
 }
 
 -- what more room leaves
-pub same_held : (old new : Holding) → SameHolding old new → held new ≡ held old
+pub same_held : (old new : ProjectState) → SameHolding old new → held new ≡ held old
 same_held old new same =
-    let project : List Entry → Holding → Project =
+    let project : List Listed → ProjectState → Project =
     λ es h. record { objects = objects_of es; script = h.script; options = h.options } in
-    ap (λ (es : List Entry). project es new) (ap (λ (c : Contents). c.entries) same.contents.same)
+    ap (λ (es : List Listed). project es new) (ap (λ (c : Contents). c.entries) same.contents.same)
     ∙ ap (project old.contents.entries) same.rest
 
 -- names that no object declares may be forgotten

@@ -1,4 +1,4 @@
--- The last link without faults beside a next project, and after an edit.
+-- The previous link without faults beside a next project, and after an edit.
 use Rattle.std.proofs.Common.{◌≡◌, ℕ, Bool, true, false, List, Option, Some, None, Vec, Global, ap, map, refl, sym}
 use Rattle.std.proofs.Common.{◌∙◌, [], arith, length, subst}
 use Rattle.std.specs.List.{position}
@@ -6,9 +6,9 @@ use Rattle.std.specs.Option.{option_map}
 use Rattle.std.specs.Prelude.{◌&&◌, IfSome, is_some, nat_eq, unwrap_or}
 use Rattle.std.proofs.lemmas.List.{length-map}
 use Rattle.std.proofs.lemmas.Option.{same_Some}
-use Rattle.relink_link.specs.Stays.{IsLastOf, IsReplaced, LastState}
-use Rattle.relink_link.specs.Table.{IsTable}
-use Rattle.relink_link.specs.Origins.{AreOrigins}
+use Rattle.relink_driver.specs.StayedSections.{IsPreviousOf, IsReplaced, PreviousState}
+use Rattle.relink_driver.specs.LinkSnapshot.{IsLinkSnapshot}
+use Rattle.relink_driver.specs.Origins.{AreOrigins}
 use Rattle.ldmodel.specs.Edits.{unnamed}
 use Rattle.ldmodel.specs.Image.{image}
 use Rattle.ldmodel.specs.Link.{Link, link}
@@ -17,70 +17,76 @@ use Rattle.ldmodel.specs.Project.{NamedObject, Project}
 use Rattle.ldmodel.specs.Stayed.{GoodLink}
 use Rattle.gather.specs.declared.matches.Matches.{Matches}
 use Rattle.symres.specs.SymbolTable.{SymbolTableState}
-use Rattle.ldmodel_project.specs.Holding.{Holding, Listing, SameHolding, held, listing_of, next_listing, project_of}
-use Rattle.ldmodel_project.specs.Listing.{AreKeysDistinct, Contents, Entry, found_under, keys_of, objects_of}
-use Rattle.ldmodel_project.specs.Next.{CanStep, Fits, next_found, touched_key}
+use Rattle.ldmodel_project.specs.ProjectState.{ProjectState, Listing, SameHolding, held, listing_of, next_listing}
+use Rattle.ldmodel_project.specs.ProjectState.{project_of}
+use Rattle.ldmodel_project.specs.Listing.{AreKeysDistinct, Contents, Listed, found_under, keys_of, objects_of}
+use Rattle.ldmodel_project.specs.Next.{CanStep, Fits, next_found, edited_key}
 use Rattle.ldmodel_project.specs.Order.{HasPlaces}
-use Rattle.ldmodel_project.specs.Touched.{IsArranged, place_in}
+use Rattle.ldmodel_project.specs.Edited.{ChangesOneObject, place_in}
 use Rattle.ldmodel_project.specs.declared.staged.Staged.{Staged}
 use Rattle.ldmodel_project.specs.declared.staged.Step.{Step}
 use Rattle.ldmodel_project.specs.declared.staged.Step.TheVariants.{Put, Remove, Move, Stay}
 use Rattle.ldscript.specs.statements.declared.statement.Statement.{Statement}
-use Rattle.relink_link.specs.Ended.{HasLast, IsGoodEnd}
-use Rattle.relink_link.specs.Retouched.{IsRetouchedEnd}
-use Rattle.relink.specs.Answer.{shown}
+use Rattle.relink_driver.specs.RelinkOutcome.{HasPreviousImage, IsGoodOutcome}
+use Rattle.relink_driver.specs.InPlace.{IsInPlaceOutcome}
+use Rattle.relink.specs.Outcome.{shown}
 use Rattle.relink.specs.Kept.{IsKept}
-use Rattle.relink.specs.Last.{HasFollowed, HasKept, IsAfterFault, IsCurrent, IsEffect, IsEndOf, IsFrom, IsLast}
-use Rattle.relink.specs.Last.{IsRenewed, IsRetouchedBy, IsSince}
-use Rattle.relink.specs.Last.{PutsByName, PutsNoneOf, PutsSame, lent, lent_with, lost_key}
-use Rattle.relink.specs.Last.{origin_of, replaced_by, replaced_in, without}
-use Rattle.relink.specs.declared.answer.Answer.{Answer}
-use Rattle.relink.specs.declared.answer.Answer.TheVariants as answer
-use Rattle.relink.specs.declared.last.Effect.{Effect}
-use Rattle.relink.specs.declared.last.Followed.{Followed}
-use Rattle.relink.specs.declared.last.Followed.TheVariants.{Faulty, Good, Retouched}
-use Rattle.relink.specs.declared.last.LastGood.{LastGood}
+use Rattle.relink.specs.PreviousLink.{HasUpdateOutcome, IsOfGoodLink, IsAfterFault, IsCurrent, IsEffect, IsRecorded}
+use Rattle.relink.specs.PreviousLink.{IsFrom, IsPreviousLink}
+use Rattle.relink.specs.PreviousLink.{AreOriginsRefreshed, IsRewrittenBy, IsSince}
+use Rattle.relink.specs.PreviousLink.{PutsByName, PutsNoneOf, PutsSame, lent, previous_view_with, lost_key}
+use Rattle.relink.specs.PreviousLink.{origin_of, replaced_by, replaced_in, without}
+use Rattle.relink.specs.declared.outcome.LinkOutcome.{LinkOutcome}
+use Rattle.relink.specs.declared.outcome.LinkOutcome.TheVariants as outcome
+use Rattle.relink.specs.declared.previous.EditEffect.{EditEffect}
+use Rattle.relink.specs.declared.previous.UpdateOutcome.{UpdateOutcome}
+use Rattle.relink.specs.declared.previous.UpdateOutcome.TheVariants.{Faulty, Good, RewrittenInPlace}
+use Rattle.relink.specs.declared.previous.PreviousLink.{PreviousLink}
 use Rattle.relink.proofs.Putting.{found_counted}
 use Rattle.relink.proofs.Since.{next_put, origins_by_place, since_next, since_places, stands_there, under_key}
 
-pub same_listing : (old new : Holding) → SameHolding old new → listing_of old ≡ listing_of new
+pub same_listing : (old new : ProjectState) → SameHolding old new → listing_of old ≡ listing_of new
 same_listing old new same =
-    let listing : List Entry → Holding → Listing =
+    let listing : List Listed → ProjectState → Listing =
     λ es h. record { entries = es; script = h.script; options = h.options } in
-    sym (ap (λ (es : List Entry). listing es new) (ap (λ (c : Contents). c.entries) same.contents.same)
+    sym (ap (λ (es : List Listed). listing es new) (ap (λ (c : Contents). c.entries) same.contents.same)
     ∙ ap (listing old.contents.entries) same.rest)
 
 -- what is known of a staged edit, which puts an object over the same one, or another
-pub record IsKnownEdit (h : Holding) (s : Staged) (same : Bool) : Type 0 where
+pub record IsKnownEdit (h : ProjectState) (s : Staged) (same : Bool) : Type 0 where
   pub found :
       (key : ℕ) → found_under (next_listing h s).entries key ≡ next_found h.contents.entries s.objects.step key
   pub keys : AreKeysDistinct (keys_of (next_listing h s).entries)
   pub placed : (key : ℕ) → is_some (position (nat_eq key) (keys_of (next_listing h s).entries))
       ≡ is_some (found_under (next_listing h s).entries key)
   pub fits : Fits h.contents s.objects
-  pub arranged : IsArranged h.contents.entries s.objects
+  pub arranged : ChangesOneObject h.contents.entries s.objects
   pub puts : same ≡ true → PutsSame h.contents.entries s.objects.step
   pub other : same ≡ false → PutsNoneOf (objects_of h.contents.entries) s.objects.step
   pub named : PutsByName h.contents.entries s.objects.step
 
--- what is known where an edit is linked over the last link
-pub record IsFollowing (h : Holding) (s : Staged) (same : Bool) (bytes : List ℕ) (a : Answer) (last : Option LastGood)
-    (e : Effect) : Type 0 where
+-- what is known where an edit is linked over the previous link
+pub record IsFollowing (h : ProjectState) (s : Staged) (same : Bool) (bytes : List ℕ) (a : LinkOutcome)
+    (previous : Option PreviousLink)
+    (e : EditEffect) : Type 0 where
   pub edit : IsKnownEdit h s same
-  pub effect : IsEffect h s same a last e
-  pub kept : IsLast (listing_of h) bytes a last
+  pub effect : IsEffect h s same a previous e
+  pub kept : IsPreviousLink (listing_of h) bytes a previous
 
-pub following : (before h : Holding) (s : Staged) (same : Bool) (bytes : List ℕ) (a : Answer) (last : Option LastGood)
-    (e : Effect) (l : Listing) (keys : List ℕ) → SameHolding before h → IsLast (listing_of before) bytes a last
-    → Fits h.contents s.objects → IsArranged h.contents.entries s.objects → l ≡ next_listing h s
+pub following : (before h : ProjectState) (s : Staged) (same : Bool) (bytes : List ℕ) (a : LinkOutcome)
+    (previous : Option PreviousLink)
+    (e : EditEffect) (l : Listing) (keys : List ℕ) → SameHolding before h
+    → IsPreviousLink (listing_of before) bytes a previous
+    → Fits h.contents s.objects → ChangesOneObject h.contents.entries s.objects → l ≡ next_listing h s
     → ((key : ℕ) → found_under l.entries key ≡ next_found h.contents.entries s.objects.step key)
     → keys ≡ keys_of l.entries → AreKeysDistinct keys
-    → ((es : List Entry) (key : ℕ) → is_some (position (nat_eq key) (keys_of es)) ≡ is_some (found_under es key))
+    → ((es : List Listed) (key : ℕ) → is_some (position (nat_eq key) (keys_of es)) ≡ is_some (found_under es key))
     → (same ≡ true → PutsSame h.contents.entries s.objects.step)
     → (same ≡ false → PutsNoneOf (objects_of h.contents.entries) s.objects.step)
-    → PutsByName h.contents.entries s.objects.step → IsEffect h s same a last e
-    → IsFollowing h s same bytes a last e
-following before h s same bytes a last e l keys more kept fits arranged is found are distinct placed puts other named
+    → PutsByName h.contents.entries s.objects.step → IsEffect h s same a previous e
+    → IsFollowing h s same bytes a previous e
+following before h s same bytes a previous e l keys more kept fits arranged is found are distinct placed puts other
+    named
     effect = record {
       edit = record {
         found = λ key. sym (ap (λ (x : Listing). found_under x.entries key) is) ∙ found key;
@@ -93,22 +99,24 @@ following before h s same bytes a last e l keys more kept fits arranged is found
         named = named;
       };
       effect = effect;
-      kept = subst (λ (x : Listing). IsLast x bytes a last) (same_listing before h more) kept;
+      kept = subst (λ (x : Listing). IsPreviousLink x bytes a previous) (same_listing before h more) kept;
     }
 
-abbrev pub kept_of : (l : Listing) (bytes : List ℕ) (a : Answer) (x : LastGood) → IsLast l bytes a (Some x)
-    → HasKept l bytes x
-kept_of l bytes (answer.Good m) x is = is.kept
-kept_of l bytes (answer.Faulty t) x is = is
+abbrev pub kept_of : (l : Listing) (bytes : List ℕ) (a : LinkOutcome) (x : PreviousLink)
+    → IsPreviousLink l bytes a (Some x)
+    → IsOfGoodLink l bytes x
+kept_of l bytes (outcome.Good m) x is = is.kept
+kept_of l bytes (outcome.Faulty t) x is = is
 
--- the object that is put, where it isn't the same one, is none of the last link
-pub none_of_last : (h : Holding) (s : Staged) (same : Bool) (bytes : List ℕ) (a : Answer) (x : LastGood) (e : Effect)
-    (is : IsLast (listing_of h) bytes a (Some x)) → IsKnownEdit h s same → IsEffect h s same a (Some x) e
+-- the object that is put, where it isn't the same one, is none of the previous link
+pub none_of_last : (h : ProjectState) (s : Staged) (same : Bool) (bytes : List ℕ) (a : LinkOutcome) (x : PreviousLink)
+    (e : EditEffect)
+    (is : IsPreviousLink (listing_of h) bytes a (Some x)) → IsKnownEdit h s same → IsEffect h s same a (Some x) e
     → e.known ≡ true → same ≡ false
     → PutsNoneOf (kept_of (listing_of h) bytes a x is).old.project.objects s.objects.step
-none_of_last h s same bytes (answer.Good m) x e is edit effect known other =
+none_of_last h s same bytes (outcome.Good m) x e is edit effect known other =
     subst (λ (p : Project). PutsNoneOf p.objects s.objects.step) (sym is.project) (edit.other other)
-none_of_last h s same bytes (answer.Faulty t) x e is edit effect known other =
+none_of_last h s same bytes (outcome.Faulty t) x e is edit effect known other =
     effect.knows refl known is.old.project.objects is.names is.since
 
 both_true : (a b : Bool) → (a && b) ≡ true → (a ≡ true) × (b ≡ true)
@@ -116,21 +124,21 @@ both_true true b h = (refl, h)
 both_true false b h = absurd (cc)
 
 -- the object in whose place one comes is lent as it was
-replaced_right : (old : Project) (h : Holding) (s : Staged) (same : Bool) (origin : ℕ → Option ℕ)
+replaced_right : (old : Project) (h : ProjectState) (s : Staged) (same : Bool) (origin : ℕ → Option ℕ)
     → IsKnownEdit h s same → IsSince old.objects origin h.contents.entries
     → IfSome (replaced_in origin h.contents.entries s.objects.step s.objects.places.after)
     (IsReplaced old (project_of (next_listing h s)))
 replaced_right old h s same origin edit since =
     by_step s.objects.step edit.found edit.arranged.place_after edit.fits.step
   where
-    es : List Entry
+    es : List Listed
     es = h.contents.entries
 
-    next : List Entry
+    next : List Listed
     next = (next_listing h s).entries
 
     by_step : (step : Step) → ((key : ℕ) → found_under next key ≡ next_found es step key)
-        → s.objects.places.after ≡ place_in (keys_of next) (touched_key step) → CanStep h.contents step
+        → s.objects.places.after ≡ place_in (keys_of next) (edited_key step) → CanStep h.contents step
         → IfSome (replaced_in origin es step s.objects.places.after) (IsReplaced old (project_of (next_listing h s)))
     by_step (Put new named) found place can = at (origin new) (found_under es new) s.objects.places.after refl refl refl
       where
@@ -154,13 +162,14 @@ replaced_right old h s same origin edit since =
     by_step (Move moved) found place can = tt
     by_step Stay found place can = tt
 
--- what is lent is the last link, for the next project
-pub is_last_of : (h : Holding) (s : Staged) (same : Bool) (bytes : List ℕ) (x : LastGood) (from : List (Option ℕ))
-    (e : Effect) (kept : HasKept (listing_of h) bytes x) → IsKnownEdit h s same
+-- what is lent is the previous link, for the next project
+pub is_last_of : (h : ProjectState) (s : Staged) (same : Bool) (bytes : List ℕ) (x : PreviousLink)
+    (from : List (Option ℕ))
+    (e : EditEffect) (kept : IsOfGoodLink (listing_of h) bytes x) → IsKnownEdit h s same
     → (same ≡ false → PutsNoneOf kept.old.project.objects s.objects.step) → (e.same_script ≡ true → s.script ≡ None)
     → from ≡ map (without (origin_of x.origins.items) (lost_key same s.objects.step))
     (keys_of (next_listing h s).entries)
-    → IsLastOf kept.old (project_of (next_listing h s)) (lent_with x from e h.contents.entries s.objects)
+    → IsPreviousOf kept.old (project_of (next_listing h s)) (previous_view_with x from e h.contents.entries s.objects)
 is_last_of h s same bytes x from e kept edit none script is =
     let p = project_of (next_listing h s) in
     let es = (next_listing h s).entries in
@@ -187,7 +196,8 @@ is_last_of h s same bytes x from e kept edit none script is =
     }
 
 -- the origins of what is lent, by the edit
-pub from_edit : (h : Holding) (s : Staged) (same : Bool) (x : LastGood) (e : Effect) (v : Vec (Option ℕ) Global)
+pub from_edit : (h : ProjectState) (s : Staged) (same : Bool) (x : PreviousLink) (e : EditEffect)
+    (v : Vec (Option ℕ) Global)
     → e.gone ≡ lost_key same s.objects.step
     → IsFrom (Some x) true e.gone (keys_of (next_listing h s).entries) (Some v)
     → v.items ≡ map (without (origin_of x.origins.items) (lost_key same s.objects.step))
@@ -196,14 +206,15 @@ from_edit h s same x e v gone is =
     is
     ∙ ap (λ (lost : Option ℕ). map (without (origin_of x.origins.items) lost) (keys_of (next_listing h s).entries)) gone
 
-module _ (h : Holding) (s : Staged) (same : Bool) (bytes : List ℕ) (a : Answer) (e : Effect)
+module _ (h : ProjectState) (s : Staged) (same : Bool) (bytes : List ℕ) (a : LinkOutcome) (e : EditEffect)
     (edit : IsKnownEdit h s same) where
-  -- the last link, lent with its origins, is one whose image this is
-  pub last_lent : (last : Option LastGood) (known : Bool) (from : Option (Vec (Option ℕ) Global)) → e.known ≡ known
-      → IsLast (listing_of h) bytes a last → IsEffect h s same a last e
-      → IsFrom last known e.gone (keys_of (next_listing h s).entries) from
-      → IfSome (lent last from e h.contents.entries s.objects)
-      (HasLast (project_of (next_listing h s)) bytes)
+  -- the previous link, lent with its origins, is one whose image this is
+  pub last_lent : (previous : Option PreviousLink) (known : Bool) (from : Option (Vec (Option ℕ) Global)) → e.known
+      ≡ known
+      → IsPreviousLink (listing_of h) bytes a previous → IsEffect h s same a previous e
+      → IsFrom previous known e.gone (keys_of (next_listing h s).entries) from
+      → IfSome (lent previous from e h.contents.entries s.objects)
+      (HasPreviousImage (project_of (next_listing h s)) bytes)
   last_lent None known from are is effect origins = tt
   last_lent (Some x) known None are is effect origins = tt
   last_lent (Some x) false (Some v) are is effect origins = absurd (origins)
@@ -218,17 +229,17 @@ module _ (h : Holding) (s : Staged) (same : Bool) (bytes : List ℕ) (a : Answer
       }
 
   -- it stays the last one after an edit to a link with faults
-  pub kept_after_fault : (last after : Option LastGood) (known : Bool) → e.known ≡ known
-      → IsLast (listing_of h) bytes a last → IsEffect h s same a last e
-      → IsAfterFault known e.gone e.same_script last after → IfSome after (HasKept (next_listing h s) bytes)
-  kept_after_fault last None known are is effect fault = tt
-  kept_after_fault last (Some y) false are is effect fault = absurd (fault)
+  pub kept_after_fault : (previous after : Option PreviousLink) (known : Bool) → e.known ≡ known
+      → IsPreviousLink (listing_of h) bytes a previous → IsEffect h s same a previous e
+      → IsAfterFault known e.gone e.same_script previous after → IfSome after (IsOfGoodLink (next_listing h s) bytes)
+  kept_after_fault previous None known are is effect fault = tt
+  kept_after_fault previous (Some y) false are is effect fault = absurd (fault)
   kept_after_fault None (Some y) true are is effect fault = absurd (fault)
   kept_after_fault (Some x) (Some y) true are is effect fault =
       let kept = kept_of (listing_of h) bytes a x is in
       record {
         old = kept.old;
-        table = subst (λ g. IsTable kept.old g) (sym fault.0) kept.table;
+        table = subst (λ g. IsLinkSnapshot kept.old g) (sym fault.0) kept.table;
         names = subst (λ (ns : List _). map (λ v. v.items) ns
             ≡ map (λ (o : NamedObject). o.name) kept.old.project.objects) (sym (ap (λ v. v.items) fault.1)) kept.names;
         since = since_next kept.old.project.objects h.contents.entries (next_listing h s).entries s.objects.step same
@@ -244,8 +255,8 @@ module _ (h : Holding) (s : Staged) (same : Bool) (bytes : List ℕ) (a : Answer
       }
 
 -- what a link without faults leaves is the last one
-pub followed_good : (l : Listing) (p : Project) (keys : List ℕ) (bytes : List ℕ) (x : LastGood) (m : List ℕ)
-    → p ≡ project_of l → keys ≡ keys_of l.entries → AreKeysDistinct keys → IsGoodEnd p bytes x.good m
+pub followed_good : (l : Listing) (p : Project) (keys : List ℕ) (bytes : List ℕ) (x : PreviousLink) (m : List ℕ)
+    → p ≡ project_of l → keys ≡ keys_of l.entries → AreKeysDistinct keys → IsGoodOutcome p bytes x.good m
     → map (λ v. v.items) x.names.items ≡ map (λ (o : NamedObject). o.name) p.objects
     → HasPlaces keys x.origins.items
     → ((key : ℕ) → is_some (position (nat_eq key) (keys_of l.entries)) ≡ is_some (found_under l.entries key))
@@ -271,73 +282,78 @@ followed_good l p keys bytes x m is keys_are distinct end names places found scr
   },
 )
 
--- the last link with another image is that of the project
-pub followed_again : (l : Listing) (p : Project) (keys : List ℕ) (state : Option LastState) (bytes : List ℕ)
+-- the previous link with another image is that of the project
+pub followed_again : (l : Listing) (p : Project) (keys : List ℕ) (state : Option PreviousState) (bytes : List ℕ)
     (origins : List (Option ℕ)) → p ≡ project_of l → keys ≡ keys_of l.entries → AreKeysDistinct keys
-    → IsRetouchedEnd p state bytes → HasPlaces keys origins
+    → IsInPlaceOutcome p state bytes → HasPlaces keys origins
     → ((key : ℕ) → is_some (position (nat_eq key) (keys_of l.entries)) ≡ is_some (found_under l.entries key))
-    → IsRetouchedBy l state bytes origins
+    → IsRewrittenBy l state bytes origins
 followed_again l p keys state bytes origins is keys_are distinct end places found = record {
-  end = subst (λ (q : Project). IsRetouchedEnd q state bytes) is end;
+  end = subst (λ (q : Project). IsInPlaceOutcome q state bytes) is end;
   since = since_places l.entries origins (subst AreKeysDistinct keys_are distinct)
       (subst (λ (ks : List ℕ). HasPlaces ks origins) keys_are places) found;
 }
 
 -- what is answered is the link, and the last one is kept
-pub ended : (l : Listing) (state : Option LastState) (old new : List ℕ) (f : Followed) (e : Effect)
-    (last after : Option LastGood) (b a : Answer) → HasFollowed l state old new f → IsEndOf f e last after b a
-    → ((later : Option LastGood) → IsAfterFault e.known e.gone e.same_script last later → IfSome later (HasKept l old))
-    → ((v : Vec (Option ℕ) Global) → IsRetouchedBy l state new v.items → IsRenewed v last after
-    → (shown new b ≡ link (project_of l)) × IsLast l new b after)
-    → (shown new a ≡ link (project_of l)) × IsLast l new a after
-ended l state old new (Faulty text) e last after b a followed end kept renewed = (
-  ap (shown new) end.0 ∙ sym followed.0,
-  subst (λ (b : Answer). IsLast l new b after) (sym end.0)
-      (subst (λ (bytes : List ℕ). IfSome after (HasKept l bytes)) (sym followed.1) (kept after end.1)),
+pub ended : (l : Listing) (state : Option PreviousState) (old new : List ℕ) (f : UpdateOutcome) (e : EditEffect)
+    (previous after : Option PreviousLink) (b a : LinkOutcome) → HasUpdateOutcome l state old new f
+    → IsRecorded f e previous after b a
+    → ((later : Option PreviousLink) → IsAfterFault e.known e.gone e.same_script previous later
+    → IfSome later (IsOfGoodLink l old))
+    → ((v : Vec (Option ℕ) Global) → IsRewrittenBy l state new v.items → AreOriginsRefreshed v previous after
+    → (shown new b ≡ link (project_of l)) × IsPreviousLink l new b after)
+    → (shown new a ≡ link (project_of l)) × IsPreviousLink l new a after
+ended l state old new (Faulty text) e previous after b a updated end kept renewed = (
+  ap (shown new) end.0 ∙ sym updated.0,
+  subst (λ (b : LinkOutcome). IsPreviousLink l new b after) (sym end.0)
+      (subst (λ (bytes : List ℕ). IfSome after (IsOfGoodLink l bytes)) (sym updated.1) (kept after end.1)),
 )
-ended l state old new (Good x m) e last after b a followed end kept renewed = (
-  ap (shown new) end.0 ∙ sym followed.0,
-  subst (λ (b : Answer). IsLast l new b after) (sym end.0)
-      (subst (λ (o : Option LastGood). IsLast l new (answer.Good m) o) (sym end.1) followed.1),
+ended l state old new (Good x m) e previous after b a updated end kept renewed = (
+  ap (shown new) end.0 ∙ sym updated.0,
+  subst (λ (b : LinkOutcome). IsPreviousLink l new b after) (sym end.0)
+      (subst (λ (o : Option PreviousLink). IsPreviousLink l new (outcome.Good m) o) (sym end.1) updated.1),
 )
-ended l state old new (Retouched v) e last after b a followed end kept renewed =
-    let both = renewed v followed end.1 in (
+ended l state old new (RewrittenInPlace v) e previous after b a updated end kept renewed =
+    let both = renewed v updated end.1 in (
       ap (shown new) end.0 ∙ both.0,
-      subst (λ (c : Answer). IsLast l new c after) (sym end.0) both.1,
+      subst (λ (c : LinkOutcome). IsPreviousLink l new c after) (sym end.0) both.1,
     )
 
--- the last link with another image is that of the next project
-renewed_with : (h : Holding) (s : Staged) (same : Bool) (bytes new : List ℕ) (a : Answer) (e : Effect) (x y : LastGood)
-    (u v : Vec (Option ℕ) Global) → IsKnownEdit h s same → e.known ≡ true → IsLast (listing_of h) bytes a (Some x)
+-- the previous link with another image is that of the next project
+renewed_with : (h : ProjectState) (s : Staged) (same : Bool) (bytes new : List ℕ) (a : LinkOutcome) (e : EditEffect)
+    (x y : PreviousLink)
+    (u v : Vec (Option ℕ) Global) → IsKnownEdit h s same → e.known ≡ true
+    → IsPreviousLink (listing_of h) bytes a (Some x)
     → IsEffect h s same a (Some x) e → IsFrom (Some x) true e.gone (keys_of (next_listing h s).entries) (Some u)
     → shown bytes a ≡ link (held h)
-    → IsRetouchedBy (next_listing h s) (Some (lent_with x u.items e h.contents.entries s.objects)) new v.items
-    → IsRenewed v (Some x) (Some y)
-    → (shown new a ≡ link (project_of (next_listing h s))) × IsLast (next_listing h s) new a (Some y)
-renewed_with h s same bytes new (answer.Faulty t) e x y u v edit are is effect from answers by renewed =
+    → IsRewrittenBy (next_listing h s) (Some (previous_view_with x u.items e h.contents.entries s.objects)) new v.items
+    → AreOriginsRefreshed v (Some x) (Some y)
+    → (shown new a ≡ link (project_of (next_listing h s))) × IsPreviousLink (next_listing h s) new a (Some y)
+renewed_with h s same bytes new (outcome.Faulty t) e x y u v edit are is effect from answers by renewed =
     let no : false ≡ true =
-    sym effect.answered ∙ ap (λ (z : LastState). z.is_current) (same_Some _ _ by.end.was) ∙ by.end.current in
+    sym effect.answered ∙ ap (λ (z : PreviousState). z.is_current) (same_Some _ _ by.end.was) ∙ by.end.current in
     absurd (cc)
-renewed_with h s same bytes new (answer.Good m) e x y u v edit are is effect from answers by renewed =
+renewed_with h s same bytes new (outcome.Good m) e x y u v edit are is effect from answers by renewed =
     let q : Project = project_of (next_listing h s) in
     let old : GoodLink = is.kept.old in
-    let lent_as : LastState = lent_with x u.items e h.contents.entries s.objects in
-    let of_lent : IsLastOf old q lent_as =
+    let lent_as : PreviousState = previous_view_with x u.items e h.contents.entries s.objects in
+    let of_lent : IsPreviousOf old q lent_as =
     is_last_of h s same bytes x u.items e is.kept edit
-    (none_of_last h s same bytes (answer.Good m) x e is edit effect are) effect.changed
+    (none_of_last h s same bytes (outcome.Good m) x e is edit effect are) effect.changed
     (from_edit h s same x e u effect.lost from) in
     let lent_is : lent_as ≡ by.end.before = same_Some _ _ by.end.was in
-    let of_last : IsLastOf old q by.end.before = subst (IsLastOf old q) lent_is of_lent in
+    let of_last : IsPreviousOf old q by.end.before = subst (IsPreviousOf old q) lent_is of_lent in
     let map_is : m.items ≡ map_text q by.end.layout =
     ap (λ (k : Link). k.map) (answers ∙ ap link (sym is.project) ∙ is.kept.table.link)
     ∙ sym (by.end.map old of_last) in
     let made : List ℕ → List ℕ → Link = λ i t. record { status = 0; image = i; map = t; faults = [] } in
-    let good_is : y.good ≡ by.end.before.good = renewed.0 ∙ ap (λ (z : LastState). z.good) lent_is in (
+    let good_is : y.good ≡ by.end.before.good = renewed.0 ∙ ap (λ (z : PreviousState). z.good) lent_is in (
       ap (λ i. made i m.items) by.end.image ∙ ap (made (image q by.end.layout)) map_is ∙ sym by.end.link,
       record {
         kept = record {
           old = record { project = q; layout = by.end.layout };
-          table = subst (λ g. IsTable (record { project = q; layout = by.end.layout }) g) (sym good_is) by.end.table;
+          table = subst (λ g. IsLinkSnapshot (record { project = q; layout = by.end.layout }) g)
+              (sym good_is) by.end.table;
           names = subst (λ (ns : List _). map (λ v. v.items) ns ≡ map (λ (o : NamedObject). o.name) q.objects)
               (sym (ap (λ v. v.items) renewed.1)) (is.kept.names ∙ sym (by.end.names old of_last));
           since = subst (λ (w : Vec (Option ℕ) Global). IsSince q.objects (origin_of w.items)
@@ -351,13 +367,15 @@ renewed_with h s same bytes new (answer.Good m) e x y u v edit are is effect fro
       },
     )
 
-pub renewed_last : (h : Holding) (s : Staged) (same : Bool) (bytes new : List ℕ) (a : Answer) (e : Effect)
-    (last after : Option LastGood) (known : Bool) (from : Option (Vec (Option ℕ) Global)) (v : Vec (Option ℕ) Global)
-    → IsKnownEdit h s same → e.known ≡ known → IsLast (listing_of h) bytes a last → IsEffect h s same a last e
-    → IsFrom last known e.gone (keys_of (next_listing h s).entries) from → shown bytes a ≡ link (held h)
-    → IsRetouchedBy (next_listing h s) (lent last from e h.contents.entries s.objects) new v.items
-    → IsRenewed v last after
-    → (shown new a ≡ link (project_of (next_listing h s))) × IsLast (next_listing h s) new a after
+pub renewed_last : (h : ProjectState) (s : Staged) (same : Bool) (bytes new : List ℕ) (a : LinkOutcome) (e : EditEffect)
+    (previous after : Option PreviousLink) (known : Bool) (from : Option (Vec (Option ℕ) Global))
+    (v : Vec (Option ℕ) Global)
+    → IsKnownEdit h s same → e.known ≡ known → IsPreviousLink (listing_of h) bytes a previous
+    → IsEffect h s same a previous e
+    → IsFrom previous known e.gone (keys_of (next_listing h s).entries) from → shown bytes a ≡ link (held h)
+    → IsRewrittenBy (next_listing h s) (lent previous from e h.contents.entries s.objects) new v.items
+    → AreOriginsRefreshed v previous after
+    → (shown new a ≡ link (project_of (next_listing h s))) × IsPreviousLink (next_listing h s) new a after
 renewed_last h s same bytes new a e None after known from v edit are is effect origins answers by renewed =
     absurd (let was = by.end.was in let never : ⊥ = cc in never)
 renewed_last h s same bytes new a e (Some x) after known None v edit are is effect origins answers by renewed =
@@ -369,27 +387,32 @@ renewed_last h s same bytes new a e (Some x) (Some y) false (Some u) v edit are 
 renewed_last h s same bytes new a e (Some x) (Some y) true (Some u) v edit are is effect origins answers by renewed =
     renewed_with h s same bytes new a e x y u v edit are is effect origins answers by renewed
 
--- so it is after an edit that is linked over the last link
-pub ended_after : (h : Holding) (s : Staged) (same : Bool) (bytes new : List ℕ) (a b : Answer) (e : Effect)
-    (last after : Option LastGood) (from : Option (Vec (Option ℕ) Global)) (f : Followed) (later : Holding)
-    (symbol_table : SymbolTableState) (ms : List Matches) → IsFollowing h s same bytes a last e
-    → IsFrom last e.known e.gone (keys_of (next_listing h s).entries) from → shown bytes a ≡ link (held h)
-    → HasFollowed (next_listing h s) (lent last from e h.contents.entries s.objects) bytes new f
-    → IsEndOf f e last after a b → IsKept (next_listing h s) symbol_table ms → listing_of later ≡ next_listing h s
+-- so it is after an edit that is linked over the previous link
+pub ended_after : (h : ProjectState) (s : Staged) (same : Bool) (bytes new : List ℕ) (a b : LinkOutcome)
+    (e : EditEffect)
+    (previous after : Option PreviousLink) (from : Option (Vec (Option ℕ) Global)) (f : UpdateOutcome)
+    (later : ProjectState)
+    (symbol_table : SymbolTableState) (ms : List Matches) → IsFollowing h s same bytes a previous e
+    → IsFrom previous e.known e.gone (keys_of (next_listing h s).entries) from → shown bytes a ≡ link (held h)
+    → HasUpdateOutcome (next_listing h s) (lent previous from e h.contents.entries s.objects) bytes new f
+    → IsRecorded f e previous after a b → IsKept (next_listing h s) symbol_table ms → listing_of later
+    ≡ next_listing h s
     → (shown new b ≡ link (held later)) × IsKept (listing_of later) symbol_table ms
-    × IsLast (listing_of later) new b after
-ended_after h s same bytes new a b e last after from f later symbol_table ms x origins answers followed end kept is =
-    let both = ended (next_listing h s) (lent last from e h.contents.entries s.objects) bytes new f e last after a b
-    followed end (λ later. kept_after_fault h s same bytes a e x.edit last later e.known refl x.kept x.effect)
-    (λ v by renewed. renewed_last h s same bytes new a e last after e.known from v x.edit refl x.kept x.effect origins
+    × IsPreviousLink (listing_of later) new b after
+ended_after h s same bytes new a b e previous after from f later symbol_table ms x origins answers updated end kept is =
+    let both = ended (next_listing h s) (lent previous from e h.contents.entries s.objects) bytes new f e previous after
+    a b
+    updated end (λ later. kept_after_fault h s same bytes a e x.edit previous later e.known refl x.kept x.effect)
+    (λ v by renewed. renewed_last h s same bytes new a e previous after e.known from v x.edit refl x.kept x.effect
+    origins
     answers by renewed) in (
       subst (λ (l : Listing). shown new b ≡ link (project_of l)) (sym is) both.0,
       subst (λ (l : Listing). IsKept l symbol_table ms) (sym is) kept,
-      subst (λ (l : Listing). IsLast l new b after) (sym is) both.1,
+      subst (λ (l : Listing). IsPreviousLink l new b after) (sym is) both.1,
     )
 
--- where there was no last link, none is kept
-pub none_kept : (l : Listing) (bytes : List ℕ) (lost : Option ℕ) (same_script : Bool) (later : Option LastGood)
-    → IsAfterFault true lost same_script None later → IfSome later (HasKept l bytes)
+-- where there was no previous link, none is kept
+pub none_kept : (l : Listing) (bytes : List ℕ) (lost : Option ℕ) (same_script : Bool) (later : Option PreviousLink)
+    → IsAfterFault true lost same_script None later → IfSome later (IsOfGoodLink l bytes)
 none_kept l bytes lost same_script None is = tt
 none_kept l bytes lost same_script (Some y) is = absurd (is)

@@ -7,33 +7,33 @@ use Rattle.std.specs.Prelude.{Contains, IfSome, if◌then◌else◌, nat_eq}
 use Rattle.std.proofs.lemmas.Bool.{eq-eqb, eqb-true}
 use Rattle.std.proofs.lemmas.Option.{slice_get-get_or}
 use Rattle.std.specs.Prelude.{slice_get}
-use Rattle.relink_link.specs.First.{HasReplaced}
+use Rattle.relink_driver.specs.Resume.{HasReplaced}
 use Rattle.ldmodel.specs.Edits.{AreNamesDistinct, has_name}
 use Rattle.ldmodel.specs.Project.{NamedObject}
-use Rattle.ldmodel_project.specs.Holding.{Holding, Listing, next_listing}
-use Rattle.ldmodel_project.specs.Listing.{AreKeysDistinct, Entry, found_under, key_count, keys_of, objects_of}
+use Rattle.ldmodel_project.specs.ProjectState.{ProjectState, Listing, next_listing}
+use Rattle.ldmodel_project.specs.Listing.{AreKeysDistinct, Listed, found_under, key_count, keys_of, objects_of}
 use Rattle.ldmodel_project.specs.Next.{Fits, next_found, put_under}
 use Rattle.ldmodel_project.specs.declared.staged.Staged.{Staged}
 use Rattle.ldmodel_project.specs.declared.staged.Step.{Step}
 use Rattle.ldmodel_project.specs.declared.staged.Step.TheVariants.{Put, Remove, Move, Stay}
 use Rattle.relink.proofs.Finding.{counts_head}
 use Rattle.relink.proofs.Since.{found_same, key_at, next_other, next_put, same_bytes, some_same, under_key}
-use Rattle.relink.specs.Last.{IsSince, PutsByName, PutsNoneOf, PutsSame, lost_key}
-use Rattle.relink.specs.Last.{replaced_by, replaced_in, without}
+use Rattle.relink.specs.PreviousLink.{IsSince, PutsByName, PutsNoneOf, PutsSame, lost_key}
+use Rattle.relink.specs.PreviousLink.{replaced_by, replaced_in, without}
 
 -- ---- the object under a key
 
 -- the first entry is that of the key, or not
-first_found : (e : Entry) (es : List Entry) (key : ℕ) (o : NamedObject) → nat_eq key e.key ≡ true
+first_found : (e : Listed) (es : List Listed) (key : ℕ) (o : NamedObject) → nat_eq key e.key ≡ true
     → found_under (e ∷ es) key ≡ Some o → e.named ≡ o
 first_found e es key o is h =
     some_same e.named o (sym (ap (λ (b : Bool). if b then Some e.named else found_under es key) is) ∙ h)
 
-later_found : (e : Entry) (es : List Entry) (key : ℕ) (o : NamedObject) → nat_eq key e.key ≡ false
+later_found : (e : Listed) (es : List Listed) (key : ℕ) (o : NamedObject) → nat_eq key e.key ≡ false
     → found_under (e ∷ es) key ≡ Some o → found_under es key ≡ Some o
 later_found e es key o is h = sym (ap (λ (b : Bool). if b then Some e.named else found_under es key) is) ∙ h
 
-counted_one : (f : NamedObject → Bool) (e : Entry) (es : List Entry) (o : NamedObject) → e.named ≡ o → f o ≡ true
+counted_one : (f : NamedObject → Bool) (e : Listed) (es : List Listed) (o : NamedObject) → e.named ≡ o → f o ≡ true
     → count_by f (objects_of (e ∷ es)) ≡ 1 + count_by f (objects_of es)
 counted_one f e es o is p =
     let head : count_by f (objects_of (e ∷ es)) ≡ cond (f e.named) 1 0 + count_by f (objects_of es) =
@@ -41,14 +41,14 @@ counted_one f e es o is p =
     let one : cond {A = ℕ} (f e.named) 1 0 ≡ 1 = ap (λ (b : Bool). cond b 1 0) (ap f is ∙ p) in
     omega (arith, head, one)
 
-counted_more : (f : NamedObject → Bool) (e : Entry) (es : List Entry) (n : ℕ) → n ≤ count_by f (objects_of es)
+counted_more : (f : NamedObject → Bool) (e : Listed) (es : List Listed) (n : ℕ) → n ≤ count_by f (objects_of es)
     → n ≤ count_by f (objects_of (e ∷ es))
 counted_more f e es n l =
     let head : count_by f (objects_of (e ∷ es)) ≡ cond (f e.named) 1 0 + count_by f (objects_of es) =
     counts_head f e.named (objects_of es) in
     omega (arith, head, l)
 
-one_step : (f : NamedObject → Bool) (e : Entry) (es : List Entry) (key : ℕ) (o : NamedObject) (b : Bool)
+one_step : (f : NamedObject → Bool) (e : Listed) (es : List Listed) (key : ℕ) (o : NamedObject) (b : Bool)
     → nat_eq key e.key ≡ b → found_under (e ∷ es) key ≡ Some o → f o ≡ true
     → (found_under es key ≡ Some o → 1 ≤ count_by f (objects_of es)) → 1 ≤ count_by f (objects_of (e ∷ es))
 one_step f e es key o true is h p more =
@@ -56,13 +56,13 @@ one_step f e es key o true is h p more =
 one_step f e es key o false is h p more = counted_more f e es 1 (more (later_found e es key o is h))
 
 -- an object under a key is counted where it passes
-one_under : (f : NamedObject → Bool) (es : List Entry) (key : ℕ) (o : NamedObject) → found_under es key ≡ Some o
+one_under : (f : NamedObject → Bool) (es : List Listed) (key : ℕ) (o : NamedObject) → found_under es key ≡ Some o
     → f o ≡ true → 1 ≤ count_by f (objects_of es)
 one_under f [] key o h p = absurd (cc)
 one_under f (e ∷ es) key o h p =
     one_step f e es key o (nat_eq key e.key) refl h p (λ later. one_under f es key o later p)
 
-two_step : (f : NamedObject → Bool) (e : Entry) (es : List Entry) (i j : ℕ) (x y : NamedObject) (b c : Bool)
+two_step : (f : NamedObject → Bool) (e : Listed) (es : List Listed) (i j : ℕ) (x y : NamedObject) (b c : Bool)
     → nat_eq i e.key ≡ b → nat_eq j e.key ≡ c → (i ≡ j → ⊥) → found_under (e ∷ es) i ≡ Some x
     → found_under (e ∷ es) j ≡ Some y → f x ≡ true → f y ≡ true
     → (found_under es i ≡ Some x → found_under es j ≡ Some y → 2 ≤ count_by f (objects_of es))
@@ -79,7 +79,7 @@ two_step f e es i j x y false false is js apart h k p q more =
     counted_more f e es 2 (more (later_found e es i x is h) (later_found e es j y js k))
 
 -- two objects under different keys are counted twice
-two_under : (f : NamedObject → Bool) (es : List Entry) (i j : ℕ) (x y : NamedObject) → (i ≡ j → ⊥)
+two_under : (f : NamedObject → Bool) (es : List Listed) (i j : ℕ) (x y : NamedObject) → (i ≡ j → ⊥)
     → found_under es i ≡ Some x → found_under es j ≡ Some y → f x ≡ true → f y ≡ true
     → 2 ≤ count_by f (objects_of es)
 two_under f [] i j x y apart h k p q = absurd (cc)
@@ -88,7 +88,7 @@ two_under f (e ∷ es) i j x y apart h k p q =
     (λ at later. two_under f es i j x y apart at later p q)
 
 -- where no name stands twice, objects of one name are under one key
-named_once : (es : List Entry) (i j : ℕ) (x y : NamedObject) → AreNamesDistinct (objects_of es) → (i ≡ j → ⊥)
+named_once : (es : List Listed) (i j : ℕ) (x y : NamedObject) → AreNamesDistinct (objects_of es) → (i ≡ j → ⊥)
     → found_under es i ≡ Some x → found_under es j ≡ Some y → y.name ≡ x.name → ⊥
 named_once es i j x y once apart h k n =
     let two = two_under (has_name x.name) es i j x y apart h k (same_bytes x.name x.name refl)
@@ -96,7 +96,7 @@ named_once es i j x y once apart h k n =
     let most = once x.name in
     absurd (omega (arith, two, most))
 
-listed_step : (e : Entry) (es : List Entry) (key : ℕ) (o : NamedObject) (b : Bool) → nat_eq key e.key ≡ b
+listed_step : (e : Listed) (es : List Listed) (key : ℕ) (o : NamedObject) (b : Bool) → nat_eq key e.key ≡ b
     → found_under (e ∷ es) key ≡ Some o → (found_under es key ≡ Some o → Contains (objects_of es) o)
     → Contains (objects_of (e ∷ es)) o
 listed_step e es key o true is h more = (zero, omega arith, first_found e es key o is h)
@@ -104,20 +104,20 @@ listed_step e es key o false is h more =
     let at = more (later_found e es key o is h) in (suc at.0, omega (arith, at.1), at.2)
 
 -- an object under a key is one of the objects
-pub found_listed : (es : List Entry) (key : ℕ) (o : NamedObject) → found_under es key ≡ Some o
+pub found_listed : (es : List Listed) (key : ℕ) (o : NamedObject) → found_under es key ≡ Some o
     → Contains (objects_of es) o
 found_listed [] key o h = absurd (cc)
 found_listed (e ∷ es) key o h =
     listed_step e es key o (nat_eq key e.key) refl h (λ later. found_listed es key o later)
 
-count_step : (e : Entry) (es : List Entry) (key : ℕ) (o : NamedObject) (b : Bool) → nat_eq key e.key ≡ b
+count_step : (e : Listed) (es : List Listed) (key : ℕ) (o : NamedObject) (b : Bool) → nat_eq key e.key ≡ b
     → found_under (e ∷ es) key ≡ Some o → (found_under es key ≡ Some o → 0 < key_count es key)
     → 0 < key_count (e ∷ es) key
 count_step e es key o b is h more =
     counted b is
   where
     head : key_count (e ∷ es) key ≡ cond (nat_eq key e.key) 1 0 + key_count es key
-    head = counts_head (λ (x : Entry). nat_eq key x.key) e es
+    head = counts_head (λ (x : Listed). nat_eq key x.key) e es
 
     counted : (b : Bool) → nat_eq key e.key ≡ b → 0 < key_count (e ∷ es) key
     counted true is =
@@ -126,7 +126,7 @@ count_step e es key o b is h more =
     counted false is = omega (arith, head, more (later_found e es key o is h))
 
 -- the key of an object is counted
-pub found_counted : (es : List Entry) (key : ℕ) (o : NamedObject) → found_under es key ≡ Some o
+pub found_counted : (es : List Listed) (key : ℕ) (o : NamedObject) → found_under es key ≡ Some o
     → 0 < key_count es key
 found_counted [] key o h = absurd (cc)
 found_counted (e ∷ es) key o h =
@@ -135,7 +135,7 @@ found_counted (e ∷ es) key o h =
 -- ---- what is put
 
 -- an object that has the name of what is put is the one under its key, since no name stands twice afterwards
-puts_by_name : (es next : List Entry) (step : Step) → AreKeysDistinct (keys_of es)
+puts_by_name : (es next : List Listed) (step : Step) → AreKeysDistinct (keys_of es)
     → AreNamesDistinct (objects_of next) → ((key : ℕ) → found_under next key ≡ next_found es step key)
     → PutsByName es step
 puts_by_name es next (Put new named) distinct once found = λ y c n. (
@@ -161,7 +161,7 @@ puts_by_name es next (Move moved) distinct once found = tt
 puts_by_name es next Stay distinct once found = tt
 
 -- said of what is kept of a project, and what a staged edit makes of it
-pub staged_by_name : (h : Holding) (s : Staged) (l : Listing) (keys : List ℕ) → l ≡ next_listing h s
+pub staged_by_name : (h : ProjectState) (s : Staged) (l : Listing) (keys : List ℕ) → l ≡ next_listing h s
     → ((key : ℕ) → found_under l.entries key ≡ next_found h.contents.entries s.objects.step key)
     → keys ≡ keys_of h.contents.entries → AreKeysDistinct keys → Fits h.contents s.objects
     → PutsByName h.contents.entries s.objects.step
@@ -182,7 +182,7 @@ put_is new named key x put = at (nat_eq key new) refl
         absurd (cc)
 
 -- what is put is none of the objects, where none is under its key, or another
-pub puts_other : (es : List Entry) (step : Step) (key : ℕ) (x : NamedObject) (f : Option NamedObject)
+pub puts_other : (es : List Listed) (step : Step) (key : ℕ) (x : NamedObject) (f : Option NamedObject)
     → put_under step key ≡ Some x → found_under es key ≡ f
     → IfSome f (λ (o : NamedObject). o.name ≡ x.name → o.object.text ≡ x.object.text → ⊥) → PutsByName es step
     → PutsNoneOf (objects_of es) step
@@ -206,10 +206,10 @@ puts_other es Stay key x f put found other by_name = tt
 
 -- ---- the objects without an origin, where the link is that of the project before the step
 
-abbrev pub AllHave : List Entry → (ℕ → Option ℕ) → Type 0
+abbrev pub AllHave : List Listed → (ℕ → Option ℕ) → Type 0
 AllHave es origin = (key : ℕ) (o : NamedObject) → found_under es key ≡ Some o → origin key ≡ None → ⊥
 
-pub all_have : (es : List Entry) (origin : ℕ → Option ℕ) → IsSince (objects_of es) origin es → AllHave es origin
+pub all_have : (es : List Listed) (origin : ℕ → Option ℕ) → IsSince (objects_of es) origin es → AllHave es origin
 all_have es origin since = λ key o h none.
     since.fresh key o h none o (found_listed es key o h) refl refl
 
@@ -218,7 +218,7 @@ without_not x true h = refl
 without_not x false h = h
 
 -- an object that has none is put
-pub came : (es : List Entry) (step : Step) (same : Bool) (origin : ℕ → Option ℕ) (key : ℕ) (o : NamedObject)
+pub came : (es : List Listed) (step : Step) (same : Bool) (origin : ℕ → Option ℕ) (key : ℕ) (o : NamedObject)
     → (same ≡ true → PutsSame es step) → AllHave es origin → next_found es step key ≡ Some o
     → without origin (lost_key same step) key ≡ None → put_under step key ≡ Some o
 came es step true origin key o puts have h none =
@@ -248,7 +248,7 @@ came es (Move moved) false origin key o puts have h none = absurd (have key o h 
 came es Stay false origin key o puts have h none = absurd (have key o h none)
 
 -- the object in whose place an object comes is lent
-pub replaced_here : (es : List Entry) (step : Step) (origin : ℕ → Option ℕ) (key i : ℕ) (o y : NamedObject)
+pub replaced_here : (es : List Listed) (step : Step) (origin : ℕ → Option ℕ) (key i : ℕ) (o y : NamedObject)
     (after : Option ℕ) → put_under step key ≡ Some o → PutsByName es step → AllHave es origin
     → Contains (objects_of es) y → y.name ≡ o.name → after ≡ Some i
     → HasReplaced (replaced_in origin es step after) i

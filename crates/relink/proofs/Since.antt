@@ -1,4 +1,4 @@
--- The objects of the last link without faults, while edits follow.
+-- The objects of the previous link without faults, while edits follow.
 use Rattle.std.proofs.Common.{◌≡◌, ◌∙◌, ◌<◌, ◌≤◌, ◌+◌, ℕ, zero, suc, Bool, true, false, List, [], ◌∷◌}
 use Rattle.std.proofs.Common.{Option, Some, None}
 use Rattle.std.proofs.Common.{cond, length, ltb, map, get_or, refl, ap, sym, subst, arith}
@@ -10,17 +10,18 @@ use Rattle.std.proofs.lemmas.List.Sums.{sum_by-cons}
 use Rattle.std.proofs.lemmas.Option.{slice_get-get_or}
 use Rattle.std.proofs.lemmas.Slice.Eq.{bytes_eq-Decides}
 use Rattle.ldmodel.specs.Project.{NamedObject}
-use Rattle.ldmodel_project.specs.Listing.{AreKeysDistinct, Entry, found_under, keys_of, objects_of}
-use Rattle.ldmodel_project.specs.Next.{next_found, put_under, removed_key, touched_key}
-use Rattle.ldmodel_project.specs.Touched.{is_other}
+use Rattle.ldmodel_project.specs.Listing.{AreKeysDistinct, Listed, found_under, keys_of, objects_of}
+use Rattle.ldmodel_project.specs.Next.{next_found, put_under, removed_key, edited_key}
+use Rattle.ldmodel_project.specs.Edited.{is_other}
 use Rattle.ldmodel_project.specs.declared.staged.Step.{Step}
 use Rattle.ldmodel_project.specs.declared.staged.Step.TheVariants.{Put, Remove, Move, Stay}
-use Rattle.relink_link.specs.Origins.{AreOrigins}
+use Rattle.relink_driver.specs.Origins.{AreOrigins}
 use Rattle.ldmodel_project.specs.Order.{HasPlaces}
 use Rattle.ldmodel.specs.Project.{Project}
 use Rattle.relink.proofs.Finding.{find_some}
-use Rattle.relink.specs.Last.{IsNamedAt, IsNoneOf, IsSince, PutsNoneOf, PutsSame, changed_key, lost_key, origin_of}
-use Rattle.relink.specs.Last.{replaced_in, without}
+use Rattle.relink.specs.PreviousLink.{IsNamedAt, IsNoneOf, IsSince, PutsNoneOf, PutsSame, changed_key, lost_key}
+use Rattle.relink.specs.PreviousLink.{origin_of}
+use Rattle.relink.specs.PreviousLink.{replaced_in, without}
 
 -- ---- one list
 
@@ -59,7 +60,7 @@ rest_distinct k ks distinct = λ key. (
     let head = counted_head key k ks in omega (arith, head, distinct key))
 
 -- what stands at a place is under the key at this place
-pub under_key : (es : List Entry) (i key : ℕ) → AreKeysDistinct (keys_of es) → slice_get (keys_of es) i ≡ Some key
+pub under_key : (es : List Listed) (i key : ℕ) → AreKeysDistinct (keys_of es) → slice_get (keys_of es) i ≡ Some key
     → slice_get (objects_of es) i ≡ found_under es key
 under_key [] i key distinct h = absurd (cc)
 under_key (e ∷ es) zero key distinct h =
@@ -71,14 +72,14 @@ under_key (e ∷ es) (suc i) key distinct h =
     (other_head key e.key (keys_of es) i distinct h))
 
 -- a place with an object has a key
-pub key_at : (es : List Entry) (i : ℕ) (o : NamedObject) → slice_get (objects_of es) i ≡ Some o
+pub key_at : (es : List Listed) (i : ℕ) (o : NamedObject) → slice_get (objects_of es) i ≡ Some o
     → (key : ℕ) × (slice_get (keys_of es) i ≡ Some key)
 key_at [] i o h = absurd (cc)
 key_at (e ∷ es) zero o h = (e.key, refl)
 key_at (e ∷ es) (suc i) o h = key_at es i o h
 
 -- a place with a key has an object
-pub object_at : (es : List Entry) (i key : ℕ) → slice_get (keys_of es) i ≡ Some key
+pub object_at : (es : List Listed) (i key : ℕ) → slice_get (keys_of es) i ≡ Some key
     → (o : NamedObject) × (slice_get (objects_of es) i ≡ Some o)
 object_at [] i key h = absurd (cc)
 object_at (e ∷ es) zero key h = (e.named, refl)
@@ -106,7 +107,7 @@ none_of old names x place same named other = λ y c n t. (
     → y.object.text ≡ x.object.text → ⊥)) at other y here t)
 
 -- where the clause holds of any link before, it holds of the one that is known
-pub of_one : (old : List NamedObject) (origin : ℕ → Option ℕ) (es : List Entry) (x : NamedObject) (place : Option ℕ)
+pub of_one : (old : List NamedObject) (origin : ℕ → Option ℕ) (es : List Listed) (x : NamedObject) (place : Option ℕ)
     → IfSome place (λ j. (old : List NamedObject) (y : NamedObject) → IsSince old origin es → slice_get old j ≡ Some y
     → y.object.text ≡ x.object.text → ⊥) → IsSince old origin es
     → IfSome place (λ j. (y : NamedObject) → slice_get old j ≡ Some y → y.object.text ≡ x.object.text → ⊥)
@@ -168,7 +169,7 @@ none_changed (Move moved) none removed = refl
 none_changed Stay none removed = refl
 
 -- where nothing is put, nothing is replaced
-pub none_replaced : (origin : ℕ → Option ℕ) (es : List Entry) (step : Step) (after : Option ℕ)
+pub none_replaced : (origin : ℕ → Option ℕ) (es : List Listed) (step : Step) (after : Option ℕ)
     → ((key : ℕ) → put_under step key ≡ None) → replaced_in origin es step after ≡ None
 none_replaced origin es (Put new named) after none =
     let some : Some named ≡ None =
@@ -180,7 +181,7 @@ none_replaced origin es Stay after none = refl
 
 -- a step touches the key that it puts an object under
 pub put_touches : (step : Step) (key : ℕ) (x : NamedObject) → put_under step key ≡ Some x
-    → touched_key step ≡ Some key
+    → edited_key step ≡ Some key
 put_touches (Put new named) key x put = at (nat_eq key new) refl
   where
     at : (b : Bool) → nat_eq key new ≡ b → Some new ≡ Some key
@@ -193,15 +194,15 @@ put_touches (Move moved) key x put = absurd (cc)
 put_touches Stay key x put = absurd (cc)
 
 -- what is under the key of a step that puts
-pub next_put : (es : List Entry) (new : ℕ) (named : NamedObject) → next_found es (Put new named) new ≡ Some named
+pub next_put : (es : List Listed) (new : ℕ) (named : NamedObject) → next_found es (Put new named) new ≡ Some named
 next_put es new named = ap (λ (b : Bool). if b then Some named else found_under es new) (eq-eqb new new refl)
 
-pub next_other : (es : List Entry) (new : ℕ) (named : NamedObject) (key : ℕ) → nat_eq key new ≡ false
+pub next_other : (es : List Listed) (new : ℕ) (named : NamedObject) (key : ℕ) → nat_eq key new ≡ false
     → next_found es (Put new named) key ≡ found_under es key
 next_other es new named key is = ap (λ (b : Bool). if b then Some named else found_under es key) is
 
 -- where the same object is put, all are under their keys as before
-pub found_same : (es : List Entry) (step : Step) → PutsSame es step → (key : ℕ)
+pub found_same : (es : List Listed) (step : Step) → PutsSame es step → (key : ℕ)
     → next_found es step key ≡ found_under es key
 found_same es (Put new named) same key = at (nat_eq key new) refl
   where
@@ -215,7 +216,7 @@ found_same es (Move moved) same key = absurd same
 found_same es Stay same key = absurd same
 
 -- an object under another key than that of a step was there before
-found_before : (es : List Entry) (step : Step) (key : ℕ) (o : NamedObject) → is_other (changed_key step) key ≡ true
+found_before : (es : List Listed) (step : Step) (key : ℕ) (o : NamedObject) → is_other (changed_key step) key ≡ true
     → next_found es step key ≡ Some o → found_under es key ≡ Some o
 found_before es (Put new named) key o other h = at (nat_eq key new) refl
   where
@@ -231,7 +232,7 @@ found_before es (Move moved) key o other h = h
 found_before es Stay key o other h = h
 
 -- what is under the key of a step is what it puts
-found_put : (old : List NamedObject) (es : List Entry) (step : Step) (key : ℕ) (o : NamedObject)
+found_put : (old : List NamedObject) (es : List Listed) (step : Step) (key : ℕ) (o : NamedObject)
     → is_other (changed_key step) key ≡ false → next_found es step key ≡ Some o → PutsNoneOf old step → IsNoneOf old o
 found_put old es (Put new named) key o other h none = at (nat_eq key new) refl
   where
@@ -252,7 +253,7 @@ found_put old es (Move moved) key o other h none = absurd (cc)
 found_put old es Stay key o other h none = absurd (cc)
 
 -- after a step, without the origin of what came or went
-pub since_after : (old : List NamedObject) (es next : List Entry) (step : Step) (before after : ℕ → Option ℕ)
+pub since_after : (old : List NamedObject) (es next : List Listed) (step : Step) (before after : ℕ → Option ℕ)
     → ((key : ℕ) → found_under next key ≡ next_found es step key) → IsSince old before es → PutsNoneOf old step
     → ((key : ℕ) → after key ≡ without before (changed_key step) key) → IsSince old after next
 since_after old es next step before after found since none but = record {
@@ -279,7 +280,7 @@ since_after old es next step before after found since none but = record {
     fresh key o h at false e = found_put old es step key o e h none
 
 -- the same where a step puts an object over the same one, which keeps its origin
-pub since_next : (old : List NamedObject) (es next : List Entry) (step : Step) (same : Bool)
+pub since_next : (old : List NamedObject) (es next : List Listed) (step : Step) (same : Bool)
     (before after : ℕ → Option ℕ) → ((key : ℕ) → found_under next key ≡ next_found es step key) → IsSince old before es
     → (same ≡ true → PutsSame es step) → (same ≡ false → PutsNoneOf old step)
     → ((key : ℕ) → after key ≡ without before (lost_key same step) key) → IsSince old after next
@@ -308,7 +309,7 @@ from_none origin (k ∷ ks) zero key h = ap origin (some_same k key h)
 from_none origin (k ∷ ks) (suc i) key h = from_none origin ks i key h
 
 -- the origins of the objects by their places
-pub origins_by_place : (old new : Project) (es : List Entry) (origin : ℕ → Option ℕ) → AreKeysDistinct (keys_of es)
+pub origins_by_place : (old new : Project) (es : List Listed) (origin : ℕ → Option ℕ) → AreKeysDistinct (keys_of es)
     → new.objects ≡ objects_of es → IsSince old.objects origin es → AreOrigins old new (map origin (keys_of es))
 origins_by_place old new es origin distinct objects since = record {
   same = λ i j h.
@@ -353,7 +354,7 @@ stands_there key keys j h =
     there ∙ ap Some (sym is)
 
 -- the places of the objects of a link are their origins
-pub since_places : (es : List Entry) (places : List (Option ℕ)) → AreKeysDistinct (keys_of es)
+pub since_places : (es : List Listed) (places : List (Option ℕ)) → AreKeysDistinct (keys_of es)
     → HasPlaces (keys_of es) places
     → ((key : ℕ) → is_some (position (nat_eq key) (keys_of es)) ≡ is_some (found_under es key))
     → IsSince (objects_of es) (origin_of places) es

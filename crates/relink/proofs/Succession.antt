@@ -1,20 +1,20 @@
--- A project that follows the last link at once.
+-- A project that follows the previous link at once.
 use Rattle.std.proofs.Common.{◌≡◌, ◌∙◌, ℕ, zero, suc, Bool, true, false, List, [], ◌∷◌, Option, Some, None}
 use Rattle.std.proofs.Common.{ap, map, refl, subst, sym}
 use Rattle.std.specs.List.{position}
 use Rattle.std.specs.Prelude.{Contains, is_some, nat_eq, slice_get, slice_index_or}
 use Rattle.std.proofs.lemmas.Bool.{eq-eqb}
-use Rattle.relink_link.specs.First.{HasReplaced, IsNext}
-use Rattle.relink_link.specs.Stays.{LastState, ReplacedState}
+use Rattle.relink_driver.specs.Resume.{HasReplaced, IsNext}
+use Rattle.relink_driver.specs.StayedSections.{PreviousState, ReplacedObjectState}
 use Rattle.ldmodel.specs.Project.{NamedObject, Project}
-use Rattle.ldmodel_project.specs.Listing.{AreKeysDistinct, Entry, found_under, keys_of, objects_of}
-use Rattle.ldmodel_project.specs.Next.{next_found, put_under, touched_key}
-use Rattle.ldmodel_project.specs.Touched.{place_in}
+use Rattle.ldmodel_project.specs.Listing.{AreKeysDistinct, Listed, found_under, keys_of, objects_of}
+use Rattle.ldmodel_project.specs.Next.{next_found, put_under, edited_key}
+use Rattle.ldmodel_project.specs.Edited.{place_in}
 use Rattle.ldmodel_project.specs.declared.staged.Step.{Step}
 use Rattle.relink.proofs.Putting.{all_have, came, replaced_here}
 use Rattle.relink.proofs.Since.{from_none, key_at, other_head, put_touches, rest_distinct, some_same, stands_there}
 use Rattle.relink.proofs.Since.{under_key}
-use Rattle.relink.specs.Last.{IsSince, PutsByName, PutsSame, lost_key, replaced_in, without}
+use Rattle.relink.specs.PreviousLink.{IsSince, PutsByName, PutsSame, lost_key, replaced_in, without}
 
 -- a key stands at one place
 same_place : (key : ℕ) (keys : List ℕ) (i j : ℕ) → AreKeysDistinct keys → slice_get keys i ≡ Some key
@@ -46,11 +46,11 @@ found_there key keys i distinct h some = at (position (nat_eq key) keys) refl
     at (Some j) e = e ∙ ap Some (same_place key keys j i distinct (stands_there key keys j e) h)
 
 -- the script is known to be the same, and each object that came in the place of one of its name is known
-pub is_next : (old new : Project) (es next : List Entry) (step : Step) (after : Option ℕ) (same : Bool)
-    (origin : ℕ → Option ℕ) (x : LastState) → old.objects ≡ objects_of es → new.objects ≡ objects_of next
+pub is_next : (old new : Project) (es next : List Listed) (step : Step) (after : Option ℕ) (same : Bool)
+    (origin : ℕ → Option ℕ) (x : PreviousState) → old.objects ≡ objects_of es → new.objects ≡ objects_of next
     → ((key : ℕ) → found_under next key ≡ next_found es step key) → AreKeysDistinct (keys_of next)
     → ((key : ℕ) → is_some (position (nat_eq key) (keys_of next)) ≡ is_some (found_under next key))
-    → after ≡ place_in (keys_of next) (touched_key step) → PutsByName es step → (same ≡ true → PutsSame es step)
+    → after ≡ place_in (keys_of next) (edited_key step) → PutsByName es step → (same ≡ true → PutsSame es step)
     → IsSince old.objects origin es → x.same_script ≡ true
     → x.from ≡ map (without origin (lost_key same step)) (keys_of next) → x.replaced ≡ replaced_in origin es step after
     → IsNext old new x
@@ -72,7 +72,7 @@ is_next old new es next step after same origin x were are found distinct placed 
           place
           ∙ (ap (place_in (keys_of next)) (put_touches step key.0 o put)
           ∙ found_there key.0 (keys_of next) i distinct key.1 (placed key.0 ∙ ap is_some here)) in
-          subst (λ (r : Option ReplacedState). HasReplaced r i) (sym replaced)
+          subst (λ (r : Option ReplacedObjectState). HasReplaced r i) (sym replaced)
           (replaced_here es step origin key.0 i o y after put by_name have
           (subst (λ (os : List NamedObject). Contains os y) were among) name stands);
     }

@@ -21,14 +21,14 @@ use Rattle.ldmodel.specs.Project.{NamedObject, Project}
 use Rattle.ldmodel.specs.SessionWork.{Rises, named_by, names_by_script, names_of, objects_read, touched_names}
 use Rattle.symres.specs.decisions.Change.{Table}
 use Rattle.symres.specs.decisions.Counted.{CountsNames, declared_in, declared_names}
-use Rattle.ldmodel_project.specs.Holding.{Holding, ReadsOne, StandsAsNamed, held, next_listing, project_of}
-use Rattle.ldmodel_project.specs.Listing.{Entry, key_count, objects_of}
-use Rattle.ldmodel_project.specs.Next.{Fits, KeysAreStable, named_under, next_entries, touched_key}
-use Rattle.ldmodel_project.specs.Staging.{TouchesNamed}
+use Rattle.ldmodel_project.specs.ProjectState.{ProjectState, ReadsOne, StandsAsNamed, held, next_listing, project_of}
+use Rattle.ldmodel_project.specs.Listing.{Listed, key_count, objects_of}
+use Rattle.ldmodel_project.specs.Next.{Fits, KeysAreStable, named_under, next_entries, edited_key}
+use Rattle.ldmodel_project.specs.Staging.{EditsNamed}
 use Rattle.ldmodel_project.specs.Tables.{tables_under}
-use Rattle.ldmodel_project.specs.Touched.{IsAmong, IsArranged, untouched}
+use Rattle.ldmodel_project.specs.Edited.{IsAmong, ChangesOneObject, unedited}
 use Rattle.ldmodel_project.specs.declared.staged.Staged.{Staged}
-use Rattle.relink_link.specs.Reads.{ReadsNothing}
+use Rattle.relink_driver.specs.Reads.{ReadsNothing}
 use Rattle.relink.specs.Change.{names_at, names_of_edit, names_of_step}
 use Rattle.relink.specs.Work.{Decides, IsReadingWork, decided_by}
 use Rattle.relink.proofs.Finding.{any_none, find_none, find_only, find_some, get_insert, inserted_counts}
@@ -45,25 +45,25 @@ abbrev pub One : Type 0
 One = (o : NamedObject) → declared_in o.object.symbols ≡ names_in_objects (o ∷ [])
 
 -- the object at its place among the entries
-here_at : (key p : ℕ) (es : List Entry) → IsAmong (Some key) (Some p) es
-    → objects_of es ≡ insert (objects_of (untouched (Some key) es)) p (named_under es key)
+here_at : (key p : ℕ) (es : List Listed) → IsAmong (Some key) (Some p) es
+    → objects_of es ≡ insert (objects_of (unedited (Some key) es)) p (named_under es key)
 here_at key p es h =
     ap objects_of h.1
-    ∙ map_insert (λ (e : Entry). e.named) (untouched (Some key) es) p
-    (let e : Entry = record { key = key; named = named_under es key } in e)
+    ∙ map_insert (λ (e : Listed). e.named) (unedited (Some key) es) p
+    (let e : Listed = record { key = key; named = named_under es key } in e)
 
-below : (p : ℕ) (es : List Entry) → p ≤ length es → p ≤ length (objects_of es)
-below p es l = omega (arith, l, length-map es (λ (e : Entry). e.named))
+below : (p : ℕ) (es : List Listed) → p ≤ length es → p ≤ length (objects_of es)
+below p es l = omega (arith, l, length-map es (λ (e : Listed). e.named))
 
 -- the entries are one more than the others
-one_longer : (key p : ℕ) (es : List Entry) → IsAmong (Some key) (Some p) es
-    → length es ≡ length (untouched (Some key) es) + 1
+one_longer : (key p : ℕ) (es : List Listed) → IsAmong (Some key) (Some p) es
+    → length es ≡ length (unedited (Some key) es) + 1
 one_longer key p es h =
-    let e : Entry = record { key = key; named = named_under es key } in
-    ap (λ (l : List Entry). length l) h.1 ∙ length-insert (untouched (Some key) es) p e h.0
+    let e : Listed = record { key = key; named = named_under es key } in
+    ap (λ (l : List Listed). length l) h.1 ∙ length-insert (unedited (Some key) es) p e h.0
 
 -- before the edit the names are those of the object of the name
-names_before : One → (es : List Entry) (key : ℕ) (name : List ℕ) (place : Option ℕ) → place
+names_before : One → (es : List Listed) (key : ℕ) (name : List ℕ) (place : Option ℕ) → place
     ≡ place_of (objects_of es) name → IsAmong (Some key) place es
     → names_at place es key ≡ names_found (find (has_name name) (objects_of es))
 names_before one es key name None e h = ap names_found (sym (find_none (has_name name) (objects_of es) (sym e)))
@@ -72,28 +72,28 @@ names_before one es key name (Some p) e h =
     ∙ ap names_found
     (sym (find_some (has_name name) (objects_of es) p (sym e)
     ∙ (ap (λ (l : List NamedObject). slice_get l p) (here_at key p es h)
-    ∙ get_insert (objects_of (untouched (Some key) es)) p (named_under es key)
-    (below p (untouched (Some key) es) h.0))))
+    ∙ get_insert (objects_of (unedited (Some key) es)) p (named_under es key)
+    (below p (unedited (Some key) es) h.0))))
 
 -- and the object has that name
-named_before : (es : List Entry) (key : ℕ) (name : List ℕ) (p : ℕ) → place_of (objects_of es) name ≡ Some p
+named_before : (es : List Listed) (key : ℕ) (name : List ℕ) (p : ℕ) → place_of (objects_of es) name ≡ Some p
     → IsAmong (Some key) (Some p) es → (named_under es key).name ≡ name
 named_before es key name p e h =
     let passes = position-Some (has_name name) (objects_of es) p (named_under es key) e in
     let here : get_or (objects_of es) p (named_under es key) ≡ named_under es key =
     ap (λ (l : List NamedObject). get_or l p (named_under es key)) (here_at key p es h)
-    ∙ get_or-insert_at (objects_of (untouched (Some key) es)) p (named_under es key) (named_under es key)
-    (below p (untouched (Some key) es) h.0) in
+    ∙ get_or-insert_at (objects_of (unedited (Some key) es)) p (named_under es key) (named_under es key)
+    (below p (unedited (Some key) es) h.0) in
     (bytes_eq-Decides (named_under es key).name name).0
     (ap (has_name name) (sym here) ∙ passes.1)
 
 -- after it they are those of the object of the name, or none
-names_after : One → (es : List Entry) (key : ℕ) (name : List ℕ) (p : ℕ) → count_by (has_name name) (objects_of es) ≤ 1
+names_after : One → (es : List Listed) (key : ℕ) (name : List ℕ) (p : ℕ) → count_by (has_name name) (objects_of es) ≤ 1
     → (named_under es key).name ≡ name → IsAmong (Some key) (Some p) es
     → names_at (Some p) es key ≡ names_found (find (has_name name) (objects_of es))
 names_after one es key name p once is h =
     let here = here_at key p es h in
-    let rest : List NamedObject = objects_of (untouched (Some key) es) in
+    let rest : List NamedObject = objects_of (unedited (Some key) es) in
     one (named_under es key)
     ∙ ap names_found
     (sym (ap (find (has_name name)) here
@@ -102,14 +102,14 @@ names_after one es key name p once is h =
     (subst (λ (l : List NamedObject). count_by (has_name name) l ≤ 1) here once)))
 
 -- the key of an object at a place is listed
-listed : (key p : ℕ) (es : List Entry) → IsAmong (Some key) (Some p) es → 0 < key_count es key
+listed : (key p : ℕ) (es : List Listed) → IsAmong (Some key) (Some p) es → 0 < key_count es key
 listed key p es h =
-    subst (λ (l : List Entry). 0 < key_count l key) (sym h.1)
-    (inserted_counts (λ (e : Entry). nat_eq key e.key) (untouched (Some key) es) p
-    (let e : Entry = record { key = key; named = named_under es key } in e) (eq-eqb key key refl))
+    subst (λ (l : List Listed). 0 < key_count l key) (sym h.1)
+    (inserted_counts (λ (e : Listed). nat_eq key e.key) (unedited (Some key) es) p
+    (let e : Listed = record { key = key; named = named_under es key } in e) (eq-eqb key key refl))
 
 -- the names after an edit of an object that stood before
-stood : One → (old new : List Entry) (key : ℕ) (name : List ℕ) (p q : ℕ) → place_of (objects_of old) name ≡ Some p
+stood : One → (old new : List Listed) (key : ℕ) (name : List ℕ) (p q : ℕ) → place_of (objects_of old) name ≡ Some p
     → IsAmong (Some key) (Some p) old → IsAmong (Some key) (Some q) new
     → count_by (has_name name) (objects_of new) ≤ 1 → KeysAreStable old new
     → names_at (Some q) new key ≡ names_found (find (has_name name) (objects_of new))
@@ -129,99 +129,99 @@ past_refusal false r rest e h = h
 -- ---- the names that an edit touches
 
 -- what is known of a staged edit of an object
-pub record IsEdit (h : Holding) (s : Staged) (key : ℕ) : Type 0 where
-  pub arranged : IsArranged h.contents.entries s.objects
-  pub touched : touched_key s.objects.step ≡ Some key
+pub record IsEdit (h : ProjectState) (s : Staged) (key : ℕ) : Type 0 where
+  pub arranged : ChangesOneObject h.contents.entries s.objects
+  pub edited : edited_key s.objects.step ≡ Some key
   pub once : (name : List ℕ) → count_by (has_name name) (objects_of (next_entries h.contents.entries s.objects)) ≤ 1
   pub stable : KeysAreStable h.contents.entries (next_entries h.contents.entries s.objects)
 
-among_before : (h : Holding) (s : Staged) (key : ℕ) (p : Option ℕ) → IsEdit h s key → s.objects.places.before ≡ p
+among_before : (h : ProjectState) (s : Staged) (key : ℕ) (p : Option ℕ) → IsEdit h s key → s.objects.places.before ≡ p
     → IsAmong (Some key) p h.contents.entries
 among_before h s key p d e =
     subst (λ (q : Option ℕ). IsAmong (Some key) q h.contents.entries) e
-    (subst (λ (t : Option ℕ). IsAmong t s.objects.places.before h.contents.entries) d.touched d.arranged.before)
+    (subst (λ (t : Option ℕ). IsAmong t s.objects.places.before h.contents.entries) d.edited d.arranged.before)
 
-among_after : (h : Holding) (s : Staged) (key : ℕ) → IsEdit h s key
+among_after : (h : ProjectState) (s : Staged) (key : ℕ) → IsEdit h s key
     → IsAmong (Some key) s.objects.places.after (next_entries h.contents.entries s.objects)
 among_after h s key d =
-    subst (λ (t : Option ℕ). IsAmong t s.objects.places.after (next_entries h.contents.entries s.objects)) d.touched
+    subst (λ (t : Option ℕ). IsAmong t s.objects.places.after (next_entries h.contents.entries s.objects)) d.edited
     d.arranged.after
 
 -- an object that stood among these stands among as many, and among fewer no more
-stays_there : (key p : ℕ) (after : Option ℕ) (old new : List Entry) → IsAmong (Some key) (Some p) old
-    → IsAmong (Some key) after new → untouched (Some key) new ≡ untouched (Some key) old
+stays_there : (key p : ℕ) (after : Option ℕ) (old new : List Listed) → IsAmong (Some key) (Some p) old
+    → IsAmong (Some key) after new → unedited (Some key) new ≡ unedited (Some key) old
     → length (objects_of new) ≡ length (objects_of old) → (q : ℕ) × (after ≡ Some q)
 stays_there key p (Some q) old new b a others same = (q, refl)
 stays_there key p None old new b a others same =
     absurd (omega (
       arith,
       same,
-      length-map new (λ (e : Entry). e.named),
-      length-map old (λ (e : Entry). e.named),
-      ap (λ (l : List Entry). length l) a,
-      ap (λ (l : List Entry). length l) others,
+      length-map new (λ (e : Listed). e.named),
+      length-map old (λ (e : Listed). e.named),
+      ap (λ (l : List Listed). length l) a,
+      ap (λ (l : List Listed). length l) others,
       one_longer key p old b,
     ))
 
-goes_away : (key p : ℕ) (after : Option ℕ) (old new : List Entry) → IsAmong (Some key) (Some p) old
-    → IsAmong (Some key) after new → untouched (Some key) new ≡ untouched (Some key) old
+goes_away : (key p : ℕ) (after : Option ℕ) (old new : List Listed) → IsAmong (Some key) (Some p) old
+    → IsAmong (Some key) after new → unedited (Some key) new ≡ unedited (Some key) old
     → length (objects_of new) + 1 ≡ length (objects_of old) → after ≡ None
 goes_away key p None old new b a others fewer = refl
 goes_away key p (Some q) old new b a others fewer =
     absurd (omega (
       arith,
       fewer,
-      length-map new (λ (e : Entry). e.named),
-      length-map old (λ (e : Entry). e.named),
+      length-map new (λ (e : Listed). e.named),
+      length-map old (λ (e : Listed). e.named),
       one_longer key q new a,
-      ap (λ (l : List Entry). length l) others,
+      ap (λ (l : List Listed). length l) others,
       one_longer key p old b,
     ))
 
 -- of an object that stood before
-names_before_named : One → (h : Holding) (s : Staged) (key : ℕ) (name : List ℕ) → IsEdit h s key
-    → TouchesNamed (objects_of h.contents.entries) name s.objects
+names_before_named : One → (h : ProjectState) (s : Staged) (key : ℕ) (name : List ℕ) → IsEdit h s key
+    → EditsNamed (objects_of h.contents.entries) name s.objects
     → names_at s.objects.places.before h.contents.entries key
     ≡ names_found (find (has_name name) (objects_of h.contents.entries))
 names_before_named one h s key name d t =
     names_before one h.contents.entries key name s.objects.places.before (t.touching.before ∙ sym t.is)
     (among_before h s key s.objects.places.before d refl)
 
-others_stay : (h : Holding) (s : Staged) (key : ℕ) → IsEdit h s key
-    → untouched (Some key) (next_entries h.contents.entries s.objects) ≡ untouched (Some key) h.contents.entries
+others_stay : (h : ProjectState) (s : Staged) (key : ℕ) → IsEdit h s key
+    → unedited (Some key) (next_entries h.contents.entries s.objects) ≡ unedited (Some key) h.contents.entries
 others_stay h s key d =
-    subst (λ (t : Option ℕ). untouched t (next_entries h.contents.entries s.objects)
-    ≡ untouched t h.contents.entries) d.touched d.arranged.others
+    subst (λ (t : Option ℕ). unedited t (next_entries h.contents.entries s.objects)
+    ≡ unedited t h.contents.entries) d.edited d.arranged.others
 
 -- and of one that stays
-same_named : One → (h : Holding) (s : Staged) (key : ℕ) (name : List ℕ) → IsEdit h s key
-    → TouchesNamed (objects_of h.contents.entries) name s.objects
+same_named : One → (h : ProjectState) (s : Staged) (key : ℕ) (name : List ℕ) → IsEdit h s key
+    → EditsNamed (objects_of h.contents.entries) name s.objects
     → length (objects_of (next_entries h.contents.entries s.objects)) ≡ length (objects_of h.contents.entries)
     → names_of_step h.contents.entries s.objects (Some key)
     ≡ names_found (find (has_name name) (objects_of h.contents.entries))
     ++ names_found (find (has_name name) (objects_of (next_entries h.contents.entries s.objects)))
 same_named one h s key name d t many =
-    let old : List Entry = h.contents.entries in
-    let new : List Entry = next_entries old s.objects in
+    let old : List Listed = h.contents.entries in
+    let new : List Listed = next_entries old s.objects in
     let before : IsAmong (Some key) (Some t.place) old = among_before h s key (Some t.place) d t.touching.before in
     let after = stays_there key t.place s.objects.places.after old new before (among_after h s key d)
     (others_stay h s key d) many in
-    let last : names_at s.objects.places.after new key ≡ names_found (find (has_name name) (objects_of new)) =
+    let previous : names_at s.objects.places.after new key ≡ names_found (find (has_name name) (objects_of new)) =
     ap (λ (p : Option ℕ). names_at p new key) after.1
     ∙ stood one old new key name t.place after.0 t.is before
     (subst (λ (p : Option ℕ). IsAmong (Some key) p new) after.1 (among_after h s key d)) (d.once name) d.stable in
     ap (λ (l : List (List ℕ)). l ++ names_at s.objects.places.after new key) (names_before_named one h s key name d t)
-    ∙ ap (λ (l : List (List ℕ)). names_found (find (has_name name) (objects_of old)) ++ l) last
+    ∙ ap (λ (l : List (List ℕ)). names_found (find (has_name name) (objects_of old)) ++ l) previous
 
 -- of one that goes
-same_removed : One → (h : Holding) (s : Staged) (key : ℕ) (name : List ℕ) → IsEdit h s key
-    → TouchesNamed (objects_of h.contents.entries) name s.objects
+same_removed : One → (h : ProjectState) (s : Staged) (key : ℕ) (name : List ℕ) → IsEdit h s key
+    → EditsNamed (objects_of h.contents.entries) name s.objects
     → length (objects_of (next_entries h.contents.entries s.objects)) + 1 ≡ length (objects_of h.contents.entries)
     → names_of_step h.contents.entries s.objects (Some key)
     ≡ names_found (find (has_name name) (objects_of h.contents.entries))
 same_removed one h s key name d t fewer =
-    let old : List Entry = h.contents.entries in
-    let new : List Entry = next_entries old s.objects in
+    let old : List Listed = h.contents.entries in
+    let new : List Listed = next_entries old s.objects in
     let gone : s.objects.places.after ≡ None =
     goes_away key t.place s.objects.places.after old new (among_before h s key (Some t.place) d t.touching.before)
     (among_after h s key d) (others_stay h s key d) fewer in
@@ -229,7 +229,7 @@ same_removed one h s key name d t fewer =
     ∙ append-nil (names_at s.objects.places.before old key) ∙ names_before_named one h s key name d t
 
 -- of a new one
-same_added : One → (h : Holding) (s : Staged) (key at : ℕ) (name bytes : List ℕ) → IsEdit h s key
+same_added : One → (h : ProjectState) (s : Staged) (key at : ℕ) (name bytes : List ℕ) → IsEdit h s key
     → s.objects.places.before ≡ None → s.objects.places.after ≡ Some at
     → is_in_use (objects_of h.contents.entries) name ≡ false → at ≤ length (objects_of h.contents.entries)
     → objects_of (next_entries h.contents.entries s.objects)
@@ -238,23 +238,23 @@ same_added : One → (h : Holding) (s : Staged) (key at : ℕ) (name bytes : Lis
     ≡ names_found (find (has_name name) (objects_of h.contents.entries))
     ++ names_found (find (has_name name) (objects_of (next_entries h.contents.entries s.objects)))
 same_added one h s key at name bytes d before after unused within made =
-    let old : List Entry = h.contents.entries in
-    let new : List Entry = next_entries old s.objects in
+    let old : List Listed = h.contents.entries in
+    let new : List Listed = next_entries old s.objects in
     let among : IsAmong (Some key) (Some at) new =
     subst (λ (q : Option ℕ). IsAmong (Some key) q new) after (among_after h s key d) in
-    let rest : List NamedObject = objects_of (untouched (Some key) new) in
+    let rest : List NamedObject = objects_of (unedited (Some key) new) in
     let here : named_under new key ≡ new_object name bytes =
     same_inserted rest (objects_of old) at (named_under new key) (new_object name bytes)
-    (below at (untouched (Some key) new) among.0) within (sym (here_at key at new among) ∙ made) in
+    (below at (unedited (Some key) new) among.0) within (sym (here_at key at new among) ∙ made) in
     let none : names_found (find (has_name name) (objects_of old)) ≡ [] =
     ap names_found (any_none (has_name name) (objects_of old) unused) in
     let first : names_at s.objects.places.before old key ≡ [] =
     ap (λ (p : Option ℕ). names_at p old key) before in
-    let last : names_at s.objects.places.after new key ≡ names_found (find (has_name name) (objects_of new)) =
+    let previous : names_at s.objects.places.after new key ≡ names_found (find (has_name name) (objects_of new)) =
     ap (λ (p : Option ℕ). names_at p new key) after
     ∙ names_after one new key name at (d.once name) (ap (λ (o : NamedObject). o.name) here) among in
     ap (λ (l : List (List ℕ)). l ++ names_at s.objects.places.after new key) (first ∙ sym none)
-    ∙ ap (λ (l : List (List ℕ)). names_found (find (has_name name) (objects_of old)) ++ l) last
+    ∙ ap (λ (l : List (List ℕ)). names_found (find (has_name name) (objects_of old)) ++ l) previous
 
 -- how many objects there are after an edit
 many_replaced : (objects : List NamedObject) (o : NamedObject) (place : Option ℕ)
@@ -283,7 +283,7 @@ many_removed objects name i e =
     ∙ length-remove objects i (position-Some (has_name name) objects i unnamed e).0
 
 -- those of the definition
-same_of : One → (h : Holding) (change : Change) (s : Staged) (key : ℕ) → IsEdit h s key
+same_of : One → (h : ProjectState) (change : Change) (s : Staged) (key : ℕ) → IsEdit h s key
     → After (held h) change (Ok (project_of (next_listing h s))) → StandsAsNamed change h.contents s
     → names_of_step h.contents.entries s.objects (Some key)
     ≡ decided_by (held h) change (project_of (next_listing h s))
@@ -319,7 +319,7 @@ abbrev pub AllNames : Type 0
 AllNames = (objects : List NamedObject) (tables : List Table)
     → map (λ (t : Table). t.1) tables ≡ symbol_tables objects → declared_names tables ≡ names_in_objects objects
 
-same_of_script : AllNames → (h : Holding) (s : Staged) → touched_key s.objects.step ≡ None
+same_of_script : AllNames → (h : ProjectState) (s : Staged) → edited_key s.objects.step ≡ None
     → names_of_edit h.contents.entries s.objects ≡ names_in_objects (objects_of h.contents.entries)
 same_of_script all h s none =
     ap (names_of_step h.contents.entries s.objects) none
@@ -445,29 +445,29 @@ some_key : (o : Option ℕ) → is_some o ≡ true → (key : ℕ) × (o ≡ Som
 some_key None h = absurd (cc)
 some_key (Some key) h = (key, refl)
 
-pub same_touched : One → AllNames → (h : Holding) (change : Change) (s : Staged) → Fits h.contents s.objects
-    → After (held h) change (Ok (project_of (next_listing h s))) → IsArranged h.contents.entries s.objects
+pub same_touched : One → AllNames → (h : ProjectState) (change : Change) (s : Staged) → Fits h.contents s.objects
+    → After (held h) change (Ok (project_of (next_listing h s))) → ChangesOneObject h.contents.entries s.objects
     → StandsAsNamed change h.contents s
     → KeysAreStable h.contents.entries (next_entries h.contents.entries s.objects)
     → names_of_edit h.contents.entries s.objects ≡ decided_by (held h) change (project_of (next_listing h s))
 same_touched one all h (Add name at bytes) s fits after arranged stands stable =
-    let key = some_key (touched_key s.objects.step) stands.0.touches in
+    let key = some_key (edited_key s.objects.step) stands.0.touches in
     ap (names_of_step h.contents.entries s.objects) key.1
     ∙ same_of one h (Add name at bytes) s key.0
-    (record { arranged = arranged; touched = key.1; once = fits.names; stable = stable }) after stands
+    (record { arranged = arranged; edited = key.1; once = fits.names; stable = stable }) after stands
 same_touched one all h (Replace name bytes) s fits after arranged stands stable =
-    let key = some_key (touched_key s.objects.step) stands.touching.touches in
+    let key = some_key (edited_key s.objects.step) stands.touching.touches in
     ap (names_of_step h.contents.entries s.objects) key.1
     ∙ same_of one h (Replace name bytes) s key.0
-    (record { arranged = arranged; touched = key.1; once = fits.names; stable = stable }) after stands
+    (record { arranged = arranged; edited = key.1; once = fits.names; stable = stable }) after stands
 same_touched one all h (Move name to) s fits after arranged stands stable =
-    let key = some_key (touched_key s.objects.step) stands.touching.touches in
+    let key = some_key (edited_key s.objects.step) stands.touching.touches in
     ap (names_of_step h.contents.entries s.objects) key.1
     ∙ same_of one h (Move name to) s key.0
-    (record { arranged = arranged; touched = key.1; once = fits.names; stable = stable }) after stands
+    (record { arranged = arranged; edited = key.1; once = fits.names; stable = stable }) after stands
 same_touched one all h (Remove name) s fits after arranged stands stable =
-    let key = some_key (touched_key s.objects.step) stands.touching.touches in
+    let key = some_key (edited_key s.objects.step) stands.touching.touches in
     ap (names_of_step h.contents.entries s.objects) key.1
     ∙ same_of one h (Remove name) s key.0
-    (record { arranged = arranged; touched = key.1; once = fits.names; stable = stable }) after stands
+    (record { arranged = arranged; edited = key.1; once = fits.names; stable = stable }) after stands
 same_touched one all h (SetScript text) s fits after arranged stands stable = same_of_script all h s stands

@@ -5,7 +5,7 @@ use Rattle.gather.specs.ProjectMatches.{IsMatched}
 use Rattle.gather.specs.declared.matches.Matches.{Matches}
 use Rattle.symres.specs.decisions.Decisions.{AreKept}
 use Rattle.symres.specs.SymbolTable.{SymbolTableState}
-use Rattle.ldmodel_project.specs.Holding.{Listing}
+use Rattle.ldmodel_project.specs.ProjectState.{Listing}
 use Rattle.ldmodel_project.specs.Listing.{objects_of}
 use Rattle.ldmodel_project.specs.Tables.{tables_under}
 

@@ -1,9 +1,9 @@
 pub use Rattle.ldmodel_project.specs as project
-pub use Rattle.relink_link.specs as link
+pub use Rattle.relink_driver.specs as driver
 pub mod Matches
 pub mod Change
 pub mod Kept
 pub mod Work
-pub mod Last
-pub mod Answer
-pub mod Follow
+pub mod PreviousLink
+pub mod Outcome
+pub mod Update

@@ -1,8 +1,8 @@
 -- How much an edit may count, and what it counts.
 use Rattle.std.specs.Prelude.{◌≡◌, ◌≤◌, ◌⊎◌, ⊤, ℕ, List, Ok, Option, length}
 use Rattle.elfobj.specs.Counts.{Counts, capped}
-use Rattle.relink_link.specs.First.{AreSameBefore}
-use Rattle.relink_link.specs.Stays.{LastState}
+use Rattle.relink_driver.specs.Resume.{AreSameBefore}
+use Rattle.relink_driver.specs.StayedSections.{PreviousState}
 use Rattle.ldmodel.specs.Edits.{Change, Remove, SetScript}
 use Rattle.ldmodel.specs.Layout.{Layout}
 use Rattle.ldmodel.specs.Link.{layout, link}
@@ -12,10 +12,10 @@ use Rattle.ldmodel.specs.Rows.{rows}
 use Rattle.ldmodel.specs.SessionWork.{IsSessionWork, Rises, entries_from, named_by, names_of, objects_read}
 use Rattle.ldmodel.specs.SessionWork.{touched_names}
 use Rattle.ldmodel.specs.Stayed.{GoodLink}
-use Rattle.relink_link.specs.Counted.{IsImageCount}
-use Rattle.relink_link.specs.Worked.{IsWorkBeside}
-use Rattle.relink.specs.declared.last.Followed.{Followed}
-use Rattle.relink.specs.declared.last.Followed.TheVariants.{Faulty, Good, Retouched}
+use Rattle.relink_driver.specs.Counted.{IsImageCount}
+use Rattle.relink_driver.specs.Worked.{IsWorkBeside}
+use Rattle.relink.specs.declared.previous.UpdateOutcome.{UpdateOutcome}
+use Rattle.relink.specs.declared.previous.UpdateOutcome.TheVariants.{Faulty, Good, RewrittenInPlace}
 
 -- no object is read, and these names are decided, each once; no count falls
 pub record Decides (old new : Counts) (decided : List (List ℕ)) : Type 0 where
@@ -26,10 +26,10 @@ pub record Decides (old new : Counts) (decided : List (List ℕ)) : Type 0 where
   pub bytes : old.bytes ≤ new.bytes
 
 -- a link over the last one places, evaluates and writes what it has to beside it, and counts exactly that
-abbrev pub HasWorked : Project → Option LastState → Counts → Counts → Followed → Type 0
-HasWorked p last before after (Faulty text) = ⊤
-HasWorked p last before after (Good x m) = IsWorkBeside p last before after
-HasWorked p last before after (Retouched origins) = IsWorkBeside p last before after
+abbrev pub HasWorked : Project → Option PreviousState → Counts → Counts → UpdateOutcome → Type 0
+HasWorked p previous before after (Faulty text) = ⊤
+HasWorked p previous before after (Good x m) = IsWorkBeside p previous before after
+HasWorked p previous before after (RewrittenInPlace origins) = IsWorkBeside p previous before after
 
 -- at most one object is read, and none but for an edit that brings one; and at most the names that the edit touches are
 -- decided, each once; no count falls

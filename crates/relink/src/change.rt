@@ -2,9 +2,9 @@
 
 ghost use Rattle.std.specs.Prelude.{◌≡◌, Some};
 ghost use Rattle.std.specs.Option.{option_copied};
-ghost use Rattle.ldmodel_project.specs.Holding.{next_listing};
-ghost use Rattle.ldmodel_project.specs.Next.{touched_key};
-ghost use Rattle.ldmodel_project.specs.Touched.{IsArranged};
+ghost use Rattle.ldmodel_project.specs.ProjectState.{next_listing};
+ghost use Rattle.ldmodel_project.specs.Next.{edited_key};
+ghost use Rattle.ldmodel_project.specs.Edited.{ChangesOneObject};
 ghost use Rattle.relink.specs.Change.{IsChange, beside, place_at, shown_at};
 
 use elfobj::Object;
@@ -45,8 +45,8 @@ pub(crate) fn object_change<'a>(
     key: ObjectKey,
 ) -> ObjectChange<'a>
     requires next { next.now ≡ next_listing project.now staged.now }
-    requires arranged { IsArranged project.now.contents.entries staged.now.objects }
-    requires touched { touched_key staged.now.objects.step ≡ Some key.0 }
+    requires arranged { ChangesOneObject project.now.contents.entries staged.now.objects }
+    requires edited { edited_key staged.now.objects.step ≡ Some key.0 }
     ensures { IsChange project.now.contents.entries staged.now.objects key.0 result }
 {
     tables_follow();

@@ -1,20 +1,20 @@
 //! A linker that keeps, from one link to the next, what names stand for, which statements take input sections, and the
-//! last link without faults, whose layout the next one resumes, and over whose image it is drawn.
+//! previous link without faults, whose layout the next one resumes, and over whose image it is drawn.
 //!
-//! - `session`: `Session`; `keeping`: what it keeps, and how that follows an edit; `unchanged`: edits that change
+//! - `session`: `Session`; `link_tables`: what it keeps, and how that follows an edit; `unchanged`: edits that change
 //!   nothing;
 //! - `change`, `match_table`: what an edit changes under a key; the matches of all objects;
-//! - `last`, `linking`: the last link without faults, and a link over it; `answer`: what the queries get;
-//! - the parts `project` (the crate `ldmodel_project`) and `link`. Programs name this crate alone.
+//! - `previous`, `session_link`: the previous link without faults, and a link over it; `outcome`: what the queries get;
+//! - the parts `project` (the crate `ldmodel_project`) and `driver`. Programs name this crate alone.
 #![tactic(auto)]
 
-mod answer;
 mod change;
-mod keeping;
-mod last;
-mod linking;
+mod link_tables;
 mod match_table;
+mod outcome;
+mod previous;
 pub mod session;
+mod session_link;
 mod unchanged;
 
 pub use crate::session::Session;
@@ -23,6 +23,6 @@ pub use ldmodel::linker::Linker;
 pub use ldmodel::options::{Options, Orphans};
 pub use ldmodel_project as project;
 pub use ldmodel_project::project::Project;
-pub use relink_link as link;
-pub use relink_link::output::Output;
-pub use relink_link::plain::Plain;
+pub use relink_driver as driver;
+pub use relink_driver::output::Output;
+pub use relink_driver::plain::Plain;

@@ -67,7 +67,7 @@ fn put_in(list: &mut Vec<Matches>, into: Option<usize>, coming: Option<Matches>)
 }
 
 /// Takes out what stands at one place, and puts in what comes at another. It takes no memory.
-pub(crate) fn exchange(
+pub(crate) fn swap_matches(
     list: &mut Vec<Matches>,
     out: Option<usize>,
     into: Option<usize>,

@@ -1,18 +1,20 @@
-//! The linker of a session: it keeps objects, names, matches and the last link without faults.
+//! The linker of a session: it keeps objects, names, matches and the previous link without faults.
 
 ghost use Rattle.std.specs.Prelude.{◌≡◌, [], IfOk, OnOk};
 ghost use Rattle.ldmodel.specs.EditMeaning.{change_of};
 ghost use Rattle.ldmodel.specs.Link.{link};
 ghost use Rattle.ldmodel.specs.Project.{empty_project};
-ghost use Rattle.ldmodel_project.specs.Holding.{held, listing_of};
+ghost use Rattle.ldmodel_project.specs.ProjectState.{held, listing_of};
 ghost use Rattle.relink.specs.Kept.{IsKept};
 ghost use Rattle.relink.specs.Work.{IsWholeWork};
-ghost use Rattle.relink_link.specs.Applied.{Applied};
+ghost use Rattle.relink_driver.specs.Applied.{Applied};
 
-use crate::answer::Answer;
-use crate::keeping::LinkTables;
-use crate::last::{Effect, LastGood, effect_of, end, lend, origins_for};
-use crate::linking::link_first;
+use crate::link_tables::LinkTables;
+use crate::outcome::LinkOutcome;
+use crate::previous::{
+    EditEffect, PreviousLink, effect_of, origins_for, record_outcome, view_previous,
+};
+use crate::session_link::link_first;
 use crate::unchanged::{is_unchanged, puts_same};
 use ldmodel::edit::{Edit, EditRefusal, Linked};
 use ldmodel::linker::Linker;
@@ -21,27 +23,27 @@ use ldmodel::meter::Meter;
 use ldmodel::options::Options;
 use ldmodel_project::law::found_where_placed;
 use ldmodel_project::project::Project;
-use relink_link::Canvas;
+use relink_driver::Canvas;
 use std::alloc::Global;
 use std::hash::RandomState;
 use std::marker::Model;
 use symres::SymbolTable;
 use symres::decisions::law::{distinct_more, names_of_objects};
 
-/// A linker that keeps what names stand for, which statements take the input sections of each object, and the last link
-/// without faults. An edit of an object reads at most that object, and decides its names alone. Where the link before
-/// it has no faults, input sections are placed only from the first output section on that changed, and the image is
-/// drawn over the last one, but for the input sections that stayed.
+/// A linker that keeps what names stand for, which statements take the input sections of each object, and the previous
+/// link without faults. An edit of an object reads at most that object, and decides its names alone. Where the link
+/// before it has no faults, input sections are placed only from the first output section on that changed, and the image
+/// is drawn over the last one, but for the input sections that stayed.
 #[derive(Drop)]
 pub struct Session {
     alloc: Global,
     project: Project,
     kept: LinkTables,
-    // the last link without faults, whose image is on the canvas: the link of the project, where the answer has no
+    // the previous link without faults, whose image is on the canvas: the link of the project, where the answer has no
     // faults
-    last: Option<LastGood>,
+    previous: Option<PreviousLink>,
     canvas: Canvas,
-    answer: Answer,
+    outcome: LinkOutcome,
 }
 
 impl Model for Session {
@@ -50,10 +52,10 @@ impl Model for Session {
     ghost use Rattle.ldscript.specs.statements.contracts.formula.Formula as formula;
     ghost use Rattle.ldmodel.specs.Link.{link};
     ghost use Rattle.ldmodel.specs.Project.{Project};
-    ghost use Rattle.ldmodel_project.specs.Holding.{held, listing_of};
-    ghost use Rattle.relink.specs.Answer.{shown};
+    ghost use Rattle.ldmodel_project.specs.ProjectState.{held, listing_of};
+    ghost use Rattle.relink.specs.Outcome.{shown};
     ghost use Rattle.relink.specs.Kept.{IsKept};
-    ghost use Rattle.relink.specs.Last.{IsLast};
+    ghost use Rattle.relink.specs.PreviousLink.{IsPreviousLink};
 
     ghost Value = { Project };
 
@@ -61,13 +63,17 @@ impl Model for Session {
 
     ghost view = { λ s. held s.project };
 
-    ghost invariant = { λ s. (shown s.canvas.bytes s.answer ≡ link (held s.project))
+    ghost invariant = { λ s. (shown s.canvas.bytes s.outcome ≡ link (held s.project))
         × IsKept (listing_of s.project) s.kept.symbol_table s.kept.matches.items
-        × IsLast (listing_of s.project) s.canvas.bytes s.answer s.last };
+        × IsPreviousLink (listing_of s.project) s.canvas.bytes s.outcome s.previous };
 }
 
 /// What is kept of a project without objects. Fails where memory runs out.
-fn kept_of_none(alloc: Global, seed: RandomState, project: &Project) -> Result<LinkTables, NoMemory>
+fn tables_of_empty(
+    alloc: Global,
+    seed: RandomState,
+    project: &Project,
+) -> Result<LinkTables, NoMemory>
     requires { (held project.now).objects ≡ [] }
     ensures { IfOk result (λ k. IsKept (listing_of project.now) k.symbol_table k.matches.items) }
 {
@@ -88,37 +94,37 @@ impl Session {
         ensures { IfOk result (λ s. s ≡ empty_project options) }
     {
         let project = Project::new(alloc, options);
-        let kept = kept_of_none(alloc, seed, &project)?;
+        let kept = tables_of_empty(alloc, seed, &project)?;
         let mut canvas = Canvas::new(alloc);
-        let followed = link_first(
+        let updated = link_first(
             alloc,
             &project,
             &kept.symbol_table,
             &kept.matches,
             &mut canvas,
         )?;
-        let mut last = None;
-        let effect = Effect {
+        let mut previous = None;
+        let effect = EditEffect {
             known: true,
             gone: None,
             same_script: true,
             is_current: false,
         };
-        let mut answer = Answer::Faulty(Vec::new(alloc));
-        end(followed, &mut last, &mut answer, effect);
+        let mut outcome = LinkOutcome::Faulty(Vec::new(alloc));
+        record_outcome(updated, &mut previous, &mut outcome, effect);
         Ok(Session {
             alloc,
             project,
             kept,
-            last,
+            previous,
             canvas,
-            answer,
+            outcome,
         })
     }
 
     /// Stages an edit, follows it, and only then takes the next project and its link over. An object in the place of
     /// one of the same bytes changes nothing, and is answered from what is kept.
-    fn make(&mut self, edit: Edit<'_>, meter: &mut Meter) -> Result<Linked, EditRefusal>
+    fn apply_edit(&mut self, edit: Edit<'_>, meter: &mut Meter) -> Result<Linked, EditRefusal>
         ensures applied { Applied self.old (change_of edit.entry) self.new result }
         ensures counted { OnOk result (IsWholeWork self.old (change_of edit.entry) self.new meter.old meter.new) }
     {
@@ -139,30 +145,30 @@ impl Session {
         };
         let same = puts_same(&self.project, &staged);
         if is_unchanged(&self.project, &staged, same) {
-            return Ok(self.answer.summary(&self.canvas));
+            return Ok(self.outcome.summary(&self.canvas));
         }
         let next = self.project.next(&staged);
         // so that it is known that each object has a key of its own
         let _keys = next.keys();
-        let effect = effect_of(&self.last, &self.answer, &self.project, &staged, same);
-        let from = match origins_for(self.alloc, &self.last, effect, &next) {
+        let effect = effect_of(&self.previous, &self.outcome, &self.project, &staged, same);
+        let from = match origins_for(self.alloc, &self.previous, effect, &next) {
             Err(_) => return Err(EditRefusal::NoMemory),
             Ok(from) => from,
         };
-        let last = lend(&self.last, &from, effect, &self.project, &staged);
-        match self.kept.follow(
+        let previous = view_previous(&self.previous, &from, effect, &self.project, &staged);
+        match self.kept.update(
             self.alloc,
             &self.project,
             &staged,
-            last,
+            previous,
             &mut self.canvas,
             meter,
         ) {
             Err(_) => Err(EditRefusal::NoMemory),
-            Ok(followed) => {
+            Ok(updated) => {
                 self.project.commit(staged);
-                end(followed, &mut self.last, &mut self.answer, effect);
-                Ok(self.answer.summary(&self.canvas))
+                record_outcome(updated, &mut self.previous, &mut self.outcome, effect);
+                Ok(self.outcome.summary(&self.canvas))
             }
         }
     }
@@ -174,22 +180,22 @@ impl Linker for Session {
     ghost bound = { IsWholeWork };
 
     fn apply(&mut self, edit: Edit<'_>, meter: &mut Meter) -> Result<Linked, EditRefusal> {
-        self.make(edit, meter)
+        self.apply_edit(edit, meter)
     }
 
     fn image(&self) -> &[u8] {
-        self.answer.image(&self.canvas)
+        self.outcome.image(&self.canvas)
     }
 
     fn map(&self) -> &[u8] {
-        self.answer.map()
+        self.outcome.map()
     }
 
     fn faults(&self) -> &[u8] {
-        self.answer.faults()
+        self.outcome.faults()
     }
 
     fn status(&self) -> u8 {
-        self.answer.status()
+        self.outcome.status()
     }
 }

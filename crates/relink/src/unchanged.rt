@@ -1,11 +1,11 @@
 //! Edits that put an object over the same one.
 
 ghost use Rattle.std.specs.Prelude.{◌≡◌, false, true};
-ghost use Rattle.ldmodel_project.specs.Holding.{TouchesOne, held, next_listing, project_of};
+ghost use Rattle.ldmodel_project.specs.ProjectState.{EditsOne, held, next_listing, project_of};
 ghost use Rattle.ldmodel_project.specs.Listing.{objects_of};
 ghost use Rattle.ldmodel_project.specs.Next.{Fits};
-ghost use Rattle.ldmodel_project.specs.Touched.{IsArranged};
-ghost use Rattle.relink.specs.Last.{PutsByName, PutsNoneOf, PutsSame};
+ghost use Rattle.ldmodel_project.specs.Edited.{ChangesOneObject};
+ghost use Rattle.relink.specs.PreviousLink.{PutsByName, PutsNoneOf, PutsSame};
 
 use ldmodel_project::named::NamedObject;
 use ldmodel_project::project::Project;
@@ -47,8 +47,8 @@ pub(crate) fn puts_same(project: &Project, staged: &Staged) -> bool
 /// Whether an edit that puts an object over the same one leaves it in its place: then it changes nothing.
 pub(crate) fn is_unchanged(project: &Project, staged: &Staged, same: bool) -> bool
     requires fits { Fits project.now.contents staged.now.objects }
-    requires arranged { IsArranged project.now.contents.entries staged.now.objects }
-    requires one { TouchesOne staged.now }
+    requires arranged { ChangesOneObject project.now.contents.entries staged.now.objects }
+    requires one { EditsOne staged.now }
     requires same { same ≡ true → PutsSame project.now.contents.entries staged.now.objects.step }
     ensures { result ≡ true → project_of (next_listing project.now staged.now) ≡ held project.now }
 {

@@ -18,7 +18,7 @@ use Rattle.ldmodel_project.specs.Listing.{AreKeysDistinct}
 use Rattle.ldmodel_project.specs.declared.input.InputObject.{InputObject}
 use Rattle.symres_decisions.specs.Keyed as keyed
 use Rattle.symres_decisions.specs.Keyed.{AreApart, table_of}
-use Rattle.symres_decisions.specs.declared.keyed.Keyed.{Keyed}
+use Rattle.symres_decisions.specs.declared.keyed_object.KeyedObject.{KeyedObject}
 use Rattle.symres.specs.Entered.{tables_of}
 
 abbrev pub Table : Type 0
@@ -52,7 +52,7 @@ table_at inputs i x d within here =
     ∙ ap (λ (ss : List NamedSymbol). let t : Table = (i, ss) in t) symbols)
 
 -- one more object
-pub one_keyed : (inputs : List InputObject) (i : ℕ) (x : InputObject) (old new : List Keyed) (k : Keyed)
+pub one_keyed : (inputs : List InputObject) (i : ℕ) (x : InputObject) (old new : List KeyedObject) (k : KeyedObject)
     → i < length inputs
     → get_or inputs i x ≡ x → new ≡ old ++ k ∷ [] → table_of k ≡ (i, symbols_of x)
     → keyed.tables_of old ≡ take i (tables_of inputs) → keyed.tables_of new ≡ take (i + 1) (tables_of inputs)
@@ -68,13 +68,14 @@ one_keyed inputs i x old new k within here pushed is h =
     ∙ (ap (λ (y : Table). take i tables ++ y ∷ []) (is ∙ sym (table_at inputs i x t within here))
     ∙ (sym more ∙ ap (λ (n : ℕ). take n tables) suc_is))))
 
-pub all_keyed : (inputs : List InputObject) (n : ℕ) (xs : List Keyed) → length inputs ≤ n
+pub all_keyed : (inputs : List InputObject) (n : ℕ) (xs : List KeyedObject) → length inputs ≤ n
     → keyed.tables_of xs ≡ take n (tables_of inputs) → keyed.tables_of xs ≡ tables_of inputs
 all_keyed inputs n xs past h = h ∙ take_all n (tables_of inputs) (omega (arith, length-tables inputs, past))
 
 -- ---- the keys
 
-key_at : (inputs : List InputObject) (xs : List Keyed) (i : ℕ) (x : Keyed) → keyed.tables_of xs ≡ tables_of inputs
+key_at : (inputs : List InputObject) (xs : List KeyedObject) (i : ℕ) (x : KeyedObject) → keyed.tables_of xs
+    ≡ tables_of inputs
     → i < length xs → (get_or xs i x).key.0 ≡ i
 key_at inputs xs i x same within =
     let t : Table = table_of x in
@@ -87,7 +88,8 @@ key_at inputs xs i x same within =
     ∙ ap (λ (u : Table). u.0)
     (get_or-enumerate_from 0 (symbol_tables (shown_inputs inputs)) i t (omega (arith, within, many))) ∙ from_0
 
-pub are_apart : (inputs : List InputObject) (xs : List Keyed) → keyed.tables_of xs ≡ tables_of inputs → AreApart xs
+pub are_apart : (inputs : List InputObject) (xs : List KeyedObject) → keyed.tables_of xs ≡ tables_of inputs
+    → AreApart xs
 are_apart inputs xs same i j x below within e =
     let first = key_at inputs xs i x same (omega (arith, below, within)) in
     let second = key_at inputs xs j x same within in
@@ -126,15 +128,16 @@ at_most_once {X} key n (x ∷ xs) =
         omega (arith, split, here, h)
 
 -- the places of objects are distinct keys
-pub places_distinct : (inputs : List InputObject) (xs : List Keyed) (keys : List ℕ)
-    → keyed.tables_of xs ≡ tables_of inputs → keys ≡ map (λ (x : Keyed). x.key.0) xs → AreKeysDistinct keys
+pub places_distinct : (inputs : List InputObject) (xs : List KeyedObject) (keys : List ℕ)
+    → keyed.tables_of xs ≡ tables_of inputs → keys ≡ map (λ (x : KeyedObject). x.key.0) xs → AreKeysDistinct keys
 places_distinct inputs xs keys same is =
     let all : keys ≡ map (λ (t : Table). t.0) (tables_of inputs) =
     is ∙ sym (map-map (λ (t : Table). t.0) table_of xs) ∙ ap (map (λ (t : Table). t.0)) same in
     subst AreKeysDistinct (sym all) (λ key. at_most_once key 0 (symbol_tables (shown_inputs inputs)))
 
 -- the keys of the tables
-pub keys_are : (inputs : List InputObject) (xs : List Keyed) (keys : List ℕ) → keys ≡ map (λ (x : Keyed). x.key.0) xs
+pub keys_are : (inputs : List InputObject) (xs : List KeyedObject) (keys : List ℕ) → keys
+    ≡ map (λ (x : KeyedObject). x.key.0) xs
     → map (λ (t : Table). t.0) (keyed.tables_of xs) ≡ keys
 keys_are inputs xs keys is = map-map (λ (t : Table). t.0) table_of xs ∙ sym is
 

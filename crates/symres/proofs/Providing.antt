@@ -14,7 +14,7 @@ use Rattle.ldscript.specs.statements.declared.directive.Directive.{Directive}
 use Rattle.ldscript.specs.statements.declared.directive.Directive.TheVariants as directive
 use Rattle.ldscript.specs.statements.declared.numbering.DirectiveAt as code
 use Rattle.ldscript.specs.statements.declared.statement.Statement.{Statement}
-use Rattle.ldmodel.specs.Lent.{given_name, name_given_by}
+use Rattle.ldmodel.specs.PlacementView.{given_name, name_given_by}
 use Rattle.ldmodel.specs.Names.{decision, is_provided_case, provided}
 use Rattle.ldmodel.specs.Project.{Project}
 use Rattle.ldmodel.specs.ScriptNames.{provided_names}

@@ -3,19 +3,19 @@
 //!
 //! - `symbol_table` with `changing`: what is kept, and how it follows a change; `entered`: all objects, for a link from
 //!   scratch;
-//! - `placed`, `keyed`, `sorted`, `provided`: cases by place, symbols' keys, names in order, PROVIDEs;
+//! - `case_by_place`, `keyed`, `sorted`, `provided`: cases by place, symbols' keys, names in order, PROVIDEs;
 //! - `faults` over `duplicates`: names defined twice, and the entry symbol; `declaring`: which symbols have names;
 //! - the parts `table` (which definition each name stands for) and `decisions` (kept while objects change). Other
 //!   families name this crate alone.
 #![tactic(auto)]
 
+mod case_by_place;
 mod changing;
 pub mod declaring;
 mod duplicates;
 mod entered;
 mod faults;
 mod keyed;
-mod placed;
 mod provided;
 pub mod sorted;
 pub mod symbol_table;

@@ -2,7 +2,7 @@
 
 ghost use Rattle.std.specs.Prelude.{◌≡◌, IfOk, OnOk, map};
 ghost use Rattle.ldmodel.specs.HandedOver.{decision_of};
-ghost use Rattle.ldmodel.specs.Lent.{name_given_by};
+ghost use Rattle.ldmodel.specs.PlacementView.{name_given_by};
 ghost use Rattle.ldmodel.specs.Names.{is_provided_case, provided};
 ghost use Rattle.ldmodel.specs.Project.{Project};
 ghost use Rattle.ldmodel.specs.declared.script_symbol.DirectiveIndex.{DirectiveIndex};

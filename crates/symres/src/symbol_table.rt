@@ -15,8 +15,8 @@ ghost use Rattle.ldmodel_project.specs.Inputs.{shown_inputs};
 ghost use Rattle.ldmodel_project.specs.Tables.{place_or_0};
 ghost use Rattle.symres_table.specs.State.{AreDistinct, IsNamed};
 
+use crate::case_by_place::place_case;
 use crate::entered::{by_place, keys_of};
-use crate::placed::place_case;
 use elfobj::Meter;
 use elfobj::relocation::SymbolIndex;
 use ldmodel::memory::NoMemory;

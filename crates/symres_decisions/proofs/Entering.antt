@@ -10,15 +10,15 @@ use Rattle.std.proofs.lemmas.List.{get_or-map, get_or-take, length-map, length-t
 use Rattle.std.proofs.lemmas.List.Edits.{insert_end}
 use Rattle.elfobj.specs.Symbols.{NamedSymbol}
 use Rattle.symres_decisions.specs.Keyed.{AreApart, table_of, tables_of}
-use Rattle.symres_decisions.specs.declared.keyed.Keyed.{Keyed}
+use Rattle.symres_decisions.specs.declared.keyed_object.KeyedObject.{KeyedObject}
 
 abbrev pub Table : Type 0
 Table = ℕ × List NamedSymbol
 
-pub length-first : (xs : List Keyed) (n : ℕ) → n ≤ length xs → length (take n (tables_of xs)) ≡ n
+pub length-first : (xs : List KeyedObject) (n : ℕ) → n ≤ length xs → length (take n (tables_of xs)) ≡ n
 length-first xs n h = length-take-le n (tables_of xs) (omega (arith, h, length-map xs table_of))
 
-pub one_entered : (xs : List Keyed) (i : ℕ) (x : Keyed) → i < length xs → get_or xs i x ≡ x
+pub one_entered : (xs : List KeyedObject) (i : ℕ) (x : KeyedObject) → i < length xs → get_or xs i x ≡ x
     → insert (take i (tables_of xs)) i (table_of x) ≡ take (i + 1) (tables_of xs)
 one_entered xs i x within here =
     let t : Table = table_of x in
@@ -35,7 +35,8 @@ one_entered xs i x within here =
     ∙ (sym more ∙ ap (λ (n : ℕ). take n tables) suc_is))
 
 -- those before an object have other keys
-pub fresh_at : (xs : List Keyed) (i k : ℕ) (x : Keyed) (d : Table) → AreApart xs → i < length xs → get_or xs i x ≡ x
+pub fresh_at : (xs : List KeyedObject) (i k : ℕ) (x : KeyedObject) (d : Table) → AreApart xs → i < length xs
+    → get_or xs i x ≡ x
     → k < length (take i (tables_of xs)) → ((get_or (take i (tables_of xs)) k d).0 == x.key.0) ≡ false
 fresh_at xs i k x d apart within here h =
     let below : k < i = omega (arith, h, length-first xs i (omega (arith, within))) in
@@ -44,4 +45,4 @@ fresh_at xs i k x d apart within here h =
     (get_or-take i (tables_of xs) k d below ∙ get_or-map table_of xs k x d (omega (arith, below, within))) in
     ap (λ (n : ℕ). n == x.key.0) key
     ∙ ne_eqb (get_or xs k x).key.0 x.key.0
-    (λ e. apart k i x below within (e ∙ ap (λ (y : Keyed). y.key.0) (sym here)))
+    (λ e. apart k i x below within (e ∙ ap (λ (y : KeyedObject). y.key.0) (sym here)))

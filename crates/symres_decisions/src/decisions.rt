@@ -18,7 +18,7 @@ ghost use Rattle.symres_table.specs.Tally.{declaration_of};
 use crate::all::{decide_all, places_for};
 use crate::cases::Cases;
 use crate::entered::enter_all;
-use crate::keyed::Keyed;
+use crate::keyed_object::KeyedObject;
 use crate::single::given_case;
 use elfobj::Meter;
 use elfobj::memory::NoMemory;
@@ -65,7 +65,7 @@ impl Decisions {
     pub fn of(
         alloc: Global,
         seed: RandomState,
-        objects: &[Keyed<'_>],
+        objects: &[KeyedObject<'_>],
         script: &Script,
         meter: &mut Meter,
     ) -> Result<Decisions, NoMemory>

@@ -4,7 +4,7 @@ ghost use Rattle.std.specs.Prelude.{◌≡◌, IfOk};
 ghost use Rattle.symres_decisions.specs.Keyed.{AreApart, tables_of};
 ghost use Rattle.symres_table.specs.State.{IsInByteOrder};
 
-use crate::keyed::Keyed;
+use crate::keyed_object::KeyedObject;
 use elfobj::memory::NoMemory;
 use std::alloc::Global;
 use std::hash::RandomState;
@@ -15,7 +15,11 @@ use symres_table::names::Names;
 /// # Errors
 ///
 /// Where memory runs out.
-pub fn enter_all(alloc: Global, seed: RandomState, objects: &[Keyed<'_>]) -> Result<Names, NoMemory>
+pub fn enter_all(
+    alloc: Global,
+    seed: RandomState,
+    objects: &[KeyedObject<'_>],
+) -> Result<Names, NoMemory>
     requires { AreApart objects.now }
     ensures objects { IfOk result (λ names. names.objects ≡ tables_of objects.now) }
     ensures order { IfOk result (λ names. IsInByteOrder names.order) }

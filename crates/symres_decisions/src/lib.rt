@@ -1,8 +1,8 @@
 //! What names stand for, kept while objects change. Takes a change of one object, or another script; gives a case for
 //! each known name, and decides only the names that the change touches.
 //!
-//! - `decisions` with `changing` and `room`: what is kept, and how it follows a change; `keyed`, `change`: what is
-//!   taken;
+//! - `decisions` with `changing` and `room`: what is kept, and how it follows a change; `keyed_object`, `change`: what
+//!   is taken;
 //! - `cases`: cases by the keys of names; `entered`, `all`, `single`: all names at first;
 //! - `exchange`, `texts`, `noted`: the names of one object; `law`.
 #![tactic(auto)]
@@ -14,7 +14,7 @@ mod changing;
 pub mod decisions;
 mod entered;
 mod exchange;
-pub mod keyed;
+pub mod keyed_object;
 pub mod law;
 mod noted;
 mod room;

@@ -14,7 +14,7 @@ ghost use Rattle.symres_table.specs.State.{slot, AreDistinct, HasList, IsNamed, 
 ghost use Rattle.symres_table.specs.declared.symbol.Numbered.{Numbered};
 
 use crate::hints::Hints;
-use crate::known::NameTable;
+use crate::name_table::NameTable;
 use crate::repeats::{Repeats, is_long};
 use crate::symbol::{Numbered, is_visible};
 use elfobj::relocation::SymbolIndex;

@@ -25,8 +25,8 @@ ghost use Rattle.symres_table.specs.declared.symbol.Numbered.{Numbered};
 ghost use Rattle.symres_table.specs.Tally.{declaration_of};
 
 use crate::hints::Hints;
-use crate::known::NameTable;
 use crate::lists::{number_all, number_new, number_seen, park, take_list};
+use crate::name_table::NameTable;
 use crate::objects::Objects;
 use crate::repeats::Repeats;
 use crate::symbol::{Declared, Numbered};

@@ -3,7 +3,7 @@
 
 use crate::answer::checksum;
 use crate::devices::{ShortReader, ShortWriter};
-use crate::session::{Ended, run_session, status_of};
+use crate::session_run::{Ended, run_session, status_of};
 use crate::task::Task;
 use ldi_stream::fault::RunFault;
 use std::alloc::AllocError;

@@ -3,9 +3,9 @@
 use crate::answer::Answer;
 use crate::printing::{AS_LINES, print_bytes, split_line};
 use crate::task::Task;
-use relink::link::ending::{exit_status, message};
-use relink::link::file::ObjectFile;
-use relink::link::files_link::link;
+use relink::driver::exit_report::{exit_status, message};
+use relink::driver::file::ObjectFile;
+use relink::driver::from_files::link;
 use std::alloc::{AllocError, Global};
 use std::str;
 

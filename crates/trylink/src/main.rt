@@ -44,7 +44,7 @@ mod failing;
 mod files;
 mod frame;
 mod printing;
-mod session;
+mod session_run;
 mod surface;
 mod task;
 
@@ -55,7 +55,7 @@ use crate::counts::print_counts;
 use crate::failing::{Longest, print_devices};
 use crate::files::print_link;
 use crate::frame::{Frame, Kind, split_frame};
-use crate::session::{answer_by_plain, answer_by_session};
+use crate::session_run::{answer_by_plain, answer_by_session};
 use crate::surface::print_surface;
 use crate::task::Task;
 use std::alloc::{AllocError, Global};

@@ -4,11 +4,11 @@ ghost use Rattle.std.specs.Prelude.{◌≡◌, ◌≤◌, ◌<◌, ◌||◌, Non
 ghost use Rattle.ldmodel.specs.EditMeaning.{refusal_of};
 ghost use Rattle.ldmodel.specs.Edits.{Add, Replace, Move, Remove, SetScript, early_refusal, is_full, is_object_name};
 ghost use Rattle.ldmodel.specs.Edits.{is_too_long, place_of};
-ghost use Rattle.ldmodel_project.specs.Holding.{held};
+ghost use Rattle.ldmodel_project.specs.ProjectState.{held};
 ghost use Rattle.ldmodel_project.specs.Listing.{objects_of};
 
 use crate::edit::{is_object_name, is_too_long};
-use crate::kept::KeyedObjects;
+use crate::keyed_objects::KeyedObjects;
 use crate::project::Project;
 use ldmodel::edit::EditRefusal;
 

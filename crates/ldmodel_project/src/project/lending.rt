@@ -1,7 +1,7 @@
 //! A project lent whole for a link: the next one, before its edit is committed, or the one that is kept.
 
 ghost use Rattle.std.specs.Prelude.{◌≡◌, IfOk};
-ghost use Rattle.ldmodel_project.specs.Holding.{held, project_of};
+ghost use Rattle.ldmodel_project.specs.ProjectState.{held, project_of};
 ghost use Rattle.ldmodel_project.specs.Inputs.{shown_inputs};
 ghost use Rattle.ldmodel_project.specs.Listing.{objects_of};
 

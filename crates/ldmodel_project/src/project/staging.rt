@@ -4,10 +4,11 @@ ghost use Rattle.std.specs.Prelude.{◌≡◌, ℕ, List, IfOk, None, OnOk, Opti
 ghost use Rattle.ldmodel.specs.EditMeaning.{change_of};
 ghost use Rattle.ldmodel.specs.Edits.{Add, Replace, Move, Remove, SetScript};
 ghost use Rattle.ldmodel.specs.Project.{NamedObject};
-ghost use Rattle.ldmodel_project.specs.Holding.{Holding, Makes, MakesScript, ReadsAtMostOne, ReadsFor, SameHolding};
-ghost use Rattle.ldmodel_project.specs.Holding.{ReadsAnObject, ReadsOne, Stages, StandsAsNamed};
-ghost use Rattle.ldmodel_project.specs.Next.{touched_key};
-ghost use Rattle.ldmodel_project.specs.Staging.{IsStaged, IsTouching};
+ghost use Rattle.ldmodel_project.specs.ProjectState.{ProjectState, Makes, MakesScript, ReadsAtMostOne, ReadsFor};
+ghost use Rattle.ldmodel_project.specs.ProjectState.{SameHolding};
+ghost use Rattle.ldmodel_project.specs.ProjectState.{ReadsAnObject, ReadsOne, Stages, StandsAsNamed};
+ghost use Rattle.ldmodel_project.specs.Next.{edited_key};
+ghost use Rattle.ldmodel_project.specs.Staging.{IsStaged, IsEditing};
 
 use crate::edit::{object_refused, script_refused};
 use crate::project::Project;
@@ -20,10 +21,10 @@ use ldscript::Script;
 
 /// An edit of the objects alone, for which all memory was had.
 fn staged(grown: Result<StagedObjects, NoMemory>) -> Result<Staged, EditRefusal>
-    ensures ok { (h : Holding) (next : List NamedObject) → IfOk grown (λ s. IsStaged h.contents s next)
+    ensures ok { (h : ProjectState) (next : List NamedObject) → IfOk grown (λ s. IsStaged h.contents s next)
         → Makes h next result }
-    ensures touching { (before : Option ℕ) → IfOk grown (IsTouching before)
-        → IfOk result (λ s. IsTouching before s.objects) }
+    ensures touching { (before : Option ℕ) → IfOk grown (IsEditing before)
+        → IfOk result (λ s. IsEditing before s.objects) }
     ensures after { (after : Option ℕ) → IfOk grown (λ s. s.places.after ≡ after)
         → IfOk result (λ s. s.objects.places.after ≡ after) }
 {
@@ -104,7 +105,7 @@ impl Project {
     /// Stages a script, which has been read.
     fn stage_read(&self, script: Script) -> Result<Staged, EditRefusal>
         ensures made { MakesScript self.now script result }
-        ensures untouched { IfOk result (λ s. touched_key s.objects.step ≡ None) }
+        ensures unedited { IfOk result (λ s. edited_key s.objects.step ≡ None) }
     {
         match self.kept.grow_same() {
             Ok(objects) => Ok(Staged {

@@ -6,7 +6,7 @@ use Rattle.std.specs.Vec.{vec_items}
 use Rattle.ldmodel.specs.Layout.{Layout}
 use Rattle.ldmodel.specs.declared.sections.SectionKey.{SectionKey}
 use Rattle.symres.specs.SymbolTable.{SymbolTableState}
-use Rattle.emit_relocate.specs.declared.earlier.FileRange.{FileRange}
+use Rattle.emit_relocate.specs.declared.previous_link_info.FileRange.{FileRange}
 use Rattle.emit.proofs.Lists.{on_ok}
 use Rattle.emit.proofs.Staying.{all_said, only_said}
 use Rattle.emit.proofs.drawing.draw_image.Goals as goal
@@ -16,7 +16,7 @@ use Rattle.emit.specs.Output.{IsOutput, IsJoinedRow}
 pub draw_outputs-requires-clause-outputs : goal.draw_outputs-requires-clause-outputs
 draw_outputs-requires-clause-outputs g c =
     let p = c.args.project.now in
-    let stays : SectionKey → Bool = λ k. is_some (g.E.Earlier.range c.args.earlier.now k) in
+    let stays : SectionKey → Bool = λ k. is_some (g.E.PreviousLinkInfo.range c.args.earlier.now k) in
     let r = c.requires.drawable in
     let s = r.layout in
     record {
@@ -24,33 +24,33 @@ draw_outputs-requires-clause-outputs g c =
       stays = stays;
       are = record {
         names = r.names;
-        arranged = r.is.arranged;
+        indexed_layout = r.is.indexed_layout;
         values = r.is.values;
         short = r.is.short;
         outputs = subst (λ l. AllZip (IsOutput p s stays) s.sections l) (sym c.deref-2.ensures.value)
-            (c.in_ok-outputs.ensures s stays r.is.arranged.link_layout
+            (c.in_ok-outputs.ensures s stays r.is.indexed_layout.link_layout
             (subst (λ l. AllZip (IsJoinedRow p s stays) s.sections (map vec_items l)) (sym c.deref.ensures.value)
-            (c.in_ok-pieces.ensures s r.names r.is.arranged r.is.fields)));
+            (c.in_ok-pieces.ensures s r.names r.is.indexed_layout r.is.fields)));
       };
     }
 
 pub returns : goal.returns
 returns g c =
     let p = c.args.project.now in
-    let range : SectionKey → Option FileRange = g.E.Earlier.range c.args.earlier.now in
+    let range : SectionKey → Option FileRange = g.E.PreviousLinkInfo.range c.args.earlier.now in
     let stays : SectionKey → Bool = λ k. is_some (range k) in
     let outputs : (s : Layout) (a : SymbolTableState)
-    → IsDrawableAt p s a c.args.arranged.now c.args.values.now c.args.relocated.now stays
-    → AreOutputs p c.args.arranged.now c.args.values.now s stays c.deref-2.result.now =
+    → IsDrawableAt p s a c.args.indexed_layout.now c.args.values.now c.args.relocated.now stays
+    → AreOutputs p c.args.indexed_layout.now c.args.values.now s stays c.deref-2.result.now =
     λ s a is. record {
       names = a;
-      arranged = is.arranged;
+      indexed_layout = is.indexed_layout;
       values = is.values;
       short = is.short;
       outputs = subst (λ l. AllZip (IsOutput p s stays) s.sections l) (sym c.deref-2.ensures.value)
-          (c.in_ok-outputs.ensures s stays is.arranged.link_layout
+          (c.in_ok-outputs.ensures s stays is.indexed_layout.link_layout
           (subst (λ l. AllZip (IsJoinedRow p s stays) s.sections (map vec_items l)) (sym c.deref.ensures.value)
-          (c.in_ok-pieces.ensures s a is.arranged is.fields)));
+          (c.in_ok-pieces.ensures s a is.indexed_layout is.fields)));
     } in
     record {
       image = on_ok _ _ c.draw_outputs.result

@@ -28,7 +28,8 @@ redraw-requires-clause-drawing c =
       tail = c.image_parts-tail.ensures;
     }) are
     (c.drawing_stands.ensures p s)
-    (c.placement_is_in_memory.ensures p.script (rows p) (provided p) s h.are.arranged.link_layout.placed) h.are.short)
+    (c.placement_is_in_memory.ensures p.script (rows p) (provided p) s h.are.indexed_layout.link_layout.placed)
+    h.are.short)
 
 pub redraw-requires-clause-patches : goal.redraw-requires-clause-patches
 redraw-requires-clause-patches c =
@@ -38,7 +39,7 @@ redraw-requires-clause-patches c =
     ends_in p s h.stays c.in_ok-parts.parts c.deref.result c.deref-2.result c.image_parts-tail.result c.args.patches.now
     (c.drawing_is_image.ensures.end p s) c.joined_is_whole.ensures.alike c.deref.ensures.value c.deref-2.ensures.value
     c.image_parts-tail.ensures
-    (c.in_ok-parts.ensures s h.stays h.are) (c.requires.patches s h.are.arranged)
+    (c.in_ok-parts.ensures s h.stays h.are) (c.requires.patches s h.are.indexed_layout)
 
 pub returns-clause-image : goal.returns-clause-image
 returns-clause-image c =
@@ -123,7 +124,8 @@ returns-clause-work c =
       tail = c.image_parts-tail.ensures;
     }) are
     (c.drawing_stands.ensures new.project new.layout)
-    (c.placement_is_in_memory.ensures p.script (rows p) (provided p) new.layout outputs.arranged.link_layout.placed)
+    (c.placement_is_in_memory.ensures p.script (rows p)
+    (provided p) new.layout outputs.indexed_layout.link_layout.placed)
     (subst (λ pr. image_length pr new.layout ≤ 2 ^ 28) (sym same) outputs.short))
     good
     (drawing_of new.project new.layout stays x _ (record {
@@ -161,7 +163,8 @@ returns-clause-spent c =
       tail = c.image_parts-tail.ensures;
     }) are
     (c.drawing_stands.ensures new.project new.layout)
-    (c.placement_is_in_memory.ensures p.script (rows p) (provided p) new.layout outputs.arranged.link_layout.placed)
+    (c.placement_is_in_memory.ensures p.script (rows p)
+    (provided p) new.layout outputs.indexed_layout.link_layout.placed)
     (subst (λ pr. image_length pr new.layout ≤ 2 ^ 28) (sym same) outputs.short))
     good
     (drawing_of new.project new.layout stays x _ (record {

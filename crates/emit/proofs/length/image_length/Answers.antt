@@ -1,6 +1,6 @@
 -- The sizes are those of the link.
 use Rattle.std.proofs.Common.{sym, subst}
-use Rattle.ldmodel.specs.Lent.{AreSegments}
+use Rattle.ldmodel.specs.PlacementView.{AreSegments}
 use Rattle.ldmodel.specs.Segments.{segments}
 use Rattle.emit.proofs.length.image_length.Goals as goal
 

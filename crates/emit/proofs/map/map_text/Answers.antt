@@ -9,7 +9,7 @@ use Rattle.emit.proofs.map.map_text.Goals as goal
 
 pub returns : goal.returns
 returns c =
-    text_is c.args.project.now c.args.link_layout.now c.args.values.now _ c.map_text.result
+    text_is c.args.project.now c.args.link_layout.now c.args.values.now _ c.render_map.result
     (record {
       entry = c.number_or_0.ensures;
       sections = ap shown_sections c.deref-2.ensures.value
@@ -22,4 +22,4 @@ returns c =
       placed = λ s l. c.placed_are_rows.ensures c.args.project.now (provided c.args.project.now) s l.placed;
       symbols = c.deref-3.ensures.value ∙ (c.in_ok-symbols.ensures ∙ ap (map map_symbol) c.deref.ensures.value);
     })
-    c.map_text.ensures
+    c.render_map.ensures

@@ -3,7 +3,7 @@ use Rattle.std.proofs.Common.{◌∙◌, sym, ap, subst, List, length, map}
 use Rattle.std.specs.Borrow.{Bor}
 use Rattle.std.specs.List.{AllZip}
 use Rattle.std.proofs.lemmas.List.{length-map}
-use Rattle.ldmodel.specs.Lent.{data_of, placed_of}
+use Rattle.ldmodel.specs.PlacementView.{data_of, placed_of}
 use Rattle.place.specs.Offsets.{IsOffset}
 use Rattle.ldmodel.specs.Names.{provided}
 use Rattle.ldmodel.specs.Rows.{rows}

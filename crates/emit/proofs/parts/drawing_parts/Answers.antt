@@ -2,7 +2,7 @@
 use Rattle.std.proofs.Common.{◌∙◌, sym, ap, subst, length, arith}
 use Rattle.std.specs.List.{AllZip}
 use Rattle.std.proofs.lemmas.Slice.Zip.{AllZip-long}
-use Rattle.ldmodel.specs.Lent.{AreSegments}
+use Rattle.ldmodel.specs.PlacementView.{AreSegments}
 use Rattle.ldmodel.specs.SectionHeaders.{FilePart}
 use Rattle.ldmodel.specs.Segments.{segments}
 use Rattle.ldmodel.specs.SymbolValues.{number_or_0}
@@ -16,13 +16,13 @@ returns c s stays are =
     let p = c.args.project.now in
     let x = c.in_ok-tail.tail in
     let gs = subst (λ xs. AreSegments s.sections (segments s.sections) xs) (sym c.as_slice-segments.ensures.value)
-    are.arranged.link_layout.segments in
+    are.indexed_layout.link_layout.segments in
     let headings = subst (λ ys. AllZip (IsTableSection s) s.sections ys) (sym c.deref-2.ensures.value)
     (c.in_ok-headings.ensures p s stays are.outputs) in
     let tail = c.in_ok-tail.ensures.of_link p s (record {
       begins = c.in_ok-end.ensures s.sections (segments s.sections) gs;
       symbols = subst (λ xs. AllZip (IsTableSymbol p s) (table_symbols p s) xs) (sym c.deref.ensures.value)
-          (c.in_ok-symbols.ensures s are.names are.arranged are.values);
+          (c.in_ok-symbols.ensures s are.names are.indexed_layout are.values);
       sections = headings;
     }) in
     record {
@@ -37,6 +37,6 @@ returns c s stays are =
             ap length c.deref-2.ensures.value,
             AllZip-long (IsTableSection s) s.sections c.deref-2.result.now headings,
           ));
-      drawn = c.in_ok-sections.ensures p s stays are.arranged.link_layout.named are.outputs;
+      drawn = c.in_ok-sections.ensures p s stays are.indexed_layout.link_layout.named are.outputs;
       tail = tail;
     }

@@ -13,13 +13,13 @@ pub returns : goal.returns
 returns g c =
     let p = c.args.project.now in
     if_ok c.image_rows.result
-    (λ v h s a arranged fields.
-    let placed = c.placed_are_rows.ensures p (provided p) s arranged.link_layout.placed in
-    h (known_link p s a) refl (record { arranged = arranged; runs = fields })
+    (λ v h s a indexed_layout fields.
+    let placed = c.placed_are_rows.ensures p (provided p) s indexed_layout.link_layout.placed in
+    h (known_link p s a) refl (record { indexed_layout = indexed_layout; runs = fields })
     (record {
-      placed = placed ∙ sym arranged.rows;
-      begun = c.pieces-starts.ensures ∙ arranged.link_layout.places.starts;
-      sized = subst (Each (Each (IsSized p))) (sym arranged.rows)
+      placed = placed ∙ sym indexed_layout.rows;
+      begun = c.pieces-starts.ensures ∙ indexed_layout.link_layout.places.starts;
+      sized = subst (Each (Each (IsSized p))) (sym indexed_layout.rows)
           (rows_sized p c.inputs-inputs.ensures.distinct c.are_numbered.ensures
           (c.live_by_path.ensures.in_order p).0 (c.live_by_path.ensures.in_order p).1);
       found = all_found s _ placed

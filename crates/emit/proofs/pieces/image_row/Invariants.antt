@@ -1,7 +1,7 @@
 -- The entries so far are drawn.
 use Rattle.std.proofs.Common.{◌≡◌, map, take}
 use Rattle.std.specs.Prelude.{is_some}
-use Rattle.ldmodel.specs.Layout.{PlacedSection}
+use Rattle.ldmodel.specs.Layout.{PlacedOutput}
 use Rattle.ldmodel_project.specs.ByPlace.{piece_in}
 use Rattle.emit_relocate.specs.KnownLink.{KnownLink}
 use Rattle.emit.proofs.OfRows.{AreDrawnAs}
@@ -10,8 +10,9 @@ use Rattle.emit.specs.Pieces.{AreSources, IsRowAt}
 
 abbrev pub invariant-loop-k : goal.invariant-loop-k
 invariant-loop-k g l =
-    (link : KnownLink) (q : PlacedSection) → link.project ≡ l.project
-    → AreSources link (λ key. is_some (g.E.Earlier.range l.earlier key)) l.arranged l.relocated
+    (link : KnownLink) (q : PlacedOutput) → link.project ≡ l.project
+    → AreSources link (λ key. is_some (g.E.PreviousLinkInfo.range l.earlier key)) l.indexed_layout l.relocated
     → IsRowAt l.project link.layout (map (piece_in l.project) l.row) l.starts q
-    → AreDrawnAs link.project link.layout (λ key. is_some (g.E.Earlier.range l.earlier key)) (take l.k q.pieces)
+    → AreDrawnAs link.project link.layout (λ key. is_some (g.E.PreviousLinkInfo.range l.earlier key))
+    (take l.k q.pieces)
     l.pieces.items

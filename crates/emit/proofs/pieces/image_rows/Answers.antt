@@ -17,8 +17,8 @@ use Rattle.emit.specs.Pieces.{IsRowAt}
 pub loop-row-preserved : goal.loop-row-preserved
 loop-row-preserved g c =
     let p = c.args.project.now in
-    let stays : SectionKey → Bool = λ k. is_some (g.E.Earlier.range c.args.earlier.now k) in
-    let rs = c.args.arranged.now.rows.items in
+    let stays : SectionKey → Bool = λ k. is_some (g.E.PreviousLinkInfo.range c.args.earlier.now k) in
+    let rs = c.args.indexed_layout.now.rows.items in
     let starts = c.args.starts.now in
     let k = c.loop-row.row-index in
     let same = c.deref-row-items.ensures.value in
@@ -37,9 +37,10 @@ loop-row-preserved g c =
     let left : length (drop at starts) ≡ length starts - at = length-drop at starts in
     let whole : take (length starts - at) (drop at starts) ≡ drop at starts =
     take_all (length starts - at) (drop at starts) (omega (arith, left)) in
-    subst (λ n. RowsSoFar p stays c.args.arranged.now c.args.relocated.now (rows_in p rs) starts (k + 1) (at + n)
+    subst (λ n. RowsSoFar p stays c.args.indexed_layout.now c.args.relocated.now (rows_in p rs) starts (k + 1) (at + n)
     (map vec_items c.push.new.self.items)) long
-    (one_row p stays c.args.arranged.now c.args.relocated.now (rows_in p rs) starts k at row c.in_ok-drawn.drawn.items
+    (one_row p stays c.args.indexed_layout.now c.args.relocated.now
+    (rows_in p rs) starts k at row c.in_ok-drawn.drawn.items
     (map vec_items c.loop-row.pieces.items) _ here (omega (arith, low, many))
     (omega (arith, c.if-starts-at.false, within, long))
     (λ l q same sources placed.
@@ -50,10 +51,11 @@ loop-row-preserved g c =
 pub returns : goal.returns
 returns g c l same sources placed =
     let p = c.args.project.now in
-    let stays : SectionKey → Bool = λ k. is_some (g.E.Earlier.range c.args.earlier.now k) in
-    let rs = c.args.arranged.now.rows.items in
+    let stays : SectionKey → Bool = λ k. is_some (g.E.PreviousLinkInfo.range c.args.earlier.now k) in
+    let rs = c.args.indexed_layout.now.rows.items in
     let many : length (rows_in p rs) ≡ length rs = length-map (map vec_items rs) _ ∙ length-map rs vec_items in
-    all_rows p stays c.args.arranged.now c.args.relocated.now (rows_in p rs) c.args.starts.now l c.loop-row.row-index
+    all_rows p stays c.args.indexed_layout.now c.args.relocated.now
+    (rows_in p rs) c.args.starts.now l c.loop-row.row-index
     c.loop-row.at (map vec_items c.loop-row.pieces.items)
     (omega (arith, c.loop-row-test.false, many, ap length c.deref-row-items.ensures.value)) same sources placed
     c.loop-row.invariant

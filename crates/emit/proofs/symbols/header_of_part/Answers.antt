@@ -5,7 +5,7 @@ use Rattle.ldmodel.specs.Layout.{Layout}
 use Rattle.ldmodel.specs.NameFaults.{object_name}
 use Rattle.ldmodel.specs.Project.{Project}
 use Rattle.ldmodel.specs.Tail.{header_of_part}
-use Rattle.place.specs.Arranged.{IsArranged}
+use Rattle.place.specs.IndexedLayout.{IsIndexedLayout}
 use Rattle.emit.proofs.OfSymbols.{header_none, header_some}
 use Rattle.emit.proofs.symbols.header_of_part.Goals as goal
 
@@ -20,7 +20,7 @@ returns-in-None c p s starts =
 pub returns-in-Some : goal.returns-in-Some
 returns-in-Some c =
     weaker c.header_of.result (λ n. n ≡ c.in-Some.place.section.0 + 1)
-    (λ n. (p : Project) → (s : Layout) → IsArranged p s c.args.arranged.now
+    (λ n. (p : Project) → (s : Layout) → IsIndexedLayout p s c.args.indexed_layout.now
     → n ≡ header_of_part s (object_name p c.args.section.object.0) c.args.section.part)
     c.header_of.ensures
     (λ n e p s starts.

@@ -12,7 +12,7 @@ bool_cases false = inr refl
 pub returns-clause-image : goal.returns-clause-image
 returns-clause-image c = λ image plan o l.
     let r = c.write_stretches.ensures in
-    elim (bool_cases (stays_at c.args.stretches.now o)) [
+    elim (bool_cases (stays_at c.args.write_spans.now o)) [
       | inl s ↦ r.kept o l s ∙ (elim (bool_cases (is_patched c.args.patches.now o)) [
         | inl t ↦ c.write_patches.ensures.settled image plan.patched o t
         | inr f ↦ (let there = plan.stays o l s f in
@@ -29,9 +29,9 @@ raised_none m h =
 
 pub returns-clause-counted : goal.returns-clause-counted
 returns-clause-counted c =
-    let all : patch_bytes c.args.patches.now + (written 0 c.args.stretches.now + 0)
-    ≡ patch_bytes c.args.patches.now + written 0 c.args.stretches.now = omega arith in
+    let all : patch_bytes c.args.patches.now + (written 0 c.args.write_spans.now + 0)
+    ≡ patch_bytes c.args.patches.now + written 0 c.args.write_spans.now = omega arith in
     raised_none c.write_stretches.new.meter (omega (arith, c.bytes-bytes.type_inv, c.bytes-bytes.ensures))
     ∙ c.write_stretches.ensures.counted 0
-    ∙ c.write_patches.ensures.counted (written 0 c.args.stretches.now + 0)
+    ∙ c.write_patches.ensures.counted (written 0 c.args.write_spans.now + 0)
     ∙ ap (raised c.args.meter.now Bytes) all

@@ -6,7 +6,7 @@ use Rattle.ldmodel.specs.Project.{NamedObject}
 use Rattle.ldmodel.specs.Relocations.{Site}
 use Rattle.emit_relocate.specs.KnownLink.{KnownLink}
 use Rattle.emit_relocate.specs.Sites.{IsPlaced, IsSiteAt}
-use Rattle.emit_relocate.specs.declared.site.PlacedSection.{PlacedSection}
+use Rattle.emit_relocate.specs.declared.site.PlacedInput.{PlacedInput}
 use Rattle.emit_relocate.proofs.Added.{tried_fault, tried_field, tried_none}
 use Rattle.emit_relocate.proofs.fields.add_site.Goals as goal
 
@@ -14,7 +14,7 @@ use Rattle.emit_relocate.proofs.fields.add_site.Goals as goal
 abbrev site_of : NamedObject → LinkedSection → ℕ → Relocation → Site
 site_of o x start a = record { object = o; section = x; start = start; relocation = a }
 
-at_entry : (l : KnownLink) (m : PlacedSection) (o : NamedObject) (x : LinkedSection) (a : Relocation) (i : ℕ)
+at_entry : (l : KnownLink) (m : PlacedInput) (o : NamedObject) (x : LinkedSection) (a : Relocation) (i : ℕ)
     → IsPlaced l m o x → slice_get m.relocations.now i ≡ Some a → IsSiteAt l m i (site_of o x m.start a)
 at_entry l m o x a i h is = record { site = record { placed = h; start_is = refl }; entry_is = is }
 

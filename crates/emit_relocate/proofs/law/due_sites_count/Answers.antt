@@ -8,7 +8,7 @@ use Rattle.ldmodel_laws.specs.Untouched.{HasField}
 use Rattle.ldmodel.specs.Relocations.{Site, sites}
 use Rattle.ldmodel.specs.Stayed.{retargeted}
 use Rattle.ldmodel.specs.WorkBound.{sites_outside}
-use Rattle.emit_relocate.specs.Earlier.{good_link, has_moved}
+use Rattle.emit_relocate.specs.PreviousLinkInfo.{good_link, has_moved}
 use Rattle.emit_relocate.proofs.Changing.{sites_of}
 use Rattle.emit_relocate.proofs.Evaluations.{all_evaluated}
 use Rattle.emit_relocate.proofs.Lists.{in_filter}

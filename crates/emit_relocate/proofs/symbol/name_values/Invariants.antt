@@ -5,4 +5,4 @@ use Rattle.emit_relocate.proofs.symbol.name_values.Given as goal
 abbrev pub invariant-loop-key : goal.invariant-loop-key
 invariant-loop-key g l =
     (vec_len l.values ≡ l.key)
-    × ((k : KnownLink) → g.L.Known.knows l.link k → AreValuesBelow k l.key l.values.items)
+    × ((k : KnownLink) → g.L.LinkInfo.knows l.link k → AreValuesBelow k l.key l.values.items)

@@ -3,7 +3,7 @@ use Rattle.std.specs.Prelude.{Contains, IsTrue}
 use Rattle.std.proofs.lemmas.List.{length-map}
 use Rattle.std.proofs.lemmas.Result.{IfOk-weaker}
 use Rattle.gather.specs.LiveMarks.{IsSectionAt}
-use Rattle.ldmodel.specs.Gathering.{is_out, taken_by}
+use Rattle.ldmodel.specs.Gathering.{is_discarded, taken_by}
 use Rattle.ldmodel.specs.InputSections.{input_sections}
 use Rattle.ldmodel.specs.Live.{entry_section, is_kept}
 use Rattle.ldmodel.specs.Sections.{InputSection}
@@ -15,7 +15,7 @@ use Rattle.gather.proofs.live.mark_needed.Goals as goal
 pub mark-requires-clause-count : goal.mark-requires-clause-count
 mark-requires-clause-count c =
     let p = c.args.project.now in
-    sym (ap length c.requires.out ∙ length-map (input_sections p) (is_out p))
+    sym (ap length c.requires.out ∙ length-map (input_sections p) (is_discarded p))
 
 pub returns : goal.returns
 returns c =

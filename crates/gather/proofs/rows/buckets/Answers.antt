@@ -1,6 +1,6 @@
 -- Section by section.
 use Rattle.std.proofs.Common.{[], arith, refl, subst}
-use Rattle.gather.specs.Gathered.{own_piece}
+use Rattle.gather.specs.GatheredSections.{own_piece}
 use Rattle.gather.specs.RowPieces.{AreBuckets}
 use Rattle.gather.proofs.GatheredLists.{found_all, found_step}
 use Rattle.gather.proofs.rows.buckets.Goals as goal

@@ -2,7 +2,7 @@
 use Rattle.std.proofs.Common.{◌≡◌, ◌<◌, ◌≤◌, ◌++◌, ℕ, length, drop, get_or, Vec, Global}
 use Rattle.std.specs.Prelude.{flat_map}
 use Rattle.std.specs.List.{enumerate_from}
-use Rattle.gather.specs.Gathered.{taken_in}
+use Rattle.gather.specs.GatheredSections.{taken_in}
 use Rattle.ldscript.specs.statements.Numbered.{shown_inputs}
 use Rattle.ldscript.specs.statements.Numbering.{output_sections}
 use Rattle.ldmodel.specs.declared.rows.Piece.{Piece}

@@ -1,7 +1,7 @@
 use Rattle.std.proofs.Common.{refl}
 use Rattle.ldscript.specs.terms.Matching.{is_match}
 use Rattle.ldmodel.specs.FirstMatch.{first_match}
-use Rattle.ldmodel.specs.Gathering.{is_out}
+use Rattle.ldmodel.specs.Gathering.{is_discarded}
 use Rattle.ldmodel.specs.InputSections.{input_sections}
 use Rattle.ldmodel.specs.Live.{live, target_section, entry_section, orphans}
 use Rattle.ldmodel.specs.NameFaults.{duplicates}
@@ -13,41 +13,41 @@ use Rattle.ldmodel.specs.Sorting.{sort_by}
 use Rattle.ldmodel_laws.proofs.examples.names_by_example.Goals as goal
 
 pub returns-clause-commons : goal.returns-clause-commons
-unfolding is_match first_match is_out input_sections live target_section entry_section orphans duplicates decided
+unfolding is_match first_match is_discarded input_sections live target_section entry_section orphans duplicates decided
     decision declarations_of provided entry_symbol reached rows provided_names sort_by
 returns-clause-commons c = refl
 
 pub returns-clause-weak : goal.returns-clause-weak
-unfolding is_match first_match is_out input_sections live target_section entry_section orphans duplicates decided
+unfolding is_match first_match is_discarded input_sections live target_section entry_section orphans duplicates decided
     decision declarations_of provided entry_symbol reached rows provided_names sort_by
 returns-clause-weak c = refl
 
 pub returns-clause-strong : goal.returns-clause-strong
-unfolding is_match first_match is_out input_sections live target_section entry_section orphans duplicates decided
+unfolding is_match first_match is_discarded input_sections live target_section entry_section orphans duplicates decided
     decision declarations_of provided entry_symbol reached rows provided_names sort_by
 returns-clause-strong c = refl
 
 pub returns-clause-duplicate : goal.returns-clause-duplicate
-unfolding is_match first_match is_out input_sections live target_section entry_section orphans duplicates decided
+unfolding is_match first_match is_discarded input_sections live target_section entry_section orphans duplicates decided
     decision declarations_of provided entry_symbol reached rows provided_names sort_by
 returns-clause-duplicate c = refl
 
 pub returns-clause-fault : goal.returns-clause-fault
-unfolding is_match first_match is_out input_sections live target_section entry_section orphans duplicates decided
+unfolding is_match first_match is_discarded input_sections live target_section entry_section orphans duplicates decided
     decision declarations_of provided entry_symbol reached rows provided_names sort_by
 returns-clause-fault c = refl
 
 pub returns-clause-not_mentioned : goal.returns-clause-not_mentioned
-unfolding is_match first_match is_out input_sections live target_section entry_section orphans duplicates decided
+unfolding is_match first_match is_discarded input_sections live target_section entry_section orphans duplicates decided
     decision declarations_of provided entry_symbol reached rows provided_names sort_by
 returns-clause-not_mentioned c = refl
 
 pub returns-clause-mentioned : goal.returns-clause-mentioned
-unfolding is_match first_match is_out input_sections live target_section entry_section orphans duplicates decided
+unfolding is_match first_match is_discarded input_sections live target_section entry_section orphans duplicates decided
     decision declarations_of provided entry_symbol reached rows provided_names sort_by
 returns-clause-mentioned c = refl
 
 pub returns-clause-given_way : goal.returns-clause-given_way
-unfolding is_match first_match is_out input_sections live target_section entry_section orphans duplicates decided
+unfolding is_match first_match is_discarded input_sections live target_section entry_section orphans duplicates decided
     decision declarations_of provided entry_symbol reached rows provided_names sort_by
 returns-clause-given_way c = refl

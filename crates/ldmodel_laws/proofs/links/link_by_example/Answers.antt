@@ -9,7 +9,7 @@ use Rattle.ldmodel.specs.Commands.{line}
 use Rattle.ldmodel.specs.FaultCode.{fault_of}
 use Rattle.ldmodel.specs.FaultText.{fault_text}
 use Rattle.ldmodel.specs.FirstMatch.{first_match}
-use Rattle.ldmodel.specs.Gathering.{is_out}
+use Rattle.ldmodel.specs.Gathering.{is_discarded}
 use Rattle.ldmodel.specs.Headers.{elf_header, program_header}
 use Rattle.ldmodel.specs.Image.{byte_at, file_headers, image}
 use Rattle.ldmodel.specs.InputSections.{input_sections}
@@ -45,7 +45,8 @@ pub returns-clause-empty_status : goal.returns-clause-empty_status
 unfolding assertion_faults assigned_names body_command_step byte_at command_step directive_step decided decision
     declarations_of declared_names difference_in duplicates elf_header entry_point entry_section entry_symbol fault_of
     fault_text field_of first_match gathering_faults given groups head_of header_name_table header_part file_headers hex
-    image image_length input_sections is_match is_out item_command_step layout line line_of link linked_pieces live
+    image image_length input_sections is_match is_discarded item_command_step layout line line_of link linked_pieces
+    live
     load_address map_text mentioned_names name_faults name_value number orphans output_symbols overlaps piece_placed
     pieces_placed placed_section placement program_header provided provided_names reached referenced_value region_step
     relocation_faults rows run section_end section_headers section_step segments site_field sites sort_by section_start
@@ -56,7 +57,8 @@ pub returns-clause-empty_map : goal.returns-clause-empty_map
 unfolding assertion_faults assigned_names body_command_step byte_at command_step directive_step decided decision
     declarations_of declared_names difference_in duplicates elf_header entry_point entry_section entry_symbol fault_of
     fault_text field_of first_match gathering_faults given groups head_of header_name_table header_part file_headers hex
-    image image_length input_sections is_match is_out item_command_step layout line line_of link linked_pieces live
+    image image_length input_sections is_match is_discarded item_command_step layout line line_of link linked_pieces
+    live
     load_address map_text mentioned_names name_faults name_value number orphans output_symbols overlaps piece_placed
     pieces_placed placed_section placement program_header provided provided_names reached referenced_value region_step
     relocation_faults rows run section_end section_headers section_step segments site_field sites sort_by section_start
@@ -67,7 +69,8 @@ pub returns-clause-empty_length : goal.returns-clause-empty_length
 unfolding assertion_faults assigned_names body_command_step byte_at command_step directive_step decided decision
     declarations_of declared_names difference_in duplicates elf_header entry_point entry_section entry_symbol fault_of
     fault_text field_of first_match gathering_faults given groups head_of header_name_table header_part file_headers hex
-    image image_length input_sections is_match is_out item_command_step layout line line_of link linked_pieces live
+    image image_length input_sections is_match is_discarded item_command_step layout line line_of link linked_pieces
+    live
     load_address map_text mentioned_names name_faults name_value number orphans output_symbols overlaps piece_placed
     pieces_placed placed_section placement program_header provided provided_names reached referenced_value region_step
     relocation_faults rows run section_end section_headers section_step segments site_field sites sort_by section_start
@@ -78,7 +81,8 @@ pub returns-clause-orphan_status : goal.returns-clause-orphan_status
 unfolding assertion_faults assigned_names body_command_step byte_at command_step directive_step decided decision
     declarations_of declared_names difference_in duplicates elf_header entry_point entry_section entry_symbol fault_of
     fault_text field_of first_match gathering_faults given groups head_of header_name_table header_part file_headers hex
-    image image_length input_sections is_match is_out item_command_step layout line line_of link linked_pieces live
+    image image_length input_sections is_match is_discarded item_command_step layout line line_of link linked_pieces
+    live
     load_address map_text mentioned_names name_faults name_value number orphans output_symbols overlaps piece_placed
     pieces_placed placed_section placement program_header provided provided_names reached referenced_value region_step
     relocation_faults rows run section_end section_headers section_step segments site_field sites sort_by section_start
@@ -89,7 +93,8 @@ pub returns-clause-orphan_faults : goal.returns-clause-orphan_faults
 unfolding assertion_faults assigned_names body_command_step byte_at command_step directive_step decided decision
     declarations_of declared_names difference_in duplicates elf_header entry_point entry_section entry_symbol fault_of
     fault_text field_of first_match gathering_faults given groups head_of header_name_table header_part file_headers hex
-    image image_length input_sections is_match is_out item_command_step layout line line_of link linked_pieces live
+    image image_length input_sections is_match is_discarded item_command_step layout line line_of link linked_pieces
+    live
     load_address map_text mentioned_names name_faults name_value number orphans output_symbols overlaps piece_placed
     pieces_placed placed_section placement program_header provided provided_names reached referenced_value region_step
     relocation_faults rows run section_end section_headers section_step segments site_field sites sort_by section_start
@@ -100,7 +105,8 @@ pub returns-clause-duplicate_faults : goal.returns-clause-duplicate_faults
 unfolding assertion_faults assigned_names body_command_step byte_at command_step directive_step decided decision
     declarations_of declared_names difference_in duplicates elf_header entry_point entry_section entry_symbol fault_of
     fault_text field_of first_match gathering_faults given groups head_of header_name_table header_part file_headers hex
-    image image_length input_sections is_match is_out item_command_step layout line line_of link linked_pieces live
+    image image_length input_sections is_match is_discarded item_command_step layout line line_of link linked_pieces
+    live
     load_address map_text mentioned_names name_faults name_value number orphans output_symbols overlaps piece_placed
     pieces_placed placed_section placement program_header provided provided_names reached referenced_value region_step
     relocation_faults rows run section_end section_headers section_step segments site_field sites sort_by section_start
@@ -111,7 +117,8 @@ pub returns-clause-call_status : goal.returns-clause-call_status
 unfolding assertion_faults assigned_names body_command_step byte_at command_step directive_step decided decision
     declarations_of declared_names difference_in duplicates elf_header entry_point entry_section entry_symbol fault_of
     fault_text field_of first_match gathering_faults given groups head_of header_name_table header_part file_headers hex
-    image image_length input_sections is_match is_out item_command_step layout line line_of link linked_pieces live
+    image image_length input_sections is_match is_discarded item_command_step layout line line_of link linked_pieces
+    live
     load_address map_text mentioned_names name_faults name_value number orphans output_symbols overlaps piece_placed
     pieces_placed placed_section placement program_header provided provided_names reached referenced_value region_step
     relocation_faults rows run section_end section_headers section_step segments site_field sites sort_by section_start
@@ -122,7 +129,8 @@ pub returns-clause-call_map : goal.returns-clause-call_map
 unfolding assertion_faults assigned_names body_command_step byte_at command_step directive_step decided decision
     declarations_of declared_names difference_in duplicates elf_header entry_point entry_section entry_symbol fault_of
     fault_text field_of first_match gathering_faults given groups head_of header_name_table header_part file_headers hex
-    image image_length input_sections is_match is_out item_command_step layout line line_of link linked_pieces live
+    image image_length input_sections is_match is_discarded item_command_step layout line line_of link linked_pieces
+    live
     load_address map_text mentioned_names name_faults name_value number orphans output_symbols overlaps piece_placed
     pieces_placed placed_section placement program_header provided provided_names reached referenced_value region_step
     relocation_faults rows run section_end section_headers section_step segments site_field sites sort_by section_start
@@ -133,7 +141,8 @@ pub returns-clause-call_bytes : goal.returns-clause-call_bytes
 unfolding assertion_faults assigned_names body_command_step byte_at command_step directive_step decided decision
     declarations_of declared_names difference_in duplicates elf_header entry_point entry_section entry_symbol fault_of
     fault_text field_of first_match gathering_faults given groups head_of header_name_table header_part file_headers hex
-    image image_length input_sections is_match is_out item_command_step layout line line_of link linked_pieces live
+    image image_length input_sections is_match is_discarded item_command_step layout line line_of link linked_pieces
+    live
     load_address map_text mentioned_names name_faults name_value number orphans output_symbols overlaps piece_placed
     pieces_placed placed_section placement program_header provided provided_names reached referenced_value region_step
     relocation_faults rows run section_end section_headers section_step segments site_field sites sort_by section_start
@@ -144,7 +153,8 @@ pub returns-clause-call_length : goal.returns-clause-call_length
 unfolding assertion_faults assigned_names body_command_step byte_at command_step directive_step decided decision
     declarations_of declared_names difference_in duplicates elf_header entry_point entry_section entry_symbol fault_of
     fault_text field_of first_match gathering_faults given groups head_of header_name_table header_part file_headers hex
-    image image_length input_sections is_match is_out item_command_step layout line line_of link linked_pieces live
+    image image_length input_sections is_match is_discarded item_command_step layout line line_of link linked_pieces
+    live
     load_address map_text mentioned_names name_faults name_value number orphans output_symbols overlaps piece_placed
     pieces_placed placed_section placement program_header provided provided_names reached referenced_value region_step
     relocation_faults rows run section_end section_headers section_step segments site_field sites sort_by section_start
@@ -155,7 +165,8 @@ pub returns-clause-common_map : goal.returns-clause-common_map
 unfolding assertion_faults assigned_names body_command_step byte_at command_step directive_step decided decision
     declarations_of declared_names difference_in duplicates elf_header entry_point entry_section entry_symbol fault_of
     fault_text field_of first_match gathering_faults given groups head_of header_name_table header_part file_headers hex
-    image image_length input_sections is_match is_out item_command_step layout line line_of link linked_pieces live
+    image image_length input_sections is_match is_discarded item_command_step layout line line_of link linked_pieces
+    live
     load_address map_text mentioned_names name_faults name_value number orphans output_symbols overlaps piece_placed
     pieces_placed placed_section placement program_header provided provided_names reached referenced_value region_step
     relocation_faults rows run section_end section_headers section_step segments site_field sites sort_by section_start
@@ -166,7 +177,8 @@ pub returns-clause-common_length : goal.returns-clause-common_length
 unfolding assertion_faults assigned_names body_command_step byte_at command_step directive_step decided decision
     declarations_of declared_names difference_in duplicates elf_header entry_point entry_section entry_symbol fault_of
     fault_text field_of first_match gathering_faults given groups head_of header_name_table header_part file_headers hex
-    image image_length input_sections is_match is_out item_command_step layout line line_of link linked_pieces live
+    image image_length input_sections is_match is_discarded item_command_step layout line line_of link linked_pieces
+    live
     load_address map_text mentioned_names name_faults name_value number orphans output_symbols overlaps piece_placed
     pieces_placed placed_section placement program_header provided provided_names reached referenced_value region_step
     relocation_faults rows run section_end section_headers section_step segments site_field sites sort_by section_start
@@ -177,7 +189,8 @@ pub returns-clause-common_symbol : goal.returns-clause-common_symbol
 unfolding assertion_faults assigned_names body_command_step byte_at command_step directive_step decided decision
     declarations_of declared_names difference_in duplicates elf_header entry_point entry_section entry_symbol fault_of
     fault_text field_of first_match gathering_faults given groups head_of header_name_table header_part file_headers hex
-    image image_length input_sections is_match is_out item_command_step layout line line_of link linked_pieces live
+    image image_length input_sections is_match is_discarded item_command_step layout line line_of link linked_pieces
+    live
     load_address map_text mentioned_names name_faults name_value number orphans output_symbols overlaps piece_placed
     pieces_placed placed_section placement program_header provided provided_names reached referenced_value region_step
     relocation_faults rows run section_end section_headers section_step segments site_field sites sort_by section_start

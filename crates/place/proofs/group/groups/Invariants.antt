@@ -1,11 +1,11 @@
 -- The output sections so far are in groups.
 use Rattle.std.proofs.Common.{◌≡◌, List, map, drop}
-use Rattle.ldmodel.specs.Layout.{PlacedSection}
-use Rattle.ldmodel.specs.Lent.{placed_of}
+use Rattle.ldmodel.specs.Layout.{PlacedOutput}
+use Rattle.ldmodel.specs.PlacementView.{placed_of}
 use Rattle.place.specs.Grouping.{Grouped}
 use Rattle.place.proofs.group.groups.Given as goal
 
 abbrev pub invariant-loop-number : goal.invariant-loop-number
 invariant-loop-number l =
-    (s : List PlacedSection) → map placed_of s ≡ l.sections
+    (s : List PlacedOutput) → map placed_of s ≡ l.sections
     → Grouped s (drop l.number s) l.grouping.done.items l.grouping.running

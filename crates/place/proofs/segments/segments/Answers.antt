@@ -1,7 +1,7 @@
 -- One group a step; in the end each has its place.
 use Rattle.std.proofs.Common.{◌+◌, ◌≤◌, arith, sym, ap, subst, drop, length}
 use Rattle.std.specs.List.{AllZip}
-use Rattle.ldmodel.specs.Lent.{AreSegments}
+use Rattle.ldmodel.specs.PlacementView.{AreSegments}
 use Rattle.ldmodel.specs.Segments.{groups, nonempty, segments}
 use Rattle.place.specs.Grouping.{IsGroup}
 use Rattle.place.proofs.FileOffsets.{congruent_near, Placing, placing_all, placing_more, placing_none, room}

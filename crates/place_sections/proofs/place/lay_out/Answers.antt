@@ -13,7 +13,7 @@ use Rattle.place_sections.proofs.Options.{by_option, for_some}
 use Rattle.place_sections.proofs.place.lay_out.Goals as goal
 use Rattle.place_sections.specs.Counted.{entries, placed_from}
 use Rattle.place_sections.specs.State.{layout_of}
-use Rattle.place_sections.specs.declared.state.Done.{Done}
+use Rattle.place_sections.specs.declared.state.PlacedOutputs.{PlacedOutputs}
 
 pub returns-clause-faulty : goal.returns-clause-faulty
 returns-clause-faulty g c =
@@ -53,7 +53,7 @@ returns-in-Ok-clause-resumed g c =
 
 pub place_script-laid-requires : goal.place_script-laid-requires
 place_script-laid-requires g c =
-    let d : Done = record { sections = c.in_ok-sections.sections; regions = c.new-regions.result } in (
+    let d : PlacedOutputs = record { sections = c.in_ok-sections.sections; regions = c.new-regions.result } in (
       c.in_ok-sections.ensures.none,
       (
         c.in_ok-sections.ensures.script ∙ sym c.statements.ensures.value,

@@ -1,5 +1,5 @@
 use Rattle.std.proofs.Common.{◌≡◌, ◌++◌, drop, map}
-use Rattle.ldmodel.specs.Lent.{data_of}
+use Rattle.ldmodel.specs.PlacementView.{data_of}
 use Rattle.place_terms.specs.Keyed.{data_at_of}
 use Rattle.place_terms.specs.Wholes.{data_in}
 use Rattle.place_terms.proofs.wholes.add_taken_data.Given as goal

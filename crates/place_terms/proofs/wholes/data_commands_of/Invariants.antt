@@ -1,5 +1,5 @@
 use Rattle.std.proofs.Common.{◌≡◌, ◌+◌, ◌++◌, drop, length, map}
-use Rattle.ldmodel.specs.Lent.{data_of}
+use Rattle.ldmodel.specs.PlacementView.{data_of}
 use Rattle.place_terms.specs.SectionTable.{both, keyed}
 use Rattle.place_terms.specs.Wholes.{all_data_in}
 use Rattle.place_terms.proofs.wholes.data_commands_of.Given as goal

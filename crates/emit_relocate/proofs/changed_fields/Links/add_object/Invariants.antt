@@ -9,7 +9,8 @@ use Rattle.emit_relocate.proofs.changed_fields.Links.add_object.Given as goal
 
 abbrev pub invariant-loop-index : goal.invariant-loop-index
 invariant-loop-index g l =
-    (old : GoodLink) (k : KnownLink) (o : NamedObject) → AreLinks g.L.Known.knows g.E.Earlier.knows l.self old k
+    (old : GoodLink) (k : KnownLink) (o : NamedObject)
+    → AreLinks g.L.LinkInfo.knows g.E.PreviousLinkInfo.knows l.self old k
     → named_object k l.key ≡ Some o → o.object ≡ l.object
-    → AreChanged old k (g.E.Earlier.range l.self.earlier.now) (sections_of o (take l.index l.object.sections))
+    → AreChanged old k (g.E.PreviousLinkInfo.range l.self.earlier.now) (sections_of o (take l.index l.object.sections))
     (results_of l.initial.fields l.initial.meter) (results_of l.fields l.meter)

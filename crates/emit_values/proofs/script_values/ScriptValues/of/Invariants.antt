@@ -1,6 +1,6 @@
 use Rattle.std.proofs.Common.{◌≡◌, length, map, take}
 use Rattle.ldscript.specs.statements.Numbering.{all_directives}
-use Rattle.ldmodel.specs.Lent.{symbol_of}
+use Rattle.ldmodel.specs.PlacementView.{symbol_of}
 use Rattle.place.specs.terms.LayoutSymbols.{AreFound, AreValuesOf}
 use Rattle.emit_values.proofs.script_values.ScriptValues.of.Given as goal
 

@@ -1,6 +1,6 @@
 use Rattle.std.proofs.Common.{◌∙◌, sym, subst, ap}
 use Rattle.gather.specs.Blocks.{AreBlocks}
-use Rattle.gather.specs.Gathered.{AreGathered}
+use Rattle.gather.specs.GatheredSections.{AreGathered}
 use Rattle.ldmodel.specs.Options.{LinkOptions}
 use Rattle.gather.proofs.gathering.Gathering.of.Goals as goal
 

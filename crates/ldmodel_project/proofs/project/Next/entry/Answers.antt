@@ -3,7 +3,7 @@ use Rattle.std.specs.Prelude.{Option, unwrap_or, slice_get}
 use Rattle.std.specs.List.{count_by}
 use Rattle.std.proofs.lemmas.List.{length-map, get_or_read}
 use Rattle.ldmodel.specs.Project.{NamedObject}
-use Rattle.ldmodel_project.specs.Holding.{Holding, Listing}
+use Rattle.ldmodel_project.specs.ProjectState.{ProjectState, Listing}
 use Rattle.ldmodel_project.specs.Listing.{key_count}
 use Rattle.ldmodel_project.specs.Next.{named_under, next_count}
 use Rattle.ldmodel_project.proofs.Counts.{count_by_at}
@@ -25,7 +25,7 @@ named-requires c =
     omega (arith, count, c.self.invariant.keys c.index-key.result.now) in
     let listed : 0 < key_count entries c.index-key.result.now =
     listed_before entries staged.step c.index-key.result.now (sym c.in-None.ensures) next in
-    subst (λ (h : Holding). 0 < key_count h.contents.entries c.index-key.result.now) (sym c.project.view_is) listed
+    subst (λ (h : ProjectState). 0 < key_count h.contents.entries c.index-key.result.now) (sym c.project.view_is) listed
 
 pub returns-in-Some : goal.returns-in-Some
 returns-in-Some c =
@@ -45,7 +45,7 @@ returns-in-None c =
     let within : c.args.at < length staged.order.items =
     rw length-map at (subst (λ (l : Listing). c.args.at < length l.entries) (sym c.self.view_is) c.requires) in
     let named : named_under entries c.index-key.result.now ≡ c.named.result.now =
-    ap (λ (h : Holding). named_under h.contents.entries c.index-key.result.now) (sym c.project.view_is)
+    ap (λ (h : ProjectState). named_under h.contents.entries c.index-key.result.now) (sym c.project.view_is)
     ∙ sym c.named.ensures in
     ap (λ (l : Listing). slice_get l.entries c.args.at) (sym c.self.view_is)
     ∙ next_entry_at entries staged.step staged.order.items c.args.at c.index-key.result.now c.named.result.now within

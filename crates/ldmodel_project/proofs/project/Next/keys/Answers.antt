@@ -1,7 +1,7 @@
 use Rattle.std.proofs.Common.{◌≤◌, ◌∙◌, ℕ, List, ap, sym, subst}
 use Rattle.std.specs.Prelude.{nat_eq}
 use Rattle.std.specs.List.{count_by}
-use Rattle.ldmodel_project.specs.Holding.{Listing}
+use Rattle.ldmodel_project.specs.ProjectState.{Listing}
 use Rattle.ldmodel_project.specs.Listing.{AreKeysDistinct, keys_of}
 use Rattle.ldmodel_project.specs.Next.{next_named}
 use Rattle.ldmodel_project.proofs.Found.{next_distinct}

@@ -1,5 +1,5 @@
 use Rattle.std.proofs.Common.{◌∙◌, ap, sym}
-use Rattle.ldmodel_project.specs.Holding.{Holding, Listing}
+use Rattle.ldmodel_project.specs.ProjectState.{ProjectState, Listing}
 use Rattle.ldmodel_project.specs.Listing.{found_under}
 use Rattle.ldmodel_project.specs.Next.{next_found}
 use Rattle.ldmodel_project.proofs.Found.{found_under-next}
@@ -9,6 +9,6 @@ pub returns : goal.returns
 returns c =
     let staged = c.self.inside.staged.now.objects in
     c.found.ensures
-    ∙ (ap (λ (h : Holding). next_found h.contents.entries staged.step c.args.key.0) c.project.view_is
+    ∙ (ap (λ (h : ProjectState). next_found h.contents.entries staged.step c.args.key.0) c.project.view_is
     ∙ (sym (found_under-next c.self.inside.project.now.contents staged c.args.key.0 c.self.invariant)
     ∙ ap (λ (l : Listing). found_under l.entries c.args.key.0) c.self.view_is))

@@ -1,6 +1,6 @@
 use Rattle.std.proofs.Common.{◌∙◌, ap, subst, sym}
 use Rattle.ldmodel.specs.Edits.{AreNamesDistinct}
-use Rattle.ldmodel_project.specs.Holding.{Listing}
+use Rattle.ldmodel_project.specs.ProjectState.{Listing}
 use Rattle.ldmodel_project.specs.Listing.{objects_of}
 use Rattle.ldmodel_project.proofs.project.Next.view.Goals as goal
 

@@ -1,18 +1,20 @@
 use Rattle.std.proofs.Common.{◌∙◌, List, ap}
-use Rattle.ldmodel_project.specs.Holding.{Holding}
-use Rattle.ldmodel_project.specs.Listing.{Entry, found_under}
+use Rattle.ldmodel_project.specs.ProjectState.{ProjectState}
+use Rattle.ldmodel_project.specs.Listing.{Listed, found_under}
 use Rattle.ldmodel_project.specs.Next.{next_entries}
 use Rattle.ldmodel_project.proofs.Found.{found_under-next}
 use Rattle.ldmodel_project.proofs.project.Project.commit.Goals as goal
 
 pub returns-in-Some-clause-found : goal.returns-in-Some-clause-found
 returns-in-Some-clause-found c key =
-    ap (λ (es : List Entry). found_under es key)
-    (c.commit.ensures.next ∙ ap (λ (h : Holding). next_entries h.contents.entries c.args.staged.objects) c.self.view_is)
+    ap (λ (es : List Listed). found_under es key)
+    (c.commit.ensures.next ∙ ap (λ (h : ProjectState). next_entries h.contents.entries c.args.staged.objects)
+    c.self.view_is)
     ∙ found_under-next c.args.self.now.contents c.args.staged.objects key c.requires
 
 pub returns-in_default-clause-found : goal.returns-in_default-clause-found
 returns-in_default-clause-found c key =
-    ap (λ (es : List Entry). found_under es key)
-    (c.commit.ensures.next ∙ ap (λ (h : Holding). next_entries h.contents.entries c.args.staged.objects) c.self.view_is)
+    ap (λ (es : List Listed). found_under es key)
+    (c.commit.ensures.next ∙ ap (λ (h : ProjectState). next_entries h.contents.entries c.args.staged.objects)
+    c.self.view_is)
     ∙ found_under-next c.args.self.now.contents c.args.staged.objects key c.requires

@@ -2,26 +2,26 @@ use Rattle.std.proofs.Common.{◌≡◌, ◌∙◌, ℕ, List, ap, sym, subst}
 use Rattle.std.specs.Prelude.{None, Some, Ok, Err, Result, IfOk}
 use Rattle.ldmodel.specs.Edits.{Change, Add, early_refusal, new_object, with_objects}
 use Rattle.ldmodel.specs.Project.{NamedObject, Project}
-use Rattle.ldmodel_project.specs.Holding.{Holding, held}
-use Rattle.ldmodel_project.specs.Listing.{Entry, objects_of}
+use Rattle.ldmodel_project.specs.ProjectState.{ProjectState, held}
+use Rattle.ldmodel_project.specs.Listing.{Listed, objects_of}
 use Rattle.ldmodel_project.proofs.Leading.{stages_objects}
 use Rattle.ldmodel_project.proofs.project.Project.stage_add.Goals as goal
 use Rattle.std.specs.List.{insert}
 use Rattle.elfobj.specs.Object.{ObjectData}
 use Rattle.ldmodel_project.specs.Listing.{Contents}
-use Rattle.ldmodel_project.specs.Staging.{IsTouching}
+use Rattle.ldmodel_project.specs.Staging.{IsEditing}
 use Rattle.ldmodel_project.specs.declared.staged.Staged.{Staged}
 use Rattle.ldmodel.specs.declared.edit.EditRefusal.{EditRefusal}
 
 pub returns-in-Ok-read-clause-staged : goal.returns-in-Ok-read-clause-staged
 returns-in-Ok-read-clause-staged c =
-    let old : Holding = record {
+    let old : ProjectState = record {
       contents = c.self.inside.kept;
       script = c.self.inside.script;
       options =
           c.self.inside.options;
     } in
-    let h : Holding = record {
+    let h : ProjectState = record {
       contents = c.grow_add.new.self;
       script = c.self.inside.script;
       options =
@@ -34,12 +34,13 @@ returns-in-Ok-read-clause-staged c =
     let same : old.contents.entries ≡ h.contents.entries =
     sym (ap (λ (k : Contents). k.entries) c.grow_add.ensures.same.same) in
     let project : held old ≡ held h =
-    ap (λ (es : List Entry). let p : Project =
+    ap (λ (es : List Listed). let p : Project =
     record { objects = objects_of es; script = c.self.inside.script; options = c.self.inside.options } in p) same in
     let early_here : early_refusal (held c.args.self.now) change ≡ None =
     ap (λ (b : List ℕ). early_refusal (held c.args.self.now) (Add c.args.name.now c.args.at b))
     (sym c.deref.ensures.value) ∙ c.in-Ok.ensures.ok in
-    let early_old = subst (λ (x : Holding). early_refusal (held x) change ≡ None) (sym c.self.view_is) early_here in
+    let early_old = subst (λ (x : ProjectState). early_refusal (held x) change ≡ None)
+    (sym c.self.view_is) early_here in
     let early = subst (λ (p : Project). early_refusal p change ≡ None) project early_old in
     let read : o ≡ new_object c.args.name.now c.args.bytes.items =
     ap (λ (d : ObjectData). let x : NamedObject = record { name = c.args.name.now; object = d } in
@@ -47,15 +48,15 @@ returns-in-Ok-read-clause-staged c =
     let made : next ≡ insert (objects_of h.contents.entries) c.args.at (new_object c.args.name.now c.args.bytes.items) =
     ap (λ (x : NamedObject). insert objects c.in-Ok.place x) read
     ∙ (ap (λ (i : ℕ). insert objects i (new_object c.args.name.now c.args.bytes.items)) c.in-Ok.ensures.place.0
-    ∙ ap (λ (es : List Entry). insert (objects_of es) c.args.at
+    ∙ ap (λ (es : List Listed). insert (objects_of es) c.args.at
     (new_object c.args.name.now c.args.bytes.items)) same) in
     stages_objects h change next c.staged.result early (c.in-Ok-read.ensures.ok.0, ap (with_objects (held h)) made)
     (c.staged.ensures.ok h next c.grow_add.ensures.staged)
 
 -- a new object is touched, and stands at its place
-new_stands : (r : Result Staged EditRefusal) (at place : ℕ) → place ≡ at → IfOk r (λ s. IsTouching None s.objects)
+new_stands : (r : Result Staged EditRefusal) (at place : ℕ) → place ≡ at → IfOk r (λ s. IsEditing None s.objects)
     → IfOk r (λ s. s.objects.places.after ≡ Some place)
-    → IfOk r (λ s. IsTouching None s.objects × (s.objects.places.after ≡ Some at))
+    → IfOk r (λ s. IsEditing None s.objects × (s.objects.places.after ≡ Some at))
 new_stands (Ok s) at place e touching after = (touching, after ∙ ap (λ (k : ℕ). Some k) e)
 new_stands (Err r) at place e touching after = touching
 

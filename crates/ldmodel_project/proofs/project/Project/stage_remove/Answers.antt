@@ -2,7 +2,7 @@ use Rattle.std.proofs.Common.{◌≡◌, ℕ, List, ap, sym, subst}
 use Rattle.std.specs.Prelude.{Option, None, Some}
 use Rattle.ldmodel.specs.Edits.{place_of, Change, Remove, early_refusal, removed, with_objects}
 use Rattle.ldmodel.specs.Project.{NamedObject}
-use Rattle.ldmodel_project.specs.Holding.{Holding, Stages, held}
+use Rattle.ldmodel_project.specs.ProjectState.{ProjectState, Stages, held}
 use Rattle.ldmodel_project.specs.Listing.{objects_of}
 use Rattle.ldmodel_project.proofs.Leading.{stages_objects}
 use Rattle.ldmodel_project.proofs.project.Project.stage_remove.Goals as goal
@@ -10,7 +10,7 @@ use Rattle.std.specs.List.{remove}
 
 pub returns-in-Ok-clause-staged : goal.returns-in-Ok-clause-staged
 returns-in-Ok-clause-staged c =
-    let h : Holding = record {
+    let h : ProjectState = record {
       contents = c.self.inside.kept;
       script = c.self.inside.script;
       options =
@@ -18,10 +18,11 @@ returns-in-Ok-clause-staged c =
     } in
     let change : Change = Remove c.args.name.now in
     let next : List NamedObject = remove (objects_of h.contents.entries) c.in-Ok.place in
-    let early = subst (λ (x : Holding). early_refusal (held x) change ≡ None) (sym c.self.view_is) c.in-Ok.ensures.ok in
-    let place = subst (λ (x : Holding). place_of (objects_of x.contents.entries) c.args.name.now
+    let early = subst (λ (x : ProjectState). early_refusal (held x) change ≡ None)
+    (sym c.self.view_is) c.in-Ok.ensures.ok in
+    let place = subst (λ (x : ProjectState). place_of (objects_of x.contents.entries) c.args.name.now
     ≡ Some c.in-Ok.place) (sym c.self.view_is) c.in-Ok.ensures.place in
     let accepts = ap (λ (m : Option ℕ). with_objects (held h) (removed (held h).objects m)) (sym place) in
-    subst (λ (x : Holding). Stages x change c.staged.result) c.self.view_is
+    subst (λ (x : ProjectState). Stages x change c.staged.result) c.self.view_is
     (stages_objects h change next c.staged.result early accepts
     (c.staged.ensures.ok h next c.grow_remove.ensures.staged))

@@ -2,7 +2,7 @@ use Rattle.std.proofs.Common.{◌≡◌, ◌∙◌, ℕ, List, ap, sym, subst}
 use Rattle.std.specs.Prelude.{Option, None, Some, slice_set}
 use Rattle.ldmodel.specs.Edits.{place_of, Change, Replace, early_refusal, new_object, replaced, with_objects}
 use Rattle.ldmodel.specs.Project.{NamedObject}
-use Rattle.ldmodel_project.specs.Holding.{Holding, Stages, held}
+use Rattle.ldmodel_project.specs.ProjectState.{ProjectState, Stages, held}
 use Rattle.ldmodel_project.specs.Listing.{objects_of}
 use Rattle.ldmodel_project.proofs.Leading.{stages_objects}
 use Rattle.ldmodel_project.proofs.project.Project.stage_replace.Goals as goal
@@ -10,7 +10,7 @@ use Rattle.elfobj.specs.Object.{ObjectData}
 
 pub returns-in-Ok-read-clause-staged : goal.returns-in-Ok-read-clause-staged
 returns-in-Ok-read-clause-staged c =
-    let h : Holding = record {
+    let h : ProjectState = record {
       contents = c.self.inside.kept;
       script = c.self.inside.script;
       options =
@@ -23,8 +23,8 @@ returns-in-Ok-read-clause-staged c =
     let early_here : early_refusal (held c.args.self.now) change ≡ None =
     ap (λ (b : List ℕ). early_refusal (held c.args.self.now) (Replace c.args.name.now b)) (sym c.deref.ensures.value)
     ∙ c.in-Ok.ensures.ok in
-    let early = subst (λ (x : Holding). early_refusal (held x) change ≡ None) (sym c.self.view_is) early_here in
-    let place = subst (λ (x : Holding). place_of (objects_of x.contents.entries) c.args.name.now
+    let early = subst (λ (x : ProjectState). early_refusal (held x) change ≡ None) (sym c.self.view_is) early_here in
+    let place = subst (λ (x : ProjectState). place_of (objects_of x.contents.entries) c.args.name.now
     ≡ Some c.in-Ok.place) (sym c.self.view_is) c.in-Ok.ensures.place in
     let read : o ≡ new_object c.args.name.now c.args.bytes.items =
     ap (λ (d : ObjectData). let x : NamedObject = record { name = c.args.name.now; object = d } in
@@ -32,6 +32,6 @@ returns-in-Ok-read-clause-staged c =
     let accepts = ap (λ (x : NamedObject). with_objects (held h) (slice_set objects c.in-Ok.place x)) read
     ∙ ap (λ (m : Option ℕ). with_objects (held h) (replaced objects (new_object c.args.name.now c.args.bytes.items) m))
     (sym place) in
-    subst (λ (x : Holding). Stages x change c.staged.result) c.self.view_is
+    subst (λ (x : ProjectState). Stages x change c.staged.result) c.self.view_is
     (stages_objects h change next c.staged.result early (c.in-Ok-read.ensures.ok.0, accepts)
     (c.staged.ensures.ok h next c.grow_replace.ensures.staged))

@@ -1,5 +1,5 @@
 use Rattle.std.proofs.Common.{◌∙◌, subst, sym}
-use Rattle.ldmodel.specs.Lent.{AreSegments}
+use Rattle.ldmodel.specs.PlacementView.{AreSegments}
 use Rattle.ldmodel.specs.Names.{provided}
 use Rattle.ldmodel.specs.Rows.{rows}
 use Rattle.ldmodel.specs.Segments.{segments}

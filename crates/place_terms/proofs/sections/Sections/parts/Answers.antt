@@ -1,6 +1,6 @@
 use Rattle.std.proofs.Common.{ap, map, sym, ◌∙◌, ◌++◌}
 use Rattle.place_terms.proofs.TakenOver.{starts_parts}
-use Rattle.place_terms.specs.Earlier.{earlier_of}
+use Rattle.place_terms.specs.PreviousLayout.{earlier_of}
 use Rattle.place_terms.specs.Outputs.{Outputs}
 use Rattle.place_terms.specs.SectionTable.{keyed}
 use Rattle.place_terms.specs.Wholes.{starts_in}

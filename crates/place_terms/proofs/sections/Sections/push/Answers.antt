@@ -1,7 +1,7 @@
 use Rattle.std.proofs.Common.{arith}
 use Rattle.std.proofs.lemmas.List.{length-map}
 use Rattle.place_terms.proofs.FoundSections.{both_pushed, next_number, pushed_elsewhere, pushed_in}
-use Rattle.place_terms.specs.Earlier.{earlier_of}
+use Rattle.place_terms.specs.PreviousLayout.{earlier_of}
 use Rattle.place_terms.specs.SectionTable.{both, keyed, keyed_piece}
 use Rattle.place_terms.proofs.sections.Sections.push.Goals as goal
 

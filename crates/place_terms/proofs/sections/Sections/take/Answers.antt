@@ -3,7 +3,7 @@ use Rattle.ldscript.specs.statements.declared.section.OutputSection.{OutputSecti
 use Rattle.ldmodel.specs.Placement.{difference_of}
 use Rattle.place_terms.proofs.FoundSections.{both_taken, next_number, none_there, pushed_elsewhere, pushed_in}
 use Rattle.place_terms.proofs.TakenOver.{commands_more, counted_more, taken_more, with_taken}
-use Rattle.place_terms.specs.Earlier.{earlier_of}
+use Rattle.place_terms.specs.PreviousLayout.{earlier_of}
 use Rattle.place_terms.specs.Keyed.{section_of}
 use Rattle.place_terms.specs.Outputs.{IsOutput}
 use Rattle.place_terms.specs.SectionTable.{both, keyed_taken, nameless, AreSectionsOf, IsKeptAt}

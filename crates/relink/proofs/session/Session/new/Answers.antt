@@ -1,15 +1,16 @@
 use Rattle.std.proofs.Common.{None, true, false}
-use Rattle.ldmodel_project.specs.Holding.{listing_of}
+use Rattle.ldmodel_project.specs.ProjectState.{listing_of}
 use Rattle.relink.proofs.Lending.{ended, none_kept}
-use Rattle.relink.specs.declared.last.Effect.{Effect}
+use Rattle.relink.specs.declared.previous.EditEffect.{EditEffect}
 use Rattle.relink.proofs.session.Session.new.Goals as goal
 
 pub invariant_of-result : goal.invariant_of-result
 invariant_of-result c =
     let l = listing_of c.new-project.result in
-    let e : Effect = record { known = true; gone = None; same_script = true; is_current = false } in
-    let both = ended l None c.new-canvas.result.bytes c.link_first.new.canvas.bytes c.in_ok-followed.followed e None
-    c.end.new.last _ c.end.new.answer c.in_ok-followed.ensures.followed c.end.ensures
+    let e : EditEffect = record { known = true; gone = None; same_script = true; is_current = false } in
+    let both = ended l None c.new-canvas.result.bytes c.link_first.new.canvas.bytes c.in_ok-updated.updated e None
+    c.record_outcome.new.previous _ c.record_outcome.new.outcome c.in_ok-updated.ensures.updated
+    c.record_outcome.ensures
     (none_kept l c.new-canvas.result.bytes None true)
     (λ v by renewed. absurd (let was = by.end.was in let never : ⊥ = cc in never)) in
     (both.0, c.in_ok-kept.ensures, both.1)

@@ -5,7 +5,7 @@ use Rattle.ldmodel_project.specs.Inputs.{shown_inputs}
 use Rattle.ldmodel_project.specs.Listing.{AreKeysDistinct}
 use Rattle.symres_decisions.specs.Decisions.{AreKept}
 use Rattle.symres_decisions.specs.Keyed.{tables_of}
-use Rattle.symres_decisions.specs.declared.keyed.Keyed.{Keyed}
+use Rattle.symres_decisions.specs.declared.keyed_object.KeyedObject.{KeyedObject}
 use Rattle.symres.specs.Entered as entered
 use Rattle.symres.specs.Placed.{keys_of}
 use Rattle.symres.proofs.Entering.{Table, keys_are, places_distinct, seconds}
@@ -16,14 +16,14 @@ of-requires c =
     subst AreKeysDistinct (sym c.deref-2.ensures.value)
     (places_distinct c.args.inputs.now c.in_ok-objects.objects.items c.in_ok-keys.keys.items
     c.in_ok-objects.ensures.tables
-    (c.in_ok-keys.ensures ∙ ap (map (λ (x : Keyed). x.key.0)) c.deref.ensures.value))
+    (c.in_ok-keys.ensures ∙ ap (map (λ (x : KeyedObject). x.key.0)) c.deref.ensures.value))
 
 pub invariant_of-symbol_table : goal.invariant_of-symbol_table
 invariant_of-symbol_table c =
     ap keys_of c.in_ok-decisions.ensures.objects
-    ∙ ap (λ (xs : List Keyed). keys_of (tables_of xs)) c.deref-3.ensures.value
+    ∙ ap (λ (xs : List KeyedObject). keys_of (tables_of xs)) c.deref-3.ensures.value
     ∙ keys_are c.args.inputs.now c.in_ok-objects.objects.items c.in_ok-keys.keys.items
-    (c.in_ok-keys.ensures ∙ ap (map (λ (x : Keyed). x.key.0)) c.deref.ensures.value)
+    (c.in_ok-keys.ensures ∙ ap (map (λ (x : KeyedObject). x.key.0)) c.deref.ensures.value)
     ∙ sym (c.in_ok-order.ensures ∙ c.deref-2.ensures.value)
 
 pub returns-clause-symbol_table : goal.returns-clause-symbol_table

@@ -1,0 +1,52 @@
+use Rattle.std.proofs.Common.{◌∙◌, ap, arith, length, subst, sym, take}
+use Rattle.std.specs.Prelude.{sum_by}
+use Rattle.elfobj.specs.declared.meter.Count.TheVariants.{Bytes}
+use Rattle.emit_fields.specs.Patches.{AreInOrder}
+use Rattle.ldmodel.specs.Counts.{Counts}
+use Rattle.ldmodel.specs.Raised.{raised}
+use Rattle.emit_in_place.specs.Plan.{IsWithin, count_of, written, written_all}
+use Rattle.emit_in_place.proofs.Writing.{IsStep, each_within, more_raised, more_written}
+use Rattle.emit_in_place.proofs.Writing.{one_more}
+use Rattle.emit_in_place.proofs.plan.commit.Goals as goal
+
+pub write_patched-requires-clause-within : goal.write_patched-requires-clause-within
+write_patched-requires-clause-within c =
+    let own : IsWithin (length c.args.canvas.now.bytes) (written c.rewrite-item.result) =
+    each_within (length c.args.canvas.now.bytes) c.args.rewrites.now c.loop-rewrite.rewrite-index c.rewrite-item.result
+    c.loop-rewrite-test.true c.rewrite-item.is c.requires in
+    let end = own.end in
+    let same = c.loop-rewrite.invariant.over.length in
+    omega (arith, end, same)
+
+pub write_patched-requires-clause-order : goal.write_patched-requires-clause-order
+write_patched-requires-clause-order c =
+    let own : IsWithin (length c.args.canvas.now.bytes) (written c.rewrite-item.result) =
+    each_within (length c.args.canvas.now.bytes) c.args.rewrites.now c.loop-rewrite.rewrite-index c.rewrite-item.result
+    c.loop-rewrite-test.true c.rewrite-item.is c.requires in
+    subst (AreInOrder 0 (length c.rewrite-item.result.bytes.now)) (sym c.deref.ensures.value) own.order
+
+pub loop-rewrite-preserved : goal.loop-rewrite-preserved
+loop-rewrite-preserved c =
+    let w = c.write_patched.ensures in
+    let list = one_more c.args.rewrites.now c.loop-rewrite.rewrite-index c.rewrite-item.result
+    c.loop-rewrite-test.true c.rewrite-item.is in
+    let step : IsStep (written c.rewrite-item.result) c.loop-rewrite.canvas.bytes c.write_patched.new.canvas.bytes =
+    record {
+      own = rw c.deref.ensures.value at w.written;
+      before = w.before;
+      after = w.after;
+      length = w.len;
+    } in
+    record {
+      over = rw list
+          (more_written _ (written c.rewrite-item.result) c.args.canvas.now.bytes c.loop-rewrite.canvas.bytes
+          c.write_patched.new.canvas.bytes c.loop-rewrite.invariant.over step);
+      room = w.room ∙ c.loop-rewrite.invariant.room;
+      counted =
+          w.counted
+          ∙ ap (λ (m : Counts). raised m Bytes (length c.rewrite-item.result.bytes.now))
+          c.loop-rewrite.invariant.counted
+          ∙ more_raised c.args.meter.now
+          (written_all (take c.loop-rewrite.rewrite-index c.args.rewrites.now)) (written c.rewrite-item.result)
+          ∙ ap (λ ws. raised c.args.meter.now Bytes (sum_by count_of ws)) (sym list);
+    }

@@ -1,0 +1,33 @@
+-- Two links of which one object differs in the bytes and the relocations of its sections alone, at one layout.
+use Rattle.std.specs.Prelude.{◌≡◌, ◌+◌, ◌≤◌, ◌<◌, ◌⊎◌, ℕ, [], Some, slice_get}
+use Rattle.std.specs.List.{All}
+use Rattle.elfobj.specs.Sections.{LinkedSection}
+use Rattle.elfobj.specs.declared.section.SectionKind.TheVariants.{Nobits}
+use Rattle.ldmodel.specs.Each.{Each}
+use Rattle.ldmodel.specs.Edits.{AreNamesDistinct}
+use Rattle.ldmodel.specs.Project.{NamedObject, Project}
+use Rattle.ldmodel.specs.Stayed.{FileRange}
+use Rattle.ldmodel.specs.declared.names.ObjectPlace.{ObjectPlace}
+use Rattle.ldmodel_laws.specs.ImageBytes.{AreNamed}
+use Rattle.ldmodel_laws.specs.Outline.{HasSameFrame, DiffersInContents}
+use Rattle.ldmodel_laws.specs.Spread.{IsSpread}
+use Rattle.emit_relocate.specs.KnownLink.{KnownLink, named_object}
+
+-- an offset of the file is outside of a range
+abbrev pub IsOutside : ℕ → FileRange → Type 0
+IsOutside at r = (at < r.offset) ⊎ (r.offset + r.length ≤ at)
+
+-- a NOBITS section has no bytes of its own and no relocations
+pub record IsBare (x : LinkedSection) : Type 0 where
+  pub bytes : x.kind ≡ Nobits → x.bytes ≡ []
+  pub relocations : x.kind ≡ Nobits → x.relocations ≡ []
+
+-- the link comes of one of another project, at the same layout, by what the sections of the object of a key hold
+pub record IsInPlaceRewrite (old : Project) (l : KnownLink) (key : ObjectPlace) (o : NamedObject) : Type 0 where
+  pub retouched : DiffersInContents old l.project (l.number key.0)
+  pub frame : HasSameFrame old l.project l.layout
+  pub object_is : named_object l key ≡ Some o
+  pub names : AreNamesDistinct l.project.objects
+  pub spread : Each IsSpread l.layout.sections
+  pub named : AreNamed l.layout.sections
+  pub bare : (a : NamedObject) → slice_get old.objects (l.number key.0) ≡ Some a → All IsBare a.object.sections

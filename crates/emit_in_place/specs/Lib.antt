@@ -1,0 +1,3 @@
+pub mod LocatedSections
+pub mod InPlaceRewrites
+pub mod Plan

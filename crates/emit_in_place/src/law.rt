@@ -1,0 +1,35 @@
+//! Laws of two links of which one object differs in the bytes and the relocations of its sections alone.
+
+ghost use Rattle.std.specs.Prelude.{◌≡◌, ℕ, Contains, None, Some, [], slice_get};
+ghost use Rattle.std.specs.Result.{result_err};
+ghost use Rattle.ldmodel.specs.Each.{Each};
+ghost use Rattle.ldmodel.specs.Image.{byte_at};
+ghost use Rattle.ldmodel.specs.Layout.{Layout};
+ghost use Rattle.ldmodel.specs.Project.{NamedObject, Project};
+ghost use Rattle.ldmodel.specs.Relocations.{Site, relocation_faults, site_field};
+ghost use Rattle.ldmodel.specs.SectionHeaders.{image_length};
+ghost use Rattle.ldmodel.specs.Stayed.{LinkedPiece, linked_pieces};
+ghost use Rattle.ldmodel_laws.specs.ImageBytes.{AreNamed};
+ghost use Rattle.ldmodel_laws.specs.Outline.{HasSameFrame, DiffersInContents};
+ghost use Rattle.ldmodel_laws.specs.Spread.{IsSpread};
+ghost use Rattle.emit_in_place.specs.InPlaceRewrites.{IsOutside};
+ghost use Rattle.emit_in_place.specs.LocatedSections.{sites_of};
+
+/// The images have the same length, and the same byte at each offset that no input section of the object covers.
+/// Nothing meets in output sections, and these have different names.
+pub fn rewritten_image()
+    ensures byte { (p q : Project) (s : Layout) (i : ℕ) (b : NamedObject) → DiffersInContents p q i → HasSameFrame p q s
+        → Each IsSpread s.sections → AreNamed s.sections → slice_get q.objects i ≡ Some b → (at : ℕ)
+        → ((x : LinkedPiece) → Contains (linked_pieces q s) x → x.object ≡ b.name → IsOutside at x.range)
+        → byte_at p s at ≡ byte_at q s at }
+    ensures length { (p q : Project) (s : Layout) → HasSameFrame p q s → image_length p s ≡ image_length q s }
+{}
+
+/// Where the first link has no faults of relocation, and each site of the object in the second has a field, neither has
+/// the second.
+pub fn rewritten_faults()
+    ensures { (p q : Project) (s : Layout) (i : ℕ) (b : NamedObject) → DiffersInContents p q i → HasSameFrame p q s
+        → slice_get q.objects i ≡ Some b → relocation_faults p s ≡ []
+        → ((t : Site) → Contains (sites_of s b) t → result_err (site_field q s t) ≡ None)
+        → relocation_faults q s ≡ [] }
+{}

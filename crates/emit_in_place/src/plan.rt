@@ -1,0 +1,238 @@
+//! What is written of each section of an object: its bytes, with its fields in them.
+
+ghost use Rattle.std.specs.Prelude.{◌≡◌, ◌+◌, ◌<◌, ◌^◌, ◌⊎◌, ℕ, All, IfNone, IfOk, IfSome, Some, length};
+ghost use Rattle.std.specs.Prelude.{false, slice_get, sum_by, true};
+ghost use Rattle.std.specs.List.{AllZip};
+ghost use Rattle.elfobj.specs.Raised.{raised};
+ghost use Rattle.elfobj.specs.Sections.{LinkedSection};
+ghost use Rattle.elfobj.specs.declared.meter.Count.TheVariants.{Bytes, Fields};
+ghost use Rattle.elfobj.specs.declared.section.SectionKind.TheVariants.{Nobits};
+ghost use Rattle.emit_fields.specs.Patches.{AreInOrder};
+ghost use Rattle.ldmodel.specs.Project.{NamedObject};
+ghost use Rattle.ldmodel.specs.Relocations.{sites_at};
+ghost use Rattle.emit_relocate.specs.Fields.{evaluations};
+ghost use Rattle.emit_relocate.specs.KnownLink.{KnownLink};
+ghost use Rattle.emit_in_place.specs.Plan.{AreWritten, CanStand, HasBytes, IsAtHand, IsFaultlessRun, IsInFile};
+ghost use Rattle.emit_in_place.specs.Plan.{IsPlanned, IsPlannedAt, IsRefused, IsWithin, count_of, sites_in_all};
+ghost use Rattle.emit_in_place.specs.Plan.{sites_there, written, written_all};
+
+use crate::located_section::LocatedSection;
+use elfobj::Object;
+use elfobj::section::{LinkedIndex, SectionKind};
+use emit_fields::canvas::Canvas;
+use emit_fields::patch::{Patch, write_patched};
+use emit_relocate::fields::add_fields;
+use emit_relocate::previous_link_info::FileRange;
+use emit_relocate::site::PlacedInput;
+use emit_relocate::value::SymbolValue;
+use ldmodel::impossible::impossible;
+use ldmodel::memory::NoMemory;
+use ldmodel::meter::Meter;
+use ldmodel::names::ObjectPlace;
+use std::alloc::Global;
+
+/// The bytes of a section, where they begin in the file, and the fields that lie in them.
+#[derive(Drop)]
+pub struct Rewrite<'a> {
+    /// Where they begin.
+    pub at: usize,
+    /// The bytes of the section itself.
+    pub bytes: &'a [u8],
+    /// Its fields, in the order of their offsets.
+    pub fields: Vec<Patch>,
+}
+
+/// Whether nothing is written of a section of this kind, which has no bytes in this range of the file.
+fn is_empty(kind: SectionKind, range: FileRange) -> bool
+    ensures empty { result ≡ true → (range.length ≡ 0) ⊎ (kind ≡ Nobits) }
+    ensures some { result ≡ false → HasBytes kind range }
+{
+    range.length == 0 || matches!(kind, SectionKind::Nobits)
+}
+
+/// Whether these are as many bytes as a range of the file has, and the range ends at a limit at the latest; or nothing
+/// is written of a section of this kind there.
+fn fits(kind: SectionKind, bytes: &[u8], range: FileRange, limit: usize) -> bool
+    ensures { result ≡ true → HasBytes kind range → IsInFile limit bytes.now range }
+{
+    if is_empty(kind, range) {
+        return true;
+    }
+    let length = bytes.len();
+    range.length == length as u64 && length <= limit && range.offset as usize <= limit - length
+}
+
+/// Whether a spot is that of a section of an object, which ends in the address space there, and of which all bytes that
+/// it has in the file lie below a limit. The time is constant.
+fn can_stand(object: &Object, limit: usize, spot: LocatedSection) -> bool
+    ensures { result ≡ true → CanStand object.now limit spot }
+{
+    if spot.index.0 >= object.sections().len() {
+        return false;
+    }
+    let section = object.sections()[spot.index.0];
+    let bytes = object.section_bytes(spot.index);
+    section.size <= u64::MAX - spot.start && fits(section.kind, bytes, spot.range, limit)
+}
+
+/// Whether fields lie one after another, and end at a limit at the latest.
+fn are_in_order(fields: &[Patch], limit: usize) -> bool
+    ensures { result ≡ true → AreInOrder 0 limit fields.now }
+{
+    let mut end: usize = 0;
+    for patch in fields {
+        if patch.offset < end {
+            return false;
+        }
+        match patch.offset.checked_add(patch.field.bytes().len()) {
+            None => return false,
+            Some(next) => end = next,
+        }
+    }
+    end <= limit
+}
+
+/// The fields of a section of an object that starts at an address; none where, and only where, a relocation has a
+/// fault.
+fn fields_of(
+    alloc: Global,
+    key: ObjectPlace,
+    object: &Object,
+    values: &[SymbolValue],
+    index: LinkedIndex,
+    start: u64,
+    meter: &mut Meter,
+) -> Result<Option<Vec<Patch>>, NoMemory>
+    requires index { index.0 < length object.now.sections }
+    requires end { (x : LinkedSection) → slice_get object.now.sections index.0 ≡ Some x → start + x.size < 2 ^ 64 }
+    ensures some { IfOk result (λ r. IfSome r (λ run. (l : KnownLink) (o : NamedObject) (x : LinkedSection)
+        → IsAtHand l key object.now values.now o → slice_get o.object.sections index.0 ≡ Some x
+        → IsFaultlessRun l o x start run.items
+        × (meter.new ≡ raised meter.old Fields (evaluations l (sites_at o x start))))) }
+    ensures none { IfOk result (λ r. IfNone r ((l : KnownLink) (o : NamedObject) (x : LinkedSection)
+        → IsAtHand l key object.now values.now o → slice_get o.object.sections index.0 ≡ Some x
+        → IsRefused l (sites_at o x start) meter.old meter.new)) }
+{
+    // so that the range of the count is known
+    let _fields = meter.fields();
+    let section = PlacedInput::new(key, object, index, start, values);
+    let mut fields = Vec::new(alloc);
+    let mut faults = Vec::new(alloc);
+    add_fields(alloc, &section, &mut fields, &mut faults, meter)?;
+    if faults.is_empty() {
+        Ok(Some(fields))
+    } else {
+        Ok(None)
+    }
+}
+
+/// What is written of a section of this kind with these bytes and fields.
+fn rewrite_of<'a>(
+    alloc: Global,
+    kind: SectionKind,
+    bytes: &'a [u8],
+    fields: Vec<Patch>,
+    range: FileRange,
+    limit: usize,
+) -> Result<Rewrite<'a>, NoMemory>
+    requires { HasBytes kind range → IsInFile limit bytes.now range }
+    ensures within { IfOk result (λ w. IsWithin limit (written w)) }
+    ensures planned { IfOk result (λ w. IsPlanned kind bytes.now range fields.items (written w)) }
+{
+    if is_empty(kind, range) {
+        return Ok(Rewrite {
+            at: 0,
+            bytes: &[],
+            fields: Vec::new(alloc),
+        });
+    }
+    let at = range.offset as usize;
+    if !are_in_order(&fields, bytes.len()) {
+        // No fields of a section meet, and each ends within the section's bytes; but `add_fields` says so only where
+        // the symbols have their values in a link
+        return Err(impossible());
+    }
+    Ok(Rewrite { at, bytes, fields })
+}
+
+/// What is written of a section of an object; none where, and only where, a relocation has a fault.
+fn plan_section<'a>(
+    alloc: Global,
+    limit: usize,
+    key: ObjectPlace,
+    object: &'a Object,
+    values: &[SymbolValue],
+    spot: LocatedSection,
+    meter: &mut Meter,
+) -> Result<Option<Rewrite<'a>>, NoMemory>
+    ensures within { IfOk result (λ r. IfSome r (λ w. IsWithin limit (written w))) }
+    ensures planned { IfOk result (λ r. IfSome r (λ w. (l : KnownLink) (o : NamedObject)
+        → IsAtHand l key object.now values.now o → IsPlannedAt l o spot (written w)
+        × (meter.new ≡ raised meter.old Fields (evaluations l (sites_there o spot))))) }
+    ensures none { IfOk result (λ r. IfNone r ((l : KnownLink) (o : NamedObject)
+        → IsAtHand l key object.now values.now o → IsRefused l (sites_there o spot) meter.old meter.new)) }
+{
+    // so that the range of the count is known
+    let _fields = meter.fields();
+    if !can_stand(object, limit, spot) {
+        // No link has such a spot. Nothing says so of any list of spots, so `retouch` refuses it
+        return Err(impossible());
+    }
+    let kind = object.sections()[spot.index.0].kind;
+    let bytes = object.section_bytes(spot.index);
+    match fields_of(alloc, key, object, values, spot.index, spot.start, meter)? {
+        None => Ok(None),
+        Some(fields) => {
+            let rewrite = rewrite_of(alloc, kind, bytes, fields, spot.range, limit)?;
+            Ok(Some(rewrite))
+        }
+    }
+}
+
+/// What is written of the sections of an object, onto a canvas of this length; none where, and only where, a relocation
+/// has a fault. Each relocation whose symbol has a value counts as one.
+///
+/// # Errors
+///
+/// Where memory runs out.
+pub(crate) fn plan<'a>(
+    alloc: Global,
+    limit: usize,
+    key: ObjectPlace,
+    object: &'a Object,
+    values: &[SymbolValue],
+    located: &[LocatedSection],
+    meter: &mut Meter,
+) -> Result<Option<Vec<Rewrite<'a>>>, NoMemory>
+    ensures within { IfOk result (λ r. IfSome r (λ ws. All (IsWithin limit) (written_all ws.items))) }
+    ensures planned { IfOk result (λ r. IfSome r (λ ws. (l : KnownLink) (o : NamedObject)
+        → IsAtHand l key object.now values.now o → AllZip (IsPlannedAt l o) located.now (written_all ws.items)
+        × (meter.new ≡ raised meter.old Fields (evaluations l (sites_in_all o located.now))))) }
+    ensures none { IfOk result (λ r. IfNone r ((l : KnownLink) (o : NamedObject)
+        → IsAtHand l key object.now values.now o → IsRefused l (sites_in_all o located.now) meter.old meter.new)) }
+{
+    // so that the range of the count is known
+    let _fields = meter.fields();
+    let mut rewrites = Vec::with_capacity(alloc, located.len())?;
+    for spot in located {
+        match plan_section(alloc, limit, key, object, values, *spot, meter)? {
+            None => return Ok(None),
+            Some(rewrite) => rewrites.push(rewrite)?,
+        }
+    }
+    Ok(Some(rewrites))
+}
+
+/// Writes what was planned, each byte once. It takes no memory.
+pub(crate) fn commit(canvas: &mut Canvas, rewrites: &[Rewrite<'_>], meter: &mut Meter)
+    requires { All (IsWithin (length canvas.old.bytes)) (written_all rewrites.now) }
+    ensures written { AreWritten (written_all rewrites.now) canvas.old.bytes canvas.new.bytes }
+    ensures room { canvas.new.room ≡ canvas.old.room }
+    ensures counted { meter.new ≡ raised meter.old Bytes (sum_by count_of (written_all rewrites.now)) }
+{
+    // so that the range of the count is known
+    let _bytes = meter.bytes();
+    for rewrite in rewrites {
+        write_patched(canvas, rewrite.at, rewrite.bytes, &rewrite.fields, meter);
+    }
+}

@@ -1,0 +1,78 @@
+//! Writing the sections of an object anew.
+
+ghost use Rattle.std.specs.Prelude.{◌≡◌, ℕ, IfOk, OnErr, [], sum_by, true, false};
+ghost use Rattle.elfobj.specs.Raised.{raised};
+ghost use Rattle.elfobj.specs.declared.meter.Count.TheVariants.{Bytes, Fields};
+ghost use Rattle.ldmodel.specs.Image.{image};
+ghost use Rattle.ldmodel.specs.Project.{NamedObject, Project};
+ghost use Rattle.ldmodel.specs.Relocations.{relocation_faults};
+ghost use Rattle.emit_relocate.specs.Fields.{evaluations};
+ghost use Rattle.emit_relocate.specs.KnownLink.{KnownLink, named_object};
+ghost use Rattle.emit_relocate.specs.SymbolValues.{IsRow};
+ghost use Rattle.emit_in_place.specs.InPlaceRewrites.{IsInPlaceRewrite};
+ghost use Rattle.emit_in_place.specs.LocatedSections.{HasLocatedSections, bytes_of, sites_of};
+
+use crate::located_section::{LocatedSection, nobits_are_bare, numbers_differ};
+use crate::plan::{commit, plan};
+use elfobj::Object;
+use emit_fields::canvas::Canvas;
+use emit_relocate::value::SymbolValue;
+use ldmodel::memory::NoMemory;
+use ldmodel::meter::Meter;
+use ldmodel::names::ObjectPlace;
+use std::alloc::Global;
+
+/// Writes the input sections of an object anew, onto a canvas that holds the image of a link in which they held
+/// something else. `values` are the values of the object's symbols, and `located` has each section that is in the
+/// output. Answers whether it did: not where, and only where, a relocation has a fault. Then the canvas is as it was.
+///
+/// Each relocation whose symbol has a value counts as one, and each byte of a section that has bytes in the file.
+///
+/// # Errors
+///
+/// Where memory runs out; spots that no link has, as one past the end of the image, count as that. Then the canvas is
+/// as it was.
+pub fn rewrite_in_place(
+    alloc: Global,
+    canvas: &mut Canvas,
+    key: ObjectPlace,
+    object: &Object,
+    values: &[SymbolValue],
+    located: &[LocatedSection],
+    meter: &mut Meter,
+) -> Result<bool, NoMemory>
+    ensures image { IfOk result (λ done. done ≡ true → (old : Project) (l : KnownLink) (o : NamedObject)
+        → IsInPlaceRewrite old l key o → o.object ≡ object.now → IsRow l o values.now
+        → HasLocatedSections l.project l.layout o located.now → canvas.old.bytes ≡ image old l.layout
+        → canvas.new.bytes ≡ image l.project l.layout) }
+    ensures faultless { IfOk result (λ done. done ≡ true → (old : Project) (l : KnownLink) (o : NamedObject)
+        → IsInPlaceRewrite old l key o → o.object ≡ object.now → IsRow l o values.now
+        → HasLocatedSections l.project l.layout o located.now → relocation_faults old l.layout ≡ []
+        → relocation_faults l.project l.layout ≡ []) }
+    ensures counted { IfOk result (λ done. done ≡ true → (l : KnownLink) (o : NamedObject)
+        → named_object l key ≡ Some o → o.object ≡ object.now → IsRow l o values.now
+        → HasLocatedSections l.project l.layout o located.now
+        → meter.new ≡ raised (raised meter.old Fields (evaluations l (sites_of l.layout o))) Bytes
+        (sum_by (bytes_of object.now) located.now)) }
+    ensures counted_refused { IfOk result (λ done. done ≡ false → (l : KnownLink) (o : NamedObject)
+        → named_object l key ≡ Some o → o.object ≡ object.now → IsRow l o values.now
+        → HasLocatedSections l.project l.layout o located.now → (n : ℕ) × (meter.new ≡ raised meter.old Fields n)) }
+    ensures refused_faulty { IfOk result (λ done. done ≡ false → (l : KnownLink) (o : NamedObject)
+        → named_object l key ≡ Some o → o.object ≡ object.now → IsRow l o values.now
+        → HasLocatedSections l.project l.layout o located.now → relocation_faults l.project l.layout ≡ [] → ⊥) }
+    ensures refused { IfOk result (λ done. done ≡ false → canvas.new.bytes ≡ canvas.old.bytes) }
+    ensures unchanged { OnErr result (canvas.new.bytes ≡ canvas.old.bytes) }
+    ensures room { canvas.new.room ≡ canvas.old.room }
+{
+    // so that the range of the count is known
+    let _fields = meter.fields();
+    nobits_are_bare(object);
+    numbers_differ(object);
+    match plan(alloc, canvas.len(), key, object, values, located, meter)? {
+        None => Ok(false),
+        Some(plan) => {
+            commit(canvas, &plan, meter);
+            Ok(true)
+        }
+    }
+}

@@ -1,0 +1,61 @@
+-- What is known of an previous link beside a new one.
+use Rattle.std.specs.Prelude.{◌≡◌, Option, None, Some, Contains, IsSome, Bool, true, false, not, ◌==◌}
+use Rattle.ldmodel.specs.Relocations.{Site, site_value}
+use Rattle.ldmodel.specs.Stayed as model
+use Rattle.ldmodel.specs.Stayed.{GoodLink, LinkedPiece, has_stayed, link_pieces}
+use Rattle.ldmodel.specs.SymbolValues.{SymbolValue, Number, NotDefined, NotInOutput}
+use Rattle.ldmodel.specs.declared.names.ObjectPlace.{ObjectPlace}
+use Rattle.ldmodel.specs.declared.sections.Part.{Part}
+use Rattle.ldmodel.specs.declared.sections.SectionKey.{SectionKey}
+use Rattle.emit_relocate.specs.KnownLink.{KnownLink, name_of_object, named_object}
+use Rattle.emit_relocate.specs.declared.previous_link_info.FileRange.{FileRange}
+
+-- the link without what keys stand for
+abbrev pub good_link : KnownLink → GoodLink
+good_link l = record { project = l.project; layout = l.layout }
+
+-- an input section in the output, by its key
+pub record IsPieceOf (l : KnownLink) (key : SectionKey) (x : LinkedPiece) : Type 0 where
+  pub among : Contains (link_pieces (good_link l)) x
+  pub object_is : x.object ≡ name_of_object l key.object
+  pub part_is : x.part ≡ key.part
+
+abbrev pub range_of : FileRange → model.FileRange
+range_of r = record { offset = r.offset; length = r.length }
+
+-- the input section of a key stayed, with its bytes in this range of the file
+abbrev pub HasStayedAt : GoodLink → KnownLink → SectionKey → FileRange → Type 0
+HasStayedAt old l key r =
+    (x : LinkedPiece) → IsPieceOf l key x → (has_stayed old x ≡ true) × (x.range ≡ range_of r)
+
+-- some section of an object is known to have stayed
+abbrev pub IsKept : (SectionKey → Option FileRange) → ObjectPlace → Type 0
+IsKept range key = (part : Part) × IsSome (range (record { object = key; part = part }))
+
+-- no symbol that a relocation of the object could name has another value
+abbrev pub HasSameValues : GoodLink → KnownLink → ObjectPlace → Type 0
+HasSameValues old l key =
+    (t : Site) → named_object l key ≡ Some t.object
+    → site_value old.project old.layout t ≡ site_value l.project l.layout t
+
+-- each section that stayed is known to have stayed
+abbrev pub IsComplete : (SectionKey → Option FileRange) → GoodLink → KnownLink → Type 0
+IsComplete range old l =
+    (key : SectionKey) (x : LinkedPiece) → range key ≡ None → IsPieceOf l key x → has_stayed old x ≡ false
+
+-- values of symbols are the same; they are compared as what they are, since 0 stands for many things
+abbrev pub is_same_value : SymbolValue → SymbolValue → Bool
+is_same_value (Number a) (Number b) = a == b
+is_same_value (Number a) NotDefined = false
+is_same_value (Number a) NotInOutput = false
+is_same_value NotDefined (Number b) = false
+is_same_value NotDefined NotDefined = true
+is_same_value NotDefined NotInOutput = false
+is_same_value NotInOutput (Number b) = false
+is_same_value NotInOutput NotDefined = false
+is_same_value NotInOutput NotInOutput = true
+
+-- the site's symbol has another value
+abbrev pub has_moved : GoodLink → KnownLink → Site → Bool
+has_moved old l t =
+    not (is_same_value (site_value old.project old.layout t) (site_value l.project l.layout t))

@@ -1,0 +1,88 @@
+//! What a linker knows of an previous link when it evaluates relocations of a new one.
+
+ghost use Rattle.std.specs.Prelude.{◌≡◌, Option, IfSome, None, false};
+ghost use Rattle.elfobj.specs.Symbols.{NamedSymbol};
+ghost use Rattle.ldmodel.specs.Project.{NamedObject};
+ghost use Rattle.ldmodel.specs.Stayed.{GoodLink};
+ghost use Rattle.ldmodel.specs.Targets.{referenced_value};
+ghost use Rattle.ldmodel.specs.declared.sections.SectionKey.{SectionKey};
+ghost use Rattle.emit_relocate.specs.PreviousLinkInfo.{HasSameValues, HasStayedAt, IsKept};
+ghost use Rattle.emit_relocate.specs.KnownLink.{IsSymbolOf, KnownLink};
+ghost use Rattle.emit_relocate.specs.Values.{value_of};
+ghost use Rattle.emit_relocate.specs.declared.previous_link_info.FileRange.{FileRange};
+
+use crate::value::SymbolValue;
+use elfobj::Symbol;
+use elfobj::relocation::SymbolIndex;
+use ldmodel::names::ObjectPlace;
+use ldmodel::sections::SectionKey;
+
+/// Bytes of a file.
+#[derive(Clone, Copy, Debug, PartialEq, Eq)]
+pub struct FileRange {
+    /// Where they begin.
+    pub offset: u64,
+    /// How many there are.
+    pub length: u64,
+}
+
+/// What a linker knows of an previous link beside a new one: which input sections of the new one stayed where they
+/// were, and what symbols were worth. The keys are keys of the new link. What is said of two links holds of each two
+/// links that these may be.
+pub trait PreviousLinkInfo {
+    /// The links that these may be: the earlier one, and the new one with what its keys stand for.
+    ghost knows: { Self → GoodLink → KnownLink → Type 0 };
+
+    /// Which input sections stayed, as far as is known, and where their bytes stand in the file.
+    ghost range: { Self → SectionKey → Option FileRange };
+
+    /// Whether there is no previous link, so that no section stayed. It is asked before memory is reserved, and nothing
+    /// else rests on it.
+    fn is_none(&self) -> bool;
+
+    /// Where the bytes of an input section stand in the file, if it stayed there: no bytes, where its output section
+    /// has none. Nothing is said of a section that is not in the output.
+    fn stayed(&self, section: SectionKey) -> Option<FileRange>
+        ensures range { result ≡ range self.now section }
+        ensures stayed { (old : GoodLink) (l : KnownLink) → knows self.now old l
+            → IfSome result (HasStayedAt old l section) };
+
+    /// Whether a symbol of an object of which a section stayed may have another value than in the previous link. Where
+    /// the answer is no, none has.
+    fn is_dirty(&self, object: ObjectPlace) -> bool
+        ensures { (old : GoodLink) (l : KnownLink) → knows self.now old l → IsKept (range self.now) object
+            → result ≡ false → HasSameValues old l object };
+
+    /// What a symbol of an object of which a section stayed was worth to a relocation of its object.
+    fn value(&self, object: ObjectPlace, index: SymbolIndex, symbol: &Symbol) -> SymbolValue
+        ensures { (old : GoodLink) (l : KnownLink) (o : NamedObject) (x : NamedSymbol) → knows self.now old l
+            → IsKept (range self.now) object → IsSymbolOf l object index symbol.now o x
+            → value_of result ≡ referenced_value old.project old.layout o x };
+}
+
+/// No previous link: nothing stayed.
+#[derive(Clone, Copy, Debug)]
+pub struct NoPreviousLink;
+
+impl PreviousLinkInfo for NoPreviousLink {
+    // what it says, that nothing is known to have stayed, is true of any two links
+    ghost knows = { λ _ _ _. Unit {0} };
+
+    ghost range = { λ _ _. None };
+
+    fn is_none(&self) -> bool {
+        true
+    }
+
+    fn stayed(&self, _section: SectionKey) -> Option<FileRange> {
+        None
+    }
+
+    fn is_dirty(&self, _object: ObjectPlace) -> bool {
+        false
+    }
+
+    fn value(&self, _object: ObjectPlace, _index: SymbolIndex, _symbol: &Symbol) -> SymbolValue {
+        SymbolValue::NotDefined
+    }
+}

@@ -1,0 +1,187 @@
+//! Relocations of input sections that stayed: the fields, in their places in the file, of those whose symbol has
+//! another value than in the previous link.
+
+ghost use Rattle.std.specs.Prelude.{◌≡◌, ◌++◌, ◌+◌, ◌<◌, ◌^◌, All, OnOk, Some, [], ◌∷◌, nat_le, option_to_list};
+ghost use Rattle.std.specs.Prelude.{slice_get};
+ghost use Rattle.elfobj.specs.declared.relocation.Relocation.{Relocation as RelocationOf};
+ghost use Rattle.emit_fields.specs.Patches.{patch_end};
+ghost use Rattle.ldmodel.specs.Stayed.{GoodLink};
+ghost use Rattle.emit_relocate.specs.Changes.{IsFiled, IsMoved, in_file};
+ghost use Rattle.emit_relocate.specs.PreviousLinkInfo.{has_moved, is_same_value};
+ghost use Rattle.emit_relocate.specs.Filled.{ObjectSection};
+ghost use Rattle.emit_relocate.specs.KnownLink.{KnownLink};
+ghost use Rattle.emit_relocate.specs.Links.{IsStayedAt, site_at_hand, sites_at_hand};
+ghost use Rattle.emit_relocate.specs.Sites.{IsPlaced};
+ghost use Rattle.emit_relocate.specs.Values.{value_of};
+
+use crate::fields::add_sites;
+use crate::previous_link_info::{FileRange, PreviousLinkInfo};
+use crate::site::{PlacedInput, is_evaluated, site_value};
+use crate::value::SymbolValue;
+use elfobj::relocation::{Relocation, SymbolIndex};
+use emit_fields::patch::Patch;
+use ldmodel::fault::Fault;
+use ldmodel::impossible::impossible;
+use ldmodel::memory::NoMemory;
+use ldmodel::meter::Meter;
+use std::slice::from_ref;
+
+/// Whether two symbols have the same value. A number is the same as no missing value.
+fn is_same_value(one: SymbolValue, other: SymbolValue) -> bool
+    ensures { result ≡ is_same_value (value_of one) (value_of other) }
+{
+    match (one, other) {
+        (SymbolValue::Number(a), SymbolValue::Number(b)) => a == b,
+        (SymbolValue::NotDefined, SymbolValue::NotDefined) => true,
+        (SymbolValue::NotInOutput, SymbolValue::NotInOutput) => true,
+        _ => false,
+    }
+}
+
+/// Whether a field of a section ends within the section's bytes in the file.
+fn is_within(range: FileRange, field: &Patch) -> bool
+    ensures { result ≡ nat_le (patch_end field.now) range.length }
+{
+    let offset = field.offset as u64;
+    let length = field.field.bytes().len() as u64;
+    offset <= range.length && length <= range.length - offset
+}
+
+/// Adds a field of a section in its place in the file, if it lies within the section's bytes there. Fails where memory
+/// runs out; a place past 2^64 counts as that.
+fn add_in_file(range: FileRange, field: Patch, patches: &mut Vec<Patch>) -> Result<(), NoMemory>
+    ensures { OnOk result (patches.new.items ≡ patches.old.items ++ option_to_list (in_file range field)) }
+{
+    if !is_within(range, &field) {
+        return Ok(());
+    }
+    let Some(offset) = range.offset.checked_add(field.offset as u64) else {
+        // No file is longer than 2^64 bytes
+        return Err(impossible());
+    };
+    patches.push(Patch {
+        offset: offset as usize,
+        field: field.field,
+    })?;
+    Ok(())
+}
+
+/// A section that stayed, with what tells the values that its relocations' symbols had.
+#[derive_where(Clone, Copy)]
+pub struct StayedSection<'a, E> {
+    /// The previous link.
+    pub earlier: &'a E,
+    /// The section in its place.
+    pub section: PlacedInput<'a>,
+    /// Where its bytes stand in the file.
+    pub range: FileRange,
+}
+
+impl<'a, E: PreviousLinkInfo> StayedSection<'a, E> {
+    /// Whether the symbol that a relocation of the section names has another value than it had.
+    fn has_moved(&self, symbol: SymbolIndex) -> bool
+        ensures { (old : GoodLink) (l : KnownLink) (s : ObjectSection) (r : RelocationOf)
+            → IsStayedAt E.knows E.range self.now old l s → r.symbol ≡ symbol
+            → result ≡ has_moved old l (site_at_hand self.now.section s r) }
+    {
+        match self.section.symbols.get(symbol.0 as usize) {
+            None => false,
+            Some(entry) => {
+                let before = self.earlier.value(self.section.object, symbol, entry);
+                !is_same_value(before, site_value(&self.section, symbol))
+            }
+        }
+    }
+
+    /// Evaluates the relocation of number `entry`: adds its field in its place in the file, or its fault.
+    #[inline(never)]
+    fn add_site_in_file(
+        &self,
+        entry: usize,
+        relocation: &Relocation,
+        patches: &mut Vec<Patch>,
+        faults: &mut Vec<Fault>,
+        meter: &mut Meter,
+    ) -> Result<(), NoMemory>
+        requires entry_is { slice_get self.now.section.relocations.now entry ≡ Some relocation.now }
+        requires below { self.now.section.start + relocation.now.offset < 2 ^ 64 }
+        ensures { OnOk result ((l : KnownLink) (s : ObjectSection) → IsPlaced l self.now.section s.object s.section
+            → IsFiled l self.now.range (sites_at_hand self.now.section s (relocation.now ∷ []))
+            patches.old.items patches.new.items faults.old.items faults.new.items meter.old meter.new) }
+    {
+        let before = patches.len();
+        let relocations = from_ref(relocation);
+        add_sites(&self.section, entry, relocations, patches, faults, meter)?;
+        if patches.len() == before {
+            return Ok(());
+        }
+        match patches.pop() {
+            // A field was added
+            None => Err(impossible()),
+            Some(field) => {
+                add_in_file(self.range, field, patches)?;
+                Ok(())
+            }
+        }
+    }
+
+    /// Evaluates the relocation of number `entry`, if its symbol has another value: adds its field in its place in the
+    /// file, or its fault.
+    #[inline(always)]
+    fn add_moved_site(
+        &self,
+        entry: usize,
+        relocation: &Relocation,
+        patches: &mut Vec<Patch>,
+        faults: &mut Vec<Fault>,
+        meter: &mut Meter,
+    ) -> Result<(), NoMemory>
+        requires entry_is { slice_get self.now.section.relocations.now entry ≡ Some relocation.now }
+        requires below { self.now.section.start + relocation.now.offset < 2 ^ 64 }
+        ensures { OnOk result ((old : GoodLink) (l : KnownLink) (s : ObjectSection)
+            → IsStayedAt E.knows E.range self.now old l s
+            → IsMoved old l self.now.range
+            (sites_at_hand self.now.section s (relocation.now ∷ [])) patches.old.items
+            patches.new.items faults.old.items faults.new.items meter.old meter.new) }
+    {
+        // so that the range of the count is known
+        let _fields = meter.fields();
+        if !is_evaluated(relocation.kind) {
+            return Ok(());
+        }
+        if !self.has_moved(relocation.symbol) {
+            return Ok(());
+        }
+        self.add_site_in_file(entry, relocation, patches, faults, meter)?;
+        Ok(())
+    }
+
+    /// Evaluates the relocations whose symbol has another value, each of which counts as one, in the order of their
+    /// table. Adds their fields, in their places in the file, to `patches`, and their faults to `faults`.
+    ///
+    /// # Errors
+    ///
+    /// Where memory runs out; a table of 2^32 relocations or more, which no object has whose length is within the
+    /// limit, counts as that.
+    pub fn add_moved(
+        &self,
+        patches: &mut Vec<Patch>,
+        faults: &mut Vec<Fault>,
+        meter: &mut Meter,
+    ) -> Result<(), NoMemory>
+        requires { All (λ r. self.now.section.start + r.offset < 2 ^ 64) self.now.section.relocations.now }
+        ensures { OnOk result ((old : GoodLink) (l : KnownLink) (s : ObjectSection)
+            → IsStayedAt E.knows E.range self.now old l s
+            → IsMoved old l self.now.range
+            (sites_at_hand self.now.section s self.now.section.relocations.now) patches.old.items
+            patches.new.items faults.old.items faults.new.items meter.old meter.new) }
+    {
+        // so that the range of the count is known
+        let _fields = meter.fields();
+        for entry in 0..self.section.relocations.len() {
+            let relocation = &self.section.relocations[entry];
+            self.add_moved_site(entry, relocation, patches, faults, meter)?;
+        }
+        Ok(())
+    }
+}

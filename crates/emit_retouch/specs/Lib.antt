@@ -1,3 +1,0 @@
-pub mod Spots
-pub mod Retouches
-pub mod Plan

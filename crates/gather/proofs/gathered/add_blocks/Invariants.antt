@@ -1,9 +1,0 @@
--- The blocks so far are added.
-use Rattle.std.proofs.Common.{map, take}
-use Rattle.gather.specs.Gathered.{AddsFacts, block_facts}
-use Rattle.gather.specs.Matches.{number_of}
-use Rattle.gather.proofs.gathered.add_blocks.Given as goal
-
-abbrev pub invariant-loop-own : goal.invariant-loop-own
-invariant-loop-own l = AddsFacts l.initial.sections.items l.sections.items
-    (map (block_facts l.key.0 (number_of l.statement)) (take l.own-index l.blocks))

@@ -1,0 +1,74 @@
+//! Which sections are left out before references are followed.
+
+ghost use Rattle.std.specs.Prelude.{◌≡◌, IfOk, map};
+ghost use Rattle.ldscript.specs.statements.Numbered.{shown_inputs};
+ghost use Rattle.ldmodel.specs.Gathering.{is_discarded};
+ghost use Rattle.ldmodel.specs.InputSections.{input_sections};
+ghost use Rattle.ldmodel.specs.Project.{Project};
+ghost use Rattle.gather.specs.declared.gathered_section.GatheredSection.{GatheredSection};
+ghost use Rattle.gather.specs.GatheredSections.{AreGathered};
+ghost use Rattle.gather.specs.LeftOut.{is_out_of};
+ghost use Rattle.gather.specs.Matches.{number_of};
+
+use crate::gathered_section::GatheredSection;
+use ldmodel::memory::NoMemory;
+use ldmodel::options::Orphans;
+use ldscript::Script;
+use ldscript::tree::{InputPlace, InputStatementAt};
+use std::alloc::Global;
+
+/// Whether a section is left out: one that `/DISCARD/` takes; and of those that no statement takes the empty ones,
+/// and all where orphans are discarded.
+pub fn is_discarded(
+    statements: &[InputStatementAt<'_>],
+    orphans: Orphans,
+    section: &GatheredSection,
+) -> bool
+    ensures { result ≡ is_out_of (shown_inputs statements.now) orphans section.now.size
+        (number_of section.now.statement) }
+{
+    let untaken = section.size == 0 || matches!(orphans, Orphans::Discard);
+    match section.statement {
+        None => untaken,
+        Some(number) => match statements.get(number.0 as usize) {
+            None => untaken,
+            Some(statement) => matches!(statement.place, InputPlace::InDiscard),
+        },
+    }
+}
+
+/// Whether each of these sections is left out.
+fn each_discarded(
+    alloc: Global,
+    statements: &[InputStatementAt<'_>],
+    orphans: Orphans,
+    sections: &[GatheredSection],
+) -> Result<Vec<bool>, NoMemory>
+    ensures { IfOk result (λ out. out.items
+        ≡ map (λ (x : GatheredSection). is_out_of (shown_inputs statements.now) orphans x.size (number_of x.statement))
+        sections.now) }
+{
+    let mut out = Vec::with_capacity(alloc, sections.len())?;
+    for section in sections {
+        out.push(is_discarded(statements, orphans, section))?;
+    }
+    Ok(out)
+}
+
+/// Whether each of these sections is left out of the link of this script, before references are followed.
+///
+/// # Errors
+///
+/// Where memory runs out.
+pub fn discarded_sections(
+    alloc: Global,
+    script: &Script,
+    orphans: Orphans,
+    sections: &[GatheredSection],
+) -> Result<Vec<bool>, NoMemory>
+    ensures { IfOk result (λ out. (p : Project) → p.script ≡ script.now → p.options.orphans ≡ orphans
+        → AreGathered p sections.now → out.items ≡ map (is_discarded p) (input_sections p)) }
+{
+    let statements = script.input_statements(alloc)?;
+    each_discarded(alloc, &statements, orphans, sections)
+}

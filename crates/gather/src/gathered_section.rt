@@ -1,0 +1,196 @@
+//! The input sections of a project, as they are gathered: object by object the linked sections and then the common
+//! blocks that the object owns.
+
+ghost use Rattle.std.specs.Prelude.{◌≡◌, ◌<◌, IfOk, None, OnOk, Some, length, map, slice_get, slice_index_or};
+ghost use Rattle.elfobj.specs.Sections.{LinkedSection};
+ghost use Rattle.gather.specs.Apart.{IsAscending};
+ghost use Rattle.gather.specs.Blocks.{AreBlocks, AreBlocksOf};
+ghost use Rattle.gather.specs.GatheredSections.{AddsFacts, AreGathered, as_piece, beside, block_facts, facts};
+ghost use Rattle.gather.specs.GatheredSections.{linked_facts};
+ghost use Rattle.gather.specs.GatheredSections.{shown_facts};
+ghost use Rattle.gather.specs.Matches.{number_of};
+ghost use Rattle.gather.specs.ProjectMatches.{AreMatched, IsMatched};
+ghost use Rattle.ldmodel.specs.InputSections.{object_inputs};
+ghost use Rattle.ldmodel.specs.Project.{Project};
+ghost use Rattle.ldmodel_project.specs.Inputs.{shown_input};
+
+use crate::blocks::CommonBlock;
+use crate::matches::Matches;
+use elfobj::Object;
+use elfobj::file::constants::{SHF_ALLOC, SHF_WRITE};
+use elfobj::section::SectionKind;
+use ldmodel::memory::NoMemory;
+use ldmodel::names::ObjectPlace;
+use ldmodel::rows::{InputIndex, Piece};
+use ldmodel::sections::{Part, SectionKey};
+use ldmodel_project::input::InputObject;
+use ldmodel_project::view::ProjectView;
+use std::alloc::{AllocError, Global};
+
+/// An input section: a linked section of an object, or a common block that an object owns.
+#[derive(Clone, Copy)]
+pub struct GatheredSection {
+    /// Which one it is.
+    pub section: SectionKey,
+    /// What it holds; `Nobits` for a common block.
+    pub kind: SectionKind,
+    /// `sh_flags`; `SHF_ALLOC` and `SHF_WRITE` for a common block.
+    pub flags: u64,
+    /// How many bytes it takes in memory.
+    pub size: u64,
+    /// `sh_addralign`; for a common block the greatest that its entries ask for.
+    pub alignment: u64,
+    /// The input statement that takes it, if one does.
+    pub statement: Option<InputIndex>,
+}
+
+impl GatheredSection {
+    /// It as an entry of the row of a statement.
+    pub fn piece(&self, statement: InputIndex) -> Piece
+        ensures { result ≡ as_piece self.now statement }
+    {
+        Piece {
+            statement,
+            section: self.section,
+            kind: self.kind,
+            flags: self.flags,
+            size: self.size,
+            alignment: self.alignment,
+        }
+    }
+}
+
+/// The linked section at a place among those of an object. `statements` are those that take them, in their order.
+fn linked_at(
+    key: ObjectPlace,
+    object: &Object,
+    statements: &[Option<InputIndex>],
+    place: usize,
+) -> GatheredSection
+    requires { place < length object.now.sections }
+    ensures { (s : LinkedSection) → slice_get object.now.sections place ≡ Some s
+        → shown_facts result ≡ linked_facts key.0 s (number_of (slice_index_or statements.now place None)) }
+{
+    let section = object.sections()[place];
+    GatheredSection {
+        section: SectionKey {
+            object: key,
+            part: Part::InTable(section.number),
+        },
+        kind: section.kind,
+        flags: section.flags,
+        size: section.size,
+        alignment: section.alignment,
+        statement: statements.get(place).copied().unwrap_or(None),
+    }
+}
+
+/// Adds the linked sections of an object.
+fn add_linked(
+    sections: &mut Vec<GatheredSection>,
+    key: ObjectPlace,
+    object: &Object,
+    statements: &[Option<InputIndex>],
+) -> Result<(), NoMemory>
+    ensures { OnOk result (AddsFacts sections.old.items sections.new.items
+        (beside key.0 object.now.sections (map number_of statements.now))) }
+{
+    for place in 0..object.sections().len() {
+        sections.push(linked_at(key, object, statements, place))?;
+    }
+    Ok(())
+}
+
+/// A common block that an object owns. `statement` is the one that takes it.
+fn block(key: ObjectPlace, statement: Option<InputIndex>, block: CommonBlock) -> GatheredSection
+    ensures { shown_facts result ≡ block_facts key.0 (number_of statement) block }
+{
+    GatheredSection {
+        section: SectionKey {
+            object: key,
+            part: Part::InCommon(block.symbol),
+        },
+        kind: SectionKind::Nobits,
+        flags: SHF_ALLOC | SHF_WRITE,
+        size: block.size,
+        alignment: block.alignment,
+        statement,
+    }
+}
+
+/// Adds the common blocks that an object owns.
+fn add_blocks(
+    sections: &mut Vec<GatheredSection>,
+    key: ObjectPlace,
+    statement: Option<InputIndex>,
+    blocks: &[CommonBlock],
+) -> Result<(), NoMemory>
+    ensures { OnOk result (AddsFacts sections.old.items sections.new.items
+        (map (block_facts key.0 (number_of statement)) blocks.now)) }
+{
+    for own in blocks {
+        sections.push(block(key, statement, *own))?;
+    }
+    Ok(())
+}
+
+/// Adds the input sections of the object at a place.
+fn add_object(
+    sections: &mut Vec<GatheredSection>,
+    place: usize,
+    input: &InputObject<'_>,
+    matches: &Matches,
+    blocks: &[CommonBlock],
+) -> Result<(), NoMemory>
+    ensures added { OnOk result ((p : Project) → IsMatched p.script (shown_input input.now) matches.now
+        → AreBlocksOf p place (shown_input input.now) blocks.now → AddsFacts sections.old.items sections.new.items
+        (map (facts p) (object_inputs p place (shown_input input.now)))) }
+    ensures ascending { IsAscending (shown_input input.now) }
+{
+    // so that what an object says of its sections is known
+    let _sections = input.object.sections();
+    let key = ObjectPlace(place);
+    add_linked(sections, key, input.object, &matches.linked)?;
+    add_blocks(sections, key, matches.common, blocks)
+}
+
+/// How many input sections these objects have. Fails where they are too many for any memory.
+fn count_sections(
+    inputs: &[InputObject<'_>],
+    blocks: &[Vec<CommonBlock>],
+) -> Result<usize, NoMemory> {
+    let mut count: usize = 0;
+    for input in inputs {
+        count = count
+            .checked_add(input.object.sections().len())
+            .ok_or(AllocError)?;
+    }
+    for own in blocks {
+        count = count.checked_add(own.len()).ok_or(AllocError)?;
+    }
+    Ok(count)
+}
+
+/// The input sections of a project, each with the statement that takes it. `blocks` has the common blocks of each
+/// object, in object order.
+///
+/// # Errors
+///
+/// Where memory runs out.
+pub(crate) fn input_sections(
+    alloc: Global,
+    project: &ProjectView<'_>,
+    matches: &[&Matches],
+    blocks: &[Vec<CommonBlock>],
+) -> Result<Vec<GatheredSection>, NoMemory>
+    requires matches { AreMatched project.now (map (λ x. x.now) matches.now) }
+    requires blocks { AreBlocks project.now blocks.now }
+    ensures { IfOk result (λ sections. AreGathered project.now sections.items) }
+{
+    let inputs = project.inputs();
+    let mut sections = Vec::with_capacity(alloc, count_sections(inputs, blocks)?)?;
+    for (place, input) in inputs.iter().enumerate() {
+        add_object(&mut sections, place, input, matches[place], &blocks[place])?;
+    }
+    Ok(sections)
+}

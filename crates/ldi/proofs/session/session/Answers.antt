@@ -1,7 +1,0 @@
-use Rattle.ldi.proofs.session.session.Goals as goal
-
-pub returns-clause-answers : goal.returns-clause-answers
-returns-clause-answers g c = rw c.in_ok-linker.ensures at c.answer.ensures.answers
-
-pub returns-clause-ran : goal.returns-clause-ran
-returns-clause-ran g c = rw c.in_ok-linker.ensures at c.answer.ensures.ran

@@ -1,8 +1,0 @@
-use Rattle.std.proofs.Common.{◌≡◌, take}
-use Rattle.std.specs.List.{fold}
-use Rattle.ldmodel_project.specs.Tags.{mixed}
-use Rattle.ldmodel_project.proofs.kept.tags.hash_of.Given as goal
-
--- the hash of the bytes so far
-abbrev pub invariant-loop-byte : goal.invariant-loop-byte
-invariant-loop-byte l = l.hash ≡ fold mixed 0 (take l.byte-index l.name)

@@ -1,0 +1,18 @@
+use Rattle.std.proofs.Common.{◌<◌, ◌∙◌, ap, sym, subst, arith, nat_eq}
+use Rattle.std.specs.Prelude.{Option, unwrap_or}
+use Rattle.std.specs.List.{count_by}
+use Rattle.ldmodel.specs.Edits.{unnamed}
+use Rattle.ldmodel.specs.Project.{NamedObject}
+use Rattle.ldmodel_project.specs.Listing.{Contents, key_count}
+use Rattle.ldmodel_project.specs.Next.{named_under}
+use Rattle.ldmodel_project.proofs.Keys.{key_count-entries, named_under-entries}
+use Rattle.ldmodel_project.proofs.keyed_objects.KeyedObjects.named.Goals as goal
+
+pub returns : goal.returns
+returns c =
+    let listed = subst (λ (k : Contents). 0 < key_count k.entries c.args.key) (sym c.self.view_is) c.requires in
+    let count : 0 < count_by (nat_eq c.args.key) c.self.inside.order.items =
+    omega (arith, listed, key_count-entries c.self.inside.objects c.self.inside.order.items c.args.key) in
+    sym (ap (λ (k : Contents). named_under k.entries c.args.key) (sym c.self.view_is)
+    ∙ (named_under-entries c.self.inside.objects c.self.inside.order.items c.args.key count
+    ∙ ap (λ (o : Option NamedObject). unwrap_or o unnamed) c.index.ensures))

@@ -1,0 +1,11 @@
+use Rattle.std.proofs.Common.{◌≡◌, ◌<◌, ℕ, true}
+use Rattle.std.specs.Prelude.{Some}
+use Rattle.slab.specs.Slab.{get}
+use Rattle.ldmodel.specs.Project.{NamedObject}
+use Rattle.ldmodel_project.specs.Tags.{may_have}
+use Rattle.ldmodel_project.proofs.keyed_objects.tagged.more_tags.Given as goal
+
+-- the names under the keys so far are noted
+abbrev pub invariant-loop-key : goal.invariant-loop-key
+invariant-loop-key l =
+    (k : ℕ) (o : NamedObject) → k < l.key → get l.objects k ≡ Some o → may_have l.tags o.name ≡ true

@@ -1,0 +1,7 @@
+use Rattle.std.proofs.Common.{refl}
+use Rattle.ldmodel_project.specs.Tags.{mixed}
+use Rattle.ldmodel_project.proofs.keyed_objects.tags.mixed.Goals as goal
+
+pub returns : goal.returns
+unfolding mixed
+returns c = refl

@@ -1,0 +1,53 @@
+-- Where everything of a link stands.
+use Rattle.std.specs.Prelude.{◌≡◌, ℕ, Option, Some, None, position, slice_get, option_and_then}
+use Rattle.std.specs.List.{list_any}
+use Rattle.std.specs.Option.{option_map}
+use Rattle.ldmodel.specs.Layout.{Layout, PlacedPiece, PlacedOutput}
+use Rattle.ldmodel.specs.NameFaults.{object_name}
+use Rattle.ldmodel.specs.Project.{Project}
+use Rattle.ldmodel.specs.SymbolValues.{is_part, placed_part}
+use Rattle.ldmodel.specs.declared.sections.Part.{Part}
+use Rattle.ldmodel.specs.declared.sections.SectionKey.{SectionKey}
+use Rattle.place.specs.InPlace.{AreInPlace}
+use Rattle.place.specs.LinkLayout.{IsLinkLayout}
+pub use Rattle.gather.specs.sections.Slots.{linked_in}
+pub use Rattle.gather.specs.sections.SectionTable.{linked_of}
+use Rattle.gather.specs.sections.SectionTable.{IsTableOf, number_of}
+use Rattle.ldmodel.specs.Rows as model
+use Rattle.ldmodel_project.specs.ByPlace.{rows_in}
+use Rattle.place.specs.declared.indexed_section.IndexedSection.{IndexedSection}
+use Rattle.place.specs.declared.indexed_layout.SectionAddress.{SectionAddress}
+use Rattle.place.specs.declared.indexed_layout.IndexedLayout.{IndexedLayout}
+
+-- where an input section stands, how many bytes it takes, and the number of its output section
+abbrev pub IsSectionAddress : Project → Layout → SectionKey → Option SectionAddress → Type 0
+IsSectionAddress p s k None = placed_part s (object_name p k.object.0) k.part ≡ None
+IsSectionAddress p s k (Some x) =
+    (option_map (λ (y : PlacedPiece). y.start) (placed_part s (object_name p k.object.0) k.part) ≡ Some x.start)
+    × (position (λ (q : PlacedOutput). list_any (is_part (object_name p k.object.0) k.part) q.pieces) s.sections
+    ≡ Some x.section.0)
+    × (option_map (λ (y : PlacedPiece). y.piece.size) (placed_part s (object_name p k.object.0) k.part)
+    ≡ Some x.size)
+
+-- what stands under a number
+abbrev pub place_under : IndexedLayout → ℕ → Option SectionAddress
+place_under x at =
+    option_map (λ (e : IndexedSection). e.place)
+    (option_and_then (slice_get x.entries.items) (slice_get x.owners.items at))
+
+-- where a part of object number n stands
+abbrev pub part_in : IndexedLayout → ℕ → Part → Option SectionAddress
+part_in x n part = option_and_then (place_under x) (number_of x.table n part)
+
+-- where an input section stands
+abbrev pub place_in : IndexedLayout → SectionKey → Option SectionAddress
+place_in x k = part_in x k.object.0 k.part
+
+-- the numbers, the rows and the layout are those of the project, input sections are found where they stand, and each
+-- stands once
+pub record IsIndexedLayout (p : Project) (s : Layout) (x : IndexedLayout) : Type 0 where
+  pub table : IsTableOf p x.table
+  pub rows : rows_in p x.rows.items ≡ model.rows p
+  pub link_layout : IsLinkLayout p s x.link_layout
+  pub places : (k : SectionKey) → IsSectionAddress p s k (place_in x k)
+  pub apart : AreInPlace p s

@@ -1,0 +1,157 @@
+//! Where everything of a link stands.
+
+ghost use Rattle.std.specs.Prelude.{◌≡◌, IfOk, IfSome, take};
+ghost use Rattle.ldmodel.specs.Layout.{Layout};
+ghost use Rattle.ldmodel.specs.Project.{Project};
+ghost use Rattle.place.specs.LinkLayout.{IsLinkLayout};
+ghost use Rattle.ldmodel.specs.Rows as model;
+ghost use Rattle.ldmodel_project.specs.ByPlace.{rows_in};
+ghost use Rattle.place.specs.Columns.{AreOwners};
+ghost use Rattle.gather.specs.sections.SectionTable.{IsTableOf};
+
+use crate::collected::collect;
+use crate::indexed_section::IndexedSection;
+use crate::link_layout::LinkLayout;
+use crate::numbered::are_numbered;
+use gather::sections::input_section_table::{InputSectionTable, SectionNumber};
+use gather::sections::law::sections_of_objects;
+use ldmodel::impossible::impossible;
+use ldmodel::memory::NoMemory;
+use ldmodel::names::ObjectPlace;
+use ldmodel::placed::OutputIndex;
+use ldmodel::rows::Piece;
+use ldmodel::sections::{Part, SectionKey};
+use ldmodel_laws::gathering::{live_by_path, once_in_rows};
+use ldmodel_laws::layout::{nothing_meets, placed_are_rows};
+use ldmodel_project::view::ProjectView;
+use std::alloc::Global;
+
+/// Where an input section stands.
+#[derive(Clone, Copy, Debug, PartialEq, Eq)]
+pub struct SectionAddress {
+    /// The address that it starts at.
+    pub start: u64,
+    /// How many bytes it takes in memory. For a common block other objects decide it too.
+    pub size: u64,
+    /// The output section that it stands in.
+    pub section: OutputIndex,
+}
+
+/// Where everything of a link stands: its rows, its layout, and the places of its input sections by their numbers.
+#[derive(Drop)]
+pub struct IndexedLayout {
+    /// The numbers of the input sections.
+    table: InputSectionTable,
+    /// The row of each output section.
+    pub rows: Vec<Vec<Piece>>,
+    /// Where they stand, in memory and in the file.
+    pub link_layout: LinkLayout,
+    /// All input sections in the output with their places, in the order of the rows.
+    entries: Vec<IndexedSection>,
+    /// For each number of the table which of the entries is its own; the number of entries where none is.
+    owners: Vec<u32>,
+}
+
+/// For each number of a table which entry is the first one of it; the number of entries where none is. Fails where
+/// memory runs out.
+fn owners(
+    alloc: Global,
+    table: &InputSectionTable,
+    entries: &[IndexedSection],
+) -> Result<Vec<u32>, NoMemory>
+    ensures { IfOk result (λ v. AreOwners table.now entries.now v.items) }
+{
+    let Ok(none) = u32::try_from(entries.len()) else {
+        // 2^32 input sections take 256 GiB
+        return Err(impossible());
+    };
+    let mut owners = vec![in alloc; none; table.len() as usize]?;
+    for (number, entry) in entries.iter().enumerate() {
+        if let Some(id) = table.find(ObjectPlace(entry.object), entry.part) {
+            let at = id.0 as usize;
+            // each section stands in one row, once, but the contract does not say so
+            if owners[at] >= none {
+                owners[at] = number as u32;
+            }
+        }
+    }
+    Ok(owners)
+}
+
+impl IndexedLayout {
+    ghost use Rattle.place.specs.IndexedLayout.{IsIndexedLayout, IsSectionAddress, linked_in, linked_of, part_in};
+    ghost use Rattle.place.specs.IndexedLayout.{place_in};
+    ghost use Rattle.place.specs.IndexedLayout.{place_under};
+
+    /// Where the input sections of these rows stand, by their numbers and their layout.
+    ///
+    /// # Errors
+    ///
+    /// Where memory runs out.
+    pub fn of(
+        alloc: Global,
+        project: &ProjectView<'_>,
+        table: InputSectionTable,
+        rows: Vec<Vec<Piece>>,
+        link_layout: LinkLayout,
+    ) -> Result<IndexedLayout, NoMemory>
+        requires table { IsTableOf project.now table }
+        requires rows { rows_in project.now rows.items ≡ model.rows project.now }
+        ensures link_layout { IfOk result (λ x. x.link_layout ≡ link_layout) }
+        ensures indexed_layout { IfOk result (λ x. (s : Layout) → IsLinkLayout project.now s x.link_layout
+            → IsIndexedLayout project.now s x) }
+    {
+        nothing_meets();
+        placed_are_rows();
+        once_in_rows();
+        live_by_path();
+        sections_of_objects();
+        are_numbered(project);
+        project.objects_are_named();
+        let entries = collect(alloc, &rows, link_layout.placement.pieces())?;
+        let owners = owners(alloc, &table, &entries)?;
+        Ok(IndexedLayout {
+            table,
+            rows,
+            link_layout,
+            entries,
+            owners,
+        })
+    }
+
+    /// How many linked sections the objects before this one have, in all.
+    pub fn linked_before(&self, object: ObjectPlace) -> Option<usize>
+        ensures is { result ≡ linked_of self.now.table object.0 }
+        ensures linked { (p : Project) (s : Layout) → IsIndexedLayout p s self.now
+            → IfSome result (λ n. n ≡ linked_in (take object.0 p.objects)) }
+    {
+        self.table.linked_before(object)
+    }
+
+    /// Where the input section of a number stands, if it is in the output. The time is constant.
+    pub fn at(&self, id: SectionNumber) -> Option<SectionAddress>
+        ensures { result ≡ place_under self.now id.0 }
+    {
+        let owner = self.owners.get(id.0 as usize)?;
+        let entry = self.entries.get(*owner as usize)?;
+        Some(entry.place)
+    }
+
+    /// Where a part of the object of a number stands, if it is in the output.
+    fn part(&self, object: usize, part: Part) -> Option<SectionAddress>
+        ensures { result ≡ part_in self.now object part }
+    {
+        let id = self.table.find(ObjectPlace(object), part)?;
+        self.at(id)
+    }
+
+    /// Where an input section stands, if it is in the output. For a section the time is constant, for a common block it
+    /// is logarithmic in the number of common blocks.
+    pub fn find(&self, section: SectionKey) -> Option<SectionAddress>
+        ensures is { result ≡ place_in self.now section }
+        ensures place { (p : Project) (s : Layout) → IsIndexedLayout p s self.now
+            → IsSectionAddress p s section result }
+    {
+        self.part(section.object.0, section.part)
+    }
+}

@@ -1,0 +1,15 @@
+//! Input sections with their places.
+
+use crate::indexed_layout::SectionAddress;
+use ldmodel::sections::Part;
+
+/// An input section and its place.
+#[derive(Clone, Copy)]
+pub(crate) struct IndexedSection {
+    /// The number of its object.
+    pub(crate) object: usize,
+    /// Which part of the object it is.
+    pub(crate) part: Part,
+    /// Where it stands.
+    pub(crate) place: SectionAddress,
+}

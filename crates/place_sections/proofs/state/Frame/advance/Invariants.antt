@@ -1,7 +1,0 @@
-use Rattle.place_sections.proofs.state.Frame.advance.Given as goal
-
-abbrev pub ghost-number : goal.ghost-number
-ghost-number g a = g.naming
-
-abbrev pub ghost-go_to : goal.ghost-go_to
-ghost-go_to g a = g.naming

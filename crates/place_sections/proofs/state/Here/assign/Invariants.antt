@@ -1,4 +1,0 @@
-use Rattle.place_sections.proofs.state.Here.assign.Given as goal
-
-abbrev pub ghost-formula : goal.ghost-formula
-ghost-formula g a = g.naming

@@ -1,4 +1,0 @@
-use Rattle.place_sections.proofs.state.Here.body.Given as goal
-
-abbrev pub ghost-place_body : goal.ghost-place_body
-ghost-place_body g a = g.naming

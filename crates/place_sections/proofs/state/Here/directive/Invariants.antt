@@ -1,4 +1,0 @@
-use Rattle.place_sections.proofs.state.Here.directive.Given as goal
-
-abbrev pub ghost-assign : goal.ghost-assign
-ghost-assign g a = g.naming

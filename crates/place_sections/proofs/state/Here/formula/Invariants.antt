@@ -1,4 +1,0 @@
-use Rattle.place_sections.proofs.state.Here.formula.Given as goal
-
-abbrev pub ghost-number : goal.ghost-number
-ghost-number g a = g.naming

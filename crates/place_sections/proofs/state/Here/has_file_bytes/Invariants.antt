@@ -1,4 +1,0 @@
-use Rattle.place_sections.proofs.state.Here.has_file_bytes.Given as goal
-
-abbrev pub ghost-any_in_file : goal.ghost-any_in_file
-ghost-any_in_file g a = g.naming

@@ -1,0 +1,15 @@
+use Rattle.std.proofs.Common.{◌≡◌, drop}
+use Rattle.ldmodel.specs.Chain.{run}
+use Rattle.ldmodel.specs.Placement.{region_step}
+use Rattle.place_sections.specs.State.{layout_of}
+use Rattle.place_sections.proofs.state.LayoutCursor.declare_all.Given as goal
+
+abbrev pub ghost-declare : goal.ghost-declare
+ghost-declare g a = g.naming
+
+abbrev pub invariant-loop-region : goal.invariant-loop-region
+invariant-loop-region g l = record {
+  gives : run region_step (layout_of g.naming l.self l.fn.done) l.regions
+      ≡ run region_step (layout_of g.naming l.self l.done) (drop l.region-index l.regions);
+  sections : l.done.sections ≡ l.fn.done.sections;
+}

@@ -1,0 +1,4 @@
+use Rattle.place_sections.proofs.state.LayoutCursor.optional.Given as goal
+
+abbrev pub ghost-formula : goal.ghost-formula
+ghost-formula g a = g.naming

@@ -1,0 +1,178 @@
+//! Output sections that are taken over from an previous layout.
+
+ghost use Rattle.std.specs.Prelude.{◌≡◌, ◌≤◌, ◌<◌, [], length, take, IfOk, IfSome, IfErr, OnOk, Ok, false, true};
+ghost use Rattle.ldmodel.specs.Chain.{run};
+ghost use Rattle.ldmodel.specs.Placement.{item_step};
+ghost use Rattle.place_terms.specs.PreviousLayout.{earlier_of};
+ghost use Rattle.place_terms.specs.Naming.{Naming};
+ghost use Rattle.place_terms.specs.LayoutSymbols.{AreFound, Rises};
+ghost use Rattle.place_sections.specs.Boundaries.{AreNoted};
+ghost use Rattle.place_sections.specs.PreviousPlacement.{PreviousPlacement};
+ghost use Rattle.place_sections.specs.Inputs.{rows_of};
+ghost use Rattle.place_sections.specs.State.{layout_of};
+ghost use Rattle.place_sections.specs.Next.{AreFirst, IsNextAt};
+ghost use Rattle.place_sections.specs.Taken.{IsSection, Takes};
+ghost use Rattle.place_sections.specs.declared.stop.LayoutStop.TheVariants.{NoMemory};
+
+use crate::boundary::Boundary;
+use crate::end::{free, load_region_name};
+use crate::head::region_name;
+use crate::items::row_at;
+use crate::reusable_placement::ReusablePlacement;
+use crate::script::Input;
+use crate::state::{LayoutCursor, PlacedOutputs};
+use crate::stop::LayoutStop;
+use ldmodel::impossible::impossible;
+use ldscript::tree::{Item, ItemCommand, OutputSection};
+use std::alloc::{AllocError, Global};
+
+/// What is taken over of SECTIONS.
+#[derive(Drop)]
+pub(crate) struct Resumed {
+    /// How many statements of SECTIONS, from the first on.
+    pub passed: usize,
+    /// Where the layout had come to before each output section among these.
+    pub boundaries: Vec<Boundary>,
+}
+
+impl<'a> LayoutCursor<'a> {
+    /// Goes on to where an previous layout had come to. Fails where memory runs out.
+    fn go_on(&mut self, kept: ReusablePlacement<'_>, to: Boundary) -> Result<(), LayoutStop<'a>>
+        requires found { AreFound self.now.symbols.script kept.symbols.now }
+        requires rises { Rises kept.symbols.now }
+        ensures dot { OnOk result (self.new.dot ≡ to.dot) }
+        ensures dots { OnOk result (self.new.dots.items ≡ take to.dots kept.entry.dots.now) }
+        ensures inputs { OnOk result (self.new.inputs ≡ to.inputs) }
+        ensures symbols { OnOk result (self.new.symbols.list ≡ take to.symbols kept.entry.symbols.now) }
+        ensures script { self.new.symbols.script ≡ self.old.symbols.script }
+        ensures anew { self.new.anew ≡ self.old.anew }
+        ensures refused { IfErr result (λ f. f ≡ NoMemory) }
+    {
+        let Some(dots) = kept.dots.get(..to.dots) else {
+            // The previous layout has no fewer
+            return Err(LayoutStop::NoMemory);
+        };
+        self.dots.clear();
+        self.dots.extend_from_slice(dots)?;
+        self.symbols.take_over(kept.symbols, to.symbols)?;
+        self.inputs = to.inputs;
+        self.dot = to.dot;
+        Ok(())
+    }
+}
+
+/// The output section that the statement at a place is.
+fn output_at(items: &[Item], place: usize) -> Option<&OutputSection>
+    ensures { IfSome result (λ o. IsSection items.now place o.now) }
+{
+    match &items.get(place)?.command {
+        ItemCommand::Section(output) => Some(output.get()),
+        ItemCommand::Dot(_) | ItemCommand::Directive(_) | ItemCommand::Discard(_) => None,
+    }
+}
+
+/// The first `count` of these boundaries, in a list with room for all.
+fn copy_of(
+    alloc: Global,
+    boundaries: &[Boundary],
+    count: usize,
+) -> Result<Vec<Boundary>, AllocError>
+    ensures { IfOk result (λ v. v.items ≡ take count boundaries.now) }
+{
+    let mut list = Vec::with_capacity(alloc, boundaries.len())?;
+    match boundaries.get(..count) {
+        Some(first) => list.extend_from_slice(first)?,
+        // There are no fewer
+        None => return Err(impossible()),
+    }
+    Ok(list)
+}
+
+impl<'i, 'a> Input<'i, 'a> {
+    /// The output section at a boundary, as it was in the previous layout: the next one after these. Its data commands
+    /// end at the next boundary.
+    fn take_section(
+        &self,
+        done: &mut PlacedOutputs<'a>,
+        items: &'a [Item],
+        at: Boundary,
+        next: Boundary,
+    ) -> Result<(), LayoutStop<'a>>
+        requires next { IsNextAt done.now.sections.script (length done.now.sections.list) items.now at.items }
+        requires kept { done.now.sections.earlier ≡ earlier_of self.now.kept.earlier }
+        ensures takes { OnOk result (Takes self.now items.now at next done.old done.new) }
+        ensures outputs { done.new.sections.script ≡ done.old.sections.script }
+        ensures kept { done.new.sections.earlier ≡ done.old.sections.earlier }
+        ensures refused { IfErr result (λ f. f ≡ NoMemory) }
+    {
+        // Fails only where memory runs out: the previous layout has this output section
+        let Some(output) = output_at(items, at.items) else {
+            return Err(LayoutStop::NoMemory);
+        };
+        let number = done.sections.len();
+        let Some(placed) = self.kept.earlier.sections.get(number) else {
+            return Err(LayoutStop::NoMemory);
+        };
+        let Some(end) = placed.start.checked_add(placed.size) else {
+            return Err(LayoutStop::NoMemory);
+        };
+        let Some(load_end) = placed.load.checked_add(placed.load_size) else {
+            return Err(LayoutStop::NoMemory);
+        };
+        free(&mut done.regions, region_name(output), end);
+        free(&mut done.regions, load_region_name(output), load_end);
+        let row = row_at(self.rows, number);
+        done.sections.take(output, row, next.data_commands)?;
+        Ok(())
+    }
+
+    /// Takes over the output sections before the first whose row differs, with all statements of SECTIONS up to that
+    /// one; none of them where other PROVIDEs were in force.
+    ///
+    /// # Errors
+    ///
+    /// Where memory runs out.
+    pub fn resume(
+        &self,
+        here: &mut LayoutCursor<'a>,
+        done: &mut PlacedOutputs<'a>,
+        items: &'a [Item],
+    ) -> Result<Resumed, LayoutStop<'a>>
+        ghost naming: { Naming }
+        requires none { done.now.sections.list ≡ [] }
+        requires first { AreFirst done.now.sections.script items.now }
+        requires kept { done.now.sections.earlier ≡ earlier_of self.now.kept.earlier }
+        requires earlier { self.now.kept.same_provided ≡ true → 0 < self.now.kept.first
+            → PreviousPlacement naming self.now here.now.symbols.script (layout_of naming here.now done.now) items.now }
+        ensures script { here.new.symbols.script ≡ here.old.symbols.script }
+        ensures outputs { done.new.sections.script ≡ done.old.sections.script }
+        ensures anew { here.new.anew ≡ here.old.anew }
+        ensures few { OnOk result (length done.new.sections.list ≤ self.now.kept.first) }
+        ensures here { IfOk result (λ r.
+            run (item_step (rows_of naming self.now) self.now.provided.now) (layout_of naming here.old done.old)
+            (take r.passed items.now) ≡ Ok (layout_of naming here.new done.new)) }
+        ensures none { IfOk result (λ r. self.now.kept.same_provided ≡ false → (r.passed ≡ 0)
+            × (here.new ≡ here.old) × (done.new ≡ done.old)) }
+        ensures noted { IfOk result (λ r.
+            AreNoted (rows_of naming self.now) self.now.provided.now (layout_of naming here.old done.old) items.now
+            r.boundaries.items (length done.new.sections.list)) }
+        ensures refused { IfErr result (λ f. f ≡ NoMemory) }
+    {
+        let Some(count) = self.kept.count() else {
+            return Ok(Resumed {
+                passed: 0,
+                boundaries: Vec::new(self.alloc),
+            });
+        };
+        let boundaries = self.kept.boundaries;
+        for number in 0..count {
+            self.take_section(done, items, boundaries[number], boundaries[number + 1])?;
+        }
+        let to = boundaries[count];
+        here.go_on(self.kept, to)?;
+        Ok(Resumed {
+            passed: to.items,
+            boundaries: copy_of(self.alloc, boundaries, count)?,
+        })
+    }
+}

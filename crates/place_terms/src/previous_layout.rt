@@ -1,0 +1,102 @@
+//! The output sections of an previous layout.
+
+ghost use Rattle.std.specs.Prelude.{◌≡◌, ◌+◌, ◌-◌, length, take, IfSome};
+ghost use Rattle.place_terms.specs.PreviousLayout.{part_of, AreStartsOf, IsSectionOf};
+
+use ldmodel::placed::{Placed, PlacedData};
+use ldmodel::rows::Piece;
+use ldscript::tree::OutputSection;
+
+/// What an previous layout had of its output sections, in the order of the script.
+#[derive(Clone, Copy)]
+pub struct PreviousLayout<'a> {
+    /// The numbers of the output sections.
+    pub sections: &'a [Placed],
+    /// How many input sections each output section has.
+    pub counts: &'a [usize],
+    /// Where the input sections start, output section by output section.
+    pub starts: &'a [u64],
+    /// The data commands, output section by output section.
+    pub data_commands: &'a [PlacedData],
+}
+
+/// An output section that is taken over from an previous layout. Its input sections are the first entries of its row.
+#[derive(Clone, Copy)]
+pub struct ReusedOutput<'a> {
+    /// What the script says of it.
+    pub output: &'a OutputSection,
+    /// The numbers of the output section.
+    pub placed: &'a Placed,
+    /// Where the input sections start.
+    pub starts: &'a [u64],
+    /// The row.
+    pub row: &'a [Piece],
+    /// The data commands.
+    pub data_commands: &'a [PlacedData],
+}
+
+/// The first elements of a list, or all where there are no more.
+pub(crate) fn first<T>(list: &[T], count: usize) -> &[T]
+    ensures { result.now ≡ take count list.now }
+{
+    match list.get(..count) {
+        Some(first) => first,
+        None => list,
+    }
+}
+
+/// The part of a list from a place on that has this many elements.
+fn part<T>(list: &[T], from: usize, count: usize) -> Option<&[T]>
+    ensures part { IfSome result (λ x. x.now ≡ part_of list.now from count) }
+    ensures long { IfSome result (λ x. length x.now ≡ count) }
+{
+    match list.get(from..) {
+        Some(rest) => rest.get(..count),
+        None => None,
+    }
+}
+
+impl<'a> PreviousLayout<'a> {
+    /// The data commands from a number to another.
+    pub(crate) fn data_between(&self, from: usize, to: usize) -> Option<&'a [PlacedData]>
+        ensures part { IfSome result (λ x. x.now ≡ part_of self.now.data_commands.now from (to - from)) }
+        ensures long { IfSome result (λ x. from + length x.now ≡ to) }
+    {
+        let count = to.checked_sub(from)?;
+        part(self.data_commands, from, count)
+    }
+
+    /// Where the input sections of the output section of a number start, before which this many come.
+    pub fn starts_of(&self, number: usize, from: usize) -> Option<&'a [u64]>
+        ensures { IfSome result (λ x. AreStartsOf self.now number from x.now) }
+    {
+        let count = *self.counts.get(number)?;
+        part(self.starts, from, count)
+    }
+
+    /// The output section of a number, whose input sections are those from this one on: the first entries of its row.
+    pub(crate) fn section(
+        &self,
+        number: usize,
+        start: usize,
+        output: &'a OutputSection,
+        row: &'a [Piece],
+        data_commands: &'a [PlacedData],
+    ) -> Option<ReusedOutput<'a>>
+        ensures { IfSome result (λ t. IsSectionOf self.now number start output.now row.now data_commands.now t) }
+    {
+        let placed = self.sections.get(number)?;
+        let starts = self.starts_of(number, start)?;
+        placed.start.checked_add(placed.size)?;
+        if row.len() < starts.len() {
+            return None;
+        }
+        Some(ReusedOutput {
+            output,
+            placed,
+            starts,
+            row,
+            data_commands,
+        })
+    }
+}

@@ -1,9 +1,0 @@
-use Rattle.std.proofs.Common.{sym}
-use Rattle.relink.specs.Last.{origin_of}
-use Rattle.relink.proofs.Since.{none_replaced}
-use Rattle.relink.proofs.last.LastGood.replaced.Goals as goal
-
-pub returns-in-None : goal.returns-in-None
-returns-in-None c =
-    sym (none_replaced (origin_of c.args.self.now.origins.items) c.args.project.now.contents.entries
-    c.args.staged.now.objects.step c.args.staged.now.objects.places.after c.in-None.ensures.none)

@@ -1,0 +1,37 @@
+use Rattle.std.proofs.Common.{◌∙◌, ap, map, refl, subst, true}
+use Rattle.ldmodel.specs.Project.{NamedObject}
+use Rattle.relink_driver.specs.StayedSections.{previous_of}
+use Rattle.relink_driver.specs.RelinkOutcome.{HasRelinkOutcome}
+use Rattle.relink_driver.specs.Worked.{HasWorked}
+use Rattle.relink.proofs.Lending.{followed_again, followed_good}
+use Rattle.relink.proofs.session_link.link_keyed.Goals as goal
+
+pub returns-clause-updated : goal.returns-clause-updated
+returns-clause-updated c = λ l is keys.
+    followed_good l c.args.project.now c.args.keys.now c.relink.new.canvas.bytes
+    (record {
+      good = c.in-Ok-Good.good;
+      origins = c.in_ok-origins.origins;
+      names = c.in_ok-names.names;
+      same_script = true;
+    })
+    c.in-Ok-Good.map.items is keys c.requires.distinct
+    (subst (HasRelinkOutcome c.args.project.now
+    (previous_of c.args.previous) c.args.canvas.now.bytes c.relink.new.canvas.bytes)
+    c.in-Ok-Good.field-0-is c.in-Ok-Good.ensures.ended)
+    (c.in_ok-names.ensures ∙ ap (map (λ (o : NamedObject). o.name)) c.inputs.ensures.same) c.in_ok-origins.ensures
+    (c.found_where_placed.ensures l.entries) refl
+
+pub returns-clause-worked : goal.returns-clause-worked
+returns-clause-worked c =
+    subst (HasWorked c.args.project.now (previous_of c.args.previous) c.args.meter.now c.relink.new.meter)
+    c.in-Ok-Good.field-0-is c.in-Ok-Good.ensures.worked
+
+pub returns-in-Ok-RewrittenInPlace-clause-updated : goal.returns-in-Ok-RewrittenInPlace-clause-updated
+returns-in-Ok-RewrittenInPlace-clause-updated c = λ l is keys.
+    followed_again l c.args.project.now c.args.keys.now (previous_of c.args.previous) c.relink.new.canvas.bytes
+    c.in_ok-origins.origins.items is keys c.requires.distinct
+    (subst (HasRelinkOutcome c.args.project.now
+    (previous_of c.args.previous) c.args.canvas.now.bytes c.relink.new.canvas.bytes)
+    c.in-Ok-RewrittenInPlace.field-0-is c.in-Ok-RewrittenInPlace.ensures.ended) c.in_ok-origins.ensures
+    (c.found_where_placed.ensures l.entries)

@@ -1,0 +1,202 @@
+//! What a session keeps of a project beside the project and its link, and how it follows an edit.
+
+ghost use Rattle.std.specs.Prelude.{◌≡◌, IfOk, List, None, OnErr, Some};
+ghost use Rattle.relink_driver.specs.StayedSections.{previous_of};
+ghost use Rattle.symres.specs.decisions.Change.{Fits as FitsTables};
+ghost use Rattle.symres.specs.decisions.Decisions.{AreKept};
+ghost use Rattle.ldmodel_project.specs.Next.{edited_key};
+ghost use Rattle.relink.specs.Update.{CanUpdate, HasRoom, IsUpdated, IsRolledBack, KeepsObjects};
+ghost use Rattle.ldscript.specs.statements.declared.statement.Statement.{Statement};
+
+use crate::change::{object_change, place_of};
+use crate::match_table::{match_under, swap_matches};
+use crate::previous::UpdateOutcome;
+use crate::session_link::link_next;
+use gather::matches::{Matches, match_all};
+use ldmodel::memory::NoMemory;
+use ldmodel::meter::Meter;
+use ldmodel::names::ObjectKey;
+use ldmodel_project::order::Order;
+use ldmodel_project::project::{Next, Project};
+use ldmodel_project::staged::Staged;
+use relink_driver::Canvas;
+use relink_driver::stayed_sections::PreviousView;
+use std::alloc::Global;
+use symres::SymbolTable;
+use symres::decisions::change::ObjectChange;
+
+/// What names stand for, under the keys of the objects, and which statements take the input sections of each object.
+#[derive(Drop)]
+pub(crate) struct LinkTables {
+    pub(crate) symbol_table: SymbolTable,
+    pub(crate) matches: Vec<Matches>,
+}
+
+/// What comes with a change of one object, with all memory that it takes.
+#[derive(Drop)]
+struct IncomingChange {
+    order: Order,
+    matches: Option<Matches>,
+}
+
+/// Forgets the names that no object declares any more, where an object went. It takes no memory.
+fn forget_if(symbol_table: &mut SymbolTable, went: bool)
+    ensures tables { symbol_table.new.kept.names.objects ≡ symbol_table.old.kept.names.objects }
+    ensures kept { (script : List Statement) → AreKept script symbol_table.old.kept
+        → AreKept script symbol_table.new.kept }
+{
+    if went {
+        symbol_table.forget();
+    }
+}
+
+/// Puts the names into byte order after a link without faults, so that the next one need not sort them. Where memory
+/// runs out, they stay as they are.
+fn put_in_order_if(symbol_table: &mut SymbolTable, is_good: bool)
+    ensures tables { symbol_table.new.kept.names.objects ≡ symbol_table.old.kept.names.objects }
+    ensures kept { (script : List Statement) → AreKept script symbol_table.old.kept
+        → AreKept script symbol_table.new.kept }
+{
+    if is_good {
+        symbol_table.put_in_order();
+    }
+}
+
+impl LinkTables {
+    /// Takes all memory that a change of one object needs. Fails where memory runs out: then what is kept is of the
+    /// same objects.
+    fn make_room(
+        &mut self,
+        alloc: Global,
+        next: &Next<'_>,
+        change: &ObjectChange<'_>,
+    ) -> Result<IncomingChange, NoMemory>
+        requires fits { FitsTables self.old.symbol_table.kept.names.objects change.now }
+        requires kept { AreKept next.now.script self.old.symbol_table.kept }
+        ensures same { KeepsObjects next.now.script self.old self.new }
+        ensures room { IfOk result (HasRoom next.now change.now self.new) }
+    {
+        let order = Order::of(alloc, next.keys())?;
+        let matches = match_under(alloc, next, change.key)?;
+        self.matches.reserve(2)?;
+        self.symbol_table.room_for(next.script(), change)?;
+        Ok(IncomingChange { order, matches })
+    }
+
+    /// Follows an edit that touches the object under a key, and links the next project. Fails where memory runs out:
+    /// then what is kept is of the project as before.
+    fn update_for_object(
+        &mut self,
+        alloc: Global,
+        project: &Project,
+        staged: &Staged,
+        key: ObjectKey,
+        previous: Option<PreviousView<'_>>,
+        canvas: &mut Canvas,
+        meter: &mut Meter,
+    ) -> Result<UpdateOutcome, NoMemory>
+        requires given { CanUpdate project.now staged.now self.old (previous_of previous) canvas.old.bytes }
+        requires edited { edited_key staged.now.objects.step ≡ Some key.0 }
+        ensures updated { IfOk result (IsUpdated project.now staged.now (previous_of previous.entry) self.new
+            canvas.old.bytes canvas.new.bytes meter.old meter.new) }
+        ensures back { OnErr result (IsRolledBack project.now self.new canvas.old.bytes canvas.new.bytes) }
+    {
+        let next = project.next(staged);
+        let script = next.script();
+        let change = object_change(project, &next, staged, key);
+        let coming = self.make_room(alloc, &next, &change)?;
+        let IncomingChange { order, matches } = coming;
+        let out = place_of(change.out);
+        let into = place_of(change.into);
+        let order = self.symbol_table.change(script, &change, order, meter);
+        let gone = swap_matches(&mut self.matches, out, into, matches);
+        match link_next(
+            alloc,
+            &next,
+            &self.symbol_table,
+            &self.matches,
+            previous,
+            canvas,
+            meter,
+        ) {
+            Ok(updated) => {
+                forget_if(&mut self.symbol_table, out.is_some());
+                put_in_order_if(&mut self.symbol_table, updated.is_good());
+                Ok(updated)
+            }
+            Err(refused) => {
+                swap_matches(&mut self.matches, into, out, gone);
+                self.symbol_table.undo(script, &change, order, meter);
+                Err(refused)
+            }
+        }
+    }
+
+    /// Follows an edit that touches no object, as one of the script, and links the next project. Fails where memory
+    /// runs out: then what is kept is of the project as before.
+    fn update_for_script(
+        &mut self,
+        alloc: Global,
+        project: &Project,
+        staged: &Staged,
+        previous: Option<PreviousView<'_>>,
+        canvas: &mut Canvas,
+        meter: &mut Meter,
+    ) -> Result<UpdateOutcome, NoMemory>
+        requires given { CanUpdate project.now staged.now self.old (previous_of previous) canvas.old.bytes }
+        requires edited { edited_key staged.now.objects.step ≡ None }
+        ensures updated { IfOk result (IsUpdated project.now staged.now (previous_of previous.entry) self.new
+            canvas.old.bytes canvas.new.bytes meter.old meter.new) }
+        ensures back { OnErr result (IsRolledBack project.now self.new canvas.old.bytes canvas.new.bytes) }
+    {
+        let next = project.next(staged);
+        let inputs = next.inputs(alloc)?;
+        let matches = match_all(alloc, &next.view(&inputs))?;
+        self.symbol_table.redecide(next.script(), meter);
+        match link_next(
+            alloc,
+            &next,
+            &self.symbol_table,
+            &matches,
+            previous,
+            canvas,
+            meter,
+        ) {
+            Ok(updated) => {
+                self.matches = matches;
+                Ok(updated)
+            }
+            Err(refused) => {
+                self.symbol_table.redecide(project.script(), meter);
+                Err(refused)
+            }
+        }
+    }
+
+    /// Follows a staged edit, and links the project that it leads to.
+    ///
+    /// # Errors
+    ///
+    /// Where memory runs out. What is kept is then of the project as before.
+    pub(crate) fn update(
+        &mut self,
+        alloc: Global,
+        project: &Project,
+        staged: &Staged,
+        previous: Option<PreviousView<'_>>,
+        canvas: &mut Canvas,
+        meter: &mut Meter,
+    ) -> Result<UpdateOutcome, NoMemory>
+        requires { CanUpdate project.now staged.now self.old (previous_of previous) canvas.old.bytes }
+        ensures updated { IfOk result (IsUpdated project.now staged.now (previous_of previous.entry) self.new
+            canvas.old.bytes canvas.new.bytes meter.old meter.new) }
+        ensures back { OnErr result (IsRolledBack project.now self.new canvas.old.bytes canvas.new.bytes) }
+    {
+        match staged.edited() {
+            Some(key) => self.update_for_object(
+                alloc, project, staged, key, previous, canvas, meter,
+            ),
+            None => self.update_for_script(alloc, project, staged, previous, canvas, meter),
+        }
+    }
+}

@@ -1,0 +1,384 @@
+//! The previous link without faults, which outlives edits: what is kept of it, and which of its objects are still
+//! there.
+
+ghost use Rattle.std.specs.Prelude.{◌≡◌, ℕ, IfOk, IfSome, List, None, Some, map, slice_get, true};
+ghost use Rattle.std.specs.Option.{option_copied, option_map};
+ghost use Rattle.relink_driver.specs.StayedSections.{previous_of, replaced_state};
+ghost use Rattle.ldmodel.specs.Project.{NamedObject};
+ghost use Rattle.ldmodel_project.specs.Listing.{keys_of};
+ghost use Rattle.relink.specs.PreviousLink.{IsAfterFault, IsEffect, IsRecorded, IsFrom, IsNamedAt, IsNoneOf};
+ghost use Rattle.relink.specs.PreviousLink.{AreOriginsRefreshed, IsSince};
+ghost use Rattle.relink.specs.PreviousLink.{Knows, PutsNoneOf, changed_key, lent, lost_key, origin_of, replaced_by};
+ghost use Rattle.relink.specs.PreviousLink.{replaced_in, without};
+
+use crate::outcome::LinkOutcome;
+use elfobj::Object;
+use ldmodel::memory::NoMemory;
+use ldmodel::names::{ObjectKey, ObjectPlace};
+use ldmodel_project::named::NamedObject;
+use ldmodel_project::project::{Next, Project};
+use ldmodel_project::staged::Staged;
+use relink_driver::link_snapshot::LinkSnapshot;
+use relink_driver::stayed_sections::{PreviousView, ReplacedObject};
+use std::alloc::Global;
+
+/// What is kept of the previous link without faults.
+#[derive(Drop)]
+pub(crate) struct PreviousLink {
+    /// The state of that link.
+    pub good: LinkSnapshot,
+    /// At which place of that link each object stood that is still there with the same bytes, under the object's key.
+    pub origins: Vec<Option<usize>>,
+    /// The names of the objects of that link, by their places.
+    pub names: Vec<Vec<u8>>,
+    /// Whether the script is known to be the same still.
+    pub same_script: bool,
+}
+
+/// What an edit means to the previous link without faults.
+#[derive(Clone, Copy)]
+pub(crate) struct EditEffect {
+    /// Whether the object that the edit puts, if it puts one, is known to be no object of that link.
+    pub known: bool,
+    /// The key whose object is no object of that link any more, if there is one.
+    pub gone: Option<usize>,
+    /// Whether the script stays.
+    pub same_script: bool,
+    /// Whether that link is the one that is answered.
+    pub is_current: bool,
+}
+
+/// What a link over the last one leads to.
+#[derive(Drop)]
+pub(crate) enum UpdateOutcome {
+    /// These fault lines.
+    Faulty(Vec<u8>),
+    /// What is kept of the link, and its map.
+    Good(PreviousLink, Vec<u8>),
+    /// The previous link with another image, which is answered with the same map: the origins of the objects of that
+    /// link.
+    RewrittenInPlace(Vec<Option<usize>>),
+}
+
+impl UpdateOutcome {
+    /// Whether the link has no faults.
+    pub(crate) fn is_good(&self) -> bool {
+        match self {
+            UpdateOutcome::Faulty(_) => false,
+            UpdateOutcome::Good(..) | UpdateOutcome::RewrittenInPlace(_) => true,
+        }
+    }
+}
+
+/// Whether a name may stand at a place: it is another one, or this is the place where it may.
+fn is_allowed(is_same: bool, place: Option<usize>, at: usize) -> bool
+    ensures { result ≡ true → is_same ≡ true → place ≡ Some at }
+{
+    match place {
+        Some(place) if place == at => true,
+        _ => !is_same,
+    }
+}
+
+/// Whether each object of a name stands at this place, if any does.
+fn is_named_at(names: &[Vec<u8>], name: &[u8], place: Option<usize>) -> bool
+    ensures { result ≡ true → IsNamedAt (map (λ v. v.items) names.now) name.now place }
+{
+    for (at, other) in names.iter().enumerate() {
+        if !is_allowed(other.as_slice() == name, place, at) {
+            return false;
+        }
+    }
+    true
+}
+
+/// An object of the previous link, and the place of the one that comes in its place, where there are both.
+fn replaced_at<'a>(
+    old: Option<usize>,
+    object: Option<&'a Object>,
+    new: Option<usize>,
+) -> Option<ReplacedObject<'a>>
+    ensures { option_map replaced_state result ≡ replaced_by old (option_copied object.entry) new }
+{
+    match old {
+        None => None,
+        Some(old) => match object {
+            None => None,
+            Some(object) => match new {
+                None => None,
+                Some(new) => Some(ReplacedObject {
+                    old: ObjectPlace(old),
+                    object,
+                    new: ObjectPlace(new),
+                }),
+            },
+        },
+    }
+}
+
+impl PreviousLink {
+    /// At which place of the previous link the object under a key stood, if that link has it.
+    fn origin(&self, key: usize) -> Option<usize>
+        ensures { result ≡ origin_of self.now.origins.items key }
+    {
+        match self.origins.get(key) {
+            Some(place) => *place,
+            None => None,
+        }
+    }
+
+    /// Like `origin`, but none for the object under the key `gone`.
+    fn origin_unless(&self, gone: Option<usize>, key: usize) -> Option<usize>
+        ensures { result ≡ without (origin_of self.now.origins.items) gone key }
+    {
+        match gone {
+            Some(gone) if key == gone => None,
+            _ => self.origin(key),
+        }
+    }
+
+    /// The place in the previous link of the object under a key, if that link has it and its bytes are other than those
+    /// of this object.
+    fn place_of_other(
+        &self,
+        project: &Project,
+        key: ObjectKey,
+        named: &NamedObject,
+    ) -> Option<usize>
+        ensures { IfSome result (λ j. (old : List NamedObject) (y : NamedObject)
+            → IsSince old (origin_of self.now.origins.items) project.now.contents.entries → slice_get old j ≡ Some y
+            → y.object.text ≡ named.now.object.text → ⊥) }
+    {
+        let place = self.origin(key.0)?;
+        let before = project.named(key)?;
+        if before.object().data() == named.object().data() {
+            return None;
+        }
+        Some(place)
+    }
+
+    /// Whether an object that is put under a key is known to be no object of the previous link: it has another name
+    /// than each of those, or other bytes than the one in whose place it comes.
+    fn is_new(&self, project: &Project, key: ObjectKey, named: &NamedObject) -> bool
+        ensures { result ≡ true → (old : List NamedObject)
+            → map (λ v. v.items) self.now.names.items ≡ map (λ (o : NamedObject). o.name) old
+            → IsSince old (origin_of self.now.origins.items) project.now.contents.entries → IsNoneOf old named.now }
+    {
+        let place = self.place_of_other(project, key, named);
+        is_named_at(&self.names, named.name(), place)
+    }
+
+    /// Whether the object that an edit puts, if it puts one, is known to be no object of the previous link.
+    fn knows(&self, project: &Project, staged: &Staged) -> bool
+        ensures { result ≡ true → (old : List NamedObject)
+            → map (λ v. v.items) self.now.names.items ≡ map (λ (o : NamedObject). o.name) old
+            → IsSince old (origin_of self.now.origins.items) project.now.contents.entries
+            → PutsNoneOf old staged.now.objects.step }
+    {
+        match staged.put() {
+            None => true,
+            Some((key, named)) => self.is_new(project, key, named),
+        }
+    }
+
+    /// The object of the previous link in whose place an edit puts one, if it is still there.
+    fn replaced<'a>(&self, project: &'a Project, staged: &Staged) -> Option<ReplacedObject<'a>>
+        ensures { option_map replaced_state result ≡ replaced_in (origin_of self.now.origins.items)
+            project.now.contents.entries staged.now.objects.step staged.now.objects.places.after }
+    {
+        match staged.put() {
+            None => None,
+            Some((key, _named)) => replaced_at(
+                self.origin(key.0),
+                project.object(key),
+                staged.place_after(),
+            ),
+        }
+    }
+
+    /// The origins of the objects of a next project, in their order; that which comes has none. Fails where memory runs
+    /// out.
+    fn origins_of(
+        &self,
+        alloc: Global,
+        next: &Next<'_>,
+        gone: Option<usize>,
+    ) -> Result<Vec<Option<usize>>, NoMemory>
+        ensures { IfOk result (λ v. v.items
+            ≡ map (without (origin_of self.now.origins.items) gone) (keys_of next.now.entries)) }
+    {
+        next.keys()
+            .iter()
+            .map(|key| self.origin_unless(gone, *key))
+            .collect(alloc)
+    }
+
+    /// Notes that the object under a key is no object of the previous link any more, if there is a key.
+    fn forget(&mut self, key: Option<usize>)
+        ensures good { self.new.good ≡ self.old.good }
+        ensures names { self.new.names ≡ self.old.names }
+        ensures script { self.new.same_script ≡ self.old.same_script }
+        ensures origins { (k : ℕ) → origin_of self.new.origins.items k
+            ≡ without (origin_of self.old.origins.items) key k }
+    {
+        if let Some(key) = key {
+            if key < self.origins.len() {
+                self.origins[key] = None;
+            }
+        }
+    }
+}
+
+/// Whether there is a previous link and the object that an edit puts, if it puts one, is known to be no object of it.
+fn is_known(previous: &Option<PreviousLink>, project: &Project, staged: &Staged) -> bool
+    ensures { result ≡ true → IfSome previous.now (λ x. Knows x project.now.contents.entries staged.now.objects.step) }
+{
+    match previous {
+        None => false,
+        Some(previous) => previous.knows(project, staged),
+    }
+}
+
+/// The key that an edit puts an object under, or removes.
+fn changed_key(staged: &Staged) -> Option<usize>
+    ensures { result ≡ changed_key staged.now.objects.step }
+{
+    match staged.put() {
+        Some((key, _named)) => Some(key.0),
+        None => match staged.removed() {
+            Some(key) => Some(key.0),
+            None => None,
+        },
+    }
+}
+
+/// The key under which an object comes or goes; none where the same one comes.
+fn lost_key(staged: &Staged, same: bool) -> Option<usize>
+    ensures { result ≡ lost_key same staged.now.objects.step }
+{
+    if same { None } else { changed_key(staged) }
+}
+
+/// Whether an edit leaves the script.
+fn leaves_script(staged: &Staged) -> bool
+    ensures yes { result ≡ true → staged.now.script ≡ None }
+    ensures no { staged.now.script ≡ None → result ≡ true }
+{
+    match staged.new_script() {
+        None => true,
+        Some(_) => false,
+    }
+}
+
+/// What an edit means to the previous link, where `same` says whether it puts an object over the same one. Where the
+/// answer has no faults, the previous link is that of the project before the edit, and what comes is none of its
+/// objects; else the names of the objects of the previous link are looked through.
+pub(crate) fn effect_of(
+    previous: &Option<PreviousLink>,
+    outcome: &LinkOutcome,
+    project: &Project,
+    staged: &Staged,
+    same: bool,
+) -> EditEffect
+    ensures { IsEffect project.now staged.now same outcome.now previous.now result }
+{
+    EditEffect {
+        known: outcome.is_good() || is_known(previous, project, staged),
+        gone: lost_key(staged, same),
+        same_script: leaves_script(staged),
+        is_current: outcome.is_good(),
+    }
+}
+
+/// The origins of the objects of a next project in the previous link, where that is known to have none of what comes.
+///
+/// # Errors
+///
+/// Where memory runs out.
+pub(crate) fn origins_for(
+    alloc: Global,
+    previous: &Option<PreviousLink>,
+    effect: EditEffect,
+    next: &Next<'_>,
+) -> Result<Option<Vec<Option<usize>>>, NoMemory>
+    ensures { IfOk result (λ from. IsFrom previous.now effect.known effect.gone (keys_of next.now.entries) from) }
+{
+    match previous {
+        Some(previous) if effect.known => Ok(Some(previous.origins_of(alloc, next, effect.gone)?)),
+        _ => Ok(None),
+    }
+}
+
+/// The previous link with these origins, lent to the next link.
+pub(crate) fn view_previous<'a>(
+    previous: &'a Option<PreviousLink>,
+    from: &'a Option<Vec<Option<usize>>>,
+    effect: EditEffect,
+    project: &'a Project,
+    staged: &Staged,
+) -> Option<PreviousView<'a>>
+    ensures { previous_of result ≡ lent previous.now from.now effect project.now.contents.entries staged.now.objects }
+{
+    match previous {
+        None => None,
+        Some(previous) => match from {
+            None => None,
+            Some(from) => Some(PreviousView {
+                good: &previous.good,
+                objects: previous.names.len(),
+                from,
+                same_script: previous.same_script && effect.same_script,
+                replaced: previous.replaced(project, staged),
+                is_current: effect.is_current,
+            }),
+        },
+    }
+}
+
+/// Keeps the previous link after an edit that led to a link with faults, without the origin of the object that came or
+/// went. Where the previous link isn't known to be without the object that came, it is dropped.
+fn keep_after_fault(previous: &mut Option<PreviousLink>, effect: EditEffect)
+    ensures { IsAfterFault effect.known effect.gone effect.same_script previous.old previous.new }
+{
+    if !effect.known {
+        *previous = None;
+        return;
+    }
+    if let Some(previous) = previous {
+        previous.forget(effect.gone);
+        previous.same_script = previous.same_script && effect.same_script;
+    }
+}
+
+/// Keeps the previous link, whose objects now have these origins, as that of the project: only its image is another.
+fn refresh_origins(previous: &mut Option<PreviousLink>, origins: Vec<Option<usize>>)
+    ensures { AreOriginsRefreshed origins previous.old previous.new }
+{
+    if let Some(previous) = previous {
+        previous.origins = origins;
+        previous.same_script = true;
+    }
+}
+
+/// Answers a link over the last one, which stays the last one where the link has faults. The answer stays where only
+/// the image is another.
+pub(crate) fn record_outcome(
+    updated: UpdateOutcome,
+    previous: &mut Option<PreviousLink>,
+    outcome: &mut LinkOutcome,
+    effect: EditEffect,
+)
+    ensures { IsRecorded updated effect previous.old previous.new outcome.old outcome.new }
+{
+    match updated {
+        UpdateOutcome::Faulty(text) => {
+            keep_after_fault(previous, effect);
+            *outcome = LinkOutcome::Faulty(text);
+        }
+        UpdateOutcome::Good(good, map) => {
+            *previous = Some(good);
+            *outcome = LinkOutcome::Good(map);
+        }
+        UpdateOutcome::RewrittenInPlace(origins) => refresh_origins(previous, origins),
+    }
+}

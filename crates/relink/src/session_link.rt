@@ -1,0 +1,152 @@
+//! A link over what a session keeps.
+
+ghost use Rattle.std.specs.Prelude.{◌≡◌, IfOk, IfSome, None, OnErr, OnOk, map};
+ghost use Rattle.gather.specs.ProjectMatches.{AreMatched};
+ghost use Rattle.relink_driver.specs.StayedSections.{previous_of};
+ghost use Rattle.ldmodel.specs.Project.{NamedObject};
+ghost use Rattle.symres.specs.SymbolTable.{IsSymbolTable};
+ghost use Rattle.ldmodel_project.specs.ProjectState.{Listing, listing_of, project_of};
+ghost use Rattle.ldmodel_project.specs.Inputs.{shown_inputs};
+ghost use Rattle.ldmodel_project.specs.Listing.{AreKeysDistinct, keys_of};
+ghost use Rattle.relink.specs.Kept.{IsKept};
+ghost use Rattle.relink.specs.PreviousLink.{HasUpdateOutcome};
+ghost use Rattle.relink.specs.Work.{HasWorked};
+ghost use Rattle.relink_driver.specs.RelinkOutcome.{HasPreviousImage};
+ghost use Rattle.relink_driver.specs.Reads.{ReadsNothing};
+
+use crate::previous::{PreviousLink, UpdateOutcome};
+use gather::matches::{Matches, lend_all};
+use ldmodel::memory::NoMemory;
+use ldmodel::meter::Meter;
+use ldmodel_project::input::InputObject;
+use ldmodel_project::law::found_where_placed;
+use ldmodel_project::order::places_of;
+use ldmodel_project::project::{Next, Project};
+use ldmodel_project::view::ProjectView;
+use relink_driver::Canvas;
+use relink_driver::incremental::{RelinkOutcome, relink};
+use relink_driver::stayed_sections::PreviousView;
+use std::alloc::Global;
+use symres::SymbolTable;
+
+/// The names of these objects, in their order. Fails where memory runs out.
+fn names_of(alloc: Global, inputs: &[InputObject<'_>]) -> Result<Vec<Vec<u8>>, NoMemory>
+    ensures { IfOk result (λ v. map (λ n. n.items) v.items
+        ≡ map (λ (o : NamedObject). o.name) (shown_inputs inputs.now)) }
+{
+    let mut names = Vec::with_capacity(alloc, inputs.len())?;
+    for input in inputs {
+        names.push(Vec::from_slice(alloc, input.name)?)?;
+    }
+    Ok(names)
+}
+
+/// Links a project, whose objects have these keys, over what is kept of it. Fails where memory runs out: then the
+/// canvas is as it was.
+fn link_keyed(
+    alloc: Global,
+    project: &ProjectView<'_>,
+    keys: &[usize],
+    symbol_table: &SymbolTable,
+    matches: &[Matches],
+    previous: Option<PreviousView<'_>>,
+    canvas: &mut Canvas,
+    meter: &mut Meter,
+) -> Result<UpdateOutcome, NoMemory>
+    requires distinct { AreKeysDistinct keys.now }
+    requires symbol_table { IsSymbolTable project.now symbol_table.now }
+    requires matches { AreMatched project.now matches.now }
+    requires previous { IfSome (previous_of previous) (HasPreviousImage project.now canvas.old.bytes) }
+    ensures updated { IfOk result (λ r. (l : Listing) → project.now ≡ project_of l → keys.now ≡ keys_of l.entries
+        → HasUpdateOutcome l (previous_of previous.entry) canvas.old.bytes canvas.new.bytes r) }
+    ensures unchanged { OnErr result (canvas.new.bytes ≡ canvas.old.bytes) }
+    ensures reads { OnOk result (ReadsNothing meter.old meter.new) }
+    ensures worked { IfOk result (HasWorked project.now (previous_of previous.entry) meter.old meter.new) }
+{
+    found_where_placed();
+    let lent = lend_all(alloc, matches)?;
+    let origins = places_of(alloc, keys)?;
+    let names = names_of(alloc, project.inputs())?;
+    match relink(alloc, project, symbol_table, &lent, previous, canvas, meter) {
+        Err(refused) => Err(refused),
+        Ok(RelinkOutcome::Faulty(text)) => Ok(UpdateOutcome::Faulty(text)),
+        Ok(RelinkOutcome::RewrittenInPlace) => Ok(UpdateOutcome::RewrittenInPlace(origins)),
+        Ok(RelinkOutcome::Good(good, map)) => Ok(UpdateOutcome::Good(
+            PreviousLink {
+                good,
+                origins,
+                names,
+                same_script: true,
+            },
+            map,
+        )),
+    }
+}
+
+/// Links the next project over what is kept of it, and over the image of the previous link without faults, if there is
+/// one.
+///
+/// # Errors
+///
+/// Where memory runs out. Then the canvas is as it was.
+pub(crate) fn link_next(
+    alloc: Global,
+    next: &Next<'_>,
+    symbol_table: &SymbolTable,
+    matches: &[Matches],
+    previous: Option<PreviousView<'_>>,
+    canvas: &mut Canvas,
+    meter: &mut Meter,
+) -> Result<UpdateOutcome, NoMemory>
+    requires kept { IsKept next.now symbol_table.now matches.now }
+    requires previous { IfSome (previous_of previous) (HasPreviousImage (project_of next.now) canvas.old.bytes) }
+    ensures updated { IfOk result (HasUpdateOutcome next.now
+        (previous_of previous.entry) canvas.old.bytes canvas.new.bytes) }
+    ensures unchanged { OnErr result (canvas.new.bytes ≡ canvas.old.bytes) }
+    ensures reads { OnOk result (ReadsNothing meter.old meter.new) }
+    ensures worked { IfOk result (HasWorked (project_of next.now) (previous_of previous.entry) meter.old meter.new) }
+{
+    symbol_table.names_kept();
+    let inputs = next.inputs(alloc)?;
+    let view = next.view(&inputs);
+    link_keyed(
+        alloc,
+        &view,
+        next.keys(),
+        symbol_table,
+        matches,
+        previous,
+        canvas,
+        meter,
+    )
+}
+
+/// Links a project over what is kept of it, where there is no link before it.
+///
+/// # Errors
+///
+/// Where memory runs out.
+pub(crate) fn link_first(
+    alloc: Global,
+    project: &Project,
+    symbol_table: &SymbolTable,
+    matches: &[Matches],
+    canvas: &mut Canvas,
+) -> Result<UpdateOutcome, NoMemory>
+    requires kept { IsKept (listing_of project.now) symbol_table.now matches.now }
+    ensures updated { IfOk result (HasUpdateOutcome (listing_of project.now) None canvas.old.bytes canvas.new.bytes) }
+{
+    symbol_table.names_kept();
+    let inputs = project.inputs(alloc)?;
+    let view = project.view(&inputs);
+    link_keyed(
+        alloc,
+        &view,
+        project.keys(),
+        symbol_table,
+        matches,
+        None,
+        canvas,
+        &mut Meter::new(),
+    )
+}

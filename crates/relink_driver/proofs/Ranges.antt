@@ -1,0 +1,265 @@
+-- The ranges of a link that stayed, as far as they are known, are those of its input sections that stayed.
+use Rattle.std.proofs.Common.{◌≡◌, ◌<◌, ◌≤◌, ℕ, ◌^◌, Bool, true, false, cond, refl, sym, ap, length, map, subst}
+use Rattle.std.proofs.Common.{◌∙◌, Option, Some, None, slice_get}
+use Rattle.std.specs.List.{Contains}
+use Rattle.std.specs.Option.{option_and_then}
+use Rattle.std.specs.Prelude.{IfSome, IsSome}
+use Rattle.std.proofs.lemmas.Bool.{false≢true}
+use Rattle.std.proofs.lemmas.Option.{same_Some}
+use Rattle.elfobj.specs.Symbols.{NamedSymbol}
+use Rattle.elfobj.specs.declared.relocation.SymbolIndex.{SymbolIndex}
+use Rattle.elfobj.specs.declared.symbol.Symbol.{Symbol}
+use Rattle.ldmodel.specs.Edits.{AreNamesDistinct}
+use Rattle.ldmodel.specs.Layout.{PlacedPiece, PlacedOutput}
+use Rattle.ldmodel.specs.Link.{max_image_length}
+use Rattle.ldmodel.specs.NameFaults.{object_name}
+use Rattle.ldmodel.specs.Project.{NamedObject}
+use Rattle.ldmodel.specs.SectionHeaders.{image_length}
+use Rattle.ldmodel.specs.Segments.{SectionInFile, file_offset, in_file, nonempty, segments}
+use Rattle.ldmodel.specs.Stayed.{GoodLink, LinkedPiece, has_stayed, link_pieces, same_piece}
+use Rattle.ldmodel.specs.Targets.{referenced_value}
+use Rattle.ldmodel.specs.declared.names.ObjectPlace.{ObjectPlace}
+use Rattle.ldmodel.specs.declared.sections.Part.{Part}
+use Rattle.ldmodel.specs.declared.sections.SectionKey.{SectionKey}
+use Rattle.ldmodel_laws.specs.FileOrder.{AreInFileOrder}
+use Rattle.place.specs.IndexedLayout.{IsIndexedLayout}
+use Rattle.place.specs.declared.indexed_layout.IndexedLayout.{IndexedLayout}
+use Rattle.emit.specs.relocate.PreviousLinkInfo as earlier
+use Rattle.emit.specs.relocate.PreviousLinkInfo.{HasStayedAt, IsComplete, IsKept, IsPieceOf}
+use Rattle.emit.specs.relocate.KnownLink.{IsSymbolOf, KnownLink, name_of_object}
+use Rattle.emit.specs.relocate.Values.{value_of}
+use Rattle.emit.specs.relocate.declared.previous_link_info.FileRange.{FileRange}
+use Rattle.relink_driver.specs.SectionLocation.{same_location, location_in}
+use Rattle.relink_driver.specs.StayedSections.{IsPreviousOf, PreviousState, kept_at, kept_range, previous_of}
+use Rattle.relink_driver.specs.StayedSections.{last_place, previous_location}
+use Rattle.relink_driver.specs.StayedSections.{previous_state}
+use Rattle.relink_driver.specs.StayedSections.{previous_value, standing_from, value_from}
+use Rattle.relink_driver.specs.declared.section_location.SectionLocation.{SectionLocation}
+use Rattle.relink_driver.specs.declared.stayed_sections.PreviousView.{PreviousView}
+use Rattle.relink_driver.proofs.Inside.{below_64}
+use Rattle.relink_driver.proofs.Kept as same
+use Rattle.relink_driver.proofs.Kept.{Same, alike, same_of}
+use Rattle.place.proofs.Members.{in_any}
+use Rattle.relink_driver.proofs.Standings.{Linked, in_link, link_in, of_link, owned, shows, stood}
+
+-- a range is known where an input section stands as it stood
+record Known (before now : Option SectionLocation) (r : FileRange) : Type 0 where
+  old : SectionLocation
+  new : SectionLocation
+  was : before ≡ Some old
+  is : now ≡ Some new
+  alike : same_location old new ≡ true
+  range : new.range ≡ r
+
+known : (before now : Option SectionLocation) (r : FileRange) → kept_at before now ≡ Some r → Known before now r
+known None now r e = absurd (let none : ⊥ = cc in none)
+known (Some b) None r e = absurd (let none : ⊥ = cc in none)
+known (Some b) (Some a) r e = go (same_location b a) refl e
+  where
+    go : (t : Bool) → same_location b a ≡ t → cond t (Some a.range) None ≡ Some r → Known (Some b) (Some a) r
+    go true f h =
+        record { old = b; new = a; was = refl; is = refl; alike = f; range = same_Some _ _ h }
+    go false f h = absurd (let none : ⊥ = cc in none)
+
+then_some : {X Y : Type 0} (f : X → Option Y) (m : Option X) (y : Y) → option_and_then f m ≡ Some y
+    → (x : X) × (m ≡ Some x) × (f x ≡ Some y)
+then_some f None y e = absurd (let none : ⊥ = cc in none)
+then_some f (Some x) y e = (x, refl, e)
+
+module _ (old : GoodLink) (l : KnownLink) (keys : (k : ℕ) → l.number k ≡ k)
+    (names : AreNamesDistinct l.project.objects) (t : IndexedLayout)
+    (indexed_layout : IsIndexedLayout l.project l.layout t) where
+  named : (key : SectionKey) → name_of_object l key.object ≡ object_name l.project key.object.0
+  named key = ap (object_name l.project) (keys key.object.0)
+
+  module _ (y : PreviousState) (previous : IsPreviousOf old l.project y) (key : SectionKey) where
+    abbrev at_place : ℕ → SectionKey
+    at_place j = record { object = record { 0 = j }; part = key.part }
+
+    module _ (k : ℕ) (q : PlacedOutput) (z : PlacedPiece) (at : slice_get l.layout.sections k ≡ Some q)
+        (among : Contains q.pieces z) (object : z.piece.object ≡ object_name l.project key.object.0)
+        (part : z.piece.part ≡ key.part) where
+      abbrev x : LinkedPiece
+      x = of_link l.project l.layout q z
+
+      some : 0 < length z.piece.object
+      some = (owned l.project l.layout t indexed_layout k q z at among).some
+
+      -- ---- what is known to have stayed did
+
+      sound_one : (r : FileRange) → Known (previous_location y key) (location_in t key) r
+          → (has_stayed old x ≡ true) × (x.range ≡ earlier.range_of r)
+      unfolding previous_location
+      sound_one r h =
+          let w = then_some (standing_from y key.part) (last_place y key.object) h.old h.was in
+          let before = stood old.project old.layout y.good.indexed_layout previous.table.indexed_layout
+          (at_place w.0) h.old w.2 in
+          let now = (shows l.project l.layout t indexed_layout key k q z at among (sym object)
+          (sym part)).is h.new h.is
+          in (
+            same.sound old l.project y.from previous.origins previous.table.names names key.object.0 x object refl some
+                (of_link old.project old.layout before.section before.piece) refl w.0 w.1
+                (link_in old.project old.layout before.number before.section before.piece before.at before.among)
+                (sym before.object) (sym before.part ∙ sym part) h.old h.new before.is now h.alike,
+            sym now.range ∙ ap earlier.range_of h.range,
+          )
+
+      -- ---- what stayed is known to have stayed
+
+      module _ (short : image_length l.project l.layout ≤ max_image_length)
+          (order : AreInFileOrder (segments l.layout.sections))
+          (all : map (λ (v : SectionInFile). v.section) (in_file (segments l.layout.sections))
+          ≡ nonempty l.layout.sections)
+          (offset_is : (v : SectionInFile) → Contains (in_file (segments l.layout.sections)) v
+          → file_offset (segments l.layout.sections) v.section ≡ v.offset) where
+        low : x.range.offset < 2 ^ 64
+        low = below_64 l.project l.layout indexed_layout.apart.spread indexed_layout.link_layout.named order all
+            offset_is k q z at
+            among short
+
+        module _ (w : LinkedPiece) (there : Linked (of_link old.project old.layout) old.layout.sections w)
+            (is_same : Same x w) where
+          abbrev v : LinkedPiece
+          v = of_link old.project old.layout there.section there.piece
+
+          same_v : Same x v
+          same_v = subst (Same x) (sym there.is) is_same
+
+          stands : (m : Option ℕ) → last_place y key.object ≡ m
+              → option_and_then (standing_from y key.part) m ≡ previous_location y key
+              → kept_at (previous_location y key) (location_in t key) ≡ None → ⊥
+          stands None e g h =
+              let o = owned old.project old.layout y.good.indexed_layout previous.table.indexed_layout
+              there.number there.section there.piece there.at there.among in
+              same.not_fresh old l.project y.from previous.origins previous.table.names names key.object.0 x object refl
+              some v
+              refl same_v o.object o.among o.is e
+          stands (Some j) e g h =
+              let name =
+              same.old_name old l.project y.from previous.origins previous.table.names names key.object.0 x object refl
+              some v
+              refl same_v j e in
+              let was = shows old.project old.layout y.good.indexed_layout previous.table.indexed_layout
+              (at_place j) there.number there.section there.piece there.at there.among name (sym part ∙ same_v.part) in
+              let now = shows l.project l.layout t indexed_layout key k q z at among (sym object) (sym part) in
+              let b = was.some (subst (λ n. n < 2 ^ 64) same_v.offset low) in
+              let a = now.some low in
+              let kept : kept_at (previous_location y key) (location_in t key) ≡ Some (a.0).range =
+              ap (λ m. kept_at m (location_in t key)) (sym g ∙ b.1) ∙ ap (kept_at (Some b.0)) a.1
+              ∙ ap (λ c. cond c (Some (a.0).range) None)
+              (alike x v b.0 a.0 same_v (was.is b.0 b.1) (now.is a.0 a.1)) in
+              let never : None ≡ Some (a.0).range = sym h ∙ kept in
+              absurd (let none : ⊥ = cc in none)
+
+        complete_one : kept_at (previous_location y key) (location_in t key) ≡ None → has_stayed old x ≡ false
+        unfolding previous_location
+        complete_one h = go (has_stayed old x) refl
+          where
+            go : (b : Bool) → has_stayed old x ≡ b → b ≡ false
+            go false e = refl
+            go true e =
+                let found = in_any (same_piece x) (link_pieces old) e in
+                absurd (stands found.member (in_link old.project old.layout found.member found.among)
+                (same_of x found.member found.passes) (last_place y key.object) refl refl h)
+
+  pub sound : (m : Option PreviousState) → IfSome m (IsPreviousOf old l.project) → (key : SectionKey) (r : FileRange)
+      → kept_range m t key ≡ Some r → HasStayedAt old l key r
+  unfolding kept_range
+  sound None h key r e = absurd (let none : ⊥ = cc in none)
+  sound (Some y) previous key r e = λ x piece.
+      let there = in_link l.project l.layout x piece.among in
+      subst (λ (v : LinkedPiece). (has_stayed old v ≡ true) × (v.range ≡ earlier.range_of r)) there.is
+      (sound_one y previous key there.number there.section there.piece there.at there.among
+      (ap (λ (v : LinkedPiece). v.object) there.is ∙ piece.object_is ∙ named key)
+      (ap (λ (v : LinkedPiece). v.part) there.is ∙ piece.part_is) r
+      (known (previous_location y key) (location_in t key) r e))
+
+  pub complete : (y : PreviousState) → IsPreviousOf old l.project y → image_length l.project l.layout ≤ max_image_length
+      → AreInFileOrder (segments l.layout.sections)
+      → map (λ (v : SectionInFile). v.section) (in_file (segments l.layout.sections)) ≡ nonempty l.layout.sections
+      → ((v : SectionInFile) → Contains (in_file (segments l.layout.sections)) v
+      → file_offset (segments l.layout.sections) v.section ≡ v.offset)
+      → (key : SectionKey) (x : LinkedPiece) → kept_range (Some y) t key ≡ None → IsPieceOf l key x
+      → has_stayed old x ≡ false
+  unfolding kept_range
+  complete y previous short order all offset_is key x e piece =
+      let there = in_link l.project l.layout x piece.among in
+      subst (λ (v : LinkedPiece). has_stayed old v ≡ false) there.is
+      (complete_one y previous key there.number there.section there.piece there.at there.among
+      (ap (λ (v : LinkedPiece). v.object) there.is ∙ piece.object_is ∙ named key)
+      (ap (λ (v : LinkedPiece). v.part) there.is ∙ piece.part_is) short order all offset_is e)
+
+  pub complete_or_none : (m : Option PreviousView) → IsSome m → IfSome (previous_of m) (IsPreviousOf old l.project)
+      → image_length l.project l.layout ≤ max_image_length → AreInFileOrder (segments l.layout.sections)
+      → map (λ (v : SectionInFile). v.section) (in_file (segments l.layout.sections)) ≡ nonempty l.layout.sections
+      → ((v : SectionInFile) → Contains (in_file (segments l.layout.sections)) v
+      → file_offset (segments l.layout.sections) v.section ≡ v.offset) → IsComplete (kept_range (previous_of m) t) old l
+  complete_or_none None is previous short order all offset_is = absurd (false≢true is)
+  complete_or_none (Some y) is previous short order all offset_is = complete
+      (previous_state y) previous short order all offset_is
+
+pub none_known : (m : Option PreviousState) (t : IndexedLayout) (key : SectionKey) → m ≡ None
+    → kept_range m t key ≡ None
+unfolding kept_range
+none_known m t key e = ap (λ n. kept_range n t key) e
+
+-- ---- case by case, as the code finds them
+
+module _ (m : Option PreviousView) (y : PreviousView) (last_is : m ≡ Some y) (t : IndexedLayout)
+    (key : SectionKey) where
+  kept_is : kept_range (previous_of m) t key ≡ kept_at (previous_location (previous_state y) key) (location_in t key)
+  unfolding kept_range
+  kept_is = ap (λ n. kept_range (previous_of n) t key) last_is
+
+  pub none_before : None ≡ previous_location (previous_state y) key → None ≡ kept_range (previous_of m) t key
+  none_before e = ap (λ b. kept_at b (location_in t key)) e ∙ sym kept_is
+
+  module _ (b : SectionLocation) (before : Some b ≡ previous_location (previous_state y) key) where
+    pub none_now : None ≡ location_in t key → None ≡ kept_range (previous_of m) t key
+    none_now e = ap (kept_at (Some b)) e ∙ ap (λ c. kept_at c (location_in t key)) before ∙ sym kept_is
+
+    pub both : (a : SectionLocation) → Some a ≡ location_in t key → (c : Bool) → same_location b a ≡ c
+        → cond c (Some a.range) None ≡ kept_range (previous_of m) t key
+    both a e c same =
+        ap (λ d. cond d (Some a.range) None) (sym same) ∙ ap (kept_at (Some b)) e
+        ∙ ap (λ c. kept_at c (location_in t key)) before ∙ sym kept_is
+
+-- ---- what symbols were worth
+
+pub not_kept : (m : Option PreviousState) (t : IndexedLayout) (object : ObjectPlace) → m ≡ None
+    → IsKept (kept_range m t) object → ⊥
+not_kept m t object e kept =
+    false≢true (subst IsSome (none_known m t (record { object = object; part = kept.0 }) e) kept.1)
+
+module _ (old : GoodLink) (l : KnownLink) (keys : (k : ℕ) → l.number k ≡ k) (t : IndexedLayout)
+    (y : PreviousState) (previous : IsPreviousOf old l.project y) (object : ObjectPlace) (index : SymbolIndex)
+    (symbol : Symbol)
+    (o : NamedObject) (x : NamedSymbol) (is : IsSymbolOf l object index symbol o x) where
+  worth : (p : Option ℕ) → last_place y object ≡ p → (part : Part)
+      → IsSome (kept_range (Some y) t (record { object = object; part = part }))
+      → value_of (value_from y index p) ≡ referenced_value old.project old.layout o x
+  unfolding kept_range previous_location
+  worth None e part kept =
+      let gone : previous_location y (record { object = object; part = part }) ≡ None =
+      ap (option_and_then (standing_from y part)) e in
+      absurd (false≢true (subst IsSome
+      (ap (λ b. kept_at b (location_in t (record { object = object; part = part }))) gone) kept))
+  worth (Some j) e part kept =
+      previous.table.symbols j index.0 o x
+      (sym (previous.origins.same object.0 j e) ∙ ap (slice_get l.project.objects) (sym (keys object.0)) ∙ is.object_is)
+      is.entry_is
+
+  pub was_worth : IsKept (kept_range (Some y) t) object
+      → value_of (previous_value y object index) ≡ referenced_value old.project old.layout o x
+  was_worth kept = worth (last_place y object) refl kept.0 kept.1
+
+pub worth_of : (old : GoodLink) (l : KnownLink) → ((k : ℕ) → l.number k ≡ k) → (t : IndexedLayout)
+    (m : Option PreviousView) (y : PreviousView) → m ≡ Some y → IfSome (previous_of m) (IsPreviousOf old l.project)
+    → (object : ObjectPlace)
+    (index : SymbolIndex) (symbol : Symbol) (o : NamedObject) (x : NamedSymbol) → IsSymbolOf l object index symbol o x
+    → IsKept (kept_range (previous_of m) t) object
+    → value_of (previous_value (previous_state y) object index) ≡ referenced_value old.project old.layout o x
+worth_of old l keys t m y e previous object index symbol o x is kept =
+    was_worth old l keys t (previous_state y)
+    (subst (λ n. IfSome (previous_of n) (IsPreviousOf old l.project)) e previous) object
+    index symbol o x is (subst (λ n. IsKept (kept_range (previous_of n) t) object) e kept)

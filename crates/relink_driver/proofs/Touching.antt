@@ -1,0 +1,424 @@
+-- The sections of an object are written over those of the one in whose place it came.
+use Rattle.std.proofs.Common.{◌≡◌, ◌∙◌, ◌⊎◌, inl, inr, ◌<◌, ◌≤◌, ℕ, zero, suc, ◌^◌, ◌==◌, Bool, true, false, cond, List}
+use Rattle.std.proofs.Common.{[]}
+use Rattle.std.proofs.Common.{◌∷◌, ◌++◌, map, filter, flat_map, Option, Some, None, ap, arith, drop, length, refl}
+use Rattle.std.proofs.Common.{slice_get}
+use Rattle.std.proofs.Common.{not, subst, sym, take}
+use Rattle.std.specs.List.{All, Contains, cons_option, filter_map}
+use Rattle.std.specs.List.Sorted.{IsPermutation}
+use Rattle.std.specs.Option.{option_map_or}
+use Rattle.std.specs.Prelude.{Err, IfOk, Ok, Result, nat_lt, slice_index_or, sum_by}
+use Rattle.std.specs.Result.{result_err}
+use Rattle.std.proofs.lemmas.Bool.{ltb-false}
+use Rattle.std.proofs.lemmas.List.{get_or-drop, get_or-take, get_or_past, length-take}
+use Rattle.std.proofs.lemmas.List.Sums.{sum_by-cons}
+use Rattle.std.proofs.lemmas.Option.{same_Some, slice_get_within}
+use Rattle.elfobj.specs.Counts.{Counts, capped}
+use Rattle.elfobj.specs.Object.{ObjectData}
+use Rattle.elfobj.specs.Raised.{raised}
+use Rattle.elfobj.specs.Sections.{LinkedSection, section_of}
+use Rattle.elfobj.specs.Symbols.{NamedSymbol}
+use Rattle.elfobj.specs.declared.meter.Count.TheVariants.{Bytes, Fields}
+use Rattle.ldmodel.specs.Assertions.{assertion_faults}
+use Rattle.ldmodel.specs.Edits.{AreNamesDistinct}
+use Rattle.ldmodel.specs.Fault.{Fault, ImageTooLong}
+use Rattle.ldmodel.specs.Image.{image}
+use Rattle.ldmodel.specs.Layout.{Layout}
+use Rattle.ldmodel.specs.Link as model
+use Rattle.ldmodel.specs.Link.{Link, max_image_length, of_length, placed, unless}
+use Rattle.ldmodel.specs.MapText.{map_text}
+use Rattle.ldmodel.specs.Project.{NamedObject, Project}
+use Rattle.ldmodel.specs.Relocations.{Site, entry_fault, relocation_faults, site_field, site_field_with, site_value}
+use Rattle.ldmodel.specs.Relocations.{sites}
+use Rattle.ldmodel.specs.Relocations.{sites_of_section}
+use Rattle.ldmodel.specs.Rows.{rows}
+use Rattle.ldmodel.specs.Rows as rows_of
+use Rattle.ldmodel.specs.SectionHeaders.{image_length}
+use Rattle.ldmodel.specs.Segments.{SectionInFile, file_offset, in_file, nonempty, segments}
+use Rattle.ldmodel.specs.SessionWork.{bytes_to_write, entries_from}
+use Rattle.ldmodel.specs.Stayed.{GoodLink, LinkedPiece, has_stayed, link_pieces}
+use Rattle.ldmodel.specs.SymbolValues.{SymbolValue, Number, NotDefined, NotInOutput, entry_point}
+use Rattle.ldmodel.specs.SymbolValues as symbol
+use Rattle.ldmodel.specs.Targets.{referenced_value}
+use Rattle.ldmodel.specs.WorkBound.{bytes_stayed, sites_outside}
+use Rattle.ldmodel_laws.specs.FileOrder.{AreInFileOrder}
+use Rattle.ldmodel_laws.specs.Outline.{DiffersInContents}
+use Rattle.ldmodel_laws.specs.PlacedOnce.{AreNumbered, IsPlacedOnce}
+use Rattle.ldmodel_laws.specs.Spread.{EachLater}
+use Rattle.ldmodel_laws.specs.StayedSites.{has_part_stayed, lies_in_stayed}
+use Rattle.ldmodel_laws.specs.Untouched.{HasField, IsGood}
+use Rattle.emit.specs.Beside.{new_link}
+use Rattle.emit.specs.relocate.Fields.{evaluations, work_of}
+use Rattle.emit.specs.relocate.KnownLink.{KnownLink}
+use Rattle.emit.specs.relocate.SymbolValues.{AreSymbolValues, IsRow, row_at}
+use Rattle.emit.specs.relocate.Values.{value_of}
+use Rattle.emit.specs.relocate.declared.symbol_values.SymbolValues.{SymbolValues}
+use Rattle.emit.specs.relocate.declared.value.SymbolValue as code
+use Rattle.emit.specs.relocate.declared.value.SymbolValue.TheVariants as value
+use Rattle.emit.specs.in_place.InPlaceRewrites.{IsBare, IsInPlaceRewrite}
+use Rattle.emit.specs.in_place.LocatedSections.{HasLocatedSections, bytes_of, sites_of}
+use Rattle.place.specs.IndexedLayout.{IsIndexedLayout}
+use Rattle.place.proofs.Members.{first_or_later, got, here, later, member_of, none_in_nil}
+use Rattle.ldmodel_laws.proofs.Finding.{flat_map_in}
+use Rattle.relink_driver.specs.Reads.{ReadsNothing}
+use Rattle.relink_driver.specs.InPlace.{IsNextLink, IsKeptLink, IsInPlaceOutcome, bytes_of_object, own_bytes}
+use Rattle.relink_driver.specs.LocatedSections.{spots_below}
+use Rattle.relink_driver.specs.StayedSections.{IsPreviousOf, PreviousState, ReplacedObjectState}
+use Rattle.relink_driver.specs.Touched.{HasFault, HasTouched, IsTouchedCount, IsTouchedWork}
+use Rattle.relink_driver.specs.RelinkOutcome.{HasRelinkOutcome}
+use Rattle.relink_driver.specs.Worked.{HasWorked, IsLinkWork, IsWorkBeside}
+use Rattle.relink_driver.specs.declared.incremental.RelinkOutcome.{RelinkOutcome}
+use Rattle.relink_driver.specs.declared.incremental.RelinkOutcome.TheVariants as ended
+use Rattle.relink_driver.proofs.Outlined.{names_of}
+use Rattle.relink_driver.proofs.Retouching.{beside_own, came_before, came_is, is_retouched, same_arranged}
+use Rattle.relink_driver.proofs.Retouching.{same_name_there}
+use Rattle.relink_driver.proofs.Retouching.{same_symbols, table_of, was}
+use Rattle.relink_driver.proofs.Spotted.{has_spots, spots_bytes}
+use Rattle.relink_driver.proofs.TouchedSites.{touched_bytes, touched_sites}
+
+-- ---- answers that may fail
+
+pub if_both : {A E : Type 0} (P Q R : A → Type 0) (m : Result A E) → ((a : A) → P a → Q a → R a) → IfOk m P → IfOk m Q
+    → IfOk m R
+if_both P Q R (Ok a) h x y = h a x y
+if_both P Q R (Err e) h x y = tt
+
+pub if_one : {A E : Type 0} (P R : A → Type 0) (m : Result A E) → ((a : A) → P a → R a) → IfOk m P → IfOk m R
+if_one P R (Ok a) h x = h a x
+if_one P R (Err e) h x = tt
+
+pub if_pair : {A E : Type 0} (P Q : A → Type 0) (m : Result A E) → IfOk m P → IfOk m Q → IfOk m (λ a. P a × Q a)
+if_pair P Q (Ok a) x y = (x, y)
+if_pair P Q (Err e) x y = tt
+
+pub by_answer : {X : Type 0} (done : Bool) → (done ≡ true → X) → (done ≡ false → X) → X
+by_answer true f g = f refl
+by_answer false f g = g refl
+
+pub has_touched : (q : Project) (previous : Option PreviousState) (old new : List ℕ) (m0 m1 : Counts) (done : Bool)
+    → (done ≡ true → IsInPlaceOutcome q previous new × IsWorkBeside q previous m0 m1)
+    → (done ≡ false → (new ≡ old) × HasFault q) → ReadsNothing m0 m1 → HasTouched q previous old new m0 m1 done
+has_touched q previous old new m0 m1 true f g r = ((f refl).0, r, (f refl).1)
+has_touched q previous old new m0 m1 false f g r = ((g refl).0, inr ((g refl).1, r))
+
+-- ---- links without faults
+
+none_before : (fs : List Fault) (next : Link) → (unless fs next).status ≡ 0 → (fs ≡ []) × (next.status ≡ 0)
+none_before [] next e = (refl, e)
+none_before (f ∷ fs) next e = absurd (let none : ⊥ = cc in none)
+
+-- a link without faults has none of relocation
+faultless : (p : Project) (s : Layout) → model.layout p ≡ Ok s → model.link p ≡ model.good p s
+    → relocation_faults p s ≡ []
+unfolding model.link
+faultless p s laid is =
+    let names = none_before (model.name_faults p)
+    (unless (model.gathering_faults p) (placed p (model.layout p))) (ap (λ (l : Link). l.status) is) in
+    let gathered = none_before (model.gathering_faults p) (placed p (model.layout p)) names.1 in
+    (none_before (relocation_faults p s) (unless (assertion_faults p s) (model.good p s))
+    (ap (λ r. (placed p r).status) (sym laid) ∙ gathered.1)).0
+
+none_in : {X Y : Type 0} (f : X → Option Y) (xs : List X) (x : X) → filter_map f xs ≡ [] → Contains xs x → f x ≡ None
+none_in f [] x e c = absurd (none_in_nil x c)
+none_in {X} {Y} f (y ∷ ys) x e c = go (f y) refl e (first_or_later y ys x c) (λ l. none_in f ys x l)
+  where
+    go : (m : Option Y) → f y ≡ m → cons_option m (filter_map f ys) ≡ [] → (y ≡ x) ⊎ Contains ys x
+        → (filter_map f ys ≡ [] → Contains ys x → f x ≡ None) → f x ≡ None
+    go (Some u) a b d rest = absurd (let none : ⊥ = cc in none)
+    go None a b (inl is) rest = ap f (sym is) ∙ a
+    go None a b (inr in_rest) rest = rest b in_rest
+
+no_error : (r : Result (List ℕ) Fault) → result_err r ≡ None → (f : List ℕ) × (r ≡ Ok f)
+no_error (Ok f) e = (f, refl)
+no_error (Err x) e = absurd (let none : ⊥ = cc in none)
+
+last_empty : {X : Type 0} (xs ys : List X) → xs ++ ys ≡ [] → ys ≡ []
+last_empty [] ys e = e
+last_empty (x ∷ xs) ys e = absurd (let none : ⊥ = cc in none)
+
+all_fields : (p : Project) (s : Layout) → relocation_faults p s ≡ [] → (t : Site) → Contains (sites p s) t
+    → HasField (new_link p s) t
+unfolding relocation_faults
+all_fields p s none t c =
+    no_error (site_field p s t)
+    (none_in (λ u. result_err (site_field p s u)) (sites p s) t
+    (last_empty (entry_fault (entry_point p s)) (filter_map (λ u. result_err (site_field p s u)) (sites p s)) none) c)
+
+-- each site of it has a symbol with a value
+has_value : (l : KnownLink) (t : Site) → HasField (new_link l.project l.layout) t
+    → work_of (site_value l.project l.layout t) ≡ 1
+unfolding site_field
+has_value l t h = go (site_value l.project l.layout t) h.1
+  where
+    go : (v : SymbolValue) → site_field_with t v ≡ Ok h.0 → work_of v ≡ 1
+    go (Number x) e = refl
+    go NotDefined e = absurd (let no : ⊥ = cc in no)
+    go NotInOutput e = absurd (let no : ⊥ = cc in no)
+
+all_evaluated : (l : KnownLink) (ts : List Site)
+    → ((t : Site) → Contains ts t → HasField (new_link l.project l.layout) t) → evaluations l ts ≡ length ts
+all_evaluated l [] h = refl
+all_evaluated l (t ∷ ts) h =
+    let one = has_value l t (h t (here t ts)) in
+    let more = sum_by-cons (λ (u : Site). work_of (site_value l.project l.layout u)) t ts in
+    let rest = all_evaluated l ts (λ u c. h u (later t ts u c)) in
+    omega (arith, one, more, rest)
+
+-- the sites of an object are among those of the project
+own_sites : (p : Project) (s : Layout) (o : NamedObject) → Contains p.objects o → (t : Site) → Contains (sites_of s o) t
+    → Contains (sites p s) t
+unfolding sites
+own_sites p s o among t c =
+    flat_map_in (λ (x : NamedObject). flat_map (sites_of_section s x) x.object.sections) p.objects o t among c
+
+-- the image of a layout is not too long
+short_layout : (p : Project) (s : Layout) → model.layout p ≡ of_length (image_length p s) s → model.layout p ≡ Ok s
+    → image_length p s ≤ max_image_length
+short_layout p s is laid = go (nat_lt max_image_length (image_length p s)) refl (sym is ∙ laid)
+  where
+    go : (b : Bool) → nat_lt max_image_length (image_length p s) ≡ b
+        → cond b (Err (ImageTooLong (image_length p s) ∷ [])) (Ok s) ≡ Ok s → image_length p s ≤ max_image_length
+    go true e f = absurd (let none : ⊥ = cc in none)
+    go false e f = ltb-false max_image_length (image_length p s) e
+
+-- ---- the values of an object
+
+past : {X : Type 0} (xs : List X) (j : ℕ) → slice_get xs j ≡ None → length xs ≤ j
+past [] j e = omega arith
+past (x ∷ xs) zero e = absurd (let none : ⊥ = cc in none)
+past (x ∷ xs) (suc j) e = omega (arith, past xs j e)
+
+row_values : (l : KnownLink) (t : SymbolValues) (place : ℕ) (o : NamedObject) (count : ℕ) (row : List code.SymbolValue)
+    → AreSymbolValues l.project l.layout t → slice_get l.project.objects place ≡ Some o
+    → count ≡ length o.object.symbols → row ≡ row_at t place count → IsRow l o row
+row_values l t place o count row worth at many is j =
+    subst (λ r. value_of (slice_index_or r j value.NotDefined)
+    ≡ option_map_or (referenced_value l.project l.layout o) (slice_get o.object.symbols j) symbol.NotDefined) (sym is)
+    (go (slice_get o.object.symbols j) refl)
+  where
+    tail : List code.SymbolValue
+    tail = drop (slice_index_or t.starts.items place 0) t.values.items
+
+    go : (a : Option NamedSymbol) → slice_get o.object.symbols j ≡ a
+        → value_of (slice_index_or (row_at t place count) j value.NotDefined)
+        ≡ option_map_or (referenced_value l.project l.layout o) a symbol.NotDefined
+    go None e =
+        let least = length-take count tail in
+        let end = past o.object.symbols j e in
+        ap value_of (get_or_past (take count tail) j value.NotDefined (omega (arith, least, end, many)))
+    go (Some x) e =
+        let within = slice_get_within o.object.symbols j x e in
+        ap value_of (get_or-take count tail j value.NotDefined (omega (arith, within, many))
+        ∙ get_or-drop (slice_index_or t.starts.items place 0) t.values.items j value.NotDefined)
+        ∙ worth place j o x at e
+
+-- ---- the new link
+
+module _ (p : Project) (x : PreviousState) (r : ReplacedObjectState) (f : IsNextLink x p r)
+    (names : AreNamesDistinct p.objects)
+    (keeps : (old : GoodLink) → DiffersInContents old.project p r.new.0 → IsKeptLink old.project p old.layout) where
+  abbrev place : ℕ
+  place = r.new.0
+
+  abbrev pub link_at : Layout → KnownLink
+  link_at s = record { project = p; layout = s; number = λ key. key; name = λ k. None }
+
+  module _ (old : GoodLink) (is : IsPreviousOf old p x) where
+    abbrev s : Layout
+    s = old.layout
+
+    retouched : DiffersInContents old.project p place
+    retouched = is_retouched old p x r is f
+
+    kept : IsKeptLink old.project p s
+    kept = keeps old retouched
+
+    pub laid : model.layout p ≡ Ok s
+    laid = sym kept.layout ∙ is.table.layout
+
+    pub indexed_layout : IsIndexedLayout p s x.good.indexed_layout
+    indexed_layout = same_arranged old.project p place retouched s kept x.good.indexed_layout is.table.indexed_layout
+
+    pub short : image_length p s ≤ max_image_length
+    short = short_layout p s indexed_layout.link_layout.layout laid
+
+    pub before_faultless : relocation_faults old.project s ≡ []
+    before_faultless = faultless old.project s is.table.layout is.table.link
+
+    pub values : (count : ℕ) (row : List code.SymbolValue) → count ≡ length f.after.object.symbols
+        → row ≡ row_at x.good.symbols place count → IsRow (link_at s) f.after row
+    values count row many row_is =
+        row_values (link_at s) x.good.symbols place f.after count row
+        (same_symbols old.project p place retouched s kept x.good.symbols is.table.symbols) f.at many row_is
+
+    pub retouch_of : All IsBare r.object.sections → IsInPlaceRewrite old.project (link_at s) r.new f.after
+    retouch_of bare = record {
+      retouched = retouched;
+      frame = kept.frame;
+      object_is = f.at;
+      names = names;
+      spread = is.table.good.spread;
+      named = is.table.good.named;
+      bare = λ a at.
+          let same : came_before old p x r is f ≡ a = same_Some _ _ (sym (was old p x r is f) ∙ at) in
+          subst (λ (o : NamedObject). All IsBare o.object.sections) same
+          (subst (λ (d : ObjectData). All IsBare d.sections) (sym (came_is old p x r is f)) bare);
+    }
+
+    pub locate_sections : (order : AreInFileOrder (segments s.sections))
+        → (all : map (λ (v : SectionInFile). v.section) (in_file (segments s.sections)) ≡ nonempty s.sections)
+        → (offset_is : (v : SectionInFile) → Contains (in_file (segments s.sections)) v
+        → file_offset (segments s.sections) v.section ≡ v.offset)
+        → HasLocatedSections p s f.after (spots_below x.good.indexed_layout r.new
+        (map section_of f.after.object.sections)
+        (length f.after.object.sections))
+    locate_sections order all offset_is =
+        has_spots p s x.good.indexed_layout indexed_layout r.new f.after f.at short order all offset_is
+
+    pub same_layout_as : (t : Layout) → model.layout p ≡ Ok t → t ≡ s
+    same_layout_as t e =
+        let both = sym e ∙ laid in
+        let same : t ≡ s = cc both in
+        same
+
+  -- the previous link is right, with another image
+  pub retouched_end : (old : GoodLink) (is : IsPreviousOf old p x) (bytes : List ℕ) → relocation_faults p old.layout
+      ≡ []
+      → IsGood (new_link p old.layout) → bytes ≡ image p old.layout → IsInPlaceOutcome p (Some x) bytes
+  retouched_end old is bytes none good drawn =
+      let k = kept old is in
+      let link = k.link is.table.layout (ap (λ (l : Link). l.status) is.table.link) none in
+      record {
+        before = x;
+        was = refl;
+        current = f.current;
+        place = place;
+        retouched = λ o h. retouched o h;
+        layout = old.layout;
+        link = link;
+        table = table_of old.project p place (retouched old is) old.layout k x.good is.table names good link;
+        names = λ o h. sym (names_of o.project p place (retouched o h));
+        map = λ o h. (
+            let same = same_layout_as old is o.layout (laid o h) in
+            ap (map_text p) (sym same) ∙ sym (kept o h).map);
+        image = drawn;
+      }
+
+  -- what is counted
+  pub touched_count : (old : GoodLink) (is : IsPreviousOf old p x) → AreNumbered p → relocation_faults p old.layout ≡ []
+      → bytes_stayed (new_link p old.layout) (new_link p old.layout) ≤ image_length p old.layout
+      → (IsPlacedOnce p old.layout → (v : LinkedPiece) → Contains (link_pieces (new_link p old.layout)) v
+      → has_part_stayed old (new_link p old.layout) v.object v.part ≡ has_stayed old v)
+      → (IsPlacedOnce p old.layout → IsPermutation
+      (filter (λ t. not (lies_in_stayed old (new_link p old.layout) t)) (sites p old.layout))
+      (sites_outside old (new_link p old.layout)))
+      → (order : AreInFileOrder (segments old.layout.sections))
+      → (all : map (λ (v : SectionInFile). v.section) (in_file (segments old.layout.sections))
+      ≡ nonempty old.layout.sections)
+      → (offset_is : (v : SectionInFile) → Contains (in_file (segments old.layout.sections)) v
+      → file_offset (segments old.layout.sections) v.section ≡ v.offset)
+      → (before after : Counts)
+      → after ≡ raised (raised before Fields (evaluations (link_at old.layout) (sites_of old.layout f.after))) Bytes
+      (sum_by (bytes_of f.after.object) (spots_below x.good.indexed_layout r.new
+      (map section_of f.after.object.sections)
+      (length f.after.object.sections)))
+      → IsTouchedCount old (new_link p old.layout) place before after
+  touched_count old is numbers none most piece permuted order all offset_is before after counted =
+      let s : Layout = old.layout in
+      let k = kept old is in
+      let ret = retouched old is in
+      let b : NamedObject = f.after in
+      let once : IsPlacedOnce p s = record {
+        placed = (indexed_layout old is).link_layout.placed;
+        names = names;
+        numbers = numbers;
+      } in
+      let fresh : (y : NamedObject) → Contains old.project.objects y → y.name ≡ b.name
+      → y.object.text ≡ b.object.text → ⊥ =
+      λ y c n t. is.origins.fresh place b y (f.origins place (slice_get_within p.objects place b f.at)
+      ∙ beside_own place place refl) f.at c n t in
+      let name = same_name_there old p x r is f in
+      let a : NamedObject = came_before old p x r is f in
+      let fields : evaluations (link_at s) (sites_of s b) ≡ length (sites_of s b) =
+      all_evaluated (link_at s) (sites_of s b)
+      (λ t c. all_fields p s none t (own_sites p s b (got p.objects place b f.at) t c)) in
+      let sites = touched_sites old.project p s place ret k.frame names a b (was old p x r is f) f.at name fresh k.worth
+      (piece once) (permuted once) in
+      let bytes = spots_bytes p s x.good.indexed_layout (indexed_layout old is) r.new b f.at
+      (short old is) order all offset_is in
+      record {
+        counted = counted
+            ∙ ap (λ n. raised (raised before Fields n) Bytes (sum_by (bytes_of b.object)
+            (spots_below x.good.indexed_layout r.new (map section_of b.object.sections)
+            (length b.object.sections)))) (fields ∙ sym sites)
+            ∙ ap (raised (raised before Fields _) Bytes) bytes;
+        few = subst (λ n. n ≤ bytes_to_write old (new_link p s)) (sym (ap (λ m. option_map_or (λ (o : NamedObject).
+            sum_by (own_bytes (new_link p s) o.name) o.object.sections) m 0) f.at))
+            (touched_bytes old.project p s place ret k.frame names a b (was old p x r is f) f.at name fresh
+            (member_of (λ (o : NamedObject). EachLater (λ (y z : LinkedSection). (y.number.0 == z.number.0) ≡ false)
+            o.object.sections) p.objects b numbers (got p.objects place b f.at)) most);
+      }
+
+  none_past : (xs : List (List rows_of.Piece)) → entries_from (length xs) xs ≡ 0
+  none_past [] = refl
+  none_past (y ∷ ys) = none_past ys
+
+  -- the work of such a link
+  pub touched_work : (m0 m1 : Counts) → m0.pieces < 2 ^ 64 → IsTouchedWork p x place m0 m1
+      → IsWorkBeside p (Some x) m0 m1
+  touched_work m0 m1 small counted = λ old y t e is laid_at.
+      let same : x ≡ y = same_Some _ _ e in
+      work old y t (subst (IsPreviousOf old p) (sym same) is) laid_at same
+    where
+      work : (old : GoodLink) (y : PreviousState) (t : Layout) → IsPreviousOf old p x → model.layout p ≡ Ok t → x ≡ y
+          → IsLinkWork old (new_link p t) y m0 m1
+      work old y t is laid_at same =
+          let w = counted old t is laid_at in
+          let previous = none_past (rows p) in
+          let rows_are = (kept old is).rows in
+          record {
+            first = length (rows p);
+            pieces = ap (λ (m : Counts). m.pieces) w.counted
+                ∙ (let stay : m0.pieces ≡ capped m0.pieces (entries_from (length (rows p)) (rows p)) =
+                omega (arith, small, previous) in stay);
+            same = λ k less. ap (λ rs. slice_index_or rs k []) rows_are;
+            changed = λ next n taken. omega (arith, previous);
+            anew = λ other.
+                let never : true ≡ false = sym f.script ∙ ap (λ (z : PreviousState). z.same_script) same ∙ other in
+                absurd (let none : ⊥ = cc in none);
+            image = record {
+              relocations = ap (λ (m : Counts). m.fields) w.counted;
+              written = bytes_of_object (new_link p t) place;
+              bytes = ap (λ (m : Counts). m.bytes) w.counted;
+              few = w.few;
+              exactly = inr (record { place = place; retouched = retouched old is; is = refl });
+            };
+          }
+
+-- nothing but fields and bytes is counted
+pub touched_reads : (m0 m1 : Counts) (a b : ℕ) → m0.fields < 2 ^ 64 → m0.bytes < 2 ^ 64
+    → m1 ≡ raised (raised m0 Fields a) Bytes b → ReadsNothing m0 m1
+touched_reads m0 m1 a b small few e = record {
+  objects = ap (λ (m : Counts). m.objects) e;
+  names = ap (λ (m : Counts). m.names) e;
+  pieces = (let same = ap (λ (m : Counts). m.pieces) e in omega (arith, same));
+  fields = (let same = ap (λ (m : Counts). m.fields) e in omega (arith, same, small));
+  bytes = (let same = ap (λ (m : Counts). m.bytes) e in omega (arith, same, few));
+}
+
+-- the passes that follow where a relocation has a fault end with fault lines
+pub worked_after : (q : Project) (previous : Option PreviousState) (a b d : List ℕ) (m0 m1 m2 : Counts)
+    (e : RelinkOutcome)
+    → HasTouched q previous a b m0 m1 false → HasRelinkOutcome q previous b d e → HasWorked q previous m1 m2 e
+    → HasWorked q previous m0 m2 e
+worked_after q previous a b d m0 m1 m2 (ended.Faulty t) h k w = w
+worked_after q previous a b d m0 m1 m2 (ended.Good g m) h k w = go h.1
+  where
+    go : (m1 ≡ m0) ⊎ (HasFault q × ReadsNothing m0 m1) → IsWorkBeside q previous m0 m2
+    go (inl same) = subst (λ (z : Counts). IsWorkBeside q previous z m2) same w
+    go (inr faulty) = absurd (faulty.0 k.layout k.table.layout (faultless q k.layout k.table.layout k.table.link))
+worked_after q previous a b d m0 m1 m2 ended.RewrittenInPlace h k w = go h.1
+  where
+    go : (m1 ≡ m0) ⊎ (HasFault q × ReadsNothing m0 m1) → IsWorkBeside q previous m0 m2
+    go (inl same) = subst (λ (z : Counts). IsWorkBeside q previous z m2) same w
+    go (inr faulty) = absurd (faulty.0 k.layout k.table.layout (faultless q k.layout k.table.layout k.link))

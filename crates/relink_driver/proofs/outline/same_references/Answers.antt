@@ -1,0 +1,14 @@
+use Rattle.std.proofs.Common.{arith}
+use Rattle.relink_driver.proofs.Outlines.{all_mapped, one_more, same_symbol_at, symbol_of, symbols_named}
+use Rattle.relink_driver.proofs.outline.same_references.Goals as goal
+
+pub loop-number-preserved : goal.loop-number-preserved
+loop-number-preserved c =
+    one_more (symbols_named c.args.a.now) (symbols_named c.args.b.now) c.loop-number.number c.loop-number.invariant
+    (same_symbol_at c.args.a.now c.args.b.now c.loop-number.number _ c.loop-number-test.true c.if-a-b.false
+    (c.is_same_index.ensures c.if-not-is_same_index.false))
+
+pub returns : goal.returns
+returns c = λ yes.
+    all_mapped symbol_of c.args.a.now c.args.b.now c.loop-number.number c.if-a-b.false
+    (omega (arith, c.loop-number-test.false, c.loop-number.auto.number-end)) c.loop-number.invariant

@@ -1,0 +1,23 @@
+use Rattle.std.proofs.Common.{◌∙◌, ap, arith, length, map, sym}
+use Rattle.std.specs.Prelude.{Some}
+use Rattle.std.proofs.lemmas.List.{length-map}
+use Rattle.elfobj.specs.Sections.{section_of}
+use Rattle.ldmodel_laws.specs.Outline.{section_targets}
+use Rattle.relink_driver.proofs.Outlines.{all_mapped, one_more, targets_at}
+use Rattle.relink_driver.proofs.outline.same_targets.Goals as goal
+
+pub loop-number-preserved : goal.loop-number-preserved
+loop-number-preserved c =
+    one_more (map section_targets c.args.a.now.sections) (map section_targets c.args.b.now.sections)
+    c.loop-number.number c.loop-number.invariant
+    (targets_at c.args.a.now.sections c.loop-number.number _ c.relocations.ensures.value
+    ∙ ap Some (c.same_references.ensures c.if-not-same_references.false)
+    ∙ sym (targets_at c.args.b.now.sections c.loop-number.number _ c.relocations-in-loop-number.ensures.value))
+
+pub returns : goal.returns
+returns c = λ yes.
+    let a = ap length c.sections-before.ensures.value ∙ length-map c.args.a.now.sections section_of in
+    let b = ap length c.sections-now.ensures.value ∙ length-map c.args.b.now.sections section_of in
+    all_mapped section_targets c.args.a.now.sections c.args.b.now.sections c.loop-number.number
+    (omega (arith, a, b, c.if-before-now.false))
+    (omega (arith, a, c.loop-number-test.false, c.loop-number.auto.number-end)) c.loop-number.invariant

@@ -1,0 +1,74 @@
+use Rattle.std.proofs.Common.{◌∙◌, ap, arith, subst, sym}
+use Rattle.ldmodel.specs.Assertions.{assertion_faults}
+use Rattle.ldmodel.specs.Link.{Link, good, unless}
+use Rattle.ldmodel.specs.Relocations.{relocation_faults}
+use Rattle.ldmodel_project.specs.ByPlace.{faults_in}
+use Rattle.relink_driver.specs.PassErrors.{IsPassError}
+use Rattle.relink_driver.proofs.Beside.{evaluated_at, known_beside}
+use Rattle.relink_driver.proofs.Reading.{ends_reading}
+use Rattle.relink_driver.proofs.Stopping.{none_of}
+use Rattle.relink_driver.proofs.passes.evaluate_relocations.Goals as goal
+
+pub returns-in-Ok-clause-good : goal.returns-in-Ok-clause-good
+returns-in-Ok-clause-good c =
+    let p = c.args.context.project.now in
+    let h = c.requires.short.placed.known in
+    let s = h.layout in
+    let b = known_beside p _ _ _ _ c.args.symbols.now _ _ _ c.requires.short
+    (omega (arith, c.fields-fields.type_inv, c.fields-fields.ensures)) (c.requires.beside s h.link_layout)
+    (c.requires.symbols s h.link_layout) c.inputs-inputs.ensures.distinct c.in_ok-relocated.ensures
+    c.is_complete.ensures.complete c.is_complete.ensures.none in
+    let same = ap (faults_in p) c.deref.ensures.value ∙ b.faults in
+    let new = c.is_good.ensures s h.link_layout c.requires.short.length
+    (none_of (relocation_faults p s) (λ next. c.in-Ok.ensures.good (relocation_faults p s) next same)) in
+    record {
+      known_by = c.args.view.now;
+      short = c.requires.short;
+      names = c.inputs-inputs.ensures.distinct;
+      beside = c.requires.beside s h.link_layout;
+      fields = b.fields;
+      patches = b.patches new;
+      good = new;
+      rest = c.requires.short.rest
+          ∙ c.in-Ok.ensures.good (relocation_faults p s) (unless (assertion_faults p s) (good p s)) same;
+    }
+
+pub returns-in-Err-clause-stop : goal.returns-in-Err-clause-stop
+returns-in-Err-clause-stop c =
+    let p = c.args.context.project.now in
+    let h = c.requires.short.placed.known in
+    let s = h.layout in
+    let b = known_beside p _ _ _ _ c.args.symbols.now _ _ _ c.requires.short
+    (omega (arith, c.fields-fields.type_inv, c.fields-fields.ensures)) (c.requires.beside s h.link_layout)
+    (c.requires.symbols s h.link_layout) c.inputs-inputs.ensures.distinct c.in_ok-relocated.ensures
+    c.is_complete.ensures.complete c.is_complete.ensures.none in
+    subst (λ (l : Link). IsPassError l c.in-Err.stop) (sym c.requires.short.rest)
+    (c.in-Err.ensures.stop (relocation_faults p s) (unless (assertion_faults p s) (good p s))
+    (ap (faults_in p) c.deref.ensures.value ∙ b.faults))
+
+pub returns-in-Ok-clause-reads : goal.returns-in-Ok-clause-reads
+returns-in-Ok-clause-reads c =
+    let h = c.requires.short.placed.known in
+    let b = known_beside _ _ _ _ _ c.args.symbols.now _ _ _ c.requires.short
+    (omega (arith, c.fields-fields.type_inv, c.fields-fields.ensures)) (c.requires.beside h.layout h.link_layout)
+    (c.requires.symbols h.layout h.link_layout) c.inputs-inputs.ensures.distinct c.in_ok-relocated.ensures
+    c.is_complete.ensures.complete c.is_complete.ensures.none in
+    b.reads
+
+pub returns-in-Ok-clause-counted : goal.returns-in-Ok-clause-counted
+returns-in-Ok-clause-counted c =
+    let k = c.requires.short.placed.known in
+    let b = known_beside _ _ _ _ _ c.args.symbols.now _ _ _ c.requires.short
+    (omega (arith, c.fields-fields.type_inv, c.fields-fields.ensures)) (c.requires.beside k.layout k.link_layout)
+    (c.requires.symbols k.layout k.link_layout) c.inputs-inputs.ensures.distinct c.in_ok-relocated.ensures
+    c.is_complete.ensures.complete c.is_complete.ensures.none in
+    evaluated_at _ _ _ _ _ k.layout k.link_layout b.counted
+
+pub returns-in-Err-clause-early : goal.returns-in-Err-clause-early
+returns-in-Err-clause-early c =
+    let h = c.requires.short.placed.known in
+    let b = known_beside _ _ _ _ _ c.args.symbols.now _ _ _ c.requires.short
+    (omega (arith, c.fields-fields.type_inv, c.fields-fields.ensures)) (c.requires.beside h.layout h.link_layout)
+    (c.requires.symbols h.layout h.link_layout) c.inputs-inputs.ensures.distinct c.in_ok-relocated.ensures
+    c.is_complete.ensures.complete c.is_complete.ensures.none in
+    ends_reading _ _ c.in-Err.stop b.reads

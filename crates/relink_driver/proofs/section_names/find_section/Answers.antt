@@ -1,0 +1,13 @@
+-- The section of a number, where numbers ascend.
+use Rattle.std.proofs.Common.{◌<◌, subst}
+use Rattle.std.specs.Prelude.{AllPairs}
+use Rattle.elfobj.specs.declared.section.Section.{Section}
+use Rattle.relink_driver.proofs.FoundSections.{found_or_none}
+use Rattle.relink_driver.proofs.section_names.find_section.Goals as goal
+
+pub returns-clause-is : goal.returns-clause-is
+returns-clause-is c =
+    let ascending = subst (AllPairs (λ (s t : Section). s.number.0 < t.number.0)) c.sections-in_order.ensures.value
+    c.sections-in_order.ensures.ascending in
+    found_or_none c.section_at.result c.args.object.now.sections c.args.number ascending c.section_at.ensures.found
+    c.section_at.ensures.absent

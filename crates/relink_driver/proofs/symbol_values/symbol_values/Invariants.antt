@@ -1,0 +1,7 @@
+use Rattle.ldmodel_project.specs.Inputs.{shown_inputs}
+use Rattle.relink_driver.proofs.Symbols.{TableSoFar}
+use Rattle.relink_driver.proofs.symbol_values.symbol_values.Given as goal
+
+abbrev pub invariant-loop-place : goal.invariant-loop-place
+invariant-loop-place l =
+    TableSoFar l.project l.link l.names (shown_inputs l.inputs) l.place l.starts.items l.values.items

@@ -1,0 +1,12 @@
+-- Which objects of a link name a symbol that was worth something else in an previous link.
+use Rattle.std.specs.Prelude.{◌≡◌, ℕ, Bool, true, false, List, Some, slice_get, slice_index_or}
+use Rattle.ldmodel.specs.Layout.{Layout}
+use Rattle.ldmodel.specs.Project.{Project}
+use Rattle.ldmodel.specs.Relocations.{Site, site_value}
+use Rattle.ldmodel.specs.Stayed.{GoodLink}
+
+-- no symbol that a relocation of an object without a mark names has another value
+abbrev pub AreDirtyObjects : GoodLink → Project → Layout → List Bool → Type 0
+AreDirtyObjects old p s dirty =
+    (i : ℕ) (t : Site) → slice_index_or dirty i true ≡ false → slice_get p.objects i ≡ Some t.object
+    → site_value old.project old.layout t ≡ site_value p s t

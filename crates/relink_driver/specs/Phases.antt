@@ -1,0 +1,101 @@
+-- What is known of a link after each phase that follows its gathering.
+use Rattle.std.specs.Prelude.{◌≡◌, ◌≤◌, ℕ, IfSome, IsSome, List, is_some}
+use Rattle.std.specs.List.{All}
+use Rattle.emit.specs.image.Kept.{ArePatchesOf}
+use Rattle.emit.specs.image.Stretches.{EndsBy}
+use Rattle.relink_driver.specs.DirtyObjects.{AreDirtyObjects}
+use Rattle.relink_driver.specs.StayedSections.{IsPreviousOf, PreviousState, previous_of, range_of}
+use Rattle.relink_driver.specs.declared.stayed_sections.StayedSections.{StayedSections}
+use Rattle.ldmodel_laws.specs.Untouched.{IsGood}
+use Rattle.place.specs.LinkLayout.{IsLinkLayout}
+use Rattle.place.specs.declared.link_layout.LinkLayout.{LinkLayout}
+use Rattle.ldmodel.specs.Assertions.{assertion_faults}
+use Rattle.ldmodel.specs.Edits.{AreNamesDistinct}
+use Rattle.ldmodel.specs.Image.{image}
+use Rattle.ldmodel.specs.Layout.{Layout}
+use Rattle.ldmodel.specs.Link as model
+use Rattle.ldmodel.specs.Link.{link, max_image_length, placed, unless}
+use Rattle.ldmodel.specs.Project.{Project}
+use Rattle.ldmodel.specs.SectionHeaders.{image_length}
+use Rattle.ldmodel.specs.Stayed.{GoodLink}
+use Rattle.symres.specs.SymbolTable.{SymbolTableState}
+use Rattle.emit.specs.Beside.{new_link}
+use Rattle.emit.specs.Runs.{AreRunsUnless}
+use Rattle.emit.specs.declared.relocated.Relocated.{Relocated}
+use Rattle.place.specs.IndexedLayout.{IsIndexedLayout}
+use Rattle.place.specs.declared.indexed_layout.IndexedLayout.{IndexedLayout}
+use Rattle.emit.specs.values.LinkView.{IsLinkView, known_link}
+use Rattle.emit.specs.values.Values.{AreValues}
+use Rattle.emit.specs.values.declared.link_view.LinkView.{LinkView}
+use Rattle.emit.specs.values.declared.values.Values.{Values}
+
+-- the previous link is one without faults
+pub record HasPreviousLink (new : Project) (x : PreviousState) : Type 0 where
+  pub old : GoodLink
+  pub is : IsPreviousOf old new x
+
+-- everything has its place, and the layout has no fault but perhaps the length of the image
+pub record IsLaidOut (p : Project) (a : IndexedLayout) : Type 0 where
+  pub layout : Layout
+  pub link_layout : IsLinkLayout p layout a.link_layout
+  pub indexed_layout : (s : Layout) → IsLinkLayout p s a.link_layout → IsIndexedLayout p s a
+  pub rest : link p ≡ placed p (model.layout p)
+
+-- a link whose parts have their places is known
+pub record IsKnown (p : Project) (a : SymbolTableState) (l : LinkLayout) (w : LinkView) : Type 0 where
+  pub layout : Layout
+  pub link_layout : IsLinkLayout p layout l
+  pub view : IsLinkView (known_link p layout a) w
+  pub rest : link p ≡ placed p (model.layout p)
+
+-- and all names have their values
+pub record IsPlaced (p : Project) (l : LinkLayout) (w : LinkView) (v : Values) : Type 0 where
+  pub symbol_table : SymbolTableState
+  pub known : IsKnown p symbol_table l w
+  pub values : AreValues p known.layout symbol_table v
+
+-- the image is not too long either
+pub record IsShort (p : Project) (l : LinkLayout) (w : LinkView) (v : Values) : Type 0 where
+  pub placed : IsPlaced p l w v
+  pub length : image_length p placed.known.layout ≤ max_image_length
+  pub rest : link p ≡ model.relocated p placed.known.layout
+
+-- the tables of a link at a layout beside those of the earlier one, if there is one
+pub record AreBeside (p : Project) (s : Layout) (y : StayedSections) : Type 0 where
+  pub indexed_layout : IsIndexedLayout p s y.indexed_layout.now
+  pub previous : IfSome (previous_of y.previous) (HasPreviousLink p)
+  pub dirty : (old : GoodLink) → IfSome (previous_of y.previous) (IsPreviousOf old p)
+      → AreDirtyObjects old p s y.dirty.now
+
+-- at the layout of these tables
+abbrev pub IsBeside : Project → StayedSections → Type 0
+IsBeside p y = (s : Layout) → IsLinkLayout p s y.indexed_layout.now.link_layout → AreBeside p s y
+
+-- patches of what stayed: they end within the image, and are those of each previous link that this one may be
+pub record ArePatches (p : Project) (s : Layout) (y : StayedSections) (r : Relocated) : Type 0 where
+  pub ends : All (EndsBy (image_length p s)) r.retargeted.items
+  pub patches : (old : GoodLink) → IfSome (previous_of y.previous) (IsPreviousOf old p) → IsSome y.previous
+      → ArePatchesOf old (new_link p s) r.retargeted.items
+
+-- all relocations have their fields, but those of what stayed
+pub record IsFilled (p : Project) (y : StayedSections) (v : Values) (r : Relocated) : Type 0 where
+  pub known_by : LinkView
+  pub short : IsShort p y.indexed_layout.now.link_layout known_by v
+  pub names : AreNamesDistinct p.objects
+  pub beside : AreBeside p short.placed.known.layout y
+  pub fields :
+      AreRunsUnless (known_link p short.placed.known.layout short.placed.symbol_table) (λ k. is_some (range_of y k))
+      r.patches.items r.ends.items
+  pub patches : ArePatches p short.placed.known.layout y r
+  pub good : IsGood (new_link p short.placed.known.layout)
+  pub rest : link p
+      ≡ unless (assertion_faults p short.placed.known.layout) (model.good p short.placed.known.layout)
+
+-- all assertions hold
+pub record IsFaultless (p : Project) (y : StayedSections) (v : Values) (r : Relocated) : Type 0 where
+  pub filled : IsFilled p y v r
+  pub rest : link p ≡ model.good p filled.short.placed.known.layout
+
+-- these bytes are the image at the layout of these tables
+abbrev pub IsImage : Project → StayedSections → List ℕ → Type 0
+IsImage p y bytes = (s : Layout) → IsLinkLayout p s y.indexed_layout.now.link_layout → bytes ≡ image p s

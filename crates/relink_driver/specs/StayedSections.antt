@@ -1,0 +1,127 @@
+-- Which input sections of a link stayed where an previous link has them.
+use Rattle.std.specs.Prelude.{◌≡◌, ◌≤◌, ℕ, Bool, true, List, Option, Some, None, IfSome, option_and_then}
+use Rattle.std.specs.Prelude.{if◌then◌else◌, length, slice_get, slice_index_or}
+use Rattle.std.specs.Option.{option_map}
+use Rattle.elfobj.specs.Object.{ObjectData}
+use Rattle.elfobj.specs.declared.relocation.SymbolIndex.{SymbolIndex}
+use Rattle.ldmodel.specs.Edits.{AreNamesDistinct}
+use Rattle.ldmodel.specs.Link.{max_image_length}
+use Rattle.ldmodel.specs.Project.{NamedObject, Project}
+use Rattle.ldmodel.specs.SectionHeaders.{image_length}
+use Rattle.ldmodel.specs.Stayed.{GoodLink}
+use Rattle.ldmodel.specs.declared.names.ObjectPlace.{ObjectPlace}
+use Rattle.ldmodel.specs.declared.sections.Part.{Part}
+use Rattle.ldmodel.specs.declared.sections.SectionKey.{SectionKey}
+use Rattle.symres.specs.SymbolTable.{SymbolTableState}
+use Rattle.place.specs.IndexedLayout.{IsIndexedLayout}
+use Rattle.place.specs.declared.indexed_layout.IndexedLayout.{IndexedLayout}
+use Rattle.emit.specs.relocate.KnownLink.{KnownLink}
+use Rattle.emit.specs.relocate.declared.previous_link_info.FileRange.{FileRange}
+use Rattle.emit.specs.relocate.declared.value.SymbolValue.{SymbolValue}
+use Rattle.emit.specs.relocate.declared.value.SymbolValue.TheVariants.{NotDefined}
+use Rattle.emit.specs.values.LinkView.{known_link}
+use Rattle.relink_driver.specs.DirtyObjects.{AreDirtyObjects}
+use Rattle.relink_driver.specs.Origins.{AreOrigins}
+use Rattle.relink_driver.specs.SectionLocation.{same_location, location_in}
+use Rattle.emit.specs.relocate.SymbolValues.{value_at}
+use Rattle.relink_driver.specs.LinkSnapshot.{IsLinkSnapshot}
+use Rattle.relink_driver.specs.declared.link_snapshot.LinkSnapshot.{LinkSnapshot}
+use Rattle.relink_driver.specs.declared.section_location.SectionLocation.{SectionLocation}
+use Rattle.relink_driver.specs.declared.stayed_sections.PreviousView.{PreviousView}
+use Rattle.relink_driver.specs.declared.stayed_sections.ReplacedObject.{ReplacedObject}
+use Rattle.relink_driver.specs.declared.stayed_sections.StayedSections.{StayedSections}
+
+-- an object of the previous link, its place in it, and the place in the new one of the object that came in its place
+pub record ReplacedObjectState : Type 0 where
+  pub old : ObjectPlace
+  pub object : ObjectData
+  pub new : ObjectPlace
+
+abbrev pub replaced_state : ReplacedObject → ReplacedObjectState
+replaced_state x = record { old = x.old; object = x.object.now; new = x.new }
+
+-- an previous link without faults, how many objects it has, which of them are still there, which one was replaced, and
+-- whether it is the one that is answered
+pub record PreviousState : Type 0 where
+  pub good : LinkSnapshot
+  pub objects : ℕ
+  pub from : List (Option ℕ)
+  pub same_script : Bool
+  pub replaced : Option ReplacedObjectState
+  pub is_current : Bool
+
+abbrev pub previous_state : PreviousView → PreviousState
+previous_state x = record {
+  good = x.good.now;
+  objects = x.objects;
+  from = x.from.now;
+  same_script = x.same_script;
+  replaced = option_map replaced_state x.replaced;
+  is_current = x.is_current;
+}
+
+abbrev pub previous_of : Option PreviousView → Option PreviousState
+previous_of x = option_map previous_state x
+
+-- where an object stood in the previous link
+abbrev pub last_place : PreviousState → ObjectPlace → Option ℕ
+last_place x k = slice_index_or x.from k.0 None
+
+-- where an input section did
+abbrev pub standing_from : PreviousState → Part → ℕ → Option SectionLocation
+standing_from x part i =
+    location_in x.good.indexed_layout (record { object = record { 0 = i }; part = part })
+
+unfoldable pub previous_location : PreviousState → SectionKey → Option SectionLocation
+previous_location x k = option_and_then (standing_from x k.part) (last_place x k.object)
+
+-- what a symbol of an object was worth in it
+abbrev pub value_from : PreviousState → SymbolIndex → Option ℕ → SymbolValue
+value_from x index None = NotDefined
+value_from x index (Some i) = value_at x.good.symbols i index.0
+
+abbrev pub previous_value : PreviousState → ObjectPlace → SymbolIndex → SymbolValue
+previous_value x k index = value_from x index (last_place x k)
+
+-- it stayed where it stands as it stood
+abbrev pub kept_at : Option SectionLocation → Option SectionLocation → Option FileRange
+kept_at None now = None
+kept_at (Some before) None = None
+kept_at (Some before) (Some now) = if same_location before now then Some now.range else None
+
+-- which input sections stayed, and where their bytes stand in the file
+unfoldable pub kept_range : Option PreviousState → IndexedLayout → SectionKey → Option FileRange
+kept_range None now k = None
+kept_range (Some x) now k = kept_at (previous_location x k) (location_in now k)
+
+abbrev pub range_of : StayedSections → SectionKey → Option FileRange
+range_of s k = kept_range (previous_of s.previous) s.indexed_layout.now k
+
+-- this object of the earlier project was replaced by that of the new one which has its name
+pub record IsReplaced (p q : Project) (r : ReplacedObjectState) : Type 0 where
+  pub before : NamedObject
+  pub after : NamedObject
+  pub old : slice_get p.objects r.old.0 ≡ Some before
+  pub new : slice_get q.objects r.new.0 ≡ Some after
+  pub object : before.object ≡ r.object
+  pub name : after.name ≡ before.name
+
+-- the previous link is this one, with this number of objects, which are those of the next project as its origins say;
+-- its options are the same, and so is its script where it is said to be
+pub record IsPreviousOf (old : GoodLink) (new : Project) (x : PreviousState) : Type 0 where
+  pub table : IsLinkSnapshot old x.good
+  pub objects : x.objects ≡ length old.project.objects
+  pub options : old.project.options ≡ new.options
+  pub origins : AreOrigins old.project new x.from
+  pub script : x.same_script ≡ true → old.project.script ≡ new.script
+  pub replaced : IfSome x.replaced (IsReplaced old.project new)
+
+-- the new link, at a layout whose image is not too long, and the earlier one, if there is one
+pub record AreStayedSections (s : StayedSections) (old : GoodLink) (l : KnownLink) : Type 0 where
+  pub symbol_table : SymbolTableState
+  pub link : l ≡ known_link l.project l.layout symbol_table
+  pub names : AreNamesDistinct l.project.objects
+  pub indexed_layout : IsIndexedLayout l.project l.layout s.indexed_layout.now
+  pub short : image_length l.project l.layout ≤ max_image_length
+  pub previous : IfSome (previous_of s.previous) (IsPreviousOf old l.project)
+  pub dirty : AreDirtyObjects old l.project l.layout s.dirty.now

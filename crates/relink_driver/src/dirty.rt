@@ -1,0 +1,80 @@
+//! Which objects of a link name a symbol that was worth something else in an previous link.
+
+ghost use Rattle.std.specs.Prelude.{◌≡◌, ℕ, IfOk, IfSome, false, slice_index_or, true};
+ghost use Rattle.relink_driver.specs.DirtyObjects.{AreDirtyObjects};
+ghost use Rattle.relink_driver.specs.StayedSections.{IsPreviousOf, previous_of};
+ghost use Rattle.emit.specs.relocate.SymbolValues.{AreSymbolValues};
+ghost use Rattle.relink_driver.specs.CleanObjects.{IsCleanObject};
+ghost use Rattle.ldmodel.specs.Layout.{Layout};
+ghost use Rattle.ldmodel.specs.Stayed.{GoodLink};
+ghost use Rattle.emit.specs.relocate.declared.value.SymbolValue.TheVariants.{NotDefined};
+
+use crate::stayed_sections::PreviousView;
+use crate::symbol_values::SymbolValues;
+use emit::relocate::value::SymbolValue;
+use ldmodel::memory::NoMemory;
+use ldmodel::names::ObjectPlace;
+use ldmodel_project::view::ProjectView;
+use std::alloc::Global;
+
+/// Whether two objects have the same values, number by number.
+fn have_same_values(old: &[SymbolValue], new: &[SymbolValue]) -> bool
+    ensures { result ≡ true → (n : ℕ) → slice_index_or old.now n NotDefined ≡ slice_index_or new.now n NotDefined }
+{
+    if old.len() != new.len() {
+        return false;
+    }
+    for number in 0..old.len() {
+        if old[number] != new[number] {
+            return false;
+        }
+    }
+    true
+}
+
+/// Whether an object of a link, which has `count` symbols, is no object of the last one, or one of its symbols had
+/// another value there.
+#[tactic(auto, using(crate::proofs::Unmarked::unmarked_by_rows))]
+fn is_dirty(
+    previous: Option<PreviousView<'_>>,
+    symbols: &SymbolValues,
+    place: usize,
+    count: usize,
+) -> bool
+    ensures { result ≡ false → IsCleanObject (previous_of previous.entry) symbols.now place count }
+{
+    let Some(previous) = previous else {
+        return true;
+    };
+    let Some(from) = previous.place(ObjectPlace(place)) else {
+        return true;
+    };
+    let before = previous.good.symbols.row(ObjectPlace(from), count);
+    let now = symbols.row(ObjectPlace(place), count);
+    !have_same_values(before, now)
+}
+
+/// Which objects of a link, by their places, are no objects of the last one, or have a symbol that had another value
+/// there. `symbols` has the values of the link. Values are compared as what they are, not by their numbers: what
+/// nothing defines counts as 0 to a weak reference, and is another value than the number 0 to others.
+///
+/// # Errors
+///
+/// Where memory runs out.
+pub fn dirty_objects(
+    alloc: Global,
+    project: &ProjectView<'_>,
+    previous: Option<PreviousView<'_>>,
+    symbols: &SymbolValues,
+) -> Result<Vec<bool>, NoMemory>
+    ensures { IfOk result (λ dirty. (old : GoodLink) (s : Layout)
+        → IfSome (previous_of previous.entry) (IsPreviousOf old project.now)
+        → AreSymbolValues project.now s symbols.now → AreDirtyObjects old project.now s dirty.items) }
+{
+    let inputs = project.inputs();
+    let mut dirty = Vec::with_capacity(alloc, inputs.len())?;
+    for (place, input) in inputs.iter().enumerate() {
+        dirty.push(is_dirty(previous, symbols, place, input.object.symbols().len()))?;
+    }
+    Ok(dirty)
+}

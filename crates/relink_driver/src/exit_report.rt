@@ -1,0 +1,78 @@
+//! How a link of files ends: the status of the program, and what stands on standard error.
+
+ghost use Rattle.std.specs.Prelude.{◌≡◌, ◌++◌, IfOk, codes, map, string_bytes};
+ghost use Rattle.ldmodel.specs.Answers.{refused_line};
+ghost use Rattle.ldmodel.specs.EditMeaning.{refusal_of};
+ghost use Rattle.ldmodel.specs.LinkCommand.{link_status};
+ghost use Rattle.relink_driver.specs.Answer.{answer_of};
+ghost use Rattle.relink_driver.specs.Message.{IsMessage, word_at};
+
+use crate::fault::LinkFault;
+use crate::output::Output;
+use itoa::Buffer;
+use ldmodel::edit::EditRefusal;
+use ldmodel::memory::NoMemory;
+use std::alloc::Global;
+
+/// The status of the program: 0 after a good link, 1 after one with faults, 2 where an edit is refused, 4 where memory
+/// ran out.
+pub fn exit_status(outcome: &Result<Output, LinkFault>) -> u8
+    ensures { result ≡ link_status (answer_of outcome.now) }
+{
+    match outcome {
+        Ok(output) => output.status(),
+        Err(LinkFault::Refused { .. }) => 2,
+        Err(LinkFault::Memory) => 4,
+    }
+}
+
+/// The word of the file at a place among the edits of a link: `script`, or the word of an object.
+fn word_at(words: &[String], place: usize) -> &[u8]
+    ensures { result.now ≡ word_at (map string_bytes words.now) place }
+{
+    if place == 0 {
+        return b"script";
+    }
+    match words.get(place - 1) {
+        Some(word) => word.as_bytes(),
+        None => &[],
+    }
+}
+
+/// The line for a refused edit of a file.
+#[tactic(auto, unfolding(ldmodel::specs::Answers::answer_line))]
+fn refused_message(alloc: Global, word: &[u8], why: EditRefusal) -> Result<Vec<u8>, NoMemory>
+    ensures { IfOk result (λ text. text.items ≡ word.now ++ codes ": " ++ refused_line (refusal_of why)) }
+{
+    let mut number = Buffer::new();
+    let mut inner = Buffer::new();
+    let mut text = Vec::from_slice(alloc, word)?;
+    text.extend_from_slice(b": refused ")?;
+    text.extend_from_slice(number.format(why.number()).as_bytes())?;
+    text.extend_from_slice(b" ")?;
+    text.extend_from_slice(inner.format(why.inner_number()).as_bytes())?;
+    text.extend_from_slice(b"\n")?;
+    Ok(text)
+}
+
+/// What stands on standard error after a link of objects with these words: the fault lines of the link, a line for
+/// the refused edit, or `memory`.
+///
+/// # Errors
+///
+/// Where there is no memory for the text.
+pub fn message(
+    alloc: Global,
+    words: &[String],
+    outcome: &Result<Output, LinkFault>,
+) -> Result<Vec<u8>, NoMemory>
+    ensures { IfOk result (λ text. IsMessage (map string_bytes words.now) (answer_of outcome.now) text.items) }
+{
+    match outcome {
+        Ok(output) => Vec::from_slice(alloc, output.faults()),
+        Err(LinkFault::Refused { place, why }) => {
+            refused_message(alloc, word_at(words, *place), *why)
+        }
+        Err(LinkFault::Memory) => Vec::from_slice(alloc, b"memory\n"),
+    }
+}

@@ -1,0 +1,66 @@
+//! A link from scratch.
+
+ghost use Rattle.std.specs.Prelude.{◌≡◌, IfOk};
+ghost use Rattle.gather.specs.ProjectMatches.{AreMatched};
+ghost use Rattle.ldmodel.specs.Link.{link};
+ghost use Rattle.symres.specs.SymbolTable.{IsSymbolTable};
+
+use crate::incremental::{RelinkOutcome, relink};
+use crate::output::Output;
+use emit::Canvas;
+use gather::matches::{Matches, lend_all, match_all};
+use ldmodel::memory::NoMemory;
+use ldmodel::meter::Meter;
+use ldmodel_project::view::ProjectView;
+use std::alloc::{AllocError, Global};
+use std::hash::RandomState;
+use symres::SymbolTable;
+
+/// Links a project from scratch, over names that are decided and matches that are found. Fails where memory runs out.
+fn link_over(
+    alloc: Global,
+    project: &ProjectView<'_>,
+    symbol_table: &SymbolTable,
+    matches: &[Matches],
+    meter: &mut Meter,
+) -> Result<Output, NoMemory>
+    requires symbol_table { IsSymbolTable project.now symbol_table.now }
+    requires matches { AreMatched project.now matches.now }
+    ensures { IfOk result (λ o. o ≡ link project.now) }
+{
+    let match_refs = lend_all(alloc, matches)?;
+    let mut image = Canvas::new(alloc);
+    match relink(
+        alloc,
+        project,
+        symbol_table,
+        &match_refs,
+        None,
+        &mut image,
+        meter,
+    ) {
+        Ok(RelinkOutcome::Good(_kept, map)) => Ok(Output::good(alloc, image, map)),
+        Ok(RelinkOutcome::Faulty(lines)) => Ok(Output::faulty(alloc, lines)),
+        // there is no previous link
+        Ok(RelinkOutcome::RewrittenInPlace) => unreachable!(),
+        Err(_) => Err(AllocError),
+    }
+}
+
+/// Links a project from scratch: over names and matches of its own, and no previous link.
+///
+/// # Errors
+///
+/// Where memory runs out.
+pub(crate) fn link(
+    alloc: Global,
+    seed: RandomState,
+    project: &ProjectView<'_>,
+    meter: &mut Meter,
+) -> Result<Output, NoMemory>
+    ensures { IfOk result (λ o. o ≡ link project.now) }
+{
+    let symbol_table = SymbolTable::of(alloc, seed, project.inputs(), project.script(), meter)?;
+    let matches = match_all(alloc, project)?;
+    link_over(alloc, project, &symbol_table, &matches, meter)
+}

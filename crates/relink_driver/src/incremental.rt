@@ -1,0 +1,221 @@
+//! A link over what is kept: names that are decided, matches that are found, and an previous link, if there is one.
+
+ghost use Rattle.std.specs.Prelude.{◌≡◌, IfErr, IfOk, IfSome, OnErr, OnOk, map};
+ghost use Rattle.gather.specs.ProjectMatches.{AreMatched};
+ghost use Rattle.relink_driver.specs.StayedSections.{previous_of};
+ghost use Rattle.ldmodel.specs.Layout.{Layout};
+ghost use Rattle.ldmodel.specs.Link.{link};
+ghost use Rattle.place.specs.LinkLayout.{IsLinkLayout};
+ghost use Rattle.symres.specs.SymbolTable.{IsSymbolTable};
+ghost use Rattle.emit.specs.relocate.SymbolValues.{AreSymbolValues};
+ghost use Rattle.relink_driver.specs.Counted.{AreDrawn, ArePlaced};
+ghost use Rattle.relink_driver.specs.RelinkOutcome.{HasRelinkOutcome, HasPreviousImage, IsEmitted};
+ghost use Rattle.relink_driver.specs.Context.{IsPassContext, project_of};
+ghost use Rattle.relink_driver.specs.Phases.{HasPreviousLink, IsLaidOut, IsShort};
+ghost use Rattle.relink_driver.specs.Reads.{EndsReadingNothing, ReadsNothing};
+ghost use Rattle.relink_driver.specs.PassErrors.{IsPassError};
+ghost use Rattle.relink_driver.specs.Worked.{HasWorked};
+
+use crate::context::PassContext;
+use crate::dirty::dirty_objects;
+use crate::in_place::rewrite_if_alone;
+use crate::link_snapshot::LinkSnapshot;
+use crate::pass_error::PassError;
+use crate::passes::{
+    assign_addresses, check_assertions, check_names, compute_values, draw_output,
+    evaluate_relocations, gather_inputs,
+};
+use crate::stayed_sections::{PreviousView, StayedSections};
+use crate::symbol_values::{SymbolValues, symbol_values};
+use emit::values::given::GivenValues;
+use emit::values::link_view::LinkView;
+use emit::values::values::Values;
+use emit::{Canvas, map_text};
+use gather::Gathering;
+use gather::matches::Matches;
+use ldmodel::memory::NoMemory;
+use ldmodel::meter::Meter;
+use ldmodel_project::view::ProjectView;
+use place::indexed_layout::IndexedLayout;
+use std::alloc::{AllocError, Global};
+use symres::SymbolTable;
+
+/// How a link over an earlier one ends.
+#[derive(Drop)]
+pub enum RelinkOutcome {
+    /// The project has faults, and these are their lines.
+    Faulty(Vec<u8>),
+    /// It has none: what is kept of the link, and its map.
+    Good(LinkSnapshot, Vec<u8>),
+    /// It has none, and differs from the previous link in what the input sections of one object hold: the image is the
+    /// new one; the map, and what is kept of the previous link, are right for this one.
+    RewrittenInPlace,
+}
+
+/// Where everything stands: the phases of a link up to its layout. Without faults, that is.
+fn lay_out(context: PassContext<'_, '_>, meter: &mut Meter) -> Result<IndexedLayout, PassError>
+    requires context { IsPassContext context }
+    requires previous { IfSome (previous_of context.previous) (HasPreviousLink (project_of context)) }
+    ensures good { IfOk result (λ a. IsLaidOut (project_of context.entry) a) }
+    ensures stop { IfErr result (λ stop. IsPassError (link (project_of context.entry)) stop) }
+    ensures reads { ReadsNothing meter.old meter.new }
+    ensures counted { OnOk result
+        (ArePlaced (project_of context.entry) (previous_of context.entry.previous) meter.old meter.new) }
+{
+    check_names(context)?;
+    let Gathering { table, rows, .. } = gather_inputs(context)?;
+    let link_layout = assign_addresses(context, &rows, meter)?;
+    match IndexedLayout::of(context.alloc, context.project, table, rows, link_layout) {
+        Ok(indexed_layout) => Ok(indexed_layout),
+        Err(_) => Err(PassError::NoMemory),
+    }
+}
+
+/// What is put out at a layout whose symbols have their values: the image, drawn over that of the previous link, and
+/// the map.
+fn emit_output(
+    context: PassContext<'_, '_>,
+    indexed_layout: &IndexedLayout,
+    view: &LinkView<'_, '_>,
+    values: &Values<'_>,
+    symbols: &SymbolValues,
+    canvas: &mut Canvas,
+    meter: &mut Meter,
+) -> Result<Vec<u8>, PassError>
+    requires indexed_layout { IsLaidOut (project_of context) indexed_layout.now }
+    requires short { IsShort (project_of context) indexed_layout.now.link_layout view.now values.now }
+    requires symbols { (s : Layout) → IsLinkLayout (project_of context) s indexed_layout.now.link_layout
+        → AreSymbolValues (project_of context) s symbols.now }
+    requires previous { IfSome (previous_of context.previous) (HasPreviousImage (project_of context) canvas.old.bytes) }
+    ensures good { IfOk result (λ map. IsEmitted
+        (project_of context.entry) indexed_layout.now canvas.new.bytes map.items) }
+    ensures stop { IfErr result (λ stop. IsPassError (link (project_of context.entry)) stop) }
+    ensures reads { OnOk result (ReadsNothing meter.old meter.new) }
+    ensures counted { OnOk result
+        (AreDrawn (project_of context.entry) (previous_of context.entry.previous) meter.old meter.new) }
+    ensures early { IfErr result (λ stop. EndsReadingNothing meter.old meter.new stop) }
+    ensures unchanged { OnErr result (canvas.new.bytes ≡ canvas.old.bytes) }
+{
+    let dirty = dirty_objects(context.alloc, context.project, context.previous, symbols)?;
+    let stayed_sections = StayedSections {
+        previous: context.previous,
+        indexed_layout,
+        dirty: &dirty,
+    };
+    let fields = evaluate_relocations(context, &stayed_sections, view, values, symbols, meter)?;
+    check_assertions(context, &stayed_sections, values, &fields)?;
+    let map = map_text(
+        context.alloc,
+        context.project,
+        &indexed_layout.rows,
+        &indexed_layout.link_layout,
+        values,
+    )?;
+    // the last pass that may fail, since it changes the canvas
+    draw_output(context, canvas, &stayed_sections, values, &fields, meter)?;
+    Ok(map)
+}
+
+/// The passes of a link over an earlier one, in their order.
+fn run_passes(
+    context: PassContext<'_, '_>,
+    canvas: &mut Canvas,
+    meter: &mut Meter,
+) -> Result<RelinkOutcome, PassError>
+    requires context { IsPassContext context }
+    requires previous { IfSome (previous_of context.previous) (HasPreviousImage (project_of context) canvas.old.bytes) }
+    ensures ended { IfOk result (HasRelinkOutcome (project_of context.entry)
+        (previous_of context.entry.previous) canvas.old.bytes canvas.new.bytes) }
+    ensures stop { IfErr result (λ stop. IsPassError (link (project_of context.entry)) stop) }
+    ensures reads { OnOk result (ReadsNothing meter.old meter.new) }
+    ensures worked { IfOk result (HasWorked (project_of context.entry)
+        (previous_of context.entry.previous) meter.old meter.new) }
+    ensures early { IfErr result (λ stop. EndsReadingNothing meter.old meter.new stop) }
+    ensures unchanged { OnErr result (canvas.new.bytes ≡ canvas.old.bytes) }
+{
+    // `&*project` and the like lend these for the time of the locals, as the borrow checker wants it
+    let PassContext {
+        alloc,
+        project,
+        symbol_table,
+        ..
+    } = context;
+    let indexed_layout = lay_out(context, meter)?;
+    let given = GivenValues::of(
+        alloc,
+        &*project,
+        &*symbol_table,
+        &indexed_layout.link_layout,
+    )?;
+    let view = LinkView::new(alloc, &*project, &*symbol_table, &indexed_layout, &given)?;
+    let values = compute_values(context, &indexed_layout.link_layout, &view, &given)?;
+    let symbols = symbol_values(alloc, project, &view, &values.names)?;
+    let map = emit_output(
+        context,
+        &indexed_layout,
+        &view,
+        &values,
+        &symbols,
+        canvas,
+        meter,
+    )?;
+    // what lends a table goes before the table is kept
+    drop(view);
+    Ok(RelinkOutcome::Good(
+        LinkSnapshot {
+            indexed_layout,
+            symbols,
+        },
+        map,
+    ))
+}
+
+/// Links a project over names that are decided, matches that are found, and an previous link, if there is one, whose
+/// image the canvas holds. Where the project has no faults, the canvas then holds its image: of what stayed, only the
+/// fields are written whose symbols have other values. Where it has faults, the canvas is as it was.
+///
+/// Where an object came that differs from the one in its place in what its sections hold alone, and the previous link
+/// is answered, nothing is made anew but these sections of the image. Else the layout of the previous link is resumed
+/// where its script was the same.
+///
+/// Where the project has no faults, exactly this is counted: the input sections that are placed from the first row on
+/// that differs, the fields outside of what stayed and those in it whose symbols have other values, and the bytes that
+/// are written.
+///
+/// # Errors
+///
+/// Where memory runs out. Then the canvas is as it was.
+pub fn relink(
+    alloc: Global,
+    project: &ProjectView<'_>,
+    symbol_table: &SymbolTable,
+    matches: &[&Matches],
+    previous: Option<PreviousView<'_>>,
+    canvas: &mut Canvas,
+    meter: &mut Meter,
+) -> Result<RelinkOutcome, NoMemory>
+    requires symbol_table { IsSymbolTable project.now symbol_table.now }
+    requires matches { AreMatched project.now (map (λ x. x.now) matches.now) }
+    requires previous { IfSome (previous_of previous) (HasPreviousImage project.now canvas.old.bytes) }
+    ensures ended { IfOk result (HasRelinkOutcome project.now
+        (previous_of previous.entry) canvas.old.bytes canvas.new.bytes) }
+    ensures reads { OnOk result (ReadsNothing meter.old meter.new) }
+    ensures worked { IfOk result (HasWorked project.now (previous_of previous.entry) meter.old meter.new) }
+    ensures unchanged { OnErr result (canvas.new.bytes ≡ canvas.old.bytes) }
+{
+    let context = PassContext {
+        alloc,
+        project,
+        symbol_table,
+        matches,
+        previous,
+    };
+    if rewrite_if_alone(context, canvas, meter)? {
+        return Ok(RelinkOutcome::RewrittenInPlace);
+    }
+    match run_passes(context, canvas, meter) {
+        Ok(ended) => Ok(ended),
+        Err(PassError::Faulty(lines)) => Ok(RelinkOutcome::Faulty(lines)),
+        Err(PassError::NoMemory) => Err(AllocError),
+    }
+}

@@ -1,0 +1,42 @@
+//! Links, from scratch or over an earlier one. Takes a project; gives image, map, fault lines and status, or out of
+//! memory; and keeps of a link without faults what the next one asks.
+//!
+//! - `incremental` over `passes`, `context`, `pass_error`: the engine: a link over names and matches that are given,
+//!   and an earlier link;
+//! - `link_snapshot`: what is kept of a link; `stayed_sections`: which input sections stayed where it has them, as
+//!   `emit_relocate` asks it; `resume` over `row_changes` and `section_names`: the first row that differs; `dirty`:
+//!   objects with a symbol of another value;
+//! - `in_place` over `outline`, `located`: a link that differs from the earlier one in what the input sections of one
+//!   object hold;
+//! - `symbol_values`, `section_location`: what symbols are worth, and where a section stands in memory and in the file;
+//! - `from_scratch`, `output`: a link from scratch; `plain`: `Plain`, the linker that links from scratch after every
+//!   edit;
+//! - `from_files` over `file`, `fault`, `exit_report`: a link of files: a script and objects become a project, which is
+//!   linked once; its exit status, and its text on standard error.
+#![tactic(auto)]
+
+mod context;
+pub mod dirty;
+pub mod exit_report;
+pub mod fault;
+pub mod file;
+pub mod from_files;
+mod from_scratch;
+mod in_place;
+pub mod incremental;
+pub mod link_snapshot;
+mod located;
+mod outline;
+pub mod output;
+mod pass_error;
+mod passes;
+pub mod plain;
+pub mod resume;
+mod row_changes;
+mod section_location;
+mod section_names;
+pub mod stayed_sections;
+pub mod symbol_values;
+
+// what a link is drawn on: who keeps links names no more of `emit`
+pub use emit::Canvas;

@@ -1,0 +1,117 @@
+//! What a link gives.
+
+ghost use Rattle.std.specs.Prelude.{◌≡◌, [], IfOk};
+ghost use Rattle.ldmodel.specs.EditMeaning.{linked_of};
+ghost use Rattle.ldmodel.specs.Link.{link};
+
+use crate::from_scratch::link;
+use emit::Canvas;
+use ldmodel::edit::Linked;
+use ldmodel::memory::NoMemory;
+use ldmodel::meter::Meter;
+use ldmodel_project::view::ProjectView;
+use std::alloc::Global;
+use std::hash::RandomState;
+use std::marker::Model;
+
+/// What a link gives: the image and the map, or the fault lines.
+#[derive(Drop)]
+pub struct Output {
+    status: u8,
+    image: Canvas,
+    map: Vec<u8>,
+    faults: Vec<u8>,
+}
+
+impl Model for Output {
+    ghost use Rattle.ldmodel.specs.Link.{Link};
+
+    ghost Value = { Link };
+
+    ghost view = { λ o. record {
+      status = o.status;
+      image = o.image.bytes;
+      map = o.map.items;
+      faults = o.faults.items;
+    } };
+}
+
+impl Output {
+    /// Links a project from scratch. `seed` is for hash tables; nothing of the link depends on it.
+    ///
+    /// # Errors
+    ///
+    /// Where memory runs out.
+    pub fn of(
+        alloc: Global,
+        seed: RandomState,
+        project: &ProjectView<'_>,
+        meter: &mut Meter,
+    ) -> Result<Output, NoMemory>
+        ensures { IfOk result (λ o. o ≡ link project.now) }
+    {
+        link(alloc, seed, project, meter)
+    }
+
+    /// A good link.
+    pub(crate) fn good(alloc: Global, image: Canvas, map: Vec<u8>) -> Output
+        ensures { result ≡ record { status = 0; image = image.bytes; map = map.items; faults = [] } }
+    {
+        Output {
+            status: 0,
+            image,
+            map,
+            faults: Vec::new(alloc),
+        }
+    }
+
+    /// A link with faults.
+    pub(crate) fn faulty(alloc: Global, faults: Vec<u8>) -> Output
+        ensures { result ≡ record { status = 1; image = []; map = []; faults = faults.items } }
+    {
+        Output {
+            status: 1,
+            image: Canvas::new(alloc),
+            map: Vec::new(alloc),
+            faults,
+        }
+    }
+
+    /// 0 where the link has no faults, else 1.
+    pub fn status(&self) -> u8
+        ensures { result ≡ self.now.status }
+    {
+        self.status
+    }
+
+    /// The image; empty where the link has faults.
+    pub fn image(&self) -> &[u8]
+        ensures { result.now ≡ self.now.image }
+    {
+        self.image.bytes()
+    }
+
+    /// The map of names, sections and segments; empty where the link has faults.
+    pub fn map(&self) -> &[u8]
+        ensures { result.now ≡ self.now.map }
+    {
+        &self.map
+    }
+
+    /// The fault lines; empty where the link has none.
+    pub fn faults(&self) -> &[u8]
+        ensures { result.now ≡ self.now.faults }
+    {
+        &self.faults
+    }
+
+    /// The status, and the length of the image.
+    pub fn summary(&self) -> Linked
+        ensures { result ≡ linked_of self.now }
+    {
+        Linked {
+            status: self.status,
+            length: self.image.len() as u64,
+        }
+    }
+}

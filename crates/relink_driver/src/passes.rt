@@ -1,0 +1,276 @@
+//! The passes of a link, each with what holds after it.
+
+ghost use Rattle.std.specs.Prelude.{◌≡◌, IfErr, IfOk, IfSome, OnErr, OnOk, map};
+ghost use Rattle.gather.specs.Gathering.{IsGathering};
+ghost use Rattle.relink_driver.specs.StayedSections.{previous_of};
+ghost use Rattle.emit.specs.relocate.SymbolValues.{AreSymbolValues};
+ghost use Rattle.place.specs.LinkLayout.{HasLayout, IsLinkLayout};
+ghost use Rattle.ldmodel.specs.Layout.{Layout};
+ghost use Rattle.ldmodel.specs.Link.{gathering_faults, layout, link, placed, unless};
+ghost use Rattle.ldmodel.specs.Rows as model;
+ghost use Rattle.ldmodel.specs.declared.fault.Fault.TheVariants.{Orphan};
+ghost use Rattle.ldmodel_project.specs.ByPlace.{rows_in};
+ghost use Rattle.emit.specs.values.Given.{IsGiven};
+ghost use Rattle.relink_driver.specs.Counted.{ArePlaced, HasEvaluated, HasWritten};
+ghost use Rattle.relink_driver.specs.RelinkOutcome.{HasPreviousImage};
+ghost use Rattle.relink_driver.specs.Context.{IsPassContext, project_of};
+ghost use Rattle.relink_driver.specs.Phases.{HasPreviousLink, IsBeside, IsFaultless, IsFilled, IsImage, IsKnown};
+ghost use Rattle.relink_driver.specs.Phases.{IsPlaced};
+ghost use Rattle.relink_driver.specs.Phases.{IsShort};
+ghost use Rattle.relink_driver.specs.Reads.{EndsReadingNothing, ReadsNothing};
+ghost use Rattle.relink_driver.specs.PassErrors.{IsPassError};
+
+use crate::context::PassContext;
+use crate::pass_error::{PassError, end_if_faulty};
+use crate::resume::resume_point;
+use crate::stayed_sections::StayedSections;
+use crate::symbol_values::SymbolValues;
+use emit::drawing::draw_image;
+use emit::good::is_good;
+use emit::length::image_length;
+use emit::relocated::Relocated;
+use emit::values::asserting::assertion_faults;
+use emit::values::given::GivenValues;
+use emit::values::link_view::LinkView;
+use emit::values::values::Values;
+use emit::{Canvas, fault_text};
+use gather::Gathering;
+use ldmodel::fault::Fault;
+use ldmodel::memory::NoMemory;
+use ldmodel::meter::Meter;
+use ldmodel::rows::Piece;
+use ldmodel::sections::SectionKey;
+use ldmodel_laws::layout::placed_are_rows;
+use place::length::length_fault;
+use place::link_layout::{LayoutFault, LinkLayout};
+use std::alloc::Global;
+
+/// Names: no fault of names ends the link.
+#[tactic(auto, unfolding(ldmodel::specs::Link::link))]
+pub(crate) fn check_names(context: PassContext<'_, '_>) -> Result<(), PassError>
+    requires { IsPassContext context }
+    ensures rest { OnOk result (link (project_of context.entry)
+        ≡ unless (gathering_faults (project_of context.entry))
+        (placed (project_of context.entry) (layout (project_of context.entry)))) }
+    ensures stop { IfErr result (λ stop. IsPassError (link (project_of context.entry)) stop) }
+{
+    let faults = context.symbol_table.faults(context.alloc, context.project)?;
+    match end_if_faulty(context.alloc, context.project, &faults) {
+        Ok(()) => Ok(()),
+        Err(stop) => Err(stop),
+    }
+}
+
+/// Orphans as faults.
+///
+/// # Errors
+///
+/// Where memory runs out.
+fn orphan_faults(alloc: Global, orphans: &[SectionKey]) -> Result<Vec<Fault>, NoMemory>
+    ensures { IfOk result (λ v. v.items ≡ map Orphan orphans.now) }
+{
+    orphans.iter().map(|key| Fault::Orphan(*key)).collect(alloc)
+}
+
+/// Gathering: the numbers of the input sections, and the row of each output section.
+pub(crate) fn gather_inputs(context: PassContext<'_, '_>) -> Result<Gathering, PassError>
+    requires context { IsPassContext context }
+    requires rest { link (project_of context)
+        ≡ unless (gathering_faults (project_of context)) (placed (project_of context) (layout (project_of context))) }
+    ensures gathering { IfOk result (λ g. IsGathering (project_of context.entry) g) }
+    ensures rest { OnOk result (link (project_of context.entry)
+        ≡ placed (project_of context.entry) (layout (project_of context.entry))) }
+    ensures stop { IfErr result (λ stop. IsPassError (link (project_of context.entry)) stop) }
+{
+    let gathering = Gathering::of(
+        context.alloc,
+        context.project,
+        context.symbol_table,
+        context.matches,
+    )?;
+    let faults = orphan_faults(context.alloc, &gathering.orphans)?;
+    match end_if_faulty(context.alloc, context.project, &faults) {
+        Ok(()) => Ok(gathering),
+        Err(stop) => Err(stop),
+    }
+}
+
+/// Layout: where everything stands. That of the previous link, if there is one of the same script, is resumed at the
+/// first row that differs.
+pub(crate) fn assign_addresses(
+    context: PassContext<'_, '_>,
+    rows: &[Vec<Piece>],
+    meter: &mut Meter,
+) -> Result<LinkLayout, PassError>
+    requires context { IsPassContext context }
+    requires rows { rows_in (project_of context) rows.now ≡ model.rows (project_of context) }
+    requires rest { link (project_of context) ≡ placed (project_of context) (layout (project_of context)) }
+    requires previous { IfSome (previous_of context.previous) (HasPreviousLink (project_of context)) }
+    ensures good { IfOk result (λ link_layout. HasLayout (project_of context.entry) link_layout) }
+    ensures stop { IfErr result (λ stop. IsPassError (link (project_of context.entry)) stop) }
+    ensures reads { ReadsNothing meter.old meter.new }
+    ensures counted { OnOk result
+        (ArePlaced (project_of context.entry) (previous_of context.entry.previous) meter.old meter.new) }
+{
+    placed_are_rows();
+    // so that the range of the count is known
+    let _pieces = meter.pieces();
+    let in_force = context
+        .symbol_table
+        .provided(context.alloc, context.project.script())?;
+    let kept = resume_point(context.previous, context.project, rows);
+    match LinkLayout::of(context.alloc, context.project, &in_force, rows, kept, meter) {
+        Ok(link_layout) => Ok(link_layout),
+        Err(LayoutFault::NoMemory) => Err(PassError::NoMemory),
+        Err(LayoutFault::Faulty(faults)) => {
+            let lines = fault_text(context.alloc, context.project, &faults)?;
+            Err(PassError::Faulty(lines))
+        }
+    }
+}
+
+/// The end of layout: the image is not too long.
+fn check_length(
+    context: PassContext<'_, '_>,
+    link_layout: &LinkLayout,
+    view: &LinkView<'_, '_>,
+    values: &Values<'_>,
+) -> Result<(), PassError>
+    requires { IsPlaced (project_of context) link_layout.now view.now values.now }
+    ensures good { OnOk result (IsShort (project_of context.entry) link_layout.now view.now values.now) }
+    ensures stop { IfErr result (λ stop. IsPassError (link (project_of context.entry)) stop) }
+{
+    let length = image_length(context.alloc, context.project, link_layout, values)?;
+    match length_fault(length) {
+        None => Ok(()),
+        Some(fault) => {
+            let lines = fault_text(context.alloc, context.project, &[fault])?;
+            Err(PassError::Faulty(lines))
+        }
+    }
+}
+
+/// Values: what the symbols are worth, and so the length of the image.
+pub(crate) fn compute_values<'a>(
+    context: PassContext<'a, '_>,
+    link_layout: &LinkLayout,
+    view: &LinkView<'_, '_>,
+    given: &GivenValues<'a>,
+) -> Result<Values<'a>, PassError>
+    requires context { IsPassContext context }
+    requires given { IsGiven (project_of context) context.symbol_table.now link_layout.now given.now }
+    requires known { IsKnown (project_of context) context.symbol_table.now link_layout.now view.now }
+    ensures good { IfOk result (λ values. IsShort (project_of context.entry) link_layout.now view.now values) }
+    ensures stop { IfErr result (λ stop. IsPassError (link (project_of context.entry)) stop) }
+{
+    let values = Values::of(
+        context.alloc,
+        context.project,
+        context.symbol_table,
+        view,
+        given,
+    )?;
+    check_length(context, link_layout, view, &values)?;
+    Ok(values)
+}
+
+/// Relocation: the fields of all relocations, but those of what stayed whose symbols have the values that they had.
+pub(crate) fn evaluate_relocations(
+    context: PassContext<'_, '_>,
+    stayed_sections: &StayedSections<'_>,
+    view: &LinkView<'_, '_>,
+    values: &Values<'_>,
+    symbols: &SymbolValues,
+    meter: &mut Meter,
+) -> Result<Relocated, PassError>
+    requires short { IsShort (project_of context) stayed_sections.now.indexed_layout.now.link_layout view.now
+        values.now }
+    requires beside { IsBeside (project_of context) stayed_sections.now }
+    requires symbols { (s : Layout) → IsLinkLayout
+        (project_of context) s stayed_sections.now.indexed_layout.now.link_layout
+        → AreSymbolValues (project_of context) s symbols.now }
+    ensures good { IfOk result (λ r. IsFilled (project_of context.entry) stayed_sections.now values.now r) }
+    ensures stop { IfErr result (λ stop. IsPassError (link (project_of context.entry)) stop) }
+    ensures reads { OnOk result (ReadsNothing meter.old meter.new) }
+    ensures counted { IfOk result (λ r. HasEvaluated
+        (project_of context.entry) stayed_sections.now r meter.old meter.new) }
+    ensures early { IfErr result (λ stop. EndsReadingNothing meter.old meter.new stop) }
+{
+    stayed_sections.is_complete();
+    is_good(context.project, &stayed_sections.indexed_layout.link_layout);
+    // so that what a project says of its objects is known
+    let _inputs = context.project.inputs();
+    // so that the range of the count is known
+    let _fields = meter.fields();
+    let relocated = Relocated::of(
+        context.alloc,
+        context.project,
+        view,
+        stayed_sections,
+        values,
+        symbols,
+        meter,
+    )?;
+    match end_if_faulty(context.alloc, context.project, &relocated.faults) {
+        Ok(()) => Ok(relocated),
+        Err(stop) => Err(stop),
+    }
+}
+
+/// Assertions: each holds.
+pub(crate) fn check_assertions(
+    context: PassContext<'_, '_>,
+    stayed_sections: &StayedSections<'_>,
+    values: &Values<'_>,
+    fields: &Relocated,
+) -> Result<(), PassError>
+    requires { IsFilled (project_of context) stayed_sections.now values.now fields.now }
+    ensures good { OnOk result (IsFaultless (project_of context.entry) stayed_sections.now values.now fields.now) }
+    ensures stop { IfErr result (λ stop. IsPassError (link (project_of context.entry)) stop) }
+{
+    let faults = assertion_faults(
+        context.alloc,
+        context.project,
+        &stayed_sections.indexed_layout.link_layout,
+        values,
+    )?;
+    match end_if_faulty(context.alloc, context.project, &faults) {
+        Ok(()) => Ok(()),
+        Err(stop) => Err(stop),
+    }
+}
+
+/// The image, drawn over that of the previous link. Where memory runs out, the canvas is as it was.
+pub(crate) fn draw_output(
+    context: PassContext<'_, '_>,
+    canvas: &mut Canvas,
+    stayed_sections: &StayedSections<'_>,
+    values: &Values<'_>,
+    fields: &Relocated,
+    meter: &mut Meter,
+) -> Result<(), NoMemory>
+    requires filled { IsFilled (project_of context) stayed_sections.now values.now fields.now }
+    requires previous { IfSome (previous_of stayed_sections.now.previous)
+        (HasPreviousImage (project_of context) canvas.old.bytes) }
+    ensures image { OnOk result (IsImage (project_of context.entry) stayed_sections.now canvas.new.bytes) }
+    ensures reads { OnOk result (ReadsNothing meter.old meter.new) }
+    ensures counted { OnOk result (HasWritten
+        (project_of context.entry) stayed_sections.now fields.now meter.old meter.new) }
+    ensures unchanged { OnErr result (canvas.new.bytes ≡ canvas.old.bytes) }
+{
+    stayed_sections.is_complete();
+    // so that the range of the count is known
+    let _bytes = meter.bytes();
+    draw_image(
+        context.alloc,
+        canvas,
+        context.project,
+        stayed_sections.indexed_layout,
+        values,
+        fields,
+        stayed_sections,
+        &fields.retargeted,
+        meter,
+    )?;
+    Ok(())
+}

@@ -1,0 +1,48 @@
+//! The first row of a link that differs from those of an earlier one.
+
+ghost use Rattle.std.specs.Prelude.{◌≡◌, IfSome, IsNone, IsSome, Some, false};
+ghost use Rattle.relink_driver.specs.Resume.{AreSameBefore, IsFirstChanged, IsNext};
+ghost use Rattle.relink_driver.specs.StayedSections.{IsPreviousOf, PreviousState, previous_of};
+ghost use Rattle.ldmodel.specs.Rows as model;
+ghost use Rattle.ldmodel.specs.Stayed.{GoodLink};
+ghost use Rattle.ldmodel_project.specs.ByPlace.{rows_in};
+ghost use Rattle.place.specs.sections.Kept.{IsKept};
+
+use crate::row_changes::first_changed;
+use crate::stayed_sections::PreviousView;
+use ldmodel::rows::Piece;
+use ldmodel_laws::layout::placed_are_rows;
+use ldmodel_project::view::ProjectView;
+use place::Placement;
+
+/// The placement of the previous link, if there is one and it is known to be of the same script, and the number of the
+/// first row that differs from its rows.
+pub fn resume_point<'a>(
+    previous: Option<PreviousView<'a>>,
+    project: &ProjectView<'_>,
+    rows: &[Vec<Piece>],
+) -> Option<(&'a Placement, usize)>
+    requires rows { rows_in project.now rows.now ≡ model.rows project.now }
+    ensures kept { (old : GoodLink) → IfSome (previous_of previous.entry) (IsPreviousOf old project.now)
+        → IfSome result (λ k. IsKept project.now.script (model.rows project.now) k.0.now k.1) }
+    ensures same { (old : GoodLink) (x : PreviousState) → previous_of previous.entry ≡ Some x
+        → IsPreviousOf old project.now x
+        → IfSome result (λ k. AreSameBefore old.project project.now k.1) }
+    ensures some { (old : GoodLink) (x : PreviousState) → previous_of previous.entry ≡ Some x
+        → IsPreviousOf old project.now x
+        → IsNext old.project project.now x → IsSome result }
+    ensures none { (x : PreviousState) → previous_of previous.entry ≡ Some x → x.same_script ≡ false → IsNone result }
+    ensures first { (old : GoodLink) (x : PreviousState) → previous_of previous.entry ≡ Some x
+        → IsPreviousOf old project.now x
+        → IsNext old.project project.now x
+        → IfSome result (λ k. IsFirstChanged old.project project.now k.1) }
+{
+    placed_are_rows();
+    let previous = previous?;
+    if !previous.same_script {
+        return None;
+    }
+    let before = &previous.good.indexed_layout;
+    let first = first_changed(&previous, project, &before.rows, rows);
+    Some((&before.link_layout.placement, first))
+}

@@ -1,0 +1,69 @@
+//! Where an input section stands in a link, in memory and in the file.
+
+ghost use Rattle.std.specs.Prelude.{◌≡◌};
+ghost use Rattle.relink_driver.specs.SectionLocation.{range_at, range_from, location_in};
+
+use emit::relocate::previous_link_info::FileRange;
+use ldmodel::placed::Placed;
+use ldmodel::sections::SectionKey;
+use place::LinkLayout;
+use place::indexed_layout::{IndexedLayout, SectionAddress};
+
+/// Where an input section stands.
+#[derive(Clone, Copy, Debug, PartialEq, Eq)]
+pub(crate) struct SectionLocation {
+    /// The address that it starts at.
+    pub start: u64,
+    /// How many bytes it takes in memory.
+    pub size: u64,
+    /// The bytes of the input section in the file.
+    pub range: FileRange,
+}
+
+/// Where the bytes of an input section stand in the file, whose output section begins at this offset of it: no bytes,
+/// where the output section has none. None where they begin past 2^64.
+#[tactic(auto, unfolding(crate::specs::SectionLocation::range_from))]
+fn range_from(section: &Placed, offset: u128, start: u64, size: u64) -> Option<FileRange>
+    ensures { result ≡ range_from section.now offset start size }
+{
+    if !section.has_file_bytes || size == 0 {
+        return Some(FileRange {
+            offset: 0,
+            length: 0,
+        });
+    }
+    let from_start = start.saturating_sub(section.start);
+    let offset = offset.checked_add(u128::from(from_start))?;
+    let offset = u64::try_from(offset).ok()?;
+    Some(FileRange {
+        offset,
+        length: size,
+    })
+}
+
+/// Where the bytes of an input section in its place stand in the file; none where they begin past 2^64.
+fn range_at(link_layout: &LinkLayout, place: SectionAddress) -> Option<FileRange>
+    ensures { result ≡ range_at link_layout.now place }
+{
+    let number = place.section.0 as usize;
+    let section = link_layout.placement.sections().get(number)?;
+    let offset = link_layout.offsets.get(number)?;
+    range_from(section, *offset, place.start, place.size)
+}
+
+/// Where an input section stands in a link, if it is in the output. None where its bytes in the file begin past 2^64.
+#[tactic(auto, unfolding(crate::specs::SectionLocation::location_in))]
+pub(crate) fn find_location(
+    indexed_layout: &IndexedLayout,
+    section: SectionKey,
+) -> Option<SectionLocation>
+    ensures { result ≡ location_in indexed_layout.now section }
+{
+    let place = indexed_layout.find(section)?;
+    let range = range_at(&indexed_layout.link_layout, place)?;
+    Some(SectionLocation {
+        start: place.start,
+        size: place.size,
+        range,
+    })
+}

@@ -1,0 +1,146 @@
+//! Which input sections of a link stayed where an previous link has them.
+
+ghost use Rattle.std.specs.Prelude.{◌≡◌, IsSome, None, Option, slice_index_or, true};
+ghost use Rattle.emit.specs.Kept.{IsSound};
+ghost use Rattle.ldmodel.specs.Stayed.{GoodLink};
+ghost use Rattle.emit.specs.relocate.PreviousLinkInfo.{IsComplete};
+ghost use Rattle.emit.specs.relocate.KnownLink.{KnownLink};
+ghost use Rattle.relink_driver.specs.StayedSections.{AreStayedSections, previous_location, previous_state};
+ghost use Rattle.relink_driver.specs.StayedSections.{previous_value, range_of};
+
+use crate::link_snapshot::LinkSnapshot;
+use crate::section_location::{SectionLocation, find_location};
+use elfobj::relocation::SymbolIndex;
+use elfobj::{Object, Symbol};
+use emit::relocate::previous_link_info::{FileRange, PreviousLinkInfo};
+use emit::relocate::value::SymbolValue;
+use ldmodel::names::ObjectPlace;
+use ldmodel::sections::SectionKey;
+use ldmodel_laws::segments::{files_in_order, sections_in_file};
+use place::indexed_layout::IndexedLayout;
+
+/// An object of the previous link in whose place another of its name came.
+#[derive(Clone, Copy)]
+pub struct ReplacedObject<'a> {
+    /// The place of the object in the previous link.
+    pub old: ObjectPlace,
+    /// The object.
+    pub object: &'a Object,
+    /// The place in the new link of the object that came.
+    pub new: ObjectPlace,
+}
+
+/// An previous link without faults, and at which place of it each object of the new one stood, by the new places; none
+/// where the object was not there, or was another.
+#[derive(Clone, Copy)]
+pub struct PreviousView<'a> {
+    /// What is kept of that link.
+    pub good: &'a LinkSnapshot,
+    /// How many objects it has.
+    pub objects: usize,
+    /// For each object of the new link, by its place, the place in the earlier one.
+    pub from: &'a [Option<usize>],
+    /// Whether that link is known to be of the same script.
+    pub same_script: bool,
+    /// The object that was replaced, if one is known.
+    pub replaced: Option<ReplacedObject<'a>>,
+    /// Whether that link is the one that is answered: where another with the same map follows, only the image changes.
+    pub is_current: bool,
+}
+
+impl<'a> PreviousView<'a> {
+    /// The place that an object of the new link had in the earlier one.
+    pub(crate) fn place(&self, object: ObjectPlace) -> Option<usize>
+        ensures { result ≡ slice_index_or self.now.from.now object.0 None }
+    {
+        self.from.get(object.0).copied().unwrap_or(None)
+    }
+
+    /// Where an input section of the new link stood in the earlier one.
+    #[tactic(auto, unfolding(crate::specs::StayedSections::previous_location))]
+    fn section_location(&self, section: SectionKey) -> Option<SectionLocation>
+        ensures { result ≡ previous_location (previous_state self.now) section }
+    {
+        let place = self.place(section.object)?;
+        let section = SectionKey {
+            object: ObjectPlace(place),
+            part: section.part,
+        };
+        find_location(&self.good.indexed_layout, section)
+    }
+
+    /// What a symbol of an object of the new link was worth in the earlier one.
+    fn value(&self, object: ObjectPlace, index: SymbolIndex) -> SymbolValue
+        ensures { result ≡ previous_value (previous_state self.now) object index }
+    {
+        match self.place(object) {
+            None => SymbolValue::NotDefined,
+            Some(place) => self.good.symbols.value(place, index),
+        }
+    }
+}
+
+/// Which input sections of a link stayed where the last one has them, if there is one.
+#[derive(Clone, Copy)]
+pub struct StayedSections<'a> {
+    /// The previous link, if there is one.
+    pub previous: Option<PreviousView<'a>>,
+    /// Where everything of the new one stands.
+    pub indexed_layout: &'a IndexedLayout,
+    /// Which objects of the new one, by their places, name a symbol that may have another value than in the last one;
+    /// an object past the end of the list may, too.
+    pub dirty: &'a [bool],
+}
+
+impl<'a> StayedSections<'a> {
+    /// Whether an object has a mark; an object of which nothing is known has one.
+    fn dirty_bit(&self, object: ObjectPlace) -> bool
+        ensures { result ≡ slice_index_or self.now.dirty.now object.0 true }
+    {
+        self.dirty.get(object.0).copied().unwrap_or(true)
+    }
+
+    /// Each input section that stayed is known to have stayed, where there is an previous link; each that is known to
+    /// have stayed has. The call does nothing.
+    pub fn is_complete(&self)
+        ensures complete { (old : GoodLink) (l : KnownLink) → AreStayedSections self.now old l
+            → IsSome self.now.previous
+            → IsComplete (range_of self.now) old l }
+        ensures sound { (old : GoodLink) (l : KnownLink) → AreStayedSections self.now old l
+            → IsSound (range_of self.now) old l }
+        ensures none { self.now.previous ≡ None → (k : SectionKey) → range_of self.now k ≡ None }
+    {
+        sections_in_file();
+        files_in_order();
+    }
+}
+
+impl<'a> PreviousLinkInfo for StayedSections<'a> {
+    ghost use Rattle.relink_driver.specs.StayedSections.{AreStayedSections, range_of};
+
+    ghost knows = { AreStayedSections };
+
+    ghost range = { range_of };
+
+    fn is_none(&self) -> bool {
+        self.previous.is_none()
+    }
+
+    fn stayed(&self, section: SectionKey) -> Option<FileRange> {
+        let previous = self.previous?;
+        let before = previous.section_location(section)?;
+        let now = find_location(self.indexed_layout, section)?;
+        if before == now { Some(now.range) } else { None }
+    }
+
+    fn is_dirty(&self, object: ObjectPlace) -> bool {
+        self.dirty_bit(object)
+    }
+
+    fn value(&self, object: ObjectPlace, index: SymbolIndex, _symbol: &Symbol) -> SymbolValue {
+        match self.previous {
+            None => SymbolValue::NotDefined,
+            Some(previous) => previous.value(object, index),
+        }
+    }
+}

@@ -1,5 +1,0 @@
-use Rattle.relink_link.proofs.Outlines.{AreSame, symbols_again}
-use Rattle.relink_link.proofs.outline.same_symbols.Given as goal
-
-abbrev pub invariant-loop-number : goal.invariant-loop-number
-invariant-loop-number l = AreSame (symbols_again l.a.symbols) (symbols_again l.b.symbols) l.number

@@ -1,7 +1,0 @@
-use Rattle.std.proofs.Common.{map}
-use Rattle.ldmodel_laws.specs.Outline.{section_targets}
-use Rattle.relink_link.proofs.Outlines.{AreSame}
-use Rattle.relink_link.proofs.outline.same_targets.Given as goal
-
-abbrev pub invariant-loop-number : goal.invariant-loop-number
-invariant-loop-number l = AreSame (map section_targets l.a.sections) (map section_targets l.b.sections) l.number

@@ -1,5 +1,0 @@
-use Rattle.relink_link.proofs.Symbols.{ValuesSoFar}
-use Rattle.relink_link.proofs.symbol_values.add_object.Given as goal
-
-abbrev pub invariant-loop-number : goal.invariant-loop-number
-invariant-loop-number l = ValuesSoFar l.link l.names l.key l.object l.fn.values.items l.number l.values.items

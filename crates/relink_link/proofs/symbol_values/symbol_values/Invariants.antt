@@ -1,7 +1,0 @@
-use Rattle.ldmodel_project.specs.Inputs.{shown_inputs}
-use Rattle.relink_link.proofs.Symbols.{TableSoFar}
-use Rattle.relink_link.proofs.symbol_values.symbol_values.Given as goal
-
-abbrev pub invariant-loop-place : goal.invariant-loop-place
-invariant-loop-place l =
-    TableSoFar l.project l.link l.names (shown_inputs l.inputs) l.place l.starts.items l.values.items

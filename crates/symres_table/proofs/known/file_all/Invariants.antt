@@ -1,5 +1,0 @@
-use Rattle.symres_table.specs.Known.{Files}
-use Rattle.symres_table.proofs.known.file_all.Given as goal
-
-abbrev pub invariant-loop-place : goal.invariant-loop-place
-invariant-loop-place l = Files l.numbers.entries l.place l.fn.places.slots l.places.slots
