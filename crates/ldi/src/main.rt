@@ -55,7 +55,7 @@ fn answer_commands(rt: &HostRuntime, options: Options) -> u8 {
     let Ok(seed) = RandomState::new(rt) else {
         return DEVICE;
     };
-    match session::session(rt.alloc(), seed, rt.reader(), io::writer(rt), options) {
+    match session_command::session(rt.alloc(), seed, rt.reader(), io::writer(rt), options) {
         Ok(ended) => exit_status(ended.outcome),
         Err(_) => NO_MEMORY,
     }
