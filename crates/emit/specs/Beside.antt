@@ -25,29 +25,32 @@ use Rattle.emit.specs.Runs.{AreRunsUnless}
 use Rattle.emit.specs.declared.relocated.Relocated.{Relocated}
 
 abbrev pub new_link : Project → Layout → GoodLink
-new_link p s = record { project = p; layout = s }
+new_link project layout = record { project = project; layout = layout }
 
 -- the fields of input sections that are not known to have stayed; the faults of all relocations, where the previous
 -- link is good; and patches of what stayed. Where each section that stayed is known to have stayed, these are the
 -- fields of its sites whose symbol has another value, and what is counted are these sites and those outside of what
 -- stayed. Where nothing is known to have stayed, all is evaluated, and each site counted whose symbol has a value.
 -- Nothing else is counted in any case
-pub record IsRelocatedBeside (old : GoodLink) (range : SectionKey → Option FileRange) (p : Project) (s : Layout)
-    (a : SymbolTableState) (r : Relocated) (before after : Counts) : Type 0 where
-  pub fields : AreRunsUnless (known_link p s a) (λ k. is_some (range k)) r.patches.items r.ends.items
-  pub faults : IsGood old → faults_in p r.faults.items ≡ relocation_faults p s
-  pub each : All (IsSitePatch old (new_link p s)) r.retargeted.items
-  pub ends : IsGood (new_link p s) → All (EndsBy (image_length p s)) r.retargeted.items
-  pub patches : IsComplete range old (known_link p s a) → ArePatchesOf old (new_link p s) r.retargeted.items
+pub record IsRelocatedBeside (old : GoodLink) (range : SectionKey → Option FileRange) (project : Project)
+    (layout : Layout)
+    (table : SymbolTableState) (r : Relocated) (before after : Counts) : Type 0 where
+  pub fields : AreRunsUnless (known_link project layout table) (λ k. is_some (range k)) r.patches.items r.ends.items
+  pub faults : IsGood old → faults_in project r.faults.items ≡ relocation_faults project layout
+  pub each : All (IsSitePatch old (new_link project layout)) r.retargeted.items
+  pub ends : IsGood (new_link project layout) → All (EndsBy (image_length project layout)) r.retargeted.items
+  pub patches : IsComplete range old (known_link project layout table)
+      → ArePatchesOf old (new_link project layout) r.retargeted.items
   pub few :
-      IsComplete range old (known_link p s a) → IsGood old → IsGood (new_link p s)
-      → patch_bytes r.retargeted.items ≤ retargeted_bytes old (new_link p s)
+      IsComplete range old (known_link project layout table) → IsGood old → IsGood (new_link project layout)
+      → patch_bytes r.retargeted.items ≤ retargeted_bytes old (new_link project layout)
   pub counts : (n : ℕ) × (after ≡ raised before Fields n)
   pub counted :
-      IsComplete range old (known_link p s a) → IsGood old → IsGood (new_link p s)
+      IsComplete range old (known_link project layout table) → IsGood old → IsGood (new_link project layout)
       → after
-      ≡ raised before Fields (length (sites_outside old (new_link p s)) + length (retargeted old (new_link p s)))
-  pub anew : ((key : SectionKey) → range key ≡ None) → IsRelocated p s a r
+      ≡ raised before Fields (length (sites_outside old (new_link project layout)) + length
+      (retargeted old (new_link project layout)))
+  pub anew : ((key : SectionKey) → range key ≡ None) → IsRelocated project layout table r
   pub all_counted :
       ((key : SectionKey) → range key ≡ None)
-      → after ≡ raised before Fields (evaluations (known_link p s a) (sites p s))
+      → after ≡ raised before Fields (evaluations (known_link project layout table) (sites project layout))

@@ -12,7 +12,7 @@ AreDataFrom k qs ds = map data_of ds ≡ flat_map numbered (enumerate_from k qs)
 
 -- the data commands of an output section
 abbrev pub AreDataOf : PlacedOutput → List PlacedData → Type 0
-AreDataOf q ds = AllZip IsImageData q.data_commands ds
+AreDataOf output ds = AllZip IsImageData output.data_commands ds
 
 -- how many of these data commands, from the first on, stand in the output section of a number
 abbrev pub run_length : ℕ → List PlacedData → ℕ

@@ -18,32 +18,33 @@ use Rattle.emit.specs.Runs.{AreRunsUnless}
 use Rattle.emit.specs.declared.output.OutputDrawing.{OutputDrawing}
 
 -- the places, the values, and the fields of what does not stay, of a project at a layout whose image is not too long
-pub record IsDrawableAt (p : Project) (s : Layout) (a : SymbolTableState) (x : IndexedLayout) (v : Values)
+pub record IsDrawableAt (project : Project) (layout : Layout) (table : SymbolTableState) (x : IndexedLayout)
+    (v : Values)
     (r : Relocated)
     (stays : SectionKey → Bool) : Type 0 where
-  pub indexed_layout : IsIndexedLayout p s x
-  pub values : AreValues p s a v
-  pub fields : AreRunsUnless (known_link p s a) stays r.patches.items r.ends.items
-  pub short : image_length p s ≤ max_image_length
+  pub indexed_layout : IsIndexedLayout project layout x
+  pub values : AreValues project layout table v
+  pub fields : AreRunsUnless (known_link project layout table) stays r.patches.items r.ends.items
+  pub short : image_length project layout ≤ max_image_length
 
 -- the project has such a layout
-pub record IsDrawable (p : Project) (x : IndexedLayout) (v : Values) (r : Relocated)
+pub record IsDrawable (project : Project) (x : IndexedLayout) (v : Values) (r : Relocated)
     (stays : SectionKey → Bool) : Type 0 where
   pub layout : Layout
   pub names : SymbolTableState
-  pub is : IsDrawableAt p layout names x v r stays
+  pub is : IsDrawableAt project layout names x v r stays
 
 -- the same, and these are its output sections, of which these input sections stay
-pub record AreOutputs (p : Project) (x : IndexedLayout) (v : Values) (s : Layout) (stays : SectionKey → Bool)
+pub record AreOutputs (project : Project) (x : IndexedLayout) (v : Values) (layout : Layout) (stays : SectionKey → Bool)
     (xs : List OutputDrawing) : Type 0 where
   pub names : SymbolTableState
-  pub indexed_layout : IsIndexedLayout p s x
-  pub values : AreValues p s names v
-  pub short : image_length p s ≤ max_image_length
-  pub outputs : AllZip (IsOutput p s stays) s.sections xs
+  pub indexed_layout : IsIndexedLayout project layout x
+  pub values : AreValues project layout names v
+  pub short : image_length project layout ≤ max_image_length
+  pub outputs : AllZip (IsOutput project layout stays) layout.sections xs
 
 -- it has a layout with these output sections
-pub record HasOutputs (p : Project) (x : IndexedLayout) (v : Values) (xs : List OutputDrawing) : Type 0 where
+pub record HasOutputs (project : Project) (x : IndexedLayout) (v : Values) (xs : List OutputDrawing) : Type 0 where
   pub layout : Layout
   pub stays : SectionKey → Bool
-  pub are : AreOutputs p x v layout stays xs
+  pub are : AreOutputs project x v layout stays xs

@@ -14,23 +14,26 @@ use Rattle.emit.specs.DataRuns.{AreDataOf}
 use Rattle.emit.specs.Output.{IsJoinedRow}
 
 -- those of a number are of an output section
-pub record IsAt (p : Project) (s : Layout) (stays : SectionKey → Bool) (q : PlacedOutput) (k : ℕ) (place : Placed)
+pub record IsAt (project : Project) (layout : Layout) (stays : SectionKey → Bool) (output : PlacedOutput) (k : ℕ)
+    (place : Placed)
     (os : List OutputSectionAt) (offsets : List ℕ) (rows : List (List ImagePiece)) (runs : List (List PlacedData))
     : Type 0 where
-  pub placed : place ≡ placed_of q
-  pub name : (o : OutputSectionAt) → slice_get os k ≡ Some o → o.section.name ≡ q.name
-  pub fill : (o : OutputSectionAt) → slice_get os k ≡ Some o → o.section.fill ≡ q.fill
-  pub offset : (n : ℕ) → slice_get offsets k ≡ Some n → IsOffset s q n
-  pub row : (ys : List ImagePiece) → slice_get rows k ≡ Some ys → IsJoinedRow p s stays q ys
-  pub data_commands : (ds : List PlacedData) → slice_get runs k ≡ Some ds → AreDataOf q ds
+  pub placed : place ≡ placed_of output
+  pub name : (o : OutputSectionAt) → slice_get os k ≡ Some o → o.section.name ≡ output.name
+  pub fill : (o : OutputSectionAt) → slice_get os k ≡ Some o → o.section.fill ≡ output.fill
+  pub offset : (n : ℕ) → slice_get offsets k ≡ Some n → IsOffset layout output n
+  pub row : (ys : List ImagePiece) → slice_get rows k ≡ Some ys → IsJoinedRow project layout stays output ys
+  pub data_commands : (ds : List PlacedData) → slice_get runs k ≡ Some ds → AreDataOf output ds
 
 -- all are those of a layout
-pub record AreJoined (p : Project) (s : Layout) (stays : SectionKey → Bool) (places : List Placed)
+pub record AreJoined (project : Project) (layout : Layout) (stays : SectionKey → Bool) (places : List Placed)
     (os : List OutputSectionAt) (offsets : List ℕ) (rows : List (List ImagePiece)) (runs : List (List PlacedData))
     : Type 0 where
-  pub placed : map placed_of s.sections ≡ places
-  pub names : map (λ (q : PlacedOutput). q.name) s.sections ≡ map (λ (o : OutputSectionAt). o.section.name) os
-  pub fills : map (λ (q : PlacedOutput). q.fill) s.sections ≡ map (λ (o : OutputSectionAt). o.section.fill) os
-  pub begun : AllZip (IsOffset s) s.sections offsets
-  pub pieces : AllZip (IsJoinedRow p s stays) s.sections rows
-  pub data_commands : AllZip AreDataOf s.sections runs
+  pub placed : map placed_of layout.sections ≡ places
+  pub names : map (λ (output : PlacedOutput). output.name) layout.sections
+      ≡ map (λ (o : OutputSectionAt). o.section.name) os
+  pub fills : map (λ (output : PlacedOutput). output.fill) layout.sections
+      ≡ map (λ (o : OutputSectionAt). o.section.fill) os
+  pub begun : AllZip (IsOffset layout) layout.sections offsets
+  pub pieces : AllZip (IsJoinedRow project layout stays) layout.sections rows
+  pub data_commands : AllZip AreDataOf layout.sections runs

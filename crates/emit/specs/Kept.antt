@@ -11,28 +11,28 @@ use Rattle.emit_relocate.specs.KnownLink.{KnownLink}
 use Rattle.emit_relocate.specs.declared.previous_link_info.FileRange.{FileRange}
 
 -- an input section stays if its key does
-pub record IsKeptBy (p : Project) (stays : SectionKey → Bool) (w : PlacedPiece) (y : ImagePiece) : Type 0 where
+pub record IsKeptBy (project : Project) (stays : SectionKey → Bool) (w : PlacedPiece) (y : ImagePiece) : Type 0 where
   pub section : SectionKey
-  pub object : object_name p section.object.0 ≡ w.piece.object
+  pub object : object_name project section.object.0 ≡ w.piece.object
   pub part : section.part ≡ w.piece.part
   pub is : y.stays ≡ stays section
 
 -- an input section of a link by its key
-pub record IsKeyed (l : GoodLink) (k : SectionKey) (x : LinkedPiece) : Type 0 where
-  pub among : Contains (link_pieces l) x
-  pub object : object_name l.project k.object.0 ≡ x.object
-  pub part : k.part ≡ x.part
+pub record IsKeyed (link : GoodLink) (k : SectionKey) (piece : LinkedPiece) : Type 0 where
+  pub among : Contains (link_pieces link) piece
+  pub object : object_name link.project k.object.0 ≡ piece.object
+  pub part : k.part ≡ piece.part
 
 -- what stays has stayed
 abbrev pub HaveStayed : GoodLink → GoodLink → (SectionKey → Bool) → Type 0
 HaveStayed old new stays =
-    (k : SectionKey) (x : LinkedPiece) → stays k ≡ true → IsKeyed new k x → has_stayed old x ≡ true
+    (k : SectionKey) (piece : LinkedPiece) → stays k ≡ true → IsKeyed new k piece → has_stayed old piece ≡ true
 
 -- what has stayed stays
 abbrev pub AreKept : GoodLink → GoodLink → (SectionKey → Bool) → Type 0
 AreKept old new stays =
-    (k : SectionKey) (x : LinkedPiece) → IsKeyed new k x → has_stayed old x ≡ true → stays k ≡ true
+    (k : SectionKey) (piece : LinkedPiece) → IsKeyed new k piece → has_stayed old piece ≡ true → stays k ≡ true
 
 -- each section that is known to have stayed has
 abbrev pub IsSound : (SectionKey → Option FileRange) → GoodLink → KnownLink → Type 0
-IsSound range old l = (key : SectionKey) → IfSome (range key) (HasStayedAt old l key)
+IsSound range old link = (key : SectionKey) → IfSome (range key) (HasStayedAt old link key)

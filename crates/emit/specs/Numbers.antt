@@ -6,4 +6,4 @@ use Rattle.ldmodel_laws.specs.Spread.{EachLater}
 
 -- the sections of an object have different numbers
 abbrev pub HaveNumbers : ObjectData → Type 0
-HaveNumbers o = EachLater (λ (x y : LinkedSection). (x.number.0 == y.number.0) ≡ false) o.sections
+HaveNumbers o = EachLater (λ (section y : LinkedSection). (section.number.0 == y.number.0) ≡ false) o.sections

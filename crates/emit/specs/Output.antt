@@ -18,64 +18,68 @@ use Rattle.emit.specs.Kept.{IsKeptBy}
 use Rattle.emit.specs.declared.output.OutputDrawing.{OutputDrawing}
 
 -- the input sections of an output section, each of which stays if its key does; bytes and fields fill each
-pub record IsRow (p : Project) (s : Layout) (stays : SectionKey → Bool) (q : PlacedOutput) (ys : List ImagePiece)
+pub record IsRow (project : Project) (layout : Layout) (stays : SectionKey → Bool) (output : PlacedOutput)
+    (ys : List ImagePiece)
     : Type 0 where
-  pub pieces : AllZip (IsImagePiece p s) q.pieces ys
+  pub pieces : AllZip (IsImagePiece project layout) output.pieces ys
   pub filled : All IsFilled ys
-  pub kept : AllZip (IsKeptBy p stays) q.pieces ys
+  pub kept : AllZip (IsKeptBy project stays) output.pieces ys
 
 -- the same, where those that stay may be joined
-pub record IsJoinedRow (p : Project) (s : Layout) (stays : SectionKey → Bool) (q : PlacedOutput)
+pub record IsJoinedRow (project : Project) (layout : Layout) (stays : SectionKey → Bool) (output : PlacedOutput)
     (ys : List ImagePiece) : Type 0 where
   pub whole : List ImagePiece
-  pub row : IsRow p s stays q whole
+  pub row : IsRow project layout stays output whole
   pub joined : StandFor whole ys
 
 -- all that is drawn of an output section
-pub record IsOutput (p : Project) (s : Layout) (stays : SectionKey → Bool) (q : PlacedOutput) (x : OutputDrawing)
+pub record IsOutput (project : Project) (layout : Layout) (stays : SectionKey → Bool) (output : PlacedOutput)
+    (x : OutputDrawing)
     : Type 0 where
-  pub name : x.name.now ≡ q.name
-  pub placed : x.placed ≡ placed_of q
-  pub offset : IsOffset s q x.offset
-  pub fill : (i : ℕ) → slice_index x.fill.now (i % length x.fill.now) ≡ fill_byte q.fill i
+  pub name : x.name.now ≡ output.name
+  pub placed : x.placed ≡ placed_of output
+  pub offset : IsOffset layout output x.offset
+  pub fill : (i : ℕ) → slice_index x.fill.now (i % length x.fill.now) ≡ fill_byte output.fill i
   pub some_fill : 0 < length x.fill.now
   pub short_fill : length x.fill.now ≤ 8
-  pub row : IsJoinedRow p s stays q x.pieces.now
-  pub data_commands : AllZip IsImageData q.data_commands x.data_commands.now
+  pub row : IsJoinedRow project layout stays output x.pieces.now
+  pub data_commands : AllZip IsImageData output.data_commands x.data_commands.now
 
 -- each input section of an output section stays if its key does
 abbrev pub IsSectionKept : Project → (SectionKey → Bool) → SectionInFile → ImageSection → Type 0
-IsSectionKept p stays x y = AllZip (IsKeptBy p stays) x.section.pieces y.pieces.now
+IsSectionKept project stays x y = AllZip (IsKeptBy project stays) x.section.pieces y.pieces.now
 
 -- an output section, and where it begins in the file
 abbrev pub in_file_at : Layout → PlacedOutput → SectionInFile
-in_file_at s q = record { offset = file_offset (segments s.sections) q; section = q }
+in_file_at layout output = record { offset = file_offset (segments layout.sections) output; section = output }
 
 -- an output section as it is drawn, of whose input sections those that stay may be joined
-pub record IsDrawn (p : Project) (s : Layout) (stays : SectionKey → Bool) (q : PlacedOutput) (y : ImageSection)
+pub record IsDrawn (project : Project) (layout : Layout) (stays : SectionKey → Bool) (output : PlacedOutput)
+    (y : ImageSection)
     : Type 0 where
   pub whole : ImageSection
-  pub section : IsImageSection p s (in_file_at s q) whole
+  pub section : IsImageSection project layout (in_file_at layout output) whole
   pub filled : IsSectionFilled whole
-  pub kept : IsSectionKept p stays (in_file_at s q) whole
+  pub kept : IsSectionKept project stays (in_file_at layout output) whole
   pub joined : IsJoinedSection whole y
 
 -- those of some output sections that have bytes in the file
 abbrev pub with_bytes : Layout → List PlacedOutput → List SectionInFile
-with_bytes s qs = filter (λ (x : SectionInFile). x.section.has_file_bytes) (map (in_file_at s) (nonempty qs))
+with_bytes layout qs = filter (λ (x : SectionInFile). x.section.has_file_bytes) (map (in_file_at layout) (nonempty qs))
 
-pub record AreDrawnOf (p : Project) (s : Layout) (stays : SectionKey → Bool) (qs : List PlacedOutput)
+pub record AreDrawnOf (project : Project) (layout : Layout) (stays : SectionKey → Bool) (qs : List PlacedOutput)
     (ys : List ImageSection) : Type 0 where
   pub wholes : List ImageSection
-  pub sections : AllZip (IsImageSection p s) (with_bytes s qs) wholes
+  pub sections : AllZip (IsImageSection project layout) (with_bytes layout qs) wholes
   pub filled : All IsSectionFilled wholes
-  pub kept : AllZip (IsSectionKept p stays) (with_bytes s qs) wholes
+  pub kept : AllZip (IsSectionKept project stays) (with_bytes layout qs) wholes
   pub joined : AllZip IsJoinedSection wholes ys
 
 -- the output sections with bytes in the file, as they are drawn
-pub record AreDrawn (p : Project) (s : Layout) (stays : SectionKey → Bool) (ys : List ImageSection) : Type 0 where
+pub record AreDrawn (project : Project) (layout : Layout) (stays : SectionKey → Bool)
+    (ys : List ImageSection) : Type 0 where
   pub wholes : List ImageSection
-  pub sections : AllZip (IsImageSection p s) (loaded s) wholes
+  pub sections : AllZip (IsImageSection project layout) (loaded layout) wholes
   pub filled : All IsSectionFilled wholes
-  pub kept : AllZip (IsSectionKept p stays) (loaded s) wholes
+  pub kept : AllZip (IsSectionKept project stays) (loaded layout) wholes
   pub joined : AllZip IsJoinedSection wholes ys

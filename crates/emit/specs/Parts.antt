@@ -8,7 +8,8 @@ use Rattle.ldmodel.specs.declared.sections.SectionKey.{SectionKey}
 use Rattle.emit.specs.Output.{AreDrawn}
 use Rattle.emit.specs.declared.parts.ImageParts.{ImageParts}
 
-pub record ArePartsOf (p : Project) (s : Layout) (stays : SectionKey → Bool) (x : ImageParts) : Type 0 where
-  pub headers : x.headers.items ≡ image.file_headers p s
-  pub drawn : AreDrawn p s stays x.sections.items
-  pub tail : x.tail.symbols ∷ x.tail.symbol_names ∷ x.tail.header_names ∷ x.tail.headers ∷ [] ≡ headings.tail p s
+pub record ArePartsOf (project : Project) (layout : Layout) (stays : SectionKey → Bool) (x : ImageParts) : Type 0 where
+  pub headers : x.headers.items ≡ image.file_headers project layout
+  pub drawn : AreDrawn project layout stays x.sections.items
+  pub tail : x.tail.symbols ∷ x.tail.symbol_names ∷ x.tail.header_names ∷ x.tail.headers ∷ []
+      ≡ headings.tail project layout

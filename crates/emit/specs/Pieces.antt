@@ -25,56 +25,60 @@ use Rattle.place.specs.declared.indexed_layout.IndexedLayout.{IndexedLayout}
 use Rattle.emit.specs.Runs.{AreRunsUnless}
 
 -- where everything stands, and the fields of the sections that do not stay, are those of a link
-pub record AreSources (l : KnownLink) (stays : SectionKey → Bool) (a : IndexedLayout) (r : Relocated) : Type 0 where
-  pub indexed_layout : IsIndexedLayout l.project l.layout a
-  pub runs : AreRunsUnless l stays r.patches.items r.ends.items
+pub record AreSources (link : KnownLink) (stays : SectionKey → Bool) (a : IndexedLayout) (r : Relocated) : Type 0 where
+  pub indexed_layout : IsIndexedLayout link.project link.layout a
+  pub runs : AreRunsUnless link stays r.patches.items r.ends.items
 
 -- a section of an object at an address
-pub record IsSectionPiece (l : KnownLink) (o : NamedObject) (x : LinkedSection) (long at : ℕ) (y : ImagePiece)
+pub record IsSectionPiece (link : KnownLink) (object : NamedObject) (section : LinkedSection) (long at : ℕ)
+    (y : ImagePiece)
     : Type 0 where
   pub start : y.start ≡ at
   pub size : y.size ≡ long
-  pub bytes : (i : ℕ) → patched_byte y.bytes.now y.fields.now i ≡ section_byte l.project l.layout o at i x
+  pub bytes : (i : ℕ) → patched_byte y.bytes.now y.fields.now i
+      ≡ section_byte link.project link.layout object at i section
   pub filled : IsFilled y
   pub unstayed : y.stays ≡ false
 
 -- an input section in its place that is drawn anew
-pub record IsDrawnPiece (p : Project) (s : Layout) (w : PlacedPiece) (y : ImagePiece) : Type 0 where
-  pub piece : IsImagePiece p s w y
+pub record IsDrawnPiece (project : Project) (layout : Layout) (w : PlacedPiece) (y : ImagePiece) : Type 0 where
+  pub piece : IsImagePiece project layout w y
   pub filled : IsFilled y
   pub unstayed : y.stays ≡ false
 
 -- an input section in its place, which stays if its key does
-pub record IsRowPiece (p : Project) (s : Layout) (stays : SectionKey → Bool) (w : PlacedPiece) (y : ImagePiece)
+pub record IsRowPiece (project : Project) (layout : Layout) (stays : SectionKey → Bool) (w : PlacedPiece)
+    (y : ImagePiece)
     : Type 0 where
-  pub piece : IsImagePiece p s w y
+  pub piece : IsImagePiece project layout w y
   pub filled : IsFilled y
-  pub kept : IsKeptBy p stays w y
+  pub kept : IsKeptBy project stays w y
 
 -- an entry of a row has the size of its section
 abbrev pub IsSized : Project → Piece → Type 0
-IsSized p x =
-    (o : NamedObject) (number : SectionIndex) (y : LinkedSection) → x.part ≡ InTable number
-    → object_named p x.object ≡ Some o → section_numbered o number ≡ Some y → y.size ≡ x.size
+IsSized project x =
+    (object : NamedObject) (number : SectionIndex) (y : LinkedSection) → x.part ≡ InTable number
+    → object_named project x.object ≡ Some object → section_numbered object number ≡ Some y → y.size ≡ x.size
 
 -- an entry of a row at an address; no other input section of the layout is the same part of its object
-pub record IsPlacedAt (p : Project) (s : Layout) (piece : Piece) (start : ℕ) (w : PlacedPiece) : Type 0 where
+pub record IsPlacedAt (project : Project) (layout : Layout) (piece : Piece) (start : ℕ) (w : PlacedPiece) : Type 0 where
   pub piece_is : w.piece ≡ piece
   pub start_is : w.start ≡ start
-  pub found : placed_part s w.piece.object w.piece.part ≡ Some w
-  pub sized : IsSized p piece
+  pub found : placed_part layout w.piece.object w.piece.part ≡ Some w
+  pub sized : IsSized project piece
 
 -- the entries of a row at the first of some addresses
-pub record IsRowAt (p : Project) (s : Layout) (row : List Piece) (starts : List ℕ) (q : PlacedOutput) : Type 0 where
-  pub long : length row ≡ length q.pieces
-  pub each : (k : ℕ) (piece : Piece) (start : ℕ) (w : PlacedPiece) → slice_get q.pieces k ≡ Some w
-      → slice_get row k ≡ Some piece → slice_get starts k ≡ Some start → IsPlacedAt p s piece start w
+pub record IsRowAt (project : Project) (layout : Layout) (row : List Piece) (starts : List ℕ)
+    (output : PlacedOutput) : Type 0 where
+  pub long : length row ≡ length output.pieces
+  pub each : (k : ℕ) (piece : Piece) (start : ℕ) (w : PlacedPiece) → slice_get output.pieces k ≡ Some w
+      → slice_get row k ≡ Some piece → slice_get starts k ≡ Some start → IsPlacedAt project layout piece start w
 
 -- rows at the addresses of a layout, in which each input section stands once
-pub record AreRowsAt (p : Project) (s : Layout) (rows : List (List Piece)) (starts : List ℕ) : Type 0 where
-  pub placed : map entries_in s.sections ≡ rows
-  pub begun : starts ≡ flat_map starts_of s.sections
+pub record AreRowsAt (project : Project) (layout : Layout) (rows : List (List Piece)) (starts : List ℕ) : Type 0 where
+  pub placed : map entries_in layout.sections ≡ rows
+  pub begun : starts ≡ flat_map starts_of layout.sections
   pub found :
-      Each (λ (q : PlacedOutput).
-      Each (λ (w : PlacedPiece). placed_part s w.piece.object w.piece.part ≡ Some w) q.pieces) s.sections
-  pub sized : Each (Each (IsSized p)) rows
+      Each (λ (output : PlacedOutput).
+      Each (λ (w : PlacedPiece). placed_part layout w.piece.object w.piece.part ≡ Some w) output.pieces) layout.sections
+  pub sized : Each (Each (IsSized project)) rows

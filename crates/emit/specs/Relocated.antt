@@ -13,12 +13,12 @@ use Rattle.emit_values.specs.LinkView.{known_link}
 use Rattle.emit.specs.declared.relocated.Relocated.{Relocated}
 
 -- the fields of each input section, one after another, and where those of each end
-pub record AreRuns (l : KnownLink) (xs : List Patch) (places : List ℕ) : Type 0 where
+pub record AreRuns (link : KnownLink) (xs : List Patch) (places : List ℕ) : Type 0 where
   pub runs : List (List Patch)
   pub patches : xs ≡ flat_map (λ run. run) runs
   pub ends : places ≡ ends_of 0 runs
-  pub each : AllZip (IsRunOf l) (sections_in l.project.objects) runs
+  pub each : AllZip (IsRunOf link) (sections_in link.project.objects) runs
 
-pub record IsRelocated (p : Project) (s : Layout) (a : SymbolTableState) (r : Relocated) : Type 0 where
-  pub fields : AreRuns (known_link p s a) r.patches.items r.ends.items
-  pub faults : faults_in p r.faults.items ≡ relocation_faults p s
+pub record IsRelocated (project : Project) (layout : Layout) (table : SymbolTableState) (r : Relocated) : Type 0 where
+  pub fields : AreRuns (known_link project layout table) r.patches.items r.ends.items
+  pub faults : faults_in project r.faults.items ≡ relocation_faults project layout

@@ -14,14 +14,14 @@ key_in object s = record { object = object; part = InTable s.section.number }
 
 -- the fields of an input section, unless its key stays; the key of an object is its place
 abbrev pub IsRunUnless : KnownLink → (SectionKey → Bool) → ObjectSection → List Patch → Type 0
-IsRunUnless l stays s run =
-    (object : ObjectPlace) → slice_get l.project.objects object.0 ≡ Some s.object → stays (key_in object s) ≡ false
-    → IsRunOf l s run
+IsRunUnless link stays s run =
+    (object : ObjectPlace) → slice_get link.project.objects object.0 ≡ Some s.object → stays (key_in object s) ≡ false
+    → IsRunOf link s run
 
 -- the fields of each input section, one after another, and where those of each end; of those that stay nothing is said
-pub record AreRunsUnless (l : KnownLink) (stays : SectionKey → Bool) (xs : List Patch) (places : List ℕ)
+pub record AreRunsUnless (link : KnownLink) (stays : SectionKey → Bool) (xs : List Patch) (places : List ℕ)
     : Type 0 where
   pub runs : List (List Patch)
   pub patches : xs ≡ flat_map (λ run. run) runs
   pub ends : places ≡ ends_of 0 runs
-  pub each : AllZip (IsRunUnless l stays) (sections_in l.project.objects) runs
+  pub each : AllZip (IsRunUnless link stays) (sections_in link.project.objects) runs

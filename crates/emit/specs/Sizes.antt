@@ -13,7 +13,7 @@ names_size names = sum_by (λ name. length name + 1) names
 
 -- the symbol, if it has a value
 abbrev pub valued : OutputSymbol → Option ValuedSymbol
-valued x = with_value (shown_symbol x) (value_of x.value)
+valued symbol = with_value (shown_symbol symbol) (value_of symbol.value)
 
 abbrev pub valued_in : List OutputSymbol → List ValuedSymbol
 valued_in xs = filter_map valued xs
@@ -25,7 +25,7 @@ plus_value t name NotDefined = t
 plus_value t name NotInOutput = t
 
 abbrev pub plus_symbol : SymbolSizes → OutputSymbol → SymbolSizes
-plus_symbol t x = plus_value t x.name.now (value_of x.value)
+plus_symbol t symbol = plus_value t symbol.name.now (value_of symbol.value)
 
 -- these symbols more
 abbrev pub plus_symbols : SymbolSizes → List OutputSymbol → SymbolSizes

@@ -9,14 +9,14 @@ use Rattle.emit_image.specs.Tables.{binding_number}
 use Rattle.emit.specs.declared.symbols.Facts.{Facts}
 
 -- of what a name stands for
-pub record AreFacts (p : Project) (s : Layout) (d : Decision) (f : Facts) : Type 0 where
+pub record AreFacts (project : Project) (layout : Layout) (d : Decision) (f : Facts) : Type 0 where
   pub binding : binding_number f.weak ≡ st_binding d
-  pub type : kind_number f.kind ≡ st_type_of p d
-  pub section : f.section ≡ st_shndx p s d
-  pub size : f.size ≡ st_size p d
+  pub type : kind_number f.kind ≡ st_type_of project d
+  pub section : f.section ≡ st_shndx project layout d
+  pub size : f.size ≡ st_size project d
 
 -- of an entry that defines it
-pub record AreOwn (p : Project) (s : Layout) (e : Entry) (f : Facts) : Type 0 where
-  pub type : kind_number f.kind ≡ entry_type p e
-  pub section : f.section ≡ entry_header p s e
-  pub size : f.size ≡ entry_size p e
+pub record AreOwn (project : Project) (layout : Layout) (e : Entry) (f : Facts) : Type 0 where
+  pub type : kind_number f.kind ≡ entry_type project e
+  pub section : f.section ≡ entry_header project layout e
+  pub size : f.size ≡ entry_size project e

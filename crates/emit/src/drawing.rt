@@ -78,11 +78,11 @@ fn draw_outputs(
     meter: &mut Meter,
 ) -> Result<(), NoMemory>
     requires outputs { HasOutputs project.now indexed_layout.now values.now outputs.now }
-    requires patches { (s : Layout) → IsIndexedLayout project.now s indexed_layout.now
-        → All (EndsBy (image_length project.now s)) patches.now }
-    ensures image { OnOk result ((s : Layout) (stays : SectionKey → Bool)
-        → AreOutputs project.now indexed_layout.now values.now s stays outputs.now
-        → ((k : SectionKey) → stays k ≡ false) → canvas.new.bytes ≡ definition.image project.now s) }
+    requires patches { (layout : Layout) → IsIndexedLayout project.now layout indexed_layout.now
+        → All (EndsBy (image_length project.now layout)) patches.now }
+    ensures image { OnOk result ((layout : Layout) (stays : SectionKey → Bool)
+        → AreOutputs project.now indexed_layout.now values.now layout stays outputs.now
+        → ((k : SectionKey) → stays k ≡ false) → canvas.new.bytes ≡ definition.image project.now layout) }
     ensures redrawn { OnOk result ((old new : GoodLink) (stays : SectionKey → Bool) → new.project ≡ project.now
         → AreOutputs project.now indexed_layout.now values.now new.layout stays outputs.now → IsGood old
         → IsGood new → HaveStayed old new stays → ArePatchesOf old new patches.now
@@ -142,29 +142,29 @@ pub fn draw_image<'a, E: PreviousLinkInfo>(
 ) -> Result<(), NoMemory>
     requires drawable { IsDrawable project.now indexed_layout.now values.now relocated.now
         (λ k. is_some (E.range earlier.now k)) }
-    requires patches { (s : Layout) → IsIndexedLayout project.now s indexed_layout.now
-        → All (EndsBy (image_length project.now s)) patches.now }
-    ensures image { OnOk result ((s : Layout) (a : SymbolTableState)
-        → IsDrawableAt project.now s a indexed_layout.now values.now relocated.now
+    requires patches { (layout : Layout) → IsIndexedLayout project.now layout indexed_layout.now
+        → All (EndsBy (image_length project.now layout)) patches.now }
+    ensures image { OnOk result ((layout : Layout) (table : SymbolTableState)
+        → IsDrawableAt project.now layout table indexed_layout.now values.now relocated.now
         (λ k. is_some (E.range earlier.now k)) → ((k : SectionKey) → E.range earlier.now k ≡ None)
-        → canvas.new.bytes ≡ definition.image project.now s) }
-    ensures redrawn { OnOk result ((old new : GoodLink) (a : SymbolTableState) → new.project ≡ project.now
-        → IsDrawableAt project.now new.layout a indexed_layout.now values.now relocated.now
+        → canvas.new.bytes ≡ definition.image project.now layout) }
+    ensures redrawn { OnOk result ((old new : GoodLink) (table : SymbolTableState) → new.project ≡ project.now
+        → IsDrawableAt project.now new.layout table indexed_layout.now values.now relocated.now
         (λ k. is_some (E.range earlier.now k)) → IsGood old → IsGood new
-        → IsSound (E.range earlier.now) old (known_link new.project new.layout a)
+        → IsSound (E.range earlier.now) old (known_link new.project new.layout table)
         → ArePatchesOf old new patches.now → canvas.old.bytes ≡ definition.image old.project old.layout
         → canvas.new.bytes ≡ definition.image new.project new.layout) }
-    ensures work { OnOk result ((old new : GoodLink) (a : SymbolTableState) → new.project ≡ project.now
-        → IsDrawableAt project.now new.layout a indexed_layout.now values.now relocated.now
+    ensures work { OnOk result ((old new : GoodLink) (table : SymbolTableState) → new.project ≡ project.now
+        → IsDrawableAt project.now new.layout table indexed_layout.now values.now relocated.now
         (λ k. is_some (E.range earlier.now k)) → IsGood new
-        → IsComplete (E.range earlier.now) old (known_link new.project new.layout a)
+        → IsComplete (E.range earlier.now) old (known_link new.project new.layout table)
         → patch_bytes patches.now ≤ retargeted_bytes old new → meter.new.bytes + bytes_stayed old new
         ≤ meter.old.bytes + (image_length new.project new.layout + retargeted_bytes old new)) }
-    ensures spent { OnOk result ((old new : GoodLink) (a : SymbolTableState) → new.project ≡ project.now
-        → IsDrawableAt project.now new.layout a indexed_layout.now values.now relocated.now
+    ensures spent { OnOk result ((old new : GoodLink) (table : SymbolTableState) → new.project ≡ project.now
+        → IsDrawableAt project.now new.layout table indexed_layout.now values.now relocated.now
         (λ k. is_some (E.range earlier.now k)) → IsGood new
-        → IsComplete (E.range earlier.now) old (known_link new.project new.layout a)
-        → IsSound (E.range earlier.now) old (known_link new.project new.layout a)
+        → IsComplete (E.range earlier.now) old (known_link new.project new.layout table)
+        → IsSound (E.range earlier.now) old (known_link new.project new.layout table)
         → meter.new ≡ raised meter.old counts.Bytes
         (patch_bytes patches.now + (image_length new.project new.layout - bytes_stayed old new))) }
     ensures counted { OnOk result ((n : ℕ) × (meter.new ≡ raised meter.old counts.Bytes n)) }

@@ -16,8 +16,9 @@ use place::numbered::are_numbered;
 /// A link whose image is not too long and whose relocations have no faults is good. The call looks at each object once,
 /// and changes nothing.
 pub fn is_good(project: &ProjectView<'_>, link_layout: &LinkLayout)
-    ensures { (s : Layout) → IsLinkLayout project.now s link_layout.now → image_length project.now s ≤ max_image_length
-        → relocation_faults project.now s ≡ [] → IsGood (record { project = project.now; layout = s }) }
+    ensures { (layout : Layout) → IsLinkLayout project.now layout link_layout.now → image_length project.now layout
+        ≤ max_image_length
+        → relocation_faults project.now layout ≡ [] → IsGood (record { project = project.now; layout = layout }) }
 {
     faultless_is_good();
     // so that what a project says of its objects is known

@@ -35,7 +35,7 @@ pub(crate) fn keys_of(
     project: &ProjectView<'_>,
 ) -> Result<Vec<ObjectPlace>, NoMemory>
     ensures keys { IfOk result (λ keys. AreKeysOf project.now.objects project.now.objects keys.items) }
-    ensures read { IfOk result (λ keys. All (λ (o : NamedObject). IsRead o.object) project.now.objects) }
+    ensures read { IfOk result (λ keys. All (λ (object : NamedObject). IsRead object.object) project.now.objects) }
     ensures distinct { AreNamesDistinct project.now.objects }
 {
     let inputs = project.inputs();

@@ -18,9 +18,10 @@ use ldmodel_laws::layout::{layout_by_effects, placed_are_rows};
 
 /// Each section of an object that stands in a layout ends below 2^64, by its own size.
 pub(crate) fn sections_end_below()
-    ensures { (p : Project) (s : Layout) (a : SymbolTableState) → AreNamesDistinct p.objects
-        → All (λ (o : NamedObject). AreAscending o.object.sections) p.objects
-        → placement p.script (rows p) (provided p) ≡ Ok s → EndBelow (known_link p s a) }
+    ensures { (project : Project) (layout : Layout) (table : SymbolTableState) → AreNamesDistinct project.objects
+        → All (λ (object : NamedObject). AreAscending object.object.sections) project.objects
+        → placement project.script (rows project) (provided project) ≡ Ok layout
+        → EndBelow (known_link project layout table) }
 {
     layout_by_effects();
     placed_are_rows();
@@ -29,9 +30,10 @@ pub(crate) fn sections_end_below()
 
 /// An input section in the output has the size of its section.
 pub(crate) fn pieces_are_sized()
-    ensures { (p : Project) (s : Layout) → AreNamesDistinct p.objects
-        → All (λ (o : NamedObject). AreAscending o.object.sections) p.objects
-        → placement p.script (rows p) (provided p) ≡ Ok s → AreSized (record { project = p; layout = s }) }
+    ensures { (project : Project) (layout : Layout) → AreNamesDistinct project.objects
+        → All (λ (object : NamedObject). AreAscending object.object.sections) project.objects
+        → placement project.script (rows project) (provided project) ≡ Ok layout
+        → AreSized (record { project = project; layout = layout }) }
 {
     placed_are_rows();
     live_by_path();

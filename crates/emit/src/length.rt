@@ -89,8 +89,9 @@ fn tail_sizes(
     project: &ProjectView<'_>,
     values: &Values<'_>,
 ) -> Result<TailSizes, NoMemory>
-    ensures { IfOk result (λ t. (s : Layout) (a : SymbolTableState) (l : LinkLayout) → IsLinkLayout project.now s l
-        → AreValues project.now s a values.now → AreTailSizes project.now s t) }
+    ensures { IfOk result (λ t. (layout : Layout) (table : SymbolTableState) (l : LinkLayout)
+        → IsLinkLayout project.now layout l
+        → AreValues project.now layout table values.now → AreTailSizes project.now layout t) }
 {
     outputs_are_of_script();
     let symbols = symbol_sizes(&values.symbols)?;
@@ -118,8 +119,9 @@ pub fn image_length(
     link_layout: &LinkLayout,
     values: &Values<'_>,
 ) -> Result<u128, NoMemory>
-    ensures { IfOk result (λ n. (s : Layout) (a : SymbolTableState) → IsLinkLayout project.now s link_layout.now
-        → AreValues project.now s a values.now → n ≡ definition.image_length project.now s) }
+    ensures { IfOk result (λ n. (layout : Layout) (table : SymbolTableState)
+        → IsLinkLayout project.now layout link_layout.now
+        → AreValues project.now layout table values.now → n ≡ definition.image_length project.now layout) }
 {
     let sizes = tail_sizes(alloc, project, values)?;
     Ok(length_of(&link_layout.segments, sizes))

@@ -54,8 +54,9 @@ pub fn map_text(
     values: &Values<'_>,
 ) -> Result<Vec<u8>, NoMemory>
     requires { rows_in project.now rows.now ≡ model.rows project.now }
-    ensures { IfOk result (λ text. (s : Layout) (a : SymbolTableState) → IsLinkLayout project.now s link_layout.now
-        → AreValues project.now s a values.now → text.items ≡ definition.map_text project.now s) }
+    ensures { IfOk result (λ text. (layout : Layout) (table : SymbolTableState)
+        → IsLinkLayout project.now layout link_layout.now
+        → AreValues project.now layout table values.now → text.items ≡ definition.map_text project.now layout) }
 {
     placed_are_rows();
     outputs_are_of_script();

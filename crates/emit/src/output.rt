@@ -66,9 +66,11 @@ fn output_at<'a>(
     pieces: &'a [Vec<ImagePiece<'a>>],
     runs: &[&'a [PlacedData]],
 ) -> Option<OutputDrawing<'a>>
-    ensures { IfSome result (λ x. (p : Project) (s : Layout) (stays : SectionKey → Bool) (q : PlacedOutput)
-        → IsAt p s stays q number placed.now (shown_sections sections.now) offsets.now (map vec_items pieces.now)
-        (map (λ run. run.now) runs.now) → IsOutput p s stays q x) }
+    ensures { IfSome result (λ x. (project : Project) (layout : Layout) (stays : SectionKey → Bool)
+        (output : PlacedOutput)
+        → IsAt project layout stays output number placed.now (shown_sections sections.now) offsets.now
+        (map vec_items pieces.now)
+        (map (λ run. run.now) runs.now) → IsOutput project layout stays output x) }
 {
     let at = sections.get(number)?;
     let offset = *offsets.get(number)?;
@@ -95,9 +97,9 @@ fn join<'a>(
     pieces: &'a [Vec<ImagePiece<'a>>],
     runs: &[&'a [PlacedData]],
 ) -> Result<Vec<OutputDrawing<'a>>, NoMemory>
-    ensures { IfOk result (λ v. (p : Project) (s : Layout) (stays : SectionKey → Bool)
-        → AreJoined p s stays placed.now (shown_sections sections.now) offsets.now (map vec_items pieces.now)
-        (map (λ run. run.now) runs.now) → AllZip (IsOutput p s stays) s.sections v.items) }
+    ensures { IfOk result (λ v. (project : Project) (layout : Layout) (stays : SectionKey → Bool)
+        → AreJoined project layout stays placed.now (shown_sections sections.now) offsets.now (map vec_items pieces.now)
+        (map (λ run. run.now) runs.now) → AllZip (IsOutput project layout stays) layout.sections v.items) }
 {
     let mut outputs = Vec::with_capacity(alloc, placed.len())?;
     for (number, place) in placed.iter().enumerate() {
@@ -121,9 +123,10 @@ pub(crate) fn outputs<'a>(
     link_layout: &'a LinkLayout,
     pieces: &'a [Vec<ImagePiece<'a>>],
 ) -> Result<Vec<OutputDrawing<'a>>, NoMemory>
-    ensures { IfOk result (λ v. (s : Layout) (stays : SectionKey → Bool) → IsLinkLayout project.now s link_layout.now
-        → AllZip (IsJoinedRow project.now s stays) s.sections (map vec_items pieces.now)
-        → AllZip (IsOutput project.now s stays) s.sections v.items) }
+    ensures { IfOk result (λ v. (layout : Layout) (stays : SectionKey → Bool)
+        → IsLinkLayout project.now layout link_layout.now
+        → AllZip (IsJoinedRow project.now layout stays) layout.sections (map vec_items pieces.now)
+        → AllZip (IsOutput project.now layout stays) layout.sections v.items) }
 {
     layout_by_effects();
     outputs_are_of_script();

@@ -30,8 +30,8 @@ const PAST_OFFSETS: u128 = 1 << 64;
 
 /// An output section, with what its header is made of.
 fn table_section<'a>(output: &OutputDrawing<'a>) -> TableSection<'a>
-    ensures { (p : Project) (s : Layout) (stays : SectionKey → Bool) (q : PlacedOutput)
-        → IsOutput p s stays q output.now → IsTableSection s q result }
+    ensures { (project : Project) (layout : Layout) (stays : SectionKey → Bool) (q : PlacedOutput)
+        → IsOutput project layout stays q output.now → IsTableSection layout q result }
 {
     TableSection {
         name: output.name,
@@ -45,8 +45,9 @@ fn table_sections<'a>(
     alloc: Global,
     outputs: &[OutputDrawing<'a>],
 ) -> Result<Vec<TableSection<'a>>, NoMemory>
-    ensures { IfOk result (λ v. (p : Project) (s : Layout) (stays : SectionKey → Bool)
-        → AllZip (IsOutput p s stays) s.sections outputs.now → AllZip (IsTableSection s) s.sections v.items) }
+    ensures { IfOk result (λ v. (project : Project) (layout : Layout) (stays : SectionKey → Bool)
+        → AllZip (IsOutput project layout stays) layout.sections outputs.now
+        → AllZip (IsTableSection layout) layout.sections v.items) }
 {
     let mut sections = Vec::with_capacity(alloc, outputs.len())?;
     for output in outputs {
@@ -57,8 +58,8 @@ fn table_sections<'a>(
 
 /// An output section as it is drawn. Fails where it begins past any file.
 fn image_section<'a>(output: &OutputDrawing<'a>) -> Result<ImageSection<'a>, NoMemory>
-    ensures { IfOk result (λ y. (p : Project) (s : Layout) (stays : SectionKey → Bool) (q : PlacedOutput)
-        → IsOutput p s stays q output.now → IsDrawn p s stays q y) }
+    ensures { IfOk result (λ y. (project : Project) (layout : Layout) (stays : SectionKey → Bool) (q : PlacedOutput)
+        → IsOutput project layout stays q output.now → IsDrawn project layout stays q y) }
 {
     match u64::try_from(output.offset) {
         // No file is longer than 2^64 bytes
@@ -79,9 +80,10 @@ fn add_section<'a>(
     sections: &mut Vec<ImageSection<'a>>,
     output: &OutputDrawing<'a>,
 ) -> Result<(), NoMemory>
-    ensures { OnOk result ((p : Project) (s : Layout) (stays : SectionKey → Bool) (q : PlacedOutput)
-        (qs : List PlacedOutput) → IsOutput p s stays q output.now → AreDrawnOf p s stays qs sections.old.items
-        → AreDrawnOf p s stays (qs ++ q ∷ []) sections.new.items) }
+    ensures { OnOk result ((project : Project) (layout : Layout) (stays : SectionKey → Bool) (q : PlacedOutput)
+        (qs : List PlacedOutput) → IsOutput project layout stays q output.now
+        → AreDrawnOf project layout stays qs sections.old.items
+        → AreDrawnOf project layout stays (qs ++ q ∷ []) sections.new.items) }
 {
     if output.placed.size == 0 || !output.placed.has_file_bytes {
         return Ok(());
@@ -96,8 +98,9 @@ fn image_sections<'a>(
     alloc: Global,
     outputs: &[OutputDrawing<'a>],
 ) -> Result<Vec<ImageSection<'a>>, NoMemory>
-    ensures { IfOk result (λ v. (p : Project) (s : Layout) (stays : SectionKey → Bool) → AreNamed s.sections
-        → AllZip (IsOutput p s stays) s.sections outputs.now → AreDrawn p s stays v.items) }
+    ensures { IfOk result (λ v. (project : Project) (layout : Layout) (stays : SectionKey → Bool)
+        → AreNamed layout.sections
+        → AllZip (IsOutput project layout stays) layout.sections outputs.now → AreDrawn project layout stays v.items) }
 {
     segments_by_neighbours();
     let mut sections = Vec::new(alloc);
@@ -130,9 +133,9 @@ pub(crate) fn drawing_parts<'a>(
     values: &Values<'_>,
     outputs: &[OutputDrawing<'a>],
 ) -> Result<ImageParts<'a>, NoMemory>
-    ensures { IfOk result (λ x. (s : Layout) (stays : SectionKey → Bool)
-        → AreOutputs project.now indexed_layout.now values.now s stays outputs.now
-        → ArePartsOf project.now s stays x) }
+    ensures { IfOk result (λ x. (layout : Layout) (stays : SectionKey → Bool)
+        → AreOutputs project.now indexed_layout.now values.now layout stays outputs.now
+        → ArePartsOf project.now layout stays x) }
 {
     let segments = indexed_layout.link_layout.segments.as_slice();
     let symbols = table_symbols(alloc, project, indexed_layout, values)?;

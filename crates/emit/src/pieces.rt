@@ -58,7 +58,8 @@ fn zeros<'a>(size: u64, start: u64) -> ImagePiece<'a>
 /// The section of an object at a place.
 fn section_at(object: &Object, index: LinkedIndex) -> Section
     requires { index.0 < length object.now.sections }
-    ensures { (x : LinkedSection) → slice_get object.now.sections index.0 ≡ Some x → result ≡ section_of x }
+    ensures { (section : LinkedSection) → slice_get object.now.sections index.0 ≡ Some section → result
+        ≡ section_of section }
 {
     object.sections()[index.0]
 }
@@ -75,14 +76,14 @@ fn section_piece<'a>(
     start: u64,
 ) -> Result<ImagePiece<'a>, NoMemory>
     requires { index.0 < length object.now.sections }
-    ensures { IfOk result (λ y. (l : KnownLink) (stays : KeyOf → Bool) (o : NamedObject) (x : LinkedSection)
+    ensures { IfOk result (λ y. (link : KnownLink) (stays : KeyOf → Bool) (o : NamedObject) (section : LinkedSection)
         (w : PlacedPiece)
-        → AreSources l stays indexed_layout.now relocated.now → slice_get l.project.objects key.0 ≡ Some o
+        → AreSources link stays indexed_layout.now relocated.now → slice_get link.project.objects key.0 ≡ Some o
         → o.object ≡ object.now
-        → slice_get o.object.sections index.0 ≡ Some x
-        → stays (record { object = key; part = part.InTable x.number }) ≡ false
-        → placed_part l.layout o.name (part.InTable x.number) ≡ Some w → w.start ≡ start → x.size ≡ size
-        → IsSectionPiece l o x size start y) }
+        → slice_get o.object.sections index.0 ≡ Some section
+        → stays (record { object = key; part = part.InTable section.number }) ≡ false
+        → placed_part link.layout o.name (part.InTable section.number) ≡ Some w → w.start ≡ start → section.size ≡ size
+        → IsSectionPiece link o section size start y) }
 {
     let section = section_at(object, index);
     // so that what an object says of its sections is known
@@ -113,11 +114,11 @@ fn drawn_piece<'a>(
     piece: &Piece,
     start: u64,
 ) -> Result<ImagePiece<'a>, NoMemory>
-    ensures { IfOk result (λ y. (l : KnownLink) (stays : KeyOf → Bool) (w : PlacedPiece)
-        → l.project ≡ project.now → AreSources l stays indexed_layout.now relocated.now → stays piece.now.section
+    ensures { IfOk result (λ y. (link : KnownLink) (stays : KeyOf → Bool) (w : PlacedPiece)
+        → link.project ≡ project.now → AreSources link stays indexed_layout.now relocated.now → stays piece.now.section
         ≡ false
-        → IsPlacedAt project.now l.layout (piece_in project.now piece.now) start w
-        → IsDrawnPiece l.project l.layout w y) }
+        → IsPlacedAt project.now link.layout (piece_in project.now piece.now) start w
+        → IsDrawnPiece link.project link.layout w y) }
 {
     // so that what a project says of its objects is known
     let _inputs = project.inputs();
@@ -158,10 +159,10 @@ fn add_entry<'a, E: PreviousLinkInfo>(
     piece: &Piece,
     start: u64,
 ) -> Result<(), NoMemory>
-    ensures { OnOk result ((l : KnownLink) (w : PlacedPiece) (whole : List Drawn) → l.project ≡ project.now
-        → AreSources l (λ k. is_some (E.range earlier.now k)) indexed_layout.now relocated.now
-        → IsPlacedAt project.now l.layout (piece_in project.now piece.now) start w → StandFor whole pieces.old.items
-        → (y : Drawn) × IsRowPiece l.project l.layout (λ k. is_some (E.range earlier.now k)) w y
+    ensures { OnOk result ((link : KnownLink) (w : PlacedPiece) (whole : List Drawn) → link.project ≡ project.now
+        → AreSources link (λ k. is_some (E.range earlier.now k)) indexed_layout.now relocated.now
+        → IsPlacedAt project.now link.layout (piece_in project.now piece.now) start w → StandFor whole pieces.old.items
+        → (y : Drawn) × IsRowPiece link.project link.layout (λ k. is_some (E.range earlier.now k)) w y
         × StandFor (whole ++ y ∷ []) pieces.new.items) }
 {
     match earlier.stayed(piece.section) {
@@ -184,10 +185,10 @@ fn image_row<'a, E: PreviousLinkInfo>(
     row: &[Piece],
     starts: &[u64],
 ) -> Result<Vec<ImagePiece<'a>>, NoMemory>
-    ensures { IfOk result (λ v. (l : KnownLink) (q : PlacedOutput) → l.project ≡ project.now
-        → AreSources l (λ k. is_some (E.range earlier.now k)) indexed_layout.now relocated.now
-        → IsRowAt project.now l.layout (map (piece_in project.now) row.now) starts.now q
-        → IsJoinedRow l.project l.layout (λ k. is_some (E.range earlier.now k)) q v.items) }
+    ensures { IfOk result (λ v. (link : KnownLink) (output : PlacedOutput) → link.project ≡ project.now
+        → AreSources link (λ k. is_some (E.range earlier.now k)) indexed_layout.now relocated.now
+        → IsRowAt project.now link.layout (map (piece_in project.now) row.now) starts.now output
+        → IsJoinedRow link.project link.layout (λ k. is_some (E.range earlier.now k)) output v.items) }
 {
     let mut pieces = Vec::with_capacity(alloc, row.len())?;
     for (k, piece) in row.iter().enumerate() {
@@ -219,10 +220,10 @@ fn image_rows<'a, E: PreviousLinkInfo>(
     earlier: &E,
     starts: &[u64],
 ) -> Result<Vec<Vec<ImagePiece<'a>>>, NoMemory>
-    ensures { IfOk result (λ v. (l : KnownLink) → l.project ≡ project.now
-        → AreSources l (λ k. is_some (E.range earlier.now k)) indexed_layout.now relocated.now
-        → AreRowsAt project.now l.layout (rows_in project.now indexed_layout.now.rows.items) starts.now
-        → AllZip (IsJoinedRow l.project l.layout (λ k. is_some (E.range earlier.now k))) l.layout.sections
+    ensures { IfOk result (λ v. (link : KnownLink) → link.project ≡ project.now
+        → AreSources link (λ k. is_some (E.range earlier.now k)) indexed_layout.now relocated.now
+        → AreRowsAt project.now link.layout (rows_in project.now indexed_layout.now.rows.items) starts.now
+        → AllZip (IsJoinedRow link.project link.layout (λ k. is_some (E.range earlier.now k))) link.layout.sections
         (map vec_items v.items)) }
 {
     let mut pieces = Vec::with_capacity(alloc, indexed_layout.rows.len())?;
@@ -261,10 +262,11 @@ pub(crate) fn image_pieces<'a, E: PreviousLinkInfo>(
     relocated: &'a Relocated,
     earlier: &E,
 ) -> Result<Vec<Vec<ImagePiece<'a>>>, NoMemory>
-    ensures { IfOk result (λ v. (s : Layout) (a : SymbolTableState) → IsIndexedLayout project.now s indexed_layout.now
-        → AreRunsUnless (known_link project.now s a) (λ k. is_some (E.range earlier.now k))
+    ensures { IfOk result (λ v. (layout : Layout) (table : SymbolTableState)
+        → IsIndexedLayout project.now layout indexed_layout.now
+        → AreRunsUnless (known_link project.now layout table) (λ k. is_some (E.range earlier.now k))
         relocated.now.patches.items relocated.now.ends.items
-        → AllZip (IsJoinedRow project.now s (λ k. is_some (E.range earlier.now k))) s.sections
+        → AllZip (IsJoinedRow project.now layout (λ k. is_some (E.range earlier.now k))) layout.sections
         (map vec_items v.items)) }
 {
     live_by_path();

@@ -54,8 +54,8 @@ pub struct Relocated {
 
 /// The fault of an entry symbol of this value, if it has one, and then these faults.
 fn with_entry_fault(value: SymbolValue, mut faults: Vec<Fault>) -> Result<Vec<Fault>, NoMemory>
-    ensures { IfOk result (λ all. (p : Project) → faults_in p all.items
-        ≡ entry_fault (value_of value) ++ faults_in p faults.items) }
+    ensures { IfOk result (λ all. (project : Project) → faults_in project all.items
+        ≡ entry_fault (value_of value) ++ faults_in project faults.items) }
 {
     match entry_fault(value) {
         None => Ok(faults),
@@ -82,11 +82,12 @@ impl Relocated {
         symbols: &SymbolValues,
         meter: &mut Meter,
     ) -> Result<Relocated, NoMemory>
-        ensures { IfOk result (λ r. (s : Layout) (a : SymbolTableState) (old : GoodLink)
-            → placement project.now.script (rows project.now) (provided project.now) ≡ Ok s
-            → IsLinkView (known_link project.now s a) link.now → AreValues project.now s a values.now
-            → AreSymbolValues project.now s symbols.now → E.knows earlier.now old (known_link project.now s a)
-            → IsRelocatedBeside old (E.range earlier.now) project.now s a r meter.old meter.new) }
+        ensures { IfOk result (λ r. (layout : Layout) (table : SymbolTableState) (old : GoodLink)
+            → placement project.now.script (rows project.now) (provided project.now) ≡ Ok layout
+            → IsLinkView (known_link project.now layout table) link.now → AreValues project.now layout table values.now
+            → AreSymbolValues project.now layout symbols.now
+            → E.knows earlier.now old (known_link project.now layout table)
+            → IsRelocatedBeside old (E.range earlier.now) project.now layout table r meter.old meter.new) }
     {
         sections_end_below();
         all_is_evaluated();

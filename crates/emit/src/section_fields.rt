@@ -34,11 +34,12 @@ pub(crate) fn fields_of<'a>(
     place: ObjectPlace,
     section: LinkedIndex,
 ) -> Option<&'a [Patch]>
-    ensures { IfSome result (λ run. (l : KnownLink) (stays : SectionKey → Bool) (o : NamedObject) (x : LinkedSection)
-        → IsIndexedLayout l.project l.layout indexed_layout.now
-        → AreRunsUnless l stays relocated.now.patches.items relocated.now.ends.items
-        → slice_get l.project.objects place.0 ≡ Some o → slice_get o.object.sections section.0 ≡ Some x
-        → IsRunUnless l stays (record { object = o; section = x }) run.now) }
+    ensures { IfSome result (λ run. (link : KnownLink) (stays : SectionKey → Bool) (object : NamedObject)
+        (x : LinkedSection)
+        → IsIndexedLayout link.project link.layout indexed_layout.now
+        → AreRunsUnless link stays relocated.now.patches.items relocated.now.ends.items
+        → slice_get link.project.objects place.0 ≡ Some object → slice_get object.object.sections section.0 ≡ Some x
+        → IsRunUnless link stays (record { object = object; section = x }) run.now) }
 {
     let patches = relocated.patches.as_slice();
     let ends = relocated.ends.as_slice();

@@ -60,8 +60,9 @@ fn header_of(section: OutputIndex) -> Result<u32, NoMemory>
 /// The number of the header of the output section that an input section stands in. Fails where there are 2^32 output
 /// sections.
 fn header_of_part(indexed_layout: &IndexedLayout, section: SectionKey) -> Result<u32, NoMemory>
-    ensures { IfOk result (λ n. (p : Project) (s : Layout) → IsIndexedLayout p s indexed_layout.now
-        → n ≡ header_of_part s (object_name p section.object.0) section.part) }
+    ensures { IfOk result (λ n. (project : Project) (layout : Layout)
+        → IsIndexedLayout project layout indexed_layout.now
+        → n ≡ header_of_part layout (object_name project section.object.0) section.part) }
 {
     match indexed_layout.find(section) {
         Some(place) => header_of(place.section),
@@ -75,8 +76,9 @@ fn header_of_place(
     object: ObjectPlace,
     place: SymbolPlace,
 ) -> Result<u32, NoMemory>
-    ensures { IfOk result (λ n. (p : Project) (s : Layout) → IsIndexedLayout p s indexed_layout.now
-        → n ≡ header_of_place s (object_name p object.0) place) }
+    ensures { IfOk result (λ n. (project : Project) (layout : Layout)
+        → IsIndexedLayout project layout indexed_layout.now
+        → n ≡ header_of_place layout (object_name project object.0) place) }
 {
     match place {
         SymbolPlace::Section(number) => {
@@ -107,8 +109,8 @@ fn facts_of_entry(
     entry: Entry,
     weak: bool,
 ) -> Result<Facts, NoMemory>
-    ensures own { IfOk result (λ f. (s : Layout) → IsIndexedLayout project.now s indexed_layout.now
-        → AreOwn project.now s (entry_of (λ key. key) entry) f) }
+    ensures own { IfOk result (λ f. (layout : Layout) → IsIndexedLayout project.now layout indexed_layout.now
+        → AreOwn project.now layout (entry_of (λ key. key) entry) f) }
     ensures weak { IfOk result (λ f. f.weak ≡ weak) }
 {
     match symbol_of(project, entry) {
@@ -131,8 +133,9 @@ fn facts_of_block(
     owner: Entry,
     size: u64,
 ) -> Result<Facts, NoMemory>
-    ensures { IfOk result (λ f. (p : Project) (s : Layout) (align : ℕ) → IsIndexedLayout p s indexed_layout.now
-        → AreFacts p s (decision_of (λ key. key) (code_case.Common owner size align)) f) }
+    ensures { IfOk result (λ f. (project : Project) (layout : Layout) (align : ℕ)
+        → IsIndexedLayout project layout indexed_layout.now
+        → AreFacts project layout (decision_of (λ key. key) (code_case.Common owner size align)) f) }
 {
     let object = ObjectPlace(owner.key);
     let part = Part::InCommon(SymbolIndex(owner.symbol));
@@ -151,8 +154,8 @@ fn facts_of(
     indexed_layout: &IndexedLayout,
     case: Case,
 ) -> Result<Facts, NoMemory>
-    ensures { IfOk result (λ f. (s : Layout) → IsIndexedLayout project.now s indexed_layout.now
-        → AreFacts project.now s (decision_of (λ key. key) case) f) }
+    ensures { IfOk result (λ f. (layout : Layout) → IsIndexedLayout project.now layout indexed_layout.now
+        → AreFacts project.now layout (decision_of (λ key. key) case) f) }
 {
     match case {
         Case::Strong(entry) => facts_of_entry(project, indexed_layout, entry, false),
@@ -169,9 +172,10 @@ fn add_symbol<'a>(
     indexed_layout: &IndexedLayout,
     symbol: &OutputSymbol<'a>,
 ) -> Result<(), NoMemory>
-    ensures { OnOk result ((s : Layout) (xs : List ValuedSymbol) → IsIndexedLayout project.now s indexed_layout.now
-        → AllZip (IsTableSymbol project.now s) xs symbols.old.items
-        → AllZip (IsTableSymbol project.now s) (xs ++ cons_option (valued symbol.now) []) symbols.new.items) }
+    ensures { OnOk result ((layout : Layout) (xs : List ValuedSymbol)
+        → IsIndexedLayout project.now layout indexed_layout.now
+        → AllZip (IsTableSymbol project.now layout) xs symbols.old.items
+        → AllZip (IsTableSymbol project.now layout) (xs ++ cons_option (valued symbol.now) []) symbols.new.items) }
 {
     match symbol.value {
         SymbolValue::NotDefined | SymbolValue::NotInOutput => Ok(()),
@@ -201,8 +205,10 @@ pub(crate) fn table_symbols<'a>(
     indexed_layout: &IndexedLayout,
     values: &'a Values<'_>,
 ) -> Result<Vec<TableSymbol<'a>>, NoMemory>
-    ensures { IfOk result (λ v. (s : Layout) (a : SymbolTableState) → IsIndexedLayout project.now s indexed_layout.now
-        → AreValues project.now s a values.now → AllZip (IsTableSymbol project.now s) (table_symbols project.now s)
+    ensures { IfOk result (λ v. (layout : Layout) (table : SymbolTableState)
+        → IsIndexedLayout project.now layout indexed_layout.now
+        → AreValues project.now layout table values.now
+        → AllZip (IsTableSymbol project.now layout) (table_symbols project.now layout)
         v.items) }
 {
     let mut symbols = Vec::with_capacity(alloc, values.symbols.len())?;

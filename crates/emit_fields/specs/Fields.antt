@@ -37,7 +37,7 @@ calculation Pc64 s a p = s +ℤ a -ℤ p
 
 -- the value of a relocation, modulo 2^64
 abbrev pub relocation_value : Relocation → ℕ → ℕ → ℕ
-relocation_value r s p = modulo_64_bits (calculation r.kind (pos s) r.addend (pos p))
+relocation_value relocation s p = modulo_64_bits (calculation relocation.kind (pos s) relocation.addend (pos p))
 
 -- read as a signed number, it is not below the first nor above the second
 abbrev pub is_between : ℤ → ℤ → ℕ → Bool
@@ -64,4 +64,4 @@ field_with kind v = if fits kind v then Ok (little_bytes (width kind) v) else Er
 
 -- the field of a relocation
 unfoldable pub field_of : Relocation → ℕ → ℕ → Result (List ℕ) Overflow
-field_of r s p = field_with r.kind (relocation_value r s p)
+field_of relocation s p = field_with relocation.kind (relocation_value relocation s p)

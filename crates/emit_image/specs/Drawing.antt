@@ -104,9 +104,9 @@ spot_past_headers o None None = record { byte = 0; stays = false }
 
 -- what lies at an offset of the image
 unfoldable pub drawing_spot : Drawing → ℕ → Spot
-drawing_spot d o =
-    if nat_lt o (length d.headers.now) then record { byte = slice_index d.headers.now o; stays = false }
-    else spot_past_headers o (find (covers_section o) d.sections.now) (find (covers_part o) d.tail.now)
+drawing_spot drawing o =
+    if nat_lt o (length drawing.headers.now) then record { byte = slice_index drawing.headers.now o; stays = false }
+    else spot_past_headers o (find (covers_section o) drawing.sections.now) (find (covers_part o) drawing.tail.now)
 
 -- output sections, and parts of the tail, one after the other in the file from an offset on
 abbrev pub end_of_sections : ℕ → List ImageSection → ℕ
@@ -130,9 +130,9 @@ AreParts from (x ∷ xs) = (from ≤ x.offset) × (part_end x < 2 ^ 64) × ArePa
 
 -- where the image ends
 abbrev pub drawing_end : Drawing → ℕ
-drawing_end d = end_of_parts (end_of_sections (length d.headers.now) d.sections.now) d.tail.now
+drawing_end drawing = end_of_parts (end_of_sections (length drawing.headers.now) drawing.sections.now) drawing.tail.now
 
 -- all parts of an image stand in order
-pub record IsDrawing (d : Drawing) : Type 0 where
-  pub sections : AreSections (length d.headers.now) d.sections.now
-  pub tail : AreParts (end_of_sections (length d.headers.now) d.sections.now) d.tail.now
+pub record IsDrawing (drawing : Drawing) : Type 0 where
+  pub sections : AreSections (length drawing.headers.now) drawing.sections.now
+  pub tail : AreParts (end_of_sections (length drawing.headers.now) drawing.sections.now) drawing.tail.now

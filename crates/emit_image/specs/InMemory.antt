@@ -9,7 +9,7 @@ use Rattle.emit_image.specs.declared.section.Drawing.{Drawing}
 use Rattle.emit_image.specs.declared.section.ImageSection.{ImageSection}
 
 abbrev pub placed_end : PlacedPiece → ℕ
-placed_end x = x.start + x.piece.size
+placed_end placed = placed.start + placed.piece.size
 
 abbrev pub bytes_end : PlacedData → ℕ
 bytes_end d = d.start + length d.bytes
@@ -26,17 +26,17 @@ DataInOrder from end (d ∷ ds) = (from ≤ d.start) × DataInOrder (bytes_end d
 -- an input section that isn't empty and a data command do not meet
 abbrev pub DoNotMeet : List PlacedPiece → List PlacedData → Type 0
 DoNotMeet xs ds =
-    (i j : ℕ) (x : PlacedPiece) (d : PlacedData) → i < length xs → j < length ds
-    → 0 < (slice_index_or xs i x).piece.size
-    → (placed_end (slice_index_or xs i x) ≤ (slice_index_or ds j d).start)
-    ⊎ (bytes_end (slice_index_or ds j d) ≤ (slice_index_or xs i x).start)
+    (i j : ℕ) (placed : PlacedPiece) (d : PlacedData) → i < length xs → j < length ds
+    → 0 < (slice_index_or xs i placed).piece.size
+    → (placed_end (slice_index_or xs i placed) ≤ (slice_index_or ds j d).start)
+    ⊎ (bytes_end (slice_index_or ds j d) ≤ (slice_index_or xs i placed).start)
 
 -- an output section whose parts stand in order in it
-pub record IsInMemory (q : PlacedOutput) : Type 0 where
-  pub end : end_of q < 2 ^ 64
-  pub pieces : PiecesInOrder q.start (end_of q) q.pieces
-  pub data_commands : DataInOrder q.start (end_of q) q.data_commands
-  pub apart : DoNotMeet q.pieces q.data_commands
+pub record IsInMemory (output : PlacedOutput) : Type 0 where
+  pub end : end_of output < 2 ^ 64
+  pub pieces : PiecesInOrder output.start (end_of output) output.pieces
+  pub data_commands : DataInOrder output.start (end_of output) output.data_commands
+  pub apart : DoNotMeet output.pieces output.data_commands
 
 -- a fill has 1 to 8 bytes, and bytes and fields fill their input sections
 pub record IsSectionFilled (x : ImageSection) : Type 0 where
@@ -45,4 +45,4 @@ pub record IsSectionFilled (x : ImageSection) : Type 0 where
   pub pieces : All IsFilled x.pieces.now
 
 abbrev pub AreFilled : Drawing → Type 0
-AreFilled d = All IsSectionFilled d.sections.now
+AreFilled drawing = All IsSectionFilled drawing.sections.now

@@ -57,12 +57,12 @@ pub record IsJoinedSection (whole y : ImageSection) : Type 0 where
   pub data_commands : y.data_commands.now ≡ whole.data_commands.now
 
 -- a drawing that differs from a whole one in this alone
-pub record IsJoined (whole d : Drawing) : Type 0 where
-  pub headers : d.headers.now ≡ whole.headers.now
-  pub sections : AllZip IsJoinedSection whole.sections.now d.sections.now
-  pub tail : d.tail.now ≡ whole.tail.now
+pub record IsJoined (whole drawing : Drawing) : Type 0 where
+  pub headers : drawing.headers.now ≡ whole.headers.now
+  pub sections : AllZip IsJoinedSection whole.sections.now drawing.sections.now
+  pub tail : drawing.tail.now ≡ whole.tail.now
 
 -- drawings of the same bytes, of which the same stay
-pub record AreAlike (whole d : Drawing) : Type 0 where
-  pub end : drawing_end d ≡ drawing_end whole
-  pub spots : (o : ℕ) → drawing_spot d o ≡ drawing_spot whole o
+pub record AreAlike (whole drawing : Drawing) : Type 0 where
+  pub end : drawing_end drawing ≡ drawing_end whole
+  pub spots : (o : ℕ) → drawing_spot drawing o ≡ drawing_spot whole o

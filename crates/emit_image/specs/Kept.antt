@@ -16,24 +16,25 @@ use Rattle.emit_image.specs.declared.section.ImageSection.{ImageSection}
 
 -- the input sections of output sections with file bytes, and those of a drawing, are related one by one
 abbrev pub EachPiece : (PlacedOutput → PlacedPiece → ImagePiece → Type 0) → Layout → Drawing → Type 0
-EachPiece R s d =
-    AllZip (λ (x : SectionInFile) (y : ImageSection). AllZip (R x.section) x.section.pieces y.pieces.now) (loaded s)
-    d.sections.now
+EachPiece R layout drawing =
+    AllZip (λ (x : SectionInFile) (y : ImageSection). AllZip (R x.section) x.section.pieces y.pieces.now)
+    (loaded layout)
+    drawing.sections.now
 
 abbrev pub linked_in : GoodLink → PlacedOutput → PlacedPiece → LinkedPiece
-linked_in l q x = linked_piece l.project (segments l.layout.sections) q x
+linked_in link output placed = linked_piece link.project (segments link.layout.sections) output placed
 
 -- an input section that is kept has stayed
 abbrev pub HasStayed : GoodLink → GoodLink → PlacedOutput → PlacedPiece → ImagePiece → Type 0
-HasStayed old new q x y = y.stays ≡ true → has_stayed old (linked_in new q x) ≡ true
+HasStayed old new output placed y = y.stays ≡ true → has_stayed old (linked_in new output placed) ≡ true
 
 -- one that has stayed is kept
 abbrev pub IsKept : GoodLink → GoodLink → PlacedOutput → PlacedPiece → ImagePiece → Type 0
-IsKept old new q x y = has_stayed old (linked_in new q x) ≡ true → y.stays ≡ true
+IsKept old new output placed y = has_stayed old (linked_in new output placed) ≡ true → y.stays ≡ true
 
 -- the field of a site of an input section, in its place in the file
 abbrev pub file_patch : LinkedPiece → Site → List ℕ → Patch
-file_patch x t field = record { offset = x.range.offset + t.relocation.offset; field = field }
+file_patch piece site field = record { offset = piece.range.offset + site.relocation.offset; field = field }
 
 -- the new field of a site of an input section that stayed, in its place in the file, where the relocations of the
 -- section share no byte
@@ -50,9 +51,10 @@ pub record IsSitePatch (old new : GoodLink) (q : Patch) : Type 0 where
 -- each patch is such a field, and those whose symbol has another value have one
 pub record ArePatchesOf (old new : GoodLink) (patches : List Patch) : Type 0 where
   pub each : All (IsSitePatch old new) patches
-  pub all : (x : LinkedPiece) (t : Site) (field : List ℕ) → Contains (stayed old new) x → 0 < x.range.length
-      → Contains (sites_in new.project x) t → Contains (retargeted old new) t
-      → site_field new.project new.layout t ≡ Ok field → Contains patches (file_patch x t field)
+  pub all : (piece : LinkedPiece) (site : Site) (field : List ℕ) → Contains (stayed old new) piece → 0
+      < piece.range.length
+      → Contains (sites_in new.project piece) site → Contains (retargeted old new) site
+      → site_field new.project new.layout site ≡ Ok field → Contains patches (file_patch piece site field)
 
 -- a drawing of the new link, with patches, for a canvas that holds the image of the old one
 pub record IsRedrawing (old new : GoodLink) (d : Drawing) (patches : List Patch) : Type 0 where

@@ -20,23 +20,24 @@ use Rattle.emit_image.specs.declared.section.ImagePiece.{ImagePiece}
 use Rattle.emit_image.specs.declared.section.ImageSection.{ImageSection}
 
 -- an input section; of one that stays the bytes are not asked for
-pub record IsImagePiece (p : Project) (s : Layout) (x : PlacedPiece) (y : ImagePiece) : Type 0 where
-  pub start : y.start ≡ x.start
-  pub size : y.size ≡ x.piece.size
+pub record IsImagePiece (project : Project) (layout : Layout) (placed : PlacedPiece) (y : ImagePiece) : Type 0 where
+  pub start : y.start ≡ placed.start
+  pub size : y.size ≡ placed.piece.size
   pub bytes : y.stays ≡ false → (i : ℕ) → i < y.size
-      → patched_byte y.bytes.now y.fields.now i ≡ part_byte p s x.piece.object x.piece.part x.start i
+      → patched_byte y.bytes.now y.fields.now i
+      ≡ part_byte project layout placed.piece.object placed.piece.part placed.start i
 
 pub record IsImageData (x : layout.PlacedData) (y : PlacedData) : Type 0 where
   pub start : y.start ≡ x.start
   pub bytes : little_bytes (byte_count y.width) y.value ≡ x.bytes
 
 -- an output section with file bytes
-pub record IsImageSection (p : Project) (s : Layout) (x : SectionInFile) (y : ImageSection) : Type 0 where
+pub record IsImageSection (project : Project) (layout : Layout) (x : SectionInFile) (y : ImageSection) : Type 0 where
   pub offset : y.offset ≡ x.offset
   pub start : y.start ≡ x.section.start
   pub size : y.size ≡ x.section.size
   pub fill : (i : ℕ) → slice_index y.fill.now (i % length y.fill.now) ≡ fill_byte x.section.fill i
-  pub pieces : AllZip (IsImagePiece p s) x.section.pieces y.pieces.now
+  pub pieces : AllZip (IsImagePiece project layout) x.section.pieces y.pieces.now
   pub data_commands : AllZip IsImageData x.section.data_commands y.data_commands.now
 
 pub record IsImagePart (x : FilePart) (y : ImagePart) : Type 0 where
@@ -45,14 +46,14 @@ pub record IsImagePart (x : FilePart) (y : ImagePart) : Type 0 where
 
 -- the output sections of a layout that have bytes in the file, in their order there
 abbrev pub loaded : Layout → List SectionInFile
-loaded s = filter (λ (x : SectionInFile). x.section.has_file_bytes) (in_file (segments s.sections))
+loaded layout = filter (λ (x : SectionInFile). x.section.has_file_bytes) (in_file (segments layout.sections))
 
-pub record IsDrawingOf (p : Project) (s : Layout) (d : Drawing) : Type 0 where
-  pub headers : d.headers.now ≡ image.file_headers p s
-  pub sections : AllZip (IsImageSection p s) (loaded s) d.sections.now
-  pub tail : AllZip IsImagePart (headings.tail p s) d.tail.now
+pub record IsDrawingOf (project : Project) (layout : Layout) (drawing : Drawing) : Type 0 where
+  pub headers : drawing.headers.now ≡ image.file_headers project layout
+  pub sections : AllZip (IsImageSection project layout) (loaded layout) drawing.sections.now
+  pub tail : AllZip IsImagePart (headings.tail project layout) drawing.tail.now
 
 -- no input section stays
 abbrev pub AreUnstayed : Drawing → Type 0
-AreUnstayed d =
-    All (λ (x : ImageSection). All (λ (y : ImagePiece). y.stays ≡ false) x.pieces.now) d.sections.now
+AreUnstayed drawing =
+    All (λ (x : ImageSection). All (λ (y : ImagePiece). y.stays ≡ false) x.pieces.now) drawing.sections.now

@@ -20,17 +20,18 @@ pub record IsWhole (p : ImagePlan) : Type 0 where
   pub within : All (EndsBy p.end) p.patches
 
 -- a plan to draw an image and to patch what stays
-pub record IsPlanOf (d : Drawing) (patches : List Patch) (p : ImagePlan) : Type 0 where
-  pub drawn : Grown [] p.write_spans 0 (drawing_end d) (drawing_spot d)
-  pub end : p.end ≡ drawing_end d
+pub record IsPlanOf (drawing : Drawing) (patches : List Patch) (p : ImagePlan) : Type 0 where
+  pub drawn : Grown [] p.write_spans 0 (drawing_end drawing) (drawing_spot drawing)
+  pub end : p.end ≡ drawing_end drawing
   pub patched : p.patches ≡ patches
 
 -- a drawing, and patches, are those of an image, where the canvas has these bytes: the drawing has its bytes but where
 -- they stay; so do the patches; and a byte that stays and that no patch covers stands in the canvas
-pub record IsDrawnFor (image : ℕ → ℕ) (d : Drawing) (patches : List Patch) (canvas : List ℕ) : Type 0 where
-  pub drawn : (o : ℕ) → o < drawing_end d → (drawing_spot d o).stays ≡ false → (drawing_spot d o).byte ≡ image o
+pub record IsDrawnFor (image : ℕ → ℕ) (drawing : Drawing) (patches : List Patch) (canvas : List ℕ) : Type 0 where
+  pub drawn : (o : ℕ) → o < drawing_end drawing → (drawing_spot drawing o).stays ≡ false → (drawing_spot drawing o).byte
+      ≡ image o
   pub patched : All (IsPatchOf image) patches
-  pub stays : (o : ℕ) → o < drawing_end d → (drawing_spot d o).stays ≡ true → is_patched patches o ≡ false
+  pub stays : (o : ℕ) → o < drawing_end drawing → (drawing_spot drawing o).stays ≡ true → is_patched patches o ≡ false
       → (o < length canvas) × (slice_index canvas o ≡ image o)
 
 -- how many of the first n bytes do not stay

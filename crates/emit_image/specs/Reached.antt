@@ -56,16 +56,18 @@ abbrev pub part_image : ImagePart → ℕ → Spot
 part_image t o = record { byte = slice_index t.bytes.now (o - t.offset); stays = false }
 
 -- the first k output sections end by an offset, and the others begin there or later
-pub record AreSectionsReached (d : Drawing) (k at : ℕ) : Type 0 where
-  pub low : length d.headers.now ≤ at
-  pub before : (i : ℕ) (x : ImageSection) → i < k → i < length d.sections.now
-      → (slice_index_or d.sections.now i x).offset + (slice_index_or d.sections.now i x).size ≤ at
-  pub order : AreSections at (drop k d.sections.now)
-  pub end : end_of_sections at (drop k d.sections.now) ≡ end_of_sections (length d.headers.now) d.sections.now
+pub record AreSectionsReached (drawing : Drawing) (k at : ℕ) : Type 0 where
+  pub low : length drawing.headers.now ≤ at
+  pub before : (i : ℕ) (x : ImageSection) → i < k → i < length drawing.sections.now
+      → (slice_index_or drawing.sections.now i x).offset + (slice_index_or drawing.sections.now i x).size ≤ at
+  pub order : AreSections at (drop k drawing.sections.now)
+  pub end : end_of_sections at (drop k drawing.sections.now)
+      ≡ end_of_sections (length drawing.headers.now) drawing.sections.now
 
 -- the first k parts of the tail end by an offset, and the others begin there or later
-pub record ArePartsReached (d : Drawing) (k at : ℕ) : Type 0 where
-  pub low : end_of_sections (length d.headers.now) d.sections.now ≤ at
-  pub before : (i : ℕ) (t : ImagePart) → i < k → i < length d.tail.now → part_end (slice_index_or d.tail.now i t) ≤ at
-  pub order : AreParts at (drop k d.tail.now)
-  pub end : end_of_parts at (drop k d.tail.now) ≡ drawing_end d
+pub record ArePartsReached (drawing : Drawing) (k at : ℕ) : Type 0 where
+  pub low : end_of_sections (length drawing.headers.now) drawing.sections.now ≤ at
+  pub before : (i : ℕ) (t : ImagePart) → i < k → i < length drawing.tail.now
+      → part_end (slice_index_or drawing.tail.now i t) ≤ at
+  pub order : AreParts at (drop k drawing.tail.now)
+  pub end : end_of_parts at (drop k drawing.tail.now) ≡ drawing_end drawing

@@ -23,26 +23,26 @@ abbrev pub binding_number : Bool → ℕ
 binding_number weak = if weak then STB_WEAK else STB_GLOBAL
 
 -- a symbol of the table
-pub record IsTableSymbol (p : Project) (s : Layout) (x : ValuedSymbol) (y : TableSymbol) : Type 0 where
+pub record IsTableSymbol (project : Project) (layout : Layout) (x : ValuedSymbol) (y : TableSymbol) : Type 0 where
   pub name : y.name.now ≡ x.name
   pub binding : binding_number y.weak ≡ st_binding x.decision
-  pub type : kind_number y.kind ≡ st_type_of p x.decision
-  pub section : y.section ≡ st_shndx p s x.decision
+  pub type : kind_number y.kind ≡ st_type_of project x.decision
+  pub section : y.section ≡ st_shndx project layout x.decision
   pub value : y.value ≡ x.value
-  pub size : y.size ≡ st_size p x.decision
+  pub size : y.size ≡ st_size project x.decision
 
 -- an output section, with where it begins in the file
-pub record IsTableSection (s : Layout) (q : PlacedOutput) (y : TableSection) : Type 0 where
-  pub name : y.name.now ≡ q.name
-  pub placed : y.placed ≡ placed_of q
-  pub offset : y.offset ≡ file_offset (segments s.sections) q % 2 ^ 64
+pub record IsTableSection (layout : Layout) (output : PlacedOutput) (y : TableSection) : Type 0 where
+  pub name : y.name.now ≡ output.name
+  pub placed : y.placed ≡ placed_of output
+  pub offset : y.offset ≡ file_offset (segments layout.sections) output % 2 ^ 64
 
 -- all that the tail of a link is made of
-pub record IsTailOf (p : Project) (s : Layout) (end : ℕ) (xs : List TableSymbol) (ys : List TableSection)
+pub record IsTailOf (project : Project) (layout : Layout) (end : ℕ) (xs : List TableSymbol) (ys : List TableSection)
     : Type 0 where
-  pub begins : end ≡ loaded_end (segments s.sections)
-  pub symbols : AllZip (IsTableSymbol p s) (table_symbols p s) xs
-  pub sections : AllZip (IsTableSection s) s.sections ys
+  pub begins : end ≡ loaded_end (segments layout.sections)
+  pub symbols : AllZip (IsTableSymbol project layout) (table_symbols project layout) xs
+  pub sections : AllZip (IsTableSection layout) layout.sections ys
 
 -- an entry of the symbol table, where the symbols have these names
 abbrev pub entry_of : List (List ℕ) → ℕ × TableSymbol → SymbolEntry

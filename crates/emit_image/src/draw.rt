@@ -30,8 +30,9 @@ pub fn draw(
 ) -> Result<(), NoMemory>
     requires drawing { IsDrawing drawing.now }
     requires unstayed { AreUnstayed drawing.now }
-    ensures image { OnOk result ((p : Project) (s : Layout) → IsDrawingOf p s drawing.now → canvas.new.bytes
-        ≡ image p s) }
+    ensures image { OnOk result ((project : Project) (layout : Layout) → IsDrawingOf project layout drawing.now
+        → canvas.new.bytes
+        ≡ image project layout) }
     ensures counted { OnOk result (meter.new ≡ raised meter.old counts.Bytes (drawing_end drawing.now)) }
     ensures unchanged { OnErr result (canvas.new.bytes ≡ canvas.old.bytes) }
 {

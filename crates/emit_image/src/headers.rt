@@ -144,9 +144,11 @@ pub fn headers(
     sections: usize,
 ) -> Result<Vec<u8>, NoMemory>
     requires { sections + 4 < 2 ^ 64 }
-    ensures { IfOk result (λ v. (p : Project) (s : Layout)
-        → AreSegments s.sections (definition.segments s.sections) segments.now → entry ≡ number_or_0 (entry_point p s)
-        → table ≡ (header_part p s).offset → sections ≡ length s.sections → v.items ≡ file_headers p s) }
+    ensures { IfOk result (λ v. (project : Project) (layout : Layout)
+        → AreSegments layout.sections (definition.segments layout.sections) segments.now → entry
+        ≡ number_or_0 (entry_point project layout)
+        → table ≡ (header_part project layout).offset → sections ≡ length layout.sections → v.items
+        ≡ file_headers project layout) }
 {
     let sorted = ascending(alloc, segments)?;
     let mut out = Vec::with_capacity(alloc, length_of(segments.len()))?;

@@ -34,27 +34,31 @@ use ldmodel_laws::stayed::{fields_in_image, pieces_in_image, stayed_in_both, unt
 /// the image ends. Where no input section stays, no byte does. Bytes that agree with the image at each offset, and are
 /// as many, are the image.
 pub fn drawing_is_image()
-    ensures byte { (p : Project) (s : Layout) (d : Drawing) → IsDrawingOf p s d → (o : ℕ) → (drawing_spot d o).stays
-        ≡ false → (drawing_spot d o).byte ≡ byte_at p s o }
-    ensures end { (p : Project) (s : Layout) (d : Drawing) → IsDrawingOf p s d → drawing_end d ≡ image_length p s }
-    ensures unstayed { (d : Drawing) → AreUnstayed d → (o : ℕ) → (drawing_spot d o).stays ≡ false }
-    ensures whole { (p : Project) (s : Layout) (bytes : List ℕ) → length bytes ≡ image_length p s
-        → ((o : ℕ) → o < image_length p s → slice_index bytes o ≡ byte_at p s o) → bytes ≡ image p s }
+    ensures byte { (project : Project) (layout : Layout) (drawing : Drawing) → IsDrawingOf project layout drawing
+        → (o : ℕ) → (drawing_spot drawing o).stays
+        ≡ false → (drawing_spot drawing o).byte ≡ byte_at project layout o }
+    ensures end { (project : Project) (layout : Layout) (drawing : Drawing) → IsDrawingOf project layout drawing
+        → drawing_end drawing ≡ image_length project layout }
+    ensures unstayed { (drawing : Drawing) → AreUnstayed drawing → (o : ℕ) → (drawing_spot drawing o).stays ≡ false }
+    ensures whole { (project : Project) (layout : Layout) (bytes : List ℕ) → length bytes ≡ image_length project layout
+        → ((o : ℕ) → o < image_length project layout → slice_index bytes o ≡ byte_at project layout o) → bytes
+        ≡ image project layout }
 {}
 
 /// A drawing whose parts are those of a link stands in order in the file, where the parts of each output section that
 /// isn't empty stand in order in memory, fills have 1 to 8 bytes, and bytes and fields fill their input sections.
 pub fn drawing_stands()
-    ensures { (p : Project) (s : Layout) (d : Drawing) → IsDrawingOf p s d → All IsInMemory (nonempty s.sections)
-        → AreFilled d → image_length p s < 2 ^ 64 → IsDrawing d }
+    ensures { (project : Project) (layout : Layout) (drawing : Drawing) → IsDrawingOf project layout drawing
+        → All IsInMemory (nonempty layout.sections)
+        → AreFilled drawing → image_length project layout < 2 ^ 64 → IsDrawing drawing }
 {
     segments_by_neighbours();
 }
 
 /// The parts of each output section of a placement that isn't empty stand in order in memory.
 pub fn placement_is_in_memory()
-    ensures { (script : List Statement) (rows : List (List Piece)) (provided : List (List ℕ)) (s : Layout)
-        → placement script rows provided ≡ Ok s → All IsInMemory (nonempty s.sections) }
+    ensures { (script : List Statement) (rows : List (List Piece)) (provided : List (List ℕ)) (layout : Layout)
+        → placement script rows provided ≡ Ok layout → All IsInMemory (nonempty layout.sections) }
 {
     nothing_meets();
     layout_by_effects();
@@ -63,20 +67,20 @@ pub fn placement_is_in_memory()
 /// Where input sections that stay are joined, the drawing has the bytes that it had, of which the same stay, and it stands
 /// in order. A drawing is like itself.
 pub fn joined_is_whole()
-    ensures stands { (whole d : Drawing) → IsJoined whole d → IsDrawing whole → IsDrawing d }
-    ensures alike { (whole d : Drawing) → IsJoined whole d → AreAlike whole d }
-    ensures own { (d : Drawing) → AreAlike d d }
+    ensures stands { (whole drawing : Drawing) → IsJoined whole drawing → IsDrawing whole → IsDrawing drawing }
+    ensures alike { (whole drawing : Drawing) → IsJoined whole drawing → AreAlike whole drawing }
+    ensures own { (drawing : Drawing) → AreAlike drawing drawing }
 {}
 
 /// What is kept of the image of an old link is right for a new one, where only input sections that stayed are kept, and
 /// patches give the fields of their sites whose symbol has another value: then the drawing and the patches are a plan
 /// for the new image, and no patch ends past the drawing. With or without a drawing, no such patch ends past the image.
 pub fn kept_is_image()
-    ensures drawn { (old new : GoodLink) (d : Drawing) (patches : List Patch) → IsGood old → IsGood new
-        → IsRedrawing old new d patches
-        → IsDrawnFor (byte_at new.project new.layout) d patches (image old.project old.layout) }
-    ensures within { (old new : GoodLink) (d : Drawing) (patches : List Patch) → IsGood old → IsGood new
-        → IsRedrawing old new d patches → All (EndsBy (drawing_end d)) patches }
+    ensures drawn { (old new : GoodLink) (drawing : Drawing) (patches : List Patch) → IsGood old → IsGood new
+        → IsRedrawing old new drawing patches
+        → IsDrawnFor (byte_at new.project new.layout) drawing patches (image old.project old.layout) }
+    ensures within { (old new : GoodLink) (drawing : Drawing) (patches : List Patch) → IsGood old → IsGood new
+        → IsRedrawing old new drawing patches → All (EndsBy (drawing_end drawing)) patches }
     ensures ends { (old new : GoodLink) (patches : List Patch) → IsGood new → ArePatchesOf old new patches
         → All (EndsBy (image_length new.project new.layout)) patches }
 {
@@ -90,8 +94,9 @@ pub fn kept_is_image()
 /// Where all input sections that stayed are kept, what does not stay and the bytes of what stayed are no more than the
 /// image.
 pub fn kept_is_not_drawn()
-    ensures { (old new : GoodLink) (d : Drawing) → IsGood new → IsDrawing d → IsDrawingOf new.project new.layout d
-        → EachPiece (IsKept old new) new.layout d → count_unstayed (drawing_spot d) (drawing_end d)
+    ensures { (old new : GoodLink) (drawing : Drawing) → IsGood new → IsDrawing drawing
+        → IsDrawingOf new.project new.layout drawing
+        → EachPiece (IsKept old new) new.layout drawing → count_unstayed (drawing_spot drawing) (drawing_end drawing)
         + bytes_stayed old new ≤ image_length new.project new.layout }
 {
     sections_in_file();
@@ -99,9 +104,10 @@ pub fn kept_is_not_drawn()
 
 /// Where the input sections that are kept are all those that stayed, what does not stay is what the image has besides.
 pub fn kept_is_what_stayed()
-    ensures { (old new : GoodLink) (d : Drawing) → IsGood new → IsDrawing d → IsDrawingOf new.project new.layout d
-        → EachPiece (IsKept old new) new.layout d → EachPiece (HasStayed old new) new.layout d
-        → count_unstayed (drawing_spot d) (drawing_end d)
+    ensures { (old new : GoodLink) (drawing : Drawing) → IsGood new → IsDrawing drawing
+        → IsDrawingOf new.project new.layout drawing
+        → EachPiece (IsKept old new) new.layout drawing → EachPiece (HasStayed old new) new.layout drawing
+        → count_unstayed (drawing_spot drawing) (drawing_end drawing)
         ≡ image_length new.project new.layout - bytes_stayed old new }
 {
     sections_in_file();
@@ -112,6 +118,6 @@ pub fn kept_is_what_stayed()
 pub fn patches_are_few()
     ensures { (old new : GoodLink) (sites others : List Site) (patches : List Patch)
         → IsPermutation (sites ++ others) (retargeted old new)
-        → AllZip (λ (t : Site) (q : Patch). length q.field ≡ width t.relocation.kind) sites patches
+        → AllZip (λ (site : Site) (q : Patch). length q.field ≡ width site.relocation.kind) sites patches
         → patch_bytes patches ≤ retargeted_bytes old new }
 {}

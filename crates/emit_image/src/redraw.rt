@@ -51,8 +51,8 @@ pub fn redraw(
 ) -> Result<(), NoMemory>
     requires drawing { IsDrawing drawing.now }
     requires patches { All (EndsBy (drawing_end drawing.now)) patches.now }
-    ensures image { OnOk result ((p : Project) (s : Layout) (whole : DrawingOf) → AreAlike whole drawing.now
-        → AreUnstayed whole → IsDrawingOf p s whole → canvas.new.bytes ≡ image p s) }
+    ensures image { OnOk result ((project : Project) (layout : Layout) (whole : DrawingOf) → AreAlike whole drawing.now
+        → AreUnstayed whole → IsDrawingOf project layout whole → canvas.new.bytes ≡ image project layout) }
     ensures redrawn { OnOk result ((old new : GoodLink) (whole : DrawingOf) → AreAlike whole drawing.now
         → IsGood old → IsGood new → IsRedrawing old new whole patches.now
         → canvas.old.bytes ≡ image old.project old.layout → canvas.new.bytes ≡ image new.project new.layout) }

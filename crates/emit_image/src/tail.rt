@@ -205,8 +205,9 @@ pub fn tail(
 ) -> Result<TailParts, NoMemory>
     ensures parts { IfOk result (λ t. t.symbols ∷ t.symbol_names ∷ t.header_names ∷ t.headers ∷ []
         ≡ tail_of loaded_end symbols.now sections.now) }
-    ensures of_link { IfOk result (λ t. (p : Project) (s : Layout) → IsTailOf p s loaded_end symbols.now sections.now
-        → t.symbols ∷ t.symbol_names ∷ t.header_names ∷ t.headers ∷ [] ≡ definition.tail p s) }
+    ensures of_link { IfOk result (λ t. (project : Project) (layout : Layout)
+        → IsTailOf project layout loaded_end symbols.now sections.now
+        → t.symbols ∷ t.symbol_names ∷ t.header_names ∷ t.headers ∷ [] ≡ definition.tail project layout) }
 {
     let symbol_tables = symbol_tables(alloc, symbols)?;
     let output = output_headers(alloc, sections)?;

@@ -18,16 +18,16 @@ abbrev pub IsOutside : ℕ → FileRange → Type 0
 IsOutside at r = (at < r.offset) ⊎ (r.offset + r.length ≤ at)
 
 -- a NOBITS section has no bytes of its own and no relocations
-pub record IsBare (x : LinkedSection) : Type 0 where
-  pub bytes : x.kind ≡ Nobits → x.bytes ≡ []
-  pub relocations : x.kind ≡ Nobits → x.relocations ≡ []
+pub record IsBare (section : LinkedSection) : Type 0 where
+  pub bytes : section.kind ≡ Nobits → section.bytes ≡ []
+  pub relocations : section.kind ≡ Nobits → section.relocations ≡ []
 
 -- the link comes of one of another project, at the same layout, by what the sections of the object of a key hold
-pub record IsInPlaceRewrite (old : Project) (l : KnownLink) (key : ObjectPlace) (o : NamedObject) : Type 0 where
-  pub retouched : DiffersInContents old l.project (l.number key.0)
-  pub frame : HasSameFrame old l.project l.layout
-  pub object_is : named_object l key ≡ Some o
-  pub names : AreNamesDistinct l.project.objects
-  pub spread : Each IsSpread l.layout.sections
-  pub named : AreNamed l.layout.sections
-  pub bare : (a : NamedObject) → slice_get old.objects (l.number key.0) ≡ Some a → All IsBare a.object.sections
+pub record IsInPlaceRewrite (old : Project) (link : KnownLink) (key : ObjectPlace) (object : NamedObject) : Type 0 where
+  pub retouched : DiffersInContents old link.project (link.number key.0)
+  pub frame : HasSameFrame old link.project link.layout
+  pub object_is : named_object link key ≡ Some object
+  pub names : AreNamesDistinct link.project.objects
+  pub spread : Each IsSpread link.layout.sections
+  pub named : AreNamed link.layout.sections
+  pub bare : (a : NamedObject) → slice_get old.objects (link.number key.0) ≡ Some a → All IsBare a.object.sections

@@ -57,10 +57,11 @@ pub record IsInFile (limit : ℕ) (bytes : List ℕ) (r : FileRange) : Type 0 wh
 -- lie below a limit
 pub record CanStand (object : ObjectData) (limit : ℕ) (t : LocatedSection) : Type 0 where
   pub index : t.index.0 < length object.sections
-  pub end : (x : LinkedSection) → slice_get object.sections t.index.0 ≡ Some x → t.start + x.size < 2 ^ 64
+  pub end : (section : LinkedSection) → slice_get object.sections t.index.0 ≡ Some section → t.start + section.size
+      < 2 ^ 64
   pub in_file :
-      (x : LinkedSection) → slice_get object.sections t.index.0 ≡ Some x → HasBytes x.kind t.range
-      → IsInFile limit x.bytes t.range
+      (section : LinkedSection) → slice_get object.sections t.index.0 ≡ Some section → HasBytes section.kind t.range
+      → IsInFile limit section.bytes t.range
 
 -- nothing is written of a section that has no bytes in a range of the file, or none of its own
 pub record IsNothing (kind : SectionKind) (r : FileRange) (w : Written) : Type 0 where
@@ -78,39 +79,41 @@ abbrev pub IsPlanned : SectionKind → List ℕ → FileRange → List Patch →
 IsPlanned kind bytes r run w = IsNothing kind r w ⊎ IsWhole kind bytes r run w
 
 -- an object of a link, as the code has it at hand
-pub record IsAtHand (l : KnownLink) (key : ObjectPlace) (object : ObjectData) (values : List SymbolValue)
+pub record IsAtHand (link : KnownLink) (key : ObjectPlace) (object : ObjectData) (values : List SymbolValue)
     (o : NamedObject) : Type 0 where
-  pub named : named_object l key ≡ Some o
+  pub named : named_object link key ≡ Some o
   pub same : o.object ≡ object
-  pub row : IsRow l o values
+  pub row : IsRow link o values
 
 -- the fields of a section that starts at an address, of whose relocations none has a fault
-pub record IsFaultlessRun (l : KnownLink) (o : NamedObject) (x : LinkedSection) (start : ℕ) (run : List Patch)
+pub record IsFaultlessRun (link : KnownLink) (object : NamedObject) (section : LinkedSection) (start : ℕ)
+    (run : List Patch)
     : Type 0 where
-  pub is_run : IsRun l o x start run
-  pub faultless : filter_map (fault_at l) (sites_at o x start) ≡ []
+  pub is_run : IsRun link object section start run
+  pub faultless : filter_map (fault_at link) (sites_at object section start) ≡ []
 
 -- what is written of a section where it stands
-pub record IsPlannedAt (l : KnownLink) (o : NamedObject) (t : LocatedSection) (w : Written) : Type 0 where
+pub record IsPlannedAt (link : KnownLink) (object : NamedObject) (t : LocatedSection) (w : Written) : Type 0 where
   pub section : LinkedSection
-  pub section_is : slice_get o.object.sections t.index.0 ≡ Some section
+  pub section_is : slice_get object.object.sections t.index.0 ≡ Some section
   pub run : List Patch
-  pub faultless : IsFaultlessRun l o section t.start run
+  pub faultless : IsFaultlessRun link object section t.start run
   pub planned : IsPlanned section.kind section.bytes t.range run w
 
 -- a relocation of these sites has a fault; only fields were counted
-pub record IsRefused (l : KnownLink) (ts : List Site) (before after : Counts) : Type 0 where
+pub record IsRefused (link : KnownLink) (ts : List Site) (before after : Counts) : Type 0 where
   pub evaluated : ℕ
   pub counted : after ≡ raised before Fields evaluated
-  pub faulty : filter_map (fault_at l) ts ≢ []
+  pub faulty : filter_map (fault_at link) ts ≢ []
 
 -- the sites of a section where it stands
 abbrev pub sites_there : NamedObject → LocatedSection → List Site
-sites_there o t =
-    option_map_or (λ (x : LinkedSection). sites_at o x t.start) (slice_get o.object.sections t.index.0) []
+sites_there object t =
+    option_map_or (λ (section : LinkedSection). sites_at object section t.start)
+    (slice_get object.object.sections t.index.0) []
 
 abbrev pub sites_in_all : NamedObject → List LocatedSection → List Site
-sites_in_all o ts = flat_map (sites_there o) ts
+sites_in_all object ts = flat_map (sites_there object) ts
 
 -- byte o comes of one of these
 pub record ComesOf (ws : List Written) (bytes : List ℕ) (o : ℕ) : Type 0 where

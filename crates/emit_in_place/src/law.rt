@@ -18,18 +18,22 @@ ghost use Rattle.emit_in_place.specs.LocatedSections.{sites_of};
 /// The images have the same length, and the same byte at each offset that no input section of the object covers.
 /// Nothing meets in output sections, and these have different names.
 pub fn rewritten_image()
-    ensures byte { (p q : Project) (s : Layout) (i : ℕ) (b : NamedObject) → DiffersInContents p q i → HasSameFrame p q s
-        → Each IsSpread s.sections → AreNamed s.sections → slice_get q.objects i ≡ Some b → (at : ℕ)
-        → ((x : LinkedPiece) → Contains (linked_pieces q s) x → x.object ≡ b.name → IsOutside at x.range)
-        → byte_at p s at ≡ byte_at q s at }
-    ensures length { (p q : Project) (s : Layout) → HasSameFrame p q s → image_length p s ≡ image_length q s }
+    ensures byte { (project q : Project) (layout : Layout) (i : ℕ) (b : NamedObject) → DiffersInContents project q i
+        → HasSameFrame project q layout
+        → Each IsSpread layout.sections → AreNamed layout.sections → slice_get q.objects i ≡ Some b → (at : ℕ)
+        → ((piece : LinkedPiece) → Contains (linked_pieces q layout) piece → piece.object ≡ b.name
+        → IsOutside at piece.range)
+        → byte_at project layout at ≡ byte_at q layout at }
+    ensures length { (project q : Project) (layout : Layout) → HasSameFrame project q layout
+        → image_length project layout ≡ image_length q layout }
 {}
 
 /// Where the first link has no faults of relocation, and each site of the object in the second has a field, neither has
 /// the second.
 pub fn rewritten_faults()
-    ensures { (p q : Project) (s : Layout) (i : ℕ) (b : NamedObject) → DiffersInContents p q i → HasSameFrame p q s
-        → slice_get q.objects i ≡ Some b → relocation_faults p s ≡ []
-        → ((t : Site) → Contains (sites_of s b) t → result_err (site_field q s t) ≡ None)
-        → relocation_faults q s ≡ [] }
+    ensures { (project q : Project) (layout : Layout) (i : ℕ) (b : NamedObject) → DiffersInContents project q i
+        → HasSameFrame project q layout
+        → slice_get q.objects i ≡ Some b → relocation_faults project layout ≡ []
+        → ((site : Site) → Contains (sites_of layout b) site → result_err (site_field q layout site) ≡ None)
+        → relocation_faults q layout ≡ [] }
 {}

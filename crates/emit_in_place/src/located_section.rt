@@ -33,8 +33,8 @@ pub fn nobits_are_bare(object: &Object)
 
 /// The number of a section of an object is that of no other. The call does nothing.
 pub(crate) fn numbers_differ(object: &Object)
-    ensures { (j : ℕ) (x : LinkedSection) → slice_get object.now.sections j ≡ Some x
-        → find (λ (y : LinkedSection). y.number.0 == x.number.0) object.now.sections ≡ Some x }
+    ensures { (j : ℕ) (section : LinkedSection) → slice_get object.now.sections j ≡ Some section
+        → find (λ (y : LinkedSection). y.number.0 == section.number.0) object.now.sections ≡ Some section }
 {
     // so that their order is known
     let _sections = object.sections();

@@ -104,14 +104,15 @@ fn fields_of(
     meter: &mut Meter,
 ) -> Result<Option<Vec<Patch>>, NoMemory>
     requires index { index.0 < length object.now.sections }
-    requires end { (x : LinkedSection) → slice_get object.now.sections index.0 ≡ Some x → start + x.size < 2 ^ 64 }
-    ensures some { IfOk result (λ r. IfSome r (λ run. (l : KnownLink) (o : NamedObject) (x : LinkedSection)
-        → IsAtHand l key object.now values.now o → slice_get o.object.sections index.0 ≡ Some x
-        → IsFaultlessRun l o x start run.items
-        × (meter.new ≡ raised meter.old Fields (evaluations l (sites_at o x start))))) }
-    ensures none { IfOk result (λ r. IfNone r ((l : KnownLink) (o : NamedObject) (x : LinkedSection)
-        → IsAtHand l key object.now values.now o → slice_get o.object.sections index.0 ≡ Some x
-        → IsRefused l (sites_at o x start) meter.old meter.new)) }
+    requires end { (section : LinkedSection) → slice_get object.now.sections index.0 ≡ Some section
+        → start + section.size < 2 ^ 64 }
+    ensures some { IfOk result (λ r. IfSome r (λ run. (link : KnownLink) (o : NamedObject) (section : LinkedSection)
+        → IsAtHand link key object.now values.now o → slice_get o.object.sections index.0 ≡ Some section
+        → IsFaultlessRun link o section start run.items
+        × (meter.new ≡ raised meter.old Fields (evaluations link (sites_at o section start))))) }
+    ensures none { IfOk result (λ r. IfNone r ((link : KnownLink) (o : NamedObject) (section : LinkedSection)
+        → IsAtHand link key object.now values.now o → slice_get o.object.sections index.0 ≡ Some section
+        → IsRefused link (sites_at o section start) meter.old meter.new)) }
 {
     // so that the range of the count is known
     let _fields = meter.fields();
@@ -166,11 +167,11 @@ fn plan_section<'a>(
     meter: &mut Meter,
 ) -> Result<Option<Rewrite<'a>>, NoMemory>
     ensures within { IfOk result (λ r. IfSome r (λ w. IsWithin limit (written w))) }
-    ensures planned { IfOk result (λ r. IfSome r (λ w. (l : KnownLink) (o : NamedObject)
-        → IsAtHand l key object.now values.now o → IsPlannedAt l o spot (written w)
-        × (meter.new ≡ raised meter.old Fields (evaluations l (sites_there o spot))))) }
-    ensures none { IfOk result (λ r. IfNone r ((l : KnownLink) (o : NamedObject)
-        → IsAtHand l key object.now values.now o → IsRefused l (sites_there o spot) meter.old meter.new)) }
+    ensures planned { IfOk result (λ r. IfSome r (λ w. (link : KnownLink) (o : NamedObject)
+        → IsAtHand link key object.now values.now o → IsPlannedAt link o spot (written w)
+        × (meter.new ≡ raised meter.old Fields (evaluations link (sites_there o spot))))) }
+    ensures none { IfOk result (λ r. IfNone r ((link : KnownLink) (o : NamedObject)
+        → IsAtHand link key object.now values.now o → IsRefused link (sites_there o spot) meter.old meter.new)) }
 {
     // so that the range of the count is known
     let _fields = meter.fields();
@@ -205,11 +206,12 @@ pub(crate) fn plan<'a>(
     meter: &mut Meter,
 ) -> Result<Option<Vec<Rewrite<'a>>>, NoMemory>
     ensures within { IfOk result (λ r. IfSome r (λ ws. All (IsWithin limit) (written_all ws.items))) }
-    ensures planned { IfOk result (λ r. IfSome r (λ ws. (l : KnownLink) (o : NamedObject)
-        → IsAtHand l key object.now values.now o → AllZip (IsPlannedAt l o) located.now (written_all ws.items)
-        × (meter.new ≡ raised meter.old Fields (evaluations l (sites_in_all o located.now))))) }
-    ensures none { IfOk result (λ r. IfNone r ((l : KnownLink) (o : NamedObject)
-        → IsAtHand l key object.now values.now o → IsRefused l (sites_in_all o located.now) meter.old meter.new)) }
+    ensures planned { IfOk result (λ r. IfSome r (λ ws. (link : KnownLink) (o : NamedObject)
+        → IsAtHand link key object.now values.now o → AllZip (IsPlannedAt link o) located.now (written_all ws.items)
+        × (meter.new ≡ raised meter.old Fields (evaluations link (sites_in_all o located.now))))) }
+    ensures none { IfOk result (λ r. IfNone r ((link : KnownLink) (o : NamedObject)
+        → IsAtHand link key object.now values.now o
+        → IsRefused link (sites_in_all o located.now) meter.old meter.new)) }
 {
     // so that the range of the count is known
     let _fields = meter.fields();

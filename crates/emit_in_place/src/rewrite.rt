@@ -41,25 +41,27 @@ pub fn rewrite_in_place(
     located: &[LocatedSection],
     meter: &mut Meter,
 ) -> Result<bool, NoMemory>
-    ensures image { IfOk result (λ done. done ≡ true → (old : Project) (l : KnownLink) (o : NamedObject)
-        → IsInPlaceRewrite old l key o → o.object ≡ object.now → IsRow l o values.now
-        → HasLocatedSections l.project l.layout o located.now → canvas.old.bytes ≡ image old l.layout
-        → canvas.new.bytes ≡ image l.project l.layout) }
-    ensures faultless { IfOk result (λ done. done ≡ true → (old : Project) (l : KnownLink) (o : NamedObject)
-        → IsInPlaceRewrite old l key o → o.object ≡ object.now → IsRow l o values.now
-        → HasLocatedSections l.project l.layout o located.now → relocation_faults old l.layout ≡ []
-        → relocation_faults l.project l.layout ≡ []) }
-    ensures counted { IfOk result (λ done. done ≡ true → (l : KnownLink) (o : NamedObject)
-        → named_object l key ≡ Some o → o.object ≡ object.now → IsRow l o values.now
-        → HasLocatedSections l.project l.layout o located.now
-        → meter.new ≡ raised (raised meter.old Fields (evaluations l (sites_of l.layout o))) Bytes
+    ensures image { IfOk result (λ done. done ≡ true → (old : Project) (link : KnownLink) (o : NamedObject)
+        → IsInPlaceRewrite old link key o → o.object ≡ object.now → IsRow link o values.now
+        → HasLocatedSections link.project link.layout o located.now → canvas.old.bytes ≡ image old link.layout
+        → canvas.new.bytes ≡ image link.project link.layout) }
+    ensures faultless { IfOk result (λ done. done ≡ true → (old : Project) (link : KnownLink) (o : NamedObject)
+        → IsInPlaceRewrite old link key o → o.object ≡ object.now → IsRow link o values.now
+        → HasLocatedSections link.project link.layout o located.now → relocation_faults old link.layout ≡ []
+        → relocation_faults link.project link.layout ≡ []) }
+    ensures counted { IfOk result (λ done. done ≡ true → (link : KnownLink) (o : NamedObject)
+        → named_object link key ≡ Some o → o.object ≡ object.now → IsRow link o values.now
+        → HasLocatedSections link.project link.layout o located.now
+        → meter.new ≡ raised (raised meter.old Fields (evaluations link (sites_of link.layout o))) Bytes
         (sum_by (bytes_of object.now) located.now)) }
-    ensures counted_refused { IfOk result (λ done. done ≡ false → (l : KnownLink) (o : NamedObject)
-        → named_object l key ≡ Some o → o.object ≡ object.now → IsRow l o values.now
-        → HasLocatedSections l.project l.layout o located.now → (n : ℕ) × (meter.new ≡ raised meter.old Fields n)) }
-    ensures refused_faulty { IfOk result (λ done. done ≡ false → (l : KnownLink) (o : NamedObject)
-        → named_object l key ≡ Some o → o.object ≡ object.now → IsRow l o values.now
-        → HasLocatedSections l.project l.layout o located.now → relocation_faults l.project l.layout ≡ [] → ⊥) }
+    ensures counted_refused { IfOk result (λ done. done ≡ false → (link : KnownLink) (o : NamedObject)
+        → named_object link key ≡ Some o → o.object ≡ object.now → IsRow link o values.now
+        → HasLocatedSections link.project link.layout o located.now → (n : ℕ)
+        × (meter.new ≡ raised meter.old Fields n)) }
+    ensures refused_faulty { IfOk result (λ done. done ≡ false → (link : KnownLink) (o : NamedObject)
+        → named_object link key ≡ Some o → o.object ≡ object.now → IsRow link o values.now
+        → HasLocatedSections link.project link.layout o located.now → relocation_faults link.project link.layout ≡ []
+        → ⊥) }
     ensures refused { IfOk result (λ done. done ≡ false → canvas.new.bytes ≡ canvas.old.bytes) }
     ensures unchanged { OnErr result (canvas.new.bytes ≡ canvas.old.bytes) }
     ensures room { canvas.new.room ≡ canvas.old.room }

@@ -26,21 +26,21 @@ in_file r q = if nat_le (patch_end q) r.length then Some (record q { offset = r.
 
 -- the field of a site of a section whose bytes stand in a range of the file
 abbrev pub file_patch_at : KnownLink → FileRange → Site → Option Patch
-file_patch_at l r t = option_and_then (in_file r) (field_at l t)
+file_patch_at link r site = option_and_then (in_file r) (field_at link site)
 
 -- these sites were evaluated: their fields were added, in their places in the file, and their faults, and each counted
-pub record IsFiled (l : KnownLink) (r : FileRange) (ts : List Site) (old_patches new_patches : List Patch)
+pub record IsFiled (link : KnownLink) (r : FileRange) (ts : List Site) (old_patches new_patches : List Patch)
     (old_faults new_faults : List code.Fault) (before after : Counts) : Type 0 where
-  pub patches : new_patches ≡ old_patches ++ filter_map (file_patch_at l r) ts
-  pub counts : IsCounted l ts old_faults new_faults before after
+  pub patches : new_patches ≡ old_patches ++ filter_map (file_patch_at link r) ts
+  pub counts : IsCounted link ts old_faults new_faults before after
 
 -- those of these sites whose symbol has another value were evaluated: their fields were added, in their places in the
 -- file, and their faults, and each counted
-pub record IsMoved (old : GoodLink) (l : KnownLink) (r : FileRange) (ts : List Site)
+pub record IsMoved (old : GoodLink) (link : KnownLink) (r : FileRange) (ts : List Site)
     (old_patches new_patches : List Patch) (old_faults new_faults : List code.Fault) (before after : Counts)
     : Type 0 where
-  pub patches : new_patches ≡ old_patches ++ filter_map (file_patch_at l r) (filter (has_moved old l) ts)
-  pub counts : IsCounted l (filter (has_moved old l) ts) old_faults new_faults before after
+  pub patches : new_patches ≡ old_patches ++ filter_map (file_patch_at link r) (filter (has_moved old link) ts)
+  pub counts : IsCounted link (filter (has_moved old link) ts) old_faults new_faults before after
 
 -- what was evaluated of an input section: its fields; patches in the file; and the sites
 pub record Evaluated : Type 0 where
@@ -49,36 +49,36 @@ pub record Evaluated : Type 0 where
   pub sites : List Site
 
 abbrev pub own_sites : KnownLink → ObjectSection → List Site
-own_sites l s = sites_of_section l.layout s.object s.section
+own_sites link s = sites_of_section link.layout s.object s.section
 
 -- the section did not stay, as far as is known: all its fields
-pub record IsRenewed (l : KnownLink) (s : ObjectSection) (c : Evaluated) : Type 0 where
-  pub run : IsRunOf l s c.run
+pub record IsRenewed (link : KnownLink) (s : ObjectSection) (c : Evaluated) : Type 0 where
+  pub run : IsRunOf link s c.run
   pub patches : c.patches ≡ []
-  pub sites : c.sites ≡ own_sites l s
+  pub sites : c.sites ≡ own_sites link s
 
 -- it stayed, with its bytes in a range of the file, if it has sites: no fields, and patches of the sites whose symbol
 -- has another value
-pub record IsRetained (old : GoodLink) (l : KnownLink) (key : SectionKey) (r : FileRange) (s : ObjectSection)
+pub record IsRetained (old : GoodLink) (link : KnownLink) (key : SectionKey) (r : FileRange) (s : ObjectSection)
     (c : Evaluated) : Type 0 where
-  pub stayed : (t : Site) → Contains (own_sites l s) t → HasStayedAt old l key r
+  pub stayed : (site : Site) → Contains (own_sites link s) site → HasStayedAt old link key r
   pub run : c.run ≡ []
-  pub patches : c.patches ≡ filter_map (file_patch_at l r) c.sites
-  pub sites : c.sites ≡ filter (has_moved old l) (own_sites l s)
+  pub patches : c.patches ≡ filter_map (file_patch_at link r) c.sites
+  pub sites : c.sites ≡ filter (has_moved old link) (own_sites link s)
 
 abbrev pub IsEvaluatedAt : GoodLink → KnownLink → SectionKey → Option FileRange → ObjectSection → Evaluated → Type 0
-IsEvaluatedAt old l key None s c = IsRenewed l s c
-IsEvaluatedAt old l key (Some r) s c = IsRetained old l key r s c
+IsEvaluatedAt old link key None s c = IsRenewed link s c
+IsEvaluatedAt old link key (Some r) s c = IsRetained old link key r s c
 
 abbrev pub section_key : ObjectPlace → ObjectSection → SectionKey
 section_key key s = record { object = key; part = InTable s.section.number }
 
 -- by what is known to have stayed
-pub record IsEvaluatedOf (old : GoodLink) (l : KnownLink) (range : SectionKey → Option FileRange) (s : ObjectSection)
+pub record IsEvaluatedOf (old : GoodLink) (link : KnownLink) (range : SectionKey → Option FileRange) (s : ObjectSection)
     (c : Evaluated) : Type 0 where
   pub key : ObjectPlace
-  pub named : named_object l key ≡ Some s.object
-  pub outcome : IsEvaluatedAt old l (section_key key s) (range (section_key key s)) s c
+  pub named : named_object link key ≡ Some s.object
+  pub outcome : IsEvaluatedAt old link (section_key key s) (range (section_key key s)) s c
 
 -- what has been evaluated so far: fields, the places where those of each input section end, patches in the file,
 -- faults, and the counts of work
@@ -102,7 +102,7 @@ abbrev pub no_results : Counts → Results
 no_results counts = record { fields = []; ends = []; patches = []; faults = []; counts = counts }
 
 -- something of which this is true was evaluated of an input section, and was added
-pub record Adds (l : KnownLink) (IsDone : Evaluated → Type 0) (before after : Results) : Type 0 where
+pub record Adds (link : KnownLink) (IsDone : Evaluated → Type 0) (before after : Results) : Type 0 where
   -- what was evaluated
   pub evaluated : Evaluated
   pub is_done : IsDone evaluated
@@ -115,22 +115,23 @@ pub record Adds (l : KnownLink) (IsDone : Evaluated → Type 0) (before after : 
   pub counts : IsCounted l evaluated.sites before.faults after.faults before.counts after.counts
 
 -- what was evaluated of these input sections was added, one after another
-pub record AreChanged (old : GoodLink) (l : KnownLink) (range : SectionKey → Option FileRange) (ss : List ObjectSection)
+pub record AreChanged (old : GoodLink) (link : KnownLink) (range : SectionKey → Option FileRange)
+    (ss : List ObjectSection)
     (before after : Results) : Type 0 where
   pub sections : List Evaluated
-  pub each : AllZip (IsEvaluatedOf old l range) ss sections
+  pub each : AllZip (IsEvaluatedOf old link range) ss sections
   pub fields : after.fields ≡ before.fields ++ flat_map (λ (c : Evaluated). c.run) sections
   pub ends : after.ends ≡ before.ends ++ ends_of (length before.fields) (map (λ (c : Evaluated). c.run) sections)
   pub patches : after.patches ≡ before.patches ++ flat_map (λ (c : Evaluated). c.patches) sections
   pub counts :
-      IsCounted l (flat_map (λ (c : Evaluated). c.sites) sections) before.faults after.faults before.counts
+      IsCounted link (flat_map (λ (c : Evaluated). c.sites) sections) before.faults after.faults before.counts
       after.counts
 
 -- all that there is to evaluate was evaluated, of all input sections: their fields were added one after another, the
 -- places where those of each end, the faults of their sites, and their number
-pub record AreFilled (l : KnownLink) (before after : Results) : Type 0 where
+pub record AreFilled (link : KnownLink) (before after : Results) : Type 0 where
   pub runs : List (List Patch)
-  pub each : AllZip (IsRunOf l) (sections_in l.project.objects) runs
+  pub each : AllZip (IsRunOf link) (sections_in link.project.objects) runs
   pub fields : after.fields ≡ before.fields ++ flat_map (λ run. run) runs
   pub ends : after.ends ≡ before.ends ++ ends_of (length before.fields) runs
-  pub counts : IsCounted l (sites l.project l.layout) before.faults after.faults before.counts after.counts
+  pub counts : IsCounted link (sites link.project link.layout) before.faults after.faults before.counts after.counts

@@ -17,19 +17,19 @@ pub record ObjectSection : Type 0 where
   pub section : LinkedSection
 
 abbrev pub sections_of : NamedObject → List LinkedSection → List ObjectSection
-sections_of o xs = map (λ x. record { object = o; section = x }) xs
+sections_of object xs = map (λ x. record { object = object; section = x }) xs
 
 -- those of objects, in their order
 abbrev pub sections_in : List NamedObject → List ObjectSection
-sections_in os = flat_map (λ (o : NamedObject). sections_of o o.object.sections) os
+sections_in os = flat_map (λ (object : NamedObject). sections_of object object.object.sections) os
 
 -- the fields of an input section; none where it is not in the output
 abbrev pub IsRunAt : KnownLink → ObjectSection → Option PlacedPiece → List Patch → Type 0
-IsRunAt l s None run = run ≡ []
-IsRunAt l s (Some y) run = IsRun l s.object s.section y.start run
+IsRunAt link s None run = run ≡ []
+IsRunAt link s (Some y) run = IsRun link s.object s.section y.start run
 
 abbrev pub IsRunOf : KnownLink → ObjectSection → List Patch → Type 0
-IsRunOf l s run = IsRunAt l s (placed_part l.layout s.object.name (InTable s.section.number)) run
+IsRunOf link s run = IsRunAt link s (placed_part link.layout s.object.name (InTable s.section.number)) run
 
 -- where lists end that stand one after another from a place on
 abbrev pub ends_of : ℕ → List (List Patch) → List ℕ
@@ -38,11 +38,13 @@ ends_of n (run ∷ runs) = (n + length run) ∷ ends_of (n + length run) runs
 
 -- each input section in the output ends below 2^64, as a layout without faults has it
 abbrev pub EndBelow : KnownLink → Type 0
-EndBelow l =
-    (key : ObjectPlace) (o : NamedObject) (x : LinkedSection) (y : PlacedPiece) → named_object l key ≡ Some o
-    → section_numbered o x.number ≡ Some x → placed_part l.layout o.name (InTable x.number) ≡ Some y
-    → y.start + x.size < 2 ^ 64
+EndBelow link =
+    (key : ObjectPlace) (object : NamedObject) (section : LinkedSection) (y : PlacedPiece) → named_object link key
+    ≡ Some object
+    → section_numbered object section.number ≡ Some section
+    → placed_part link.layout object.name (InTable section.number) ≡ Some y
+    → y.start + section.size < 2 ^ 64
 
 -- these are the keys of the objects, in their order
 abbrev pub IsOrder : KnownLink → List ObjectPlace → Type 0
-IsOrder l keys = map (named_object l) keys ≡ map Some l.project.objects
+IsOrder link keys = map (named_object link) keys ≡ map Some link.project.objects

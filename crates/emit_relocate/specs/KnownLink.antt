@@ -32,70 +32,76 @@ pub record KnownLink : Type 0 where
   pub name : ℕ → Option (List ℕ)
 
 abbrev pub named_object : KnownLink → ObjectPlace → Option NamedObject
-named_object l k = slice_get l.project.objects (l.number k.0)
+named_object link k = slice_get link.project.objects (link.number k.0)
 
 abbrev pub object_of : KnownLink → ObjectPlace → Option ObjectData
-object_of l k = option_map (λ (o : NamedObject). o.object) (named_object l k)
+object_of link k = option_map (λ (object : NamedObject). object.object) (named_object link k)
 
 abbrev pub name_of_object : KnownLink → ObjectPlace → List ℕ
-name_of_object l k = object_name l.project (l.number k.0)
+name_of_object link k = object_name link.project (link.number k.0)
 
 -- where an input section starts, if it is in the output
 abbrev pub start_of : KnownLink → SectionKey → Option ℕ
-start_of l k = option_map (λ (x : PlacedPiece). x.start) (placed_part l.layout (name_of_object l k.object) k.part)
+start_of link k =
+    option_map (λ (placed : PlacedPiece). placed.start) (placed_part link.layout (name_of_object link k.object) k.part)
 
 -- a key is that of the name of a symbol, unless the symbol is local
 abbrev pub IsNameOf : KnownLink → ObjectPlace → SymbolIndex → NameKey → Type 0
-IsNameOf l object symbol k =
-    (x : NamedSymbol) → symbol_at l.project (l.number object.0) symbol.0 ≡ Some x → is_local x.symbol.binding ≡ false
-    → l.name k.0 ≡ Some x.name
+IsNameOf link object symbol k =
+    (x : NamedSymbol) → symbol_at link.project (link.number object.0) symbol.0 ≡ Some x → is_local x.symbol.binding
+    ≡ false
+    → link.name k.0 ≡ Some x.name
 
 abbrev pub IsCaseOf : KnownLink → NameKey → Option Case → Type 0
-IsCaseOf l k case =
-    (name : List ℕ) → l.name k.0 ≡ Some name → option_map (decision_of l.number) case ≡ Some (decision l.project name)
+IsCaseOf link k case =
+    (name : List ℕ) → link.name k.0 ≡ Some name → option_map (decision_of link.number) case
+    ≡ Some (decision link.project name)
 
 abbrev pub IsScriptValueOf : KnownLink → NameKey → Option ℕ → Type 0
-IsScriptValueOf l k value = (name : List ℕ) → l.name k.0 ≡ Some name → value ≡ script_value l.layout name
+IsScriptValueOf link k value = (name : List ℕ) → link.name k.0 ≡ Some name → value ≡ script_value link.layout name
 
 -- the value of the name of a key
 abbrev pub IsNameValueOf : KnownLink → NameKey → SymbolValue → Type 0
-IsNameValueOf l k value = (name : List ℕ) → l.name k.0 ≡ Some name → value ≡ name_value l.project l.layout name
+IsNameValueOf link k value =
+    (name : List ℕ) → link.name k.0 ≡ Some name → value ≡ name_value link.project link.layout name
 
 -- the address of the common block that an entry owns
 abbrev pub common_value : KnownLink → Entry → SymbolValue
-common_value l owner =
-    address_in (placed_part l.layout (object_name l.project owner.object) (InCommon (symbol_index owner))) 0
+common_value link owner =
+    address_in (placed_part link.layout (object_name link.project owner.object) (InCommon (symbol_index owner))) 0
 
 -- each name has its value under its key
 abbrev pub AreNameValues : KnownLink → List code.SymbolValue → Type 0
-AreNameValues l values =
-    (k : ℕ) (name : List ℕ) → l.name k ≡ Some name
-    → option_map value_of (slice_get values k) ≡ Some (name_value l.project l.layout name)
+AreNameValues link values =
+    (k : ℕ) (name : List ℕ) → link.name k ≡ Some name
+    → option_map value_of (slice_get values k) ≡ Some (name_value link.project link.layout name)
 
 -- the value under the key of a name
 abbrev pub value_under : List code.SymbolValue → NameKey → code.SymbolValue
 value_under values k = unwrap_or (slice_get values k.0) value.NotDefined
 
 -- a symbol of the object of a key, by its number
-pub record IsSymbolOf (l : KnownLink) (object : ObjectPlace) (index : SymbolIndex) (symbol : Symbol) (o : NamedObject)
+pub record IsSymbolOf (link : KnownLink) (object : ObjectPlace) (index : SymbolIndex) (symbol : Symbol)
+    (o : NamedObject)
     (x : NamedSymbol) : Type 0 where
-  pub object_is : named_object l object ≡ Some o
+  pub object_is : named_object link object ≡ Some o
   pub entry_is : slice_get o.object.symbols index.0 ≡ Some x
   pub symbol_is : x.symbol ≡ symbol
 
 -- what a target of the code stands for
 abbrev pub named_target : KnownLink → code_target.Target → Option Target
-named_target l (of.Name k) = option_map Name (l.name k.0)
-named_target l (of.Section object section) = Some (Section (name_of_object l object) section)
-named_target l of.Fixed = Some Fixed
+named_target link (of.Name k) = option_map Name (link.name k.0)
+named_target link (of.Section object section) = Some (Section (name_of_object link object) section)
+named_target link of.Fixed = Some Fixed
 
 -- what the entry symbol stands for, if there is one, and the value that the script gives it
-pub record IsEntryCase (l : KnownLink) (case : Option Case) (given : Option ℕ) : Type 0 where
-  pub decided : option_map (decision_of l.number) case ≡ option_map (decision l.project) (entry_symbol l.project)
-  pub given_is : (name : List ℕ) → entry_symbol l.project ≡ Some name → given ≡ script_value l.layout name
+pub record IsEntryCase (link : KnownLink) (case : Option Case) (given : Option ℕ) : Type 0 where
+  pub decided : option_map (decision_of link.number) case
+      ≡ option_map (decision link.project) (entry_symbol link.project)
+  pub given_is : (name : List ℕ) → entry_symbol link.project ≡ Some name → given ≡ script_value link.layout name
 
 -- the same of the names with keys below a number
 abbrev pub AreValuesBelow : KnownLink → ℕ → List code.SymbolValue → Type 0
-AreValuesBelow l n values =
-    (k : ℕ) (name : List ℕ) → k < n → l.name k ≡ Some name
-    → option_map value_of (slice_get values k) ≡ Some (name_value l.project l.layout name)
+AreValuesBelow link n values =
+    (k : ℕ) (name : List ℕ) → k < n → link.name k ≡ Some name
+    → option_map value_of (slice_get values k) ≡ Some (name_value link.project link.layout name)

@@ -22,7 +22,7 @@ use Rattle.emit_relocate.specs.declared.site.PlacedInput.{PlacedInput}
 
 -- these may be the links at hand, by what the linker knows of them: `knows` of `Known`, and that of `Earlier`
 pub record AreLinks {L E : Type 0} (knows : L → KnownLink → Type 0) (knows_both : E → GoodLink → KnownLink → Type 0)
-    (m : Links L E) (old : GoodLink) (l : KnownLink) : Type 0 where
+    (m : Links L E) (old : GoodLink) (link : KnownLink) : Type 0 where
   -- the link whose relocations are evaluated
   pub link : knows m.link.now l
   -- the earlier one beside it
@@ -33,7 +33,7 @@ pub record AreLinks {L E : Type 0} (knows : L → KnownLink → Type 0) (knows_b
   pub below : EndBelow l
 
 -- an input section is that at hand
-pub record IsAtHand (l : KnownLink) (m : InputSection) (s : ObjectSection) : Type 0 where
+pub record IsAtHand (link : KnownLink) (m : InputSection) (s : ObjectSection) : Type 0 where
   -- the key is that of the section's object
   pub object_is : named_object l m.key ≡ Some s.object
   -- which was read
@@ -44,7 +44,7 @@ pub record IsAtHand (l : KnownLink) (m : InputSection) (s : ObjectSection) : Typ
   pub values_are : IsRow l s.object m.values.now
 
 -- an input section is that at hand, where it is in the output
-pub record IsPlacedAt (l : KnownLink) (s : ObjectSection) (m : PlacedInput) : Type 0 where
+pub record IsPlacedAt (link : KnownLink) (s : ObjectSection) (m : PlacedInput) : Type 0 where
   -- its place in the layout
   pub piece : PlacedPiece
   pub piece_is : placed_part l.layout s.object.name (InTable s.section.number) ≡ Some piece
@@ -54,18 +54,19 @@ pub record IsPlacedAt (l : KnownLink) (s : ObjectSection) (m : PlacedInput) : Ty
 
 -- it is there, or not in the output
 abbrev pub IsPlaceOf : KnownLink → ObjectSection → Option PlacedInput → Type 0
-IsPlaceOf l s None = placed_part l.layout s.object.name (InTable s.section.number) ≡ None
-IsPlaceOf l s (Some m) = IsPlacedAt l s m
+IsPlaceOf link s None = placed_part link.layout s.object.name (InTable s.section.number) ≡ None
+IsPlaceOf link s (Some m) = IsPlacedAt link s m
 
 -- a site of it, and the sites among relocations of it
 abbrev pub site_at_hand : PlacedInput → ObjectSection → Relocation → Site
-site_at_hand m s r = record { object = s.object; section = s.section; start = m.start; relocation = r }
+site_at_hand m s relocation =
+    record { object = s.object; section = s.section; start = m.start; relocation = relocation }
 
 abbrev pub sites_at_hand : PlacedInput → ObjectSection → List Relocation → List Site
 sites_at_hand m s rs = sites_among s.object s.section m.start rs
 
 -- the input section of a key stayed, as is known, with its bytes in this range of the file
-pub record IsKeptAt (old : GoodLink) (l : KnownLink) (range : SectionKey → Option FileRange) (key : SectionKey)
+pub record IsKeptAt (old : GoodLink) (link : KnownLink) (range : SectionKey → Option FileRange) (key : SectionKey)
     (r : FileRange) : Type 0 where
   -- what is known
   pub known : Some r ≡ range key
@@ -74,7 +75,7 @@ pub record IsKeptAt (old : GoodLink) (l : KnownLink) (range : SectionKey → Opt
 
 -- an input section is that at hand, and its symbols may have other values than in the previous link
 pub record IsStayedAt {E : Type 0} (knows_both : E → GoodLink → KnownLink → Type 0)
-    (range : E → SectionKey → Option FileRange) (m : StayedSection E) (old : GoodLink) (l : KnownLink)
+    (range : E → SectionKey → Option FileRange) (m : StayedSection E) (old : GoodLink) (link : KnownLink)
     (s : ObjectSection) : Type 0 where
   -- the links
   pub links : knows_both m.earlier.now old l

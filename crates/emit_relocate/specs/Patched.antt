@@ -13,19 +13,21 @@ use Rattle.ldmodel.specs.Stayed.{GoodLink, LinkedPiece, link_pieces, retargeted,
 
 -- the field of a site of an input section, in its place in the file
 abbrev pub file_patch : LinkedPiece → Site → List ℕ → Patch
-file_patch x t field = record { offset = x.range.offset + t.relocation.offset; field = field }
+file_patch piece site field = record { offset = piece.range.offset + site.relocation.offset; field = field }
 
 -- the relocations of each section are of the profile, as the object reader has found
 abbrev pub AreOfProfile : Project → Type 0
-AreOfProfile p =
-    (o : NamedObject) (x : LinkedSection) → Contains p.objects o → Contains o.object.sections x
-    → HasRelocationsOfProfile (length o.object.symbols) x
+AreOfProfile project =
+    (object : NamedObject) (section : LinkedSection) → Contains project.objects object
+    → Contains object.object.sections section
+    → HasRelocationsOfProfile (length object.object.symbols) section
 
 -- an input section in the output with sites has the size of its section
 abbrev pub AreSized : GoodLink → Type 0
-AreSized l =
-    (x : LinkedPiece) (t : Site) → Contains (link_pieces l) x → Contains (sites_in l.project x) t
-    → x.size ≡ t.section.size
+AreSized link =
+    (piece : LinkedPiece) (site : Site) → Contains (link_pieces link) piece
+    → Contains (sites_in link.project piece) site
+    → piece.size ≡ site.section.size
 
 -- the new field of a site of an input section that stayed, where the relocations of the section share no byte
 pub record IsPatchOfSite (old new : GoodLink) (q : Patch) : Type 0 where
@@ -41,13 +43,13 @@ pub record IsPatchOfSite (old new : GoodLink) (q : Patch) : Type 0 where
 -- those whose symbol has another value have one, where their input section has bytes in the file
 abbrev pub AreAllPatched : GoodLink → GoodLink → List Patch → Type 0
 AreAllPatched old new patches =
-    (x : LinkedPiece) (t : Site) (field : List ℕ) → Contains (stayed old new) x → 0 < x.range.length
-    → Contains (sites_in new.project x) t → Contains (retargeted old new) t
-    → site_field new.project new.layout t ≡ Ok field → Contains patches (file_patch x t field)
+    (piece : LinkedPiece) (site : Site) (field : List ℕ) → Contains (stayed old new) piece → 0 < piece.range.length
+    → Contains (sites_in new.project piece) site → Contains (retargeted old new) site
+    → site_field new.project new.layout site ≡ Ok field → Contains patches (file_patch piece site field)
 
 -- at most one for each of them
 pub record AreFew (old new : GoodLink) (patches : List Patch) : Type 0 where
   pub sites : List Site
   pub others : List Site
   pub parts : IsPermutation (sites ++ others) (retargeted old new)
-  pub widths : AllZip (λ (t : Site) (q : Patch). length q.field ≡ width t.relocation.kind) sites patches
+  pub widths : AllZip (λ (site : Site) (q : Patch). length q.field ≡ width site.relocation.kind) sites patches

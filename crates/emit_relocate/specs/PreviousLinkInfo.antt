@@ -12,21 +12,21 @@ use Rattle.emit_relocate.specs.declared.previous_link_info.FileRange.{FileRange}
 
 -- the link without what keys stand for
 abbrev pub good_link : KnownLink → GoodLink
-good_link l = record { project = l.project; layout = l.layout }
+good_link link = record { project = link.project; layout = link.layout }
 
 -- an input section in the output, by its key
-pub record IsPieceOf (l : KnownLink) (key : SectionKey) (x : LinkedPiece) : Type 0 where
-  pub among : Contains (link_pieces (good_link l)) x
-  pub object_is : x.object ≡ name_of_object l key.object
-  pub part_is : x.part ≡ key.part
+pub record IsPieceOf (link : KnownLink) (key : SectionKey) (piece : LinkedPiece) : Type 0 where
+  pub among : Contains (link_pieces (good_link link)) piece
+  pub object_is : piece.object ≡ name_of_object link key.object
+  pub part_is : piece.part ≡ key.part
 
 abbrev pub range_of : FileRange → model.FileRange
 range_of r = record { offset = r.offset; length = r.length }
 
 -- the input section of a key stayed, with its bytes in this range of the file
 abbrev pub HasStayedAt : GoodLink → KnownLink → SectionKey → FileRange → Type 0
-HasStayedAt old l key r =
-    (x : LinkedPiece) → IsPieceOf l key x → (has_stayed old x ≡ true) × (x.range ≡ range_of r)
+HasStayedAt old link key r =
+    (piece : LinkedPiece) → IsPieceOf link key piece → (has_stayed old piece ≡ true) × (piece.range ≡ range_of r)
 
 -- some section of an object is known to have stayed
 abbrev pub IsKept : (SectionKey → Option FileRange) → ObjectPlace → Type 0
@@ -34,14 +34,15 @@ IsKept range key = (part : Part) × IsSome (range (record { object = key; part =
 
 -- no symbol that a relocation of the object could name has another value
 abbrev pub HasSameValues : GoodLink → KnownLink → ObjectPlace → Type 0
-HasSameValues old l key =
-    (t : Site) → named_object l key ≡ Some t.object
-    → site_value old.project old.layout t ≡ site_value l.project l.layout t
+HasSameValues old link key =
+    (site : Site) → named_object link key ≡ Some site.object
+    → site_value old.project old.layout site ≡ site_value link.project link.layout site
 
 -- each section that stayed is known to have stayed
 abbrev pub IsComplete : (SectionKey → Option FileRange) → GoodLink → KnownLink → Type 0
-IsComplete range old l =
-    (key : SectionKey) (x : LinkedPiece) → range key ≡ None → IsPieceOf l key x → has_stayed old x ≡ false
+IsComplete range old link =
+    (key : SectionKey) (piece : LinkedPiece) → range key ≡ None → IsPieceOf link key piece → has_stayed old piece
+    ≡ false
 
 -- values of symbols are the same; they are compared as what they are, since 0 stands for many things
 abbrev pub is_same_value : SymbolValue → SymbolValue → Bool
@@ -57,5 +58,5 @@ is_same_value NotInOutput NotInOutput = true
 
 -- the site's symbol has another value
 abbrev pub has_moved : GoodLink → KnownLink → Site → Bool
-has_moved old l t =
-    not (is_same_value (site_value old.project old.layout t) (site_value l.project l.layout t))
+has_moved old link site =
+    not (is_same_value (site_value old.project old.layout site) (site_value link.project link.layout site))

@@ -18,46 +18,48 @@ use Rattle.emit_relocate.specs.SymbolValues.{IsRow}
 use Rattle.emit_relocate.specs.declared.site.PlacedInput.{PlacedInput}
 
 -- a section of an object, as the code has it at hand
-pub record IsPlaced (l : KnownLink) (m : PlacedInput) (o : NamedObject) (x : LinkedSection) : Type 0 where
-  pub object_is : named_object l m.object ≡ Some o
-  pub section_is : section_numbered o m.section ≡ Some x
-  pub symbols_are : m.symbols.now ≡ map (λ (y : NamedSymbol). y.symbol) o.object.symbols
-  pub values_are : IsRow l o m.values.now
-  pub relocations_are : m.relocations.now ≡ x.relocations
+pub record IsPlaced (link : KnownLink) (m : PlacedInput) (object : NamedObject) (section : LinkedSection) : Type 0 where
+  pub object_is : named_object link m.object ≡ Some object
+  pub section_is : section_numbered object m.section ≡ Some section
+  pub symbols_are : m.symbols.now ≡ map (λ (y : NamedSymbol). y.symbol) object.object.symbols
+  pub values_are : IsRow link object m.values.now
+  pub relocations_are : m.relocations.now ≡ section.relocations
 
 -- the same by what was read of the object
-pub record IsSectionOf (o : ObjectData) (x : LinkedSection) (key : ObjectPlace) (m : PlacedInput) : Type 0 where
+pub record IsSectionOf (o : ObjectData) (section : LinkedSection) (key : ObjectPlace) (m : PlacedInput) : Type 0 where
   pub key_is : m.object ≡ key
-  pub number_is : find (λ (y : LinkedSection). y.number.0 == m.section.0) o.sections ≡ Some x
+  pub number_is : find (λ (y : LinkedSection). y.number.0 == m.section.0) o.sections ≡ Some section
   pub symbols_are : m.symbols.now ≡ map (λ (y : NamedSymbol). y.symbol) o.symbols
-  pub relocations_are : m.relocations.now ≡ x.relocations
+  pub relocations_are : m.relocations.now ≡ section.relocations
 
 -- these are entries of its table of relocations, from a number on
 abbrev pub AreEntriesFrom : PlacedInput → ℕ → List Relocation → Type 0
 AreEntriesFrom m first rs =
-    (k : ℕ) (r : Relocation) → slice_get rs k ≡ Some r → slice_get m.relocations.now (first + k) ≡ Some r
+    (k : ℕ) (relocation : Relocation) → slice_get rs k ≡ Some relocation → slice_get m.relocations.now (first + k)
+    ≡ Some relocation
 
 -- a site of it
-pub record IsSite (l : KnownLink) (m : PlacedInput) (t : Site) : Type 0 where
-  pub placed : IsPlaced l m t.object t.section
-  pub start_is : t.start ≡ m.start
+pub record IsSite (link : KnownLink) (m : PlacedInput) (site : Site) : Type 0 where
+  pub placed : IsPlaced link m site.object site.section
+  pub start_is : site.start ≡ m.start
 
 -- that of an entry of its table
-pub record IsSiteAt (l : KnownLink) (m : PlacedInput) (entry : ℕ) (t : Site) : Type 0 where
-  pub site : IsSite l m t
+pub record IsSiteAt (link : KnownLink) (m : PlacedInput) (entry : ℕ) (t : Site) : Type 0 where
+  pub site : IsSite link m t
   pub entry_is : slice_get m.relocations.now entry ≡ Some t.relocation
 
 -- what a site comes to: its field in its place, or its fault
 abbrev pub IsOutcome : KnownLink → Site → SymbolValue → Result Patch code.Fault → Type 0
-IsOutcome l t v (Ok x) = (site_field_with t v ≡ Ok x.field) × (x.offset ≡ t.relocation.offset)
-IsOutcome l t v (Err f) = site_field_with t v ≡ Err (fault_of l.project l.number f)
+IsOutcome link site v (Ok x) = (site_field_with site v ≡ Ok x.field) × (x.offset ≡ site.relocation.offset)
+IsOutcome link site v (Err f) = site_field_with site v ≡ Err (fault_of link.project link.number f)
 
 abbrev pub IsEvaluated : KnownLink → Site → Result Patch code.Fault → Type 0
-IsEvaluated l t (Ok x) = (site_field l.project l.layout t ≡ Ok x.field) × (x.offset ≡ t.relocation.offset)
-IsEvaluated l t (Err f) = site_field l.project l.layout t ≡ Err (fault_of l.project l.number f)
+IsEvaluated link site (Ok x) =
+    (site_field link.project link.layout site ≡ Ok x.field) × (x.offset ≡ site.relocation.offset)
+IsEvaluated link site (Err f) = site_field link.project link.layout site ≡ Err (fault_of link.project link.number f)
 
 -- a field of a relocation, in its place
-pub record IsFieldOf (r : Relocation) (x : Patch) : Type 0 where
-  pub kept : is_evaluated r.kind ≡ true
-  pub offset_is : x.offset ≡ r.offset
-  pub width_is : length x.field ≡ width r.kind
+pub record IsFieldOf (relocation : Relocation) (x : Patch) : Type 0 where
+  pub kept : is_evaluated relocation.kind ≡ true
+  pub offset_is : x.offset ≡ relocation.offset
+  pub width_is : length x.field ≡ width relocation.kind

@@ -23,18 +23,21 @@ row_at t place count = take count (drop (slice_index_or t.starts.items place 0) 
 
 -- to the relocations of its object
 abbrev pub AreSymbolValues : Project → Layout → SymbolValues → Type 0
-AreSymbolValues p s t =
-    (i j : ℕ) (o : NamedObject) (x : NamedSymbol) → slice_get p.objects i ≡ Some o
-    → slice_get o.object.symbols j ≡ Some x → value_of (value_at t i j) ≡ referenced_value p s o x
+AreSymbolValues project layout t =
+    (i j : ℕ) (object : NamedObject) (symbol : NamedSymbol) → slice_get project.objects i ≡ Some object
+    → slice_get object.object.symbols j ≡ Some symbol → value_of (value_at t i j)
+    ≡ referenced_value project layout object symbol
 
 -- the same where the places in the table are the keys of a link
 abbrev pub HasSymbolValues : KnownLink → SymbolValues → Type 0
-HasSymbolValues l t =
-    (key : ObjectPlace) (j : ℕ) (o : NamedObject) (x : NamedSymbol) → named_object l key ≡ Some o
-    → slice_get o.object.symbols j ≡ Some x → value_of (value_at t key.0 j) ≡ referenced_value l.project l.layout o x
+HasSymbolValues link t =
+    (key : ObjectPlace) (j : ℕ) (object : NamedObject) (symbol : NamedSymbol) → named_object link key ≡ Some object
+    → slice_get object.object.symbols j ≡ Some symbol → value_of (value_at t key.0 j)
+    ≡ referenced_value link.project link.layout object symbol
 
 -- a list has the values of the symbols of an object, under their numbers, and no others
 abbrev pub IsRow : KnownLink → NamedObject → List code.SymbolValue → Type 0
-IsRow l o row =
+IsRow link object row =
     (j : ℕ) → value_of (slice_index_or row j NotDefined)
-    ≡ option_map_or (referenced_value l.project l.layout o) (slice_get o.object.symbols j) model.NotDefined
+    ≡ option_map_or (referenced_value link.project link.layout object)
+    (slice_get object.object.symbols j) model.NotDefined

@@ -61,9 +61,9 @@ impl<'a, L: LinkInfo, E: PreviousLinkInfo> Links<'a, L, E> {
         fields: &mut ChangedFields,
         meter: &mut Meter,
     ) -> Result<(), NoMemory>
-        ensures { OnOk result ((old : GoodLink) (l : KnownLink) (s : ObjectSection)
-            → AreLinks L.knows E.knows self.now old l → IsAtHand l section.now s
-            → Adds l (IsRenewed l s) (results_of fields.old meter.old) (results_of fields.new meter.new)) }
+        ensures { OnOk result ((old : GoodLink) (link : KnownLink) (s : ObjectSection)
+            → AreLinks L.knows E.knows self.now old link → IsAtHand link section.now s
+            → Adds link (IsRenewed link s) (results_of fields.old meter.old) (results_of fields.new meter.new)) }
     {
         // so that the range of the count is known
         let _fields = meter.fields();
@@ -91,10 +91,10 @@ impl<'a, L: LinkInfo, E: PreviousLinkInfo> Links<'a, L, E> {
         fields: &mut ChangedFields,
         meter: &mut Meter,
     ) -> Result<(), NoMemory>
-        ensures { OnOk result ((old : GoodLink) (l : KnownLink) (s : ObjectSection)
-            → AreLinks L.knows E.knows self.now old l → IsAtHand l section.now s
-            → IsKeptAt old l (E.range self.now.earlier.now) (section_key section.now.key s) range
-            → Adds l (IsRetained old l (section_key section.now.key s) range s) (results_of fields.old meter.old)
+        ensures { OnOk result ((old : GoodLink) (link : KnownLink) (s : ObjectSection)
+            → AreLinks L.knows E.knows self.now old link → IsAtHand link section.now s
+            → IsKeptAt old link (E.range self.now.earlier.now) (section_key section.now.key s) range
+            → Adds link (IsRetained old link (section_key section.now.key s) range s) (results_of fields.old meter.old)
             (results_of fields.new meter.new)) }
     {
         // so that the range of the count is known
@@ -124,9 +124,9 @@ impl<'a, L: LinkInfo, E: PreviousLinkInfo> Links<'a, L, E> {
         fields: &mut ChangedFields,
         meter: &mut Meter,
     ) -> Result<(), NoMemory>
-        ensures { OnOk result ((old : GoodLink) (l : KnownLink) (s : ObjectSection)
-            → AreLinks L.knows E.knows self.now old l → IsAtHand l section.now s
-            → Adds l (IsEvaluatedOf old l (E.range self.now.earlier.now) s) (results_of fields.old meter.old)
+        ensures { OnOk result ((old : GoodLink) (link : KnownLink) (s : ObjectSection)
+            → AreLinks L.knows E.knows self.now old link → IsAtHand link section.now s
+            → Adds link (IsEvaluatedOf old link (E.range self.now.earlier.now) s) (results_of fields.old meter.old)
             (results_of fields.new meter.new)) }
     {
         // so that the range of the count is known
@@ -154,9 +154,9 @@ impl<'a, L: LinkInfo, E: PreviousLinkInfo> Links<'a, L, E> {
         fields: &mut ChangedFields,
         meter: &mut Meter,
     ) -> Result<(), NoMemory>
-        ensures { OnOk result ((old : GoodLink) (l : KnownLink) (s : ObjectSection)
-            → AreLinks L.knows E.knows self.now old l → IsAtHand l section.now s
-            → AreChanged old l (E.range self.now.earlier.now) (s ∷ []) (results_of fields.old meter.old)
+        ensures { OnOk result ((old : GoodLink) (link : KnownLink) (s : ObjectSection)
+            → AreLinks L.knows E.knows self.now old link → IsAtHand link section.now s
+            → AreChanged old link (E.range self.now.earlier.now) (s ∷ []) (results_of fields.old meter.old)
             (results_of fields.new meter.new)) }
     {
         self.add_evaluated(alloc, section, fields, meter)?;
@@ -174,9 +174,9 @@ impl<'a, L: LinkInfo, E: PreviousLinkInfo> Links<'a, L, E> {
         fields: &mut ChangedFields,
         meter: &mut Meter,
     ) -> Result<(), NoMemory>
-        ensures { OnOk result ((old : GoodLink) (l : KnownLink) (o : NamedObject)
-            → AreLinks L.knows E.knows self.now old l → named_object l key ≡ Some o → o.object ≡ object.now
-            → AreChanged old l (E.range self.now.earlier.now) (sections_of o object.now.sections)
+        ensures { OnOk result ((old : GoodLink) (link : KnownLink) (o : NamedObject)
+            → AreLinks L.knows E.knows self.now old link → named_object link key ≡ Some o → o.object ≡ object.now
+            → AreChanged old link (E.range self.now.earlier.now) (sections_of o object.now.sections)
             (results_of fields.old meter.old) (results_of fields.new meter.new)) }
     {
         // so that the range of the count is known
@@ -197,9 +197,9 @@ impl<'a, L: LinkInfo, E: PreviousLinkInfo> Links<'a, L, E> {
         fields: &mut ChangedFields,
         meter: &mut Meter,
     ) -> Result<(), NoMemory>
-        ensures { OnOk result ((old : GoodLink) (l : KnownLink) (o : NamedObject)
-            → AreLinks L.knows E.knows self.now old l → named_object l key ≡ Some o
-            → AreChanged old l (E.range self.now.earlier.now) (sections_of o o.object.sections)
+        ensures { OnOk result ((old : GoodLink) (link : KnownLink) (object : NamedObject)
+            → AreLinks L.knows E.knows self.now old link → named_object link key ≡ Some object
+            → AreChanged old link (E.range self.now.earlier.now) (sections_of object object.object.sections)
             (results_of fields.old meter.old) (results_of fields.new meter.new)) }
     {
         match self.link.object(key) {

@@ -36,8 +36,9 @@ fn add_site(
     ensures capacity { vec_capacity fields.new ≡ vec_capacity fields.old }
     ensures len { vec_len fields.new < vec_len fields.old + 2 }
     ensures next { OnOk result (IsNext relocation.now fields.old.items fields.new.items) }
-    ensures tried { OnOk result ((l : KnownLink) (o : NamedObject) (x : LinkedSection) → IsPlaced l section.now o x
-        → IsTried l (sites_among o x section.now.start (relocation.now ∷ [])) fields.old.items fields.new.items
+    ensures tried { OnOk result ((link : KnownLink) (object : NamedObject) (x : LinkedSection)
+        → IsPlaced link section.now object x
+        → IsTried link (sites_among object x section.now.start (relocation.now ∷ [])) fields.old.items fields.new.items
         faults.old.items faults.new.items meter.old meter.new) }
 {
     // so that the range of the count is known
@@ -79,8 +80,9 @@ pub(crate) fn add_sites(
     requires below { All (λ r. section.now.start + r.offset < 2 ^ 64) relocations.now }
     ensures fields { OnOk result
         (AreAdded relocations.now (length relocations.now) fields.old.items fields.new.items) }
-    ensures tried { OnOk result ((l : KnownLink) (o : NamedObject) (x : LinkedSection) → IsPlaced l section.now o x
-        → IsTried l (sites_among o x section.now.start relocations.now) fields.old.items fields.new.items
+    ensures tried { OnOk result ((link : KnownLink) (object : NamedObject) (x : LinkedSection)
+        → IsPlaced link section.now object x
+        → IsTried link (sites_among object x section.now.start relocations.now) fields.old.items fields.new.items
         faults.old.items faults.new.items meter.old meter.new) }
 {
     // so that the range of the count is known
@@ -123,8 +125,10 @@ fn add_unordered(
 ) -> Result<(), NoMemory>
     requires apart { AreApart section.now.relocations.now }
     requires below { All (λ r. section.now.start + r.offset < 2 ^ 64) section.now.relocations.now }
-    ensures { OnOk result ((l : KnownLink) (o : NamedObject) (x : LinkedSection) → IsPlaced l section.now o x
-        → IsAdded l o x section.now.start fields.old.items fields.new.items faults.old.items faults.new.items meter.old
+    ensures { OnOk result ((link : KnownLink) (object : NamedObject) (x : LinkedSection)
+        → IsPlaced link section.now object x
+        → IsAdded link object x section.now.start fields.old.items fields.new.items faults.old.items faults.new.items
+        meter.old
         meter.new) }
 {
     let mut own = Vec::new(alloc);
@@ -150,8 +154,10 @@ pub fn add_fields(
 ) -> Result<(), NoMemory>
     requires apart { AreApart section.now.relocations.now }
     requires below { All (λ r. section.now.start + r.offset < 2 ^ 64) section.now.relocations.now }
-    ensures { OnOk result ((l : KnownLink) (o : NamedObject) (x : LinkedSection) → IsPlaced l section.now o x
-        → IsAdded l o x section.now.start fields.old.items fields.new.items faults.old.items faults.new.items meter.old
+    ensures { OnOk result ((link : KnownLink) (object : NamedObject) (x : LinkedSection)
+        → IsPlaced link section.now object x
+        → IsAdded link object x section.now.start fields.old.items fields.new.items faults.old.items faults.new.items
+        meter.old
         meter.new) }
 {
     if !is_ascending(section.relocations) {

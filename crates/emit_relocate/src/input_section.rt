@@ -42,9 +42,9 @@ impl<'a> InputSection<'a> {
         values: &'a [SymbolValue],
     ) -> InputSection<'a>
         requires { index.0 < length object.now.sections }
-        ensures { (l : KnownLink) (o : NamedObject) (x : LinkedSection) → named_object l key ≡ Some o
-            → o.object ≡ object.now → slice_get o.object.sections index.0 ≡ Some x → IsRow l o values.now
-            → IsAtHand l result (record { object = o; section = x }) }
+        ensures { (link : KnownLink) (o : NamedObject) (section : LinkedSection) → named_object link key ≡ Some o
+            → o.object ≡ object.now → slice_get o.object.sections index.0 ≡ Some section → IsRow link o values.now
+            → IsAtHand link result (record { object = o; section = section }) }
     {
         InputSection {
             key,
@@ -56,7 +56,8 @@ impl<'a> InputSection<'a> {
 
     /// Its key.
     pub fn section_key(&self) -> SectionKey
-        ensures { (l : KnownLink) (s : ObjectSection) → IsAtHand l self.now s → result ≡ section_key self.now.key s }
+        ensures { (link : KnownLink) (s : ObjectSection) → IsAtHand link self.now s → result
+            ≡ section_key self.now.key s }
     {
         let section = self.object.sections()[self.index.0];
         SectionKey {

@@ -19,25 +19,26 @@ pub trait LinkInfo {
 
     /// The object of a key, if there is one.
     fn object(&self, key: ObjectPlace) -> Option<&Object>
-        ensures { (l : KnownLink) → knows self.now l → option_copied result ≡ object_of l key };
+        ensures { (link : KnownLink) → knows self.now link → option_copied result ≡ object_of link key };
 
     /// Where an input section starts, if it is in the output.
     fn start(&self, section: SectionKey) -> Option<u64>
-        ensures { (l : KnownLink) → knows self.now l → result ≡ start_of l section };
+        ensures { (link : KnownLink) → knows self.now link → result ≡ start_of link section };
 
     /// The key of the name of a symbol that isn't local.
     fn name_key(&self, object: ObjectPlace, symbol: SymbolIndex) -> NameKey
-        ensures { (l : KnownLink) → knows self.now l → IsNameOf l object symbol result };
+        ensures { (link : KnownLink) → knows self.now link → IsNameOf link object symbol result };
 
     /// A number that is greater than each key of a name.
     fn name_limit(&self) -> usize
-        ensures { (l : KnownLink) → knows self.now l → (k : ℕ) (name : List ℕ) → l.name k ≡ Some name → k < result };
+        ensures { (link : KnownLink) → knows self.now link → (k : ℕ) (name : List ℕ) → link.name k ≡ Some name → k
+            < result };
 
     /// What the name of a key stands for.
     fn case(&self, name: NameKey) -> Option<Case>
-        ensures { (l : KnownLink) → knows self.now l → IsCaseOf l name result };
+        ensures { (link : KnownLink) → knows self.now link → IsCaseOf link name result };
 
     /// The value that the script gives the name of a key, if it gives one.
     fn script_value(&self, name: NameKey) -> Option<u64>
-        ensures { (l : KnownLink) → knows self.now l → IsScriptValueOf l name result };
+        ensures { (link : KnownLink) → knows self.now link → IsScriptValueOf link name result };
 }

@@ -44,19 +44,19 @@ pub trait PreviousLinkInfo {
     /// has none. Nothing is said of a section that is not in the output.
     fn stayed(&self, section: SectionKey) -> Option<FileRange>
         ensures range { result ≡ range self.now section }
-        ensures stayed { (old : GoodLink) (l : KnownLink) → knows self.now old l
-            → IfSome result (HasStayedAt old l section) };
+        ensures stayed { (old : GoodLink) (link : KnownLink) → knows self.now old link
+            → IfSome result (HasStayedAt old link section) };
 
     /// Whether a symbol of an object of which a section stayed may have another value than in the previous link. Where
     /// the answer is no, none has.
     fn is_dirty(&self, object: ObjectPlace) -> bool
-        ensures { (old : GoodLink) (l : KnownLink) → knows self.now old l → IsKept (range self.now) object
-            → result ≡ false → HasSameValues old l object };
+        ensures { (old : GoodLink) (link : KnownLink) → knows self.now old link → IsKept (range self.now) object
+            → result ≡ false → HasSameValues old link object };
 
     /// What a symbol of an object of which a section stayed was worth to a relocation of its object.
     fn value(&self, object: ObjectPlace, index: SymbolIndex, symbol: &Symbol) -> SymbolValue
-        ensures { (old : GoodLink) (l : KnownLink) (o : NamedObject) (x : NamedSymbol) → knows self.now old l
-            → IsKept (range self.now) object → IsSymbolOf l object index symbol.now o x
+        ensures { (old : GoodLink) (link : KnownLink) (o : NamedObject) (x : NamedSymbol) → knows self.now old link
+            → IsKept (range self.now) object → IsSymbolOf link object index symbol.now o x
             → value_of result ≡ referenced_value old.project old.layout o x };
 }
 

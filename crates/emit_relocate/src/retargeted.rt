@@ -80,9 +80,9 @@ pub struct StayedSection<'a, E> {
 impl<'a, E: PreviousLinkInfo> StayedSection<'a, E> {
     /// Whether the symbol that a relocation of the section names has another value than it had.
     fn has_moved(&self, symbol: SymbolIndex) -> bool
-        ensures { (old : GoodLink) (l : KnownLink) (s : ObjectSection) (r : RelocationOf)
-            → IsStayedAt E.knows E.range self.now old l s → r.symbol ≡ symbol
-            → result ≡ has_moved old l (site_at_hand self.now.section s r) }
+        ensures { (old : GoodLink) (link : KnownLink) (s : ObjectSection) (r : RelocationOf)
+            → IsStayedAt E.knows E.range self.now old link s → r.symbol ≡ symbol
+            → result ≡ has_moved old link (site_at_hand self.now.section s r) }
     {
         match self.section.symbols.get(symbol.0 as usize) {
             None => false,
@@ -105,8 +105,9 @@ impl<'a, E: PreviousLinkInfo> StayedSection<'a, E> {
     ) -> Result<(), NoMemory>
         requires entry_is { slice_get self.now.section.relocations.now entry ≡ Some relocation.now }
         requires below { self.now.section.start + relocation.now.offset < 2 ^ 64 }
-        ensures { OnOk result ((l : KnownLink) (s : ObjectSection) → IsPlaced l self.now.section s.object s.section
-            → IsFiled l self.now.range (sites_at_hand self.now.section s (relocation.now ∷ []))
+        ensures { OnOk result ((link : KnownLink) (s : ObjectSection)
+            → IsPlaced link self.now.section s.object s.section
+            → IsFiled link self.now.range (sites_at_hand self.now.section s (relocation.now ∷ []))
             patches.old.items patches.new.items faults.old.items faults.new.items meter.old meter.new) }
     {
         let before = patches.len();
@@ -138,9 +139,9 @@ impl<'a, E: PreviousLinkInfo> StayedSection<'a, E> {
     ) -> Result<(), NoMemory>
         requires entry_is { slice_get self.now.section.relocations.now entry ≡ Some relocation.now }
         requires below { self.now.section.start + relocation.now.offset < 2 ^ 64 }
-        ensures { OnOk result ((old : GoodLink) (l : KnownLink) (s : ObjectSection)
-            → IsStayedAt E.knows E.range self.now old l s
-            → IsMoved old l self.now.range
+        ensures { OnOk result ((old : GoodLink) (link : KnownLink) (s : ObjectSection)
+            → IsStayedAt E.knows E.range self.now old link s
+            → IsMoved old link self.now.range
             (sites_at_hand self.now.section s (relocation.now ∷ [])) patches.old.items
             patches.new.items faults.old.items faults.new.items meter.old meter.new) }
     {
@@ -170,9 +171,9 @@ impl<'a, E: PreviousLinkInfo> StayedSection<'a, E> {
         meter: &mut Meter,
     ) -> Result<(), NoMemory>
         requires { All (λ r. self.now.section.start + r.offset < 2 ^ 64) self.now.section.relocations.now }
-        ensures { OnOk result ((old : GoodLink) (l : KnownLink) (s : ObjectSection)
-            → IsStayedAt E.knows E.range self.now old l s
-            → IsMoved old l self.now.range
+        ensures { OnOk result ((old : GoodLink) (link : KnownLink) (s : ObjectSection)
+            → IsStayedAt E.knows E.range self.now old link s
+            → IsMoved old link self.now.range
             (sites_at_hand self.now.section s self.now.section.relocations.now) patches.old.items
             patches.new.items faults.old.items faults.new.items meter.old meter.new) }
     {

@@ -53,11 +53,11 @@ impl<'a> PlacedInput<'a> {
         requires { index.0 < length object.now.sections }
         ensures start { result.start ≡ start }
         ensures values { result.values.now ≡ values.now }
-        ensures section { (x : LinkedSection) → slice_get object.now.sections index.0 ≡ Some x
-            → IsSectionOf object.now x key result }
+        ensures section { (section : LinkedSection) → slice_get object.now.sections index.0 ≡ Some section
+            → IsSectionOf object.now section key result }
         ensures apart { AreApart result.relocations.now }
-        ensures ends { (x : LinkedSection) → slice_get object.now.sections index.0 ≡ Some x
-            → All (λ r. field_end r ≤ x.size) result.relocations.now }
+        ensures ends { (section : LinkedSection) → slice_get object.now.sections index.0 ≡ Some section
+            → All (λ r. field_end r ≤ section.size) result.relocations.now }
     {
         let section = object.sections()[index.0];
         PlacedInput {
@@ -80,8 +80,8 @@ pub fn is_evaluated(kind: RelocationKind) -> bool
 
 /// The value of the symbol that a relocation of a section names.
 pub fn site_value(section: &PlacedInput<'_>, symbol: SymbolIndex) -> SymbolValue
-    ensures { (l : KnownLink) (t : Site) → IsSite l section.now t → t.relocation.symbol ≡ symbol
-        → value_of result ≡ site_value l.project l.layout t }
+    ensures { (link : KnownLink) (site : Site) → IsSite link section.now site → site.relocation.symbol ≡ symbol
+        → value_of result ≡ site_value link.project link.layout site }
 {
     section
         .values
@@ -112,8 +112,9 @@ fn field_with(
     requires evaluated { is_evaluated relocation.now.kind ≡ true }
     requires below { section.now.start + relocation.now.offset < 2 ^ 64 }
     ensures field { IfOk result (IsFieldOf relocation.now) }
-    ensures outcome { (l : KnownLink) (t : Site) → IsSiteAt l section.now entry t → t.relocation ≡ relocation.now
-        → IsOutcome l t (value_of value) result }
+    ensures outcome { (link : KnownLink) (site : Site) → IsSiteAt link section.now entry site → site.relocation
+        ≡ relocation.now
+        → IsOutcome link site (value_of value) result }
     ensures counted { meter.new ≡ raised meter.old Fields (work_of (value_of value)) }
 {
     // so that the range of the count is known
@@ -148,10 +149,12 @@ pub fn evaluate(
     requires evaluated { is_evaluated relocation.now.kind ≡ true }
     requires below { section.now.start + relocation.now.offset < 2 ^ 64 }
     ensures field { IfOk result (IsFieldOf relocation.now) }
-    ensures evaluated { (l : KnownLink) (t : Site) → IsSiteAt l section.now entry t → t.relocation ≡ relocation.now
-        → IsEvaluated l t result }
-    ensures counted { (l : KnownLink) (t : Site) → IsSiteAt l section.now entry t → t.relocation ≡ relocation.now
-        → meter.new ≡ raised meter.old Fields (evaluations l (t ∷ [])) }
+    ensures evaluated { (link : KnownLink) (site : Site) → IsSiteAt link section.now entry site → site.relocation
+        ≡ relocation.now
+        → IsEvaluated link site result }
+    ensures counted { (link : KnownLink) (site : Site) → IsSiteAt link section.now entry site → site.relocation
+        ≡ relocation.now
+        → meter.new ≡ raised meter.old Fields (evaluations link (site ∷ [])) }
 {
     let value = site_value(section, relocation.symbol);
     field_with(section, entry, relocation, value, meter)

@@ -100,7 +100,7 @@ pub fn entry_point<L: LinkInfo>(link: &L, case: Option<Case>, given: Option<u64>
 /// The fault of an entry symbol of a value: its section is not in the output.
 #[tactic(auto, unfolding(ldmodel::specs::FaultCode::fault_of))]
 pub fn entry_fault(value: SymbolValue) -> Option<Fault>
-    ensures { (l : KnownLink) → option_to_list (option_map (fault_of l.project l.number) result)
+    ensures { (link : KnownLink) → option_to_list (option_map (fault_of link.project link.number) result)
         ≡ entry_fault (value_of value) }
 {
     match value {

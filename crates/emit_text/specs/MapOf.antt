@@ -21,18 +21,19 @@ use Rattle.emit_text.specs.declared.symbols.MapSymbol.{MapSymbol}
 
 -- an entry of a row, by the names of its object and section
 abbrev pub shown_piece : Project → (number : ℕ → ℕ) → Piece → model.Piece
-shown_piece p number x =
-    piece_of (λ key. object_name p (number key)) (λ (k : SectionKey). name_of_part p (number k.object.0) k.part) x
+shown_piece project number x =
+    piece_of (λ key. object_name project (number key))
+    (λ (k : SectionKey). name_of_part project (number k.object.0) k.part) x
 
 abbrev pub shown_row : Project → (number : ℕ → ℕ) → List Piece → List model.Piece
-shown_row p number row = map (shown_piece p number) row
+shown_row project number row = map (shown_piece project number) row
 
 -- the entries of the row of an output section
 abbrev pub row_of : PlacedOutput → List model.Piece
-row_of q = map (λ (x : PlacedPiece). x.piece) q.pieces
+row_of output = map (λ (placed : PlacedPiece). placed.piece) output.pieces
 
 abbrev pub name_of : PlacedOutput → List ℕ
-name_of q = q.name
+name_of output = output.name
 
 abbrev pub name_in : OutputSectionAt → List ℕ
 name_in o = o.section.name
@@ -44,27 +45,27 @@ IsValue NotInOutput v = v ≡ None
 IsValue NotDefined v = v ≡ None
 
 -- a name with what it stands for and, where that is something, its value; the name is then one that is declared
-pub record IsSymbolOf (p : Project) (number : ℕ → ℕ) (s : Layout) (x : MapSymbol) : Type 0 where
-  pub case : decision_of number x.case ≡ decision p x.name.now
-  pub value : is_defined (decision p x.name.now) ≡ true → IsValue (name_value p s x.name.now) x.value
-  pub declared : is_defined (decision p x.name.now) ≡ true → Contains (declared_names p) x.name.now
+pub record IsSymbolOf (project : Project) (number : ℕ → ℕ) (layout : Layout) (x : MapSymbol) : Type 0 where
+  pub case : decision_of number x.case ≡ decision project x.name.now
+  pub value : is_defined (decision project x.name.now) ≡ true → IsValue (name_value project layout x.name.now) x.value
+  pub declared : is_defined (decision project x.name.now) ≡ true → Contains (declared_names project) x.name.now
 
 -- such names in byte order, each once
-pub record AreSymbolsOf (p : Project) (number : ℕ → ℕ) (s : Layout) (xs : List MapSymbol) : Type 0 where
-  pub each : All (IsSymbolOf p number s) xs
+pub record AreSymbolsOf (project : Project) (number : ℕ → ℕ) (layout : Layout) (xs : List MapSymbol) : Type 0 where
+  pub each : All (IsSymbolOf project number layout) xs
   pub order : AllPairs (λ (x y : MapSymbol). is_before x.name.now y.name.now ≡ true) xs
 
 abbrev pub symbol_names : List MapSymbol → List (List ℕ)
 symbol_names xs = map (λ (x : MapSymbol). x.name.now) xs
 
 -- the values are those of a project's link, which stands at a layout
-pub record IsMapOf (p : Project) (number : ℕ → ℕ) (s : Layout) (m : MapParts) : Type 0 where
-  pub entry : m.entry ≡ number_or_0 (entry_point p s)
-  pub sections : shown_sections m.sections.now ≡ output_sections p.script
-  pub names : map name_of s.sections ≡ map name_in (output_sections p.script)
-  pub placement : IsPlacementView p.script s m.placement
-  pub rows : map (shown_row p number) (map vec_items m.rows.now) ≡ map row_of s.sections
-  pub symbols : AreSymbolsOf p number s m.symbols.now
+pub record IsMapOf (project : Project) (number : ℕ → ℕ) (layout : Layout) (m : MapParts) : Type 0 where
+  pub entry : m.entry ≡ number_or_0 (entry_point project layout)
+  pub sections : shown_sections m.sections.now ≡ output_sections project.script
+  pub names : map name_of layout.sections ≡ map name_in (output_sections project.script)
+  pub placement : IsPlacementView project.script layout m.placement
+  pub rows : map (shown_row project number) (map vec_items m.rows.now) ≡ map row_of layout.sections
+  pub symbols : AreSymbolsOf project number layout m.symbols.now
   -- each name that stands for something is one of theirs
   pub complete : (name : List ℕ) → Contains (declared_names p) name → is_defined (decision p name) ≡ true
       → Contains (symbol_names m.symbols.now) name

@@ -37,17 +37,17 @@ abbrev pub assertion_message : Option AssertionAt → List ℕ
 assertion_message found = option_map_or (λ (a : AssertionAt). a.assertion.message) found []
 
 -- these are the names of a project's script, and of its entry symbol
-pub record AreNamesOf (p : Project) (names : ScriptNames) : Type 0 where
-  pub sections : shown_sections names.sections.now ≡ output_sections p.script
-  pub regions : shown_regions names.regions.now ≡ regions p.script
-  pub assertions : shown_assertions names.assertions.now ≡ asserts p.script
-  pub mentioned : shown_names names.mentioned.now ≡ mentioned_names p.script
-  pub entry : option_map (λ (n : Bor (List ℕ)). n.now) names.entry ≡ entry_symbol p
+pub record AreNamesOf (project : Project) (names : ScriptNames) : Type 0 where
+  pub sections : shown_sections names.sections.now ≡ output_sections project.script
+  pub regions : shown_regions names.regions.now ≡ regions project.script
+  pub assertions : shown_assertions names.assertions.now ≡ asserts project.script
+  pub mentioned : shown_names names.mentioned.now ≡ mentioned_names project.script
+  pub entry : option_map (λ (n : Bor (List ℕ)). n.now) names.entry ≡ entry_symbol project
 
 -- the linked section of a number
 abbrev pub numbered : List LinkedSection → SectionIndex → Option LinkedSection
-numbered sections k = find (λ (x : LinkedSection). x.number.0 == k.0) sections
+numbered sections k = find (λ (section : LinkedSection). section.number.0 == k.0) sections
 
 -- the line of a fault
 abbrev pub line_of_fault : Project → (number : ℕ → ℕ) → code.Fault → List ℕ
-line_of_fault p number f = line_of (fault_words (fault_of p number f))
+line_of_fault project number f = line_of (fault_words (fault_of project number f))

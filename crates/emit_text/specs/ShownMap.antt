@@ -25,25 +25,26 @@ section_text name x =
     line_of (codes "section" ∷ name ∷ hex x.start ∷ hex x.load ∷ hex x.size ∷ letters x.writable x.executable ∷ [])
 
 abbrev pub piece_text : Project → (number : ℕ → ℕ) → Piece → ℕ → List ℕ
-piece_text p number x start =
-    line_of (codes "piece" ∷ hex start ∷ hex x.size ∷ object_name p (number x.section.object.0)
-    ∷ name_of_part p (number x.section.object.0) x.section.part ∷ [])
+piece_text project number x start =
+    line_of (codes "piece" ∷ hex start ∷ hex x.size ∷ object_name project (number x.section.object.0)
+    ∷ name_of_part project (number x.section.object.0) x.section.part ∷ [])
 
 -- the pieces of a row, whose addresses are the first of these
 abbrev pub pieces_text : Project → (number : ℕ → ℕ) → List Piece → List ℕ → List ℕ
-pieces_text p number [] starts = []
-pieces_text p number (x ∷ xs) [] = []
-pieces_text p number (x ∷ xs) (start ∷ starts) = piece_text p number x start ++ pieces_text p number xs starts
+pieces_text project number [] starts = []
+pieces_text project number (x ∷ xs) [] = []
+pieces_text project number (x ∷ xs) (start ∷ starts) =
+    piece_text project number x start ++ pieces_text project number xs starts
 
 -- output sections with their names and rows, and the addresses of all pieces
 abbrev pub sections_text : Project → (number : ℕ → ℕ) → List Placed → List OutputSectionAt → List (List Piece)
     → List ℕ → List ℕ
-sections_text p number [] os rows starts = []
-sections_text p number (q ∷ qs) [] rows starts = []
-sections_text p number (q ∷ qs) (o ∷ os) [] starts = []
-sections_text p number (q ∷ qs) (o ∷ os) (row ∷ rows) starts =
-    section_text o.section.name q ++ (pieces_text p number row starts
-    ++ sections_text p number qs os rows (drop (length row) starts))
+sections_text project number [] os rows starts = []
+sections_text project number (q ∷ qs) [] rows starts = []
+sections_text project number (q ∷ qs) (o ∷ os) [] starts = []
+sections_text project number (q ∷ qs) (o ∷ os) (row ∷ rows) starts =
+    section_text o.section.name q ++ (pieces_text project number row starts
+    ++ sections_text project number qs os rows (drop (length row) starts))
 
 abbrev pub value_text : Option ℕ → List ℕ
 value_text (Some x) = hex x
@@ -51,17 +52,17 @@ value_text None = replicate 16 45
 
 -- nothing for a name that stands for nothing
 abbrev pub symbol_text : Project → (number : ℕ → ℕ) → MapSymbol → List ℕ
-symbol_text p number x =
+symbol_text project number x =
     if is_defined (decision_of number x.case)
-    then line_of (codes "symbol" ∷ value_text x.value ∷ x.name.now ∷ owner p (decision_of number x.case) ∷ [])
+    then line_of (codes "symbol" ∷ value_text x.value ∷ x.name.now ∷ owner project (decision_of number x.case) ∷ [])
     else []
 
 abbrev pub symbols_text : Project → (number : ℕ → ℕ) → List MapSymbol → List ℕ
-symbols_text p number xs = flat_map (symbol_text p number) xs
+symbols_text project number xs = flat_map (symbol_text project number) xs
 
 unfoldable pub shown_map : Project → (number : ℕ → ℕ) → MapParts → List ℕ
-shown_map p number m =
+shown_map project number m =
     line_of (codes "entry" ∷ hex m.entry ∷ [])
-    ++ (sections_text p number m.placement.sections.now (shown_sections m.sections.now) (map vec_items m.rows.now)
+    ++ (sections_text project number m.placement.sections.now (shown_sections m.sections.now) (map vec_items m.rows.now)
     m.placement.starts.now
-    ++ symbols_text p number m.symbols.now)
+    ++ symbols_text project number m.symbols.now)

@@ -157,8 +157,8 @@ pub fn render_map<M: Members>(
     parts: &MapParts<'_>,
     members: &M,
 ) -> Result<Vec<u8>, NoMemory>
-    ensures { (s : Layout) → IsMapOf (M.project members.now) (M.number members.now) s parts.now
-        → IfOk result (λ text. text.items ≡ map_text (M.project members.now) s) }
+    ensures { (layout : Layout) → IsMapOf (M.project members.now) (M.number members.now) layout parts.now
+        → IfOk result (λ text. text.items ≡ map_text (M.project members.now) layout) }
 {
     let mut text = Vec::with_capacity(alloc, likely_size(parts))?;
     put_map(&mut text, members, parts)?;

@@ -23,6 +23,6 @@ pub trait Members {
     /// The object of a key.
     fn object(&self, key: ObjectPlace) -> Option<&Object>
         ensures { option_map (λ o. o.now) result
-            ≡ option_map (λ (o : NamedObject). o.object)
+            ≡ option_map (λ (object : NamedObject). object.object)
             (slice_get (project self.now).objects (number self.now key.0)) };
 }

@@ -7,8 +7,8 @@ use Rattle.emit_values.specs.declared.values.OutputSymbol.{OutputSymbol}
 
 -- the symbol of a name
 abbrev pub found_symbol : List OutputSymbol → List ℕ → Option OutputSymbol
-found_symbol symbols name = find (λ (x : OutputSymbol). bytes_eq x.name.now name) symbols
+found_symbol symbols name = find (λ (symbol : OutputSymbol). bytes_eq symbol.name.now name) symbols
 
 -- in byte order of their names
 abbrev pub AreInOrder : List OutputSymbol → Type 0
-AreInOrder symbols = IsSortedByKey (λ (x : OutputSymbol). x.name.now) (slice_cmp nat_cmp) symbols
+AreInOrder symbols = IsSortedByKey (λ (symbol : OutputSymbol). symbol.name.now) (slice_cmp nat_cmp) symbols

@@ -31,21 +31,21 @@ all_given commands = flat_map (λ (c : DirectiveAt). names_given c.command) comm
 
 -- where there is a key, it is that of the name
 abbrev pub HasKeyOr : SymbolTableState → List ℕ → Option NameKey → Type 0
-HasKeyOr a name None = Unit {0}
-HasKeyOr a name (Some k) = IsNamed a.names k.0 name
+HasKeyOr table name None = Unit {0}
+HasKeyOr table name (Some k) = IsNamed table.names k.0 name
 
 abbrev pub AreKeyed : SymbolTableState → List Candidate → Type 0
-AreKeyed a xs = All (λ (x : Candidate). HasKeyOr a x.name.now x.key) xs
+AreKeyed table xs = All (λ (x : Candidate). HasKeyOr table x.name.now x.key) xs
 
 -- the one name comes before the other in byte order
 abbrev pub comes_before : Candidate → Candidate → Bool
 comes_before x y = is_before x.name.now y.name.now
 
 -- they stand in byte order, and each declared name is among them. No two keys have one name
-pub record AreCandidates (a : SymbolTableState) (script : List Statement) (xs : List Candidate) : Type 0 where
+pub record AreCandidates (table : SymbolTableState) (script : List Statement) (xs : List Candidate) : Type 0 where
   pub order : IsSortedBy comes_before xs
-  pub keyed : AreKeyed a xs
-  pub distinct : AreDistinct a.names
-  pub complete : (p : Project) → IsSymbolTable p a → p.script ≡ script → (name : List ℕ)
-      → Contains (declared_names p) name
+  pub keyed : AreKeyed table xs
+  pub distinct : AreDistinct table.names
+  pub complete : (project : Project) → IsSymbolTable project table → project.script ≡ script → (name : List ℕ)
+      → Contains (declared_names project) name
       → Contains (names_of xs) name

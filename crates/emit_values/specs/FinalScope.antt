@@ -17,7 +17,7 @@ use Rattle.emit_values.specs.declared.final_scope.FinalScope.{FinalScope}
 
 -- the value of a symbol that was found
 abbrev pub number_of : Option OutputSymbol → Option ℕ
-number_of found = option_and_then (λ (x : OutputSymbol). number_if_any (value_of x.value)) found
+number_of found = option_and_then (λ (symbol : OutputSymbol). number_if_any (value_of symbol.value)) found
 
 -- the member of a number
 abbrev pub numbered : {A : Type 0} → List A → Option ℕ → Option A

@@ -9,6 +9,6 @@ use Rattle.emit_values.specs.ScriptValues.{AreScriptValues}
 use Rattle.emit_values.specs.declared.given.GivenValues.{GivenValues}
 
 -- the values are those of the layout, and the names are all in byte order
-pub record IsGiven (p : Project) (a : SymbolTableState) (l : LinkLayout) (g : GivenValues) : Type 0 where
-  pub values : (s : Layout) → IsLinkLayout p s l → AreScriptValues s g.values
-  pub sorted : AreSorted a g.sorted.items
+pub record IsGiven (project : Project) (table : SymbolTableState) (l : LinkLayout) (g : GivenValues) : Type 0 where
+  pub values : (layout : Layout) → IsLinkLayout project layout l → AreScriptValues layout g.values
+  pub sorted : AreSorted table g.sorted.items

@@ -14,8 +14,9 @@ abbrev pub HasPlaces : SymbolTableState → List (Option ℕ) → Type 0
 HasPlaces a table = (k : ℕ) (name : List ℕ) → IsNamed a.names k name → k < length table
 
 -- a value stands under the key of a name, if the name has one; those of other names are as before
-pub record IsPut (a : SymbolTableState) (name : List ℕ) (value : Option ℕ) (old new : List (Option ℕ)) : Type 0 where
+pub record IsPut (table : SymbolTableState) (name : List ℕ) (value : Option ℕ)
+    (old new : List (Option ℕ)) : Type 0 where
   pub long : length new ≡ length old
-  pub here : (k : ℕ) → IsNamed a.names k name → slice_index_or new k None ≡ value
-  pub others : (k : ℕ) (other : List ℕ) → IsNamed a.names k other → (other ≡ name → ⊥) → slice_index_or new k None
+  pub here : (k : ℕ) → IsNamed table.names k name → slice_index_or new k None ≡ value
+  pub others : (k : ℕ) (other : List ℕ) → IsNamed table.names k other → (other ≡ name → ⊥) → slice_index_or new k None
       ≡ slice_index_or old k None

@@ -10,7 +10,8 @@ use Rattle.emit_values.specs.declared.link_view.LinkView.{LinkView}
 
 -- a project at a layout; the key of an object is its place, and names have the keys of a table
 abbrev pub known_link : Project → Layout → SymbolTableState → KnownLink
-known_link p s a = record { project = p; layout = s; number = λ key. key; name = λ k. slice_index_or a.names k None }
+known_link project layout table =
+    record { project = project; layout = layout; number = λ key. key; name = λ k. slice_index_or table.names k None }
 
 -- what is kept is that of the link
 pub record IsLinkView (l : KnownLink) (v : LinkView) : Type 0 where

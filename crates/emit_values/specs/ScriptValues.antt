@@ -9,5 +9,5 @@ abbrev pub value_in : ScriptValues → List ℕ → Option ℕ
 value_in v name = entry_under v.values.items (symbol_number v.script.now name)
 
 -- they are those of a layout
-pub record AreScriptValues (s : Layout) (v : ScriptValues) : Type 0 where
-  pub found : (name : List ℕ) → value_in v name ≡ script_value s name
+pub record AreScriptValues (layout : Layout) (v : ScriptValues) : Type 0 where
+  pub found : (name : List ℕ) → value_in v name ≡ script_value layout name

@@ -13,4 +13,5 @@ is_seen (Some x) = not (is_local x.symbol.binding)
 
 -- each such symbol is known under the place of its object
 abbrev pub AreSeen : Project → SymbolTableState → Type 0
-AreSeen p a = (place number : ℕ) → is_seen (symbol_at p place number) ≡ true → IsSeenAt a.objects place number
+AreSeen project table =
+    (place number : ℕ) → is_seen (symbol_at project place number) ≡ true → IsSeenAt table.objects place number

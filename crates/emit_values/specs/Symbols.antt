@@ -21,21 +21,21 @@ abbrev pub defined : List model.OutputSymbol → List model.OutputSymbol
 defined xs = filter (λ (x : model.OutputSymbol). is_defined x.decision) xs
 
 abbrev pub defined_symbols : Project → Layout → List (List ℕ) → List model.OutputSymbol
-defined_symbols p s names = defined (map (output_symbol p s) names)
+defined_symbols project layout names = defined (map (output_symbol project layout) names)
 
 -- they are those of a project at a layout
-pub record AreSources (p : Project) (s : Layout) (x : Sources) : Type 0 where
-  pub symbol_table : IsSymbolTable p x.symbol_table.now
-  pub script : p.script ≡ x.script.now
-  pub names : AreNameValues (known_link p s x.symbol_table.now) x.names.now
-  pub given : AreScriptValues s x.given.now
+pub record AreSources (project : Project) (layout : Layout) (x : Sources) : Type 0 where
+  pub symbol_table : IsSymbolTable project x.symbol_table.now
+  pub script : project.script ≡ x.script.now
+  pub names : AreNameValues (known_link project layout x.symbol_table.now) x.names.now
+  pub given : AreScriptValues layout x.given.now
 
 -- the symbols of these names were added
 abbrev pub AddsSymbols : Project → Layout → List (List ℕ) → (old new : List OutputSymbol) → Type 0
-AddsSymbols p s names old new = shown new ≡ shown old ++ defined_symbols p s names
+AddsSymbols project layout names old new = shown new ≡ shown old ++ defined_symbols project layout names
 
 abbrev pub names_in : List OutputSymbol → List (List ℕ)
-names_in xs = map (λ (x : OutputSymbol). x.name.now) xs
+names_in xs = map (λ (symbol : OutputSymbol). symbol.name.now) xs
 
 -- nothing was added, or one symbol of this name
 abbrev pub AddsAtMost : List ℕ → (old new : List OutputSymbol) → Type 0

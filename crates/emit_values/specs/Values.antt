@@ -14,10 +14,11 @@ use Rattle.emit_values.specs.declared.values.OutputSymbol.{OutputSymbol}
 use Rattle.emit_values.specs.declared.values.Values.{Values}
 
 abbrev pub shown_symbol : OutputSymbol → model.OutputSymbol
-shown_symbol x = record { name = x.name.now; decision = decision_of (λ key. key) x.case; value = value_of x.value }
+shown_symbol symbol =
+    record { name = symbol.name.now; decision = decision_of (λ key. key) symbol.case; value = value_of symbol.value }
 
 -- they are those of the project at a layout, where names have the keys of a table
-pub record AreValues (p : Project) (s : Layout) (a : SymbolTableState) (v : Values) : Type 0 where
-  pub names : AreNameValues (known_link p s a) v.names.items
-  pub entry : value_of v.entry ≡ entry_point p s
-  pub symbols : map shown_symbol v.symbols.items ≡ output_symbols p s
+pub record AreValues (project : Project) (layout : Layout) (table : SymbolTableState) (v : Values) : Type 0 where
+  pub names : AreNameValues (known_link project layout table) v.names.items
+  pub entry : value_of v.entry ≡ entry_point project layout
+  pub symbols : map shown_symbol v.symbols.items ≡ output_symbols project layout

@@ -27,7 +27,8 @@ pub(crate) struct Candidate<'a> {
 /// Adds the name that a command gives a value to, if it gives one.
 fn add_given<'a>(list: &mut Vec<Candidate<'a>>, command: &'a Directive) -> Result<(), NoMemory>
     ensures names { OnOk result (names_of list.new.items ≡ names_of list.old.items ++ names_given command.now) }
-    ensures keyed { OnOk result ((a : SymbolTableState) → AreKeyed a list.old.items → AreKeyed a list.new.items) }
+    ensures keyed { OnOk result ((table : SymbolTableState) → AreKeyed table list.old.items
+        → AreKeyed table list.new.items) }
 {
     match command {
         Directive::Assign(assignment) | Directive::Provide(assignment) => {
@@ -48,7 +49,8 @@ fn add_all_given<'a>(
 ) -> Result<(), NoMemory>
     ensures names { OnOk result (names_of list.new.items
         ≡ names_of list.old.items ++ all_given (shown_directives commands.now)) }
-    ensures keyed { OnOk result ((a : SymbolTableState) → AreKeyed a list.old.items → AreKeyed a list.new.items) }
+    ensures keyed { OnOk result ((table : SymbolTableState) → AreKeyed table list.old.items
+        → AreKeyed table list.new.items) }
 {
     for at in commands {
         add_given(list, at.command)?;

@@ -37,8 +37,9 @@ fn sees(project: &ProjectView<'_>, object: ObjectPlace, symbol: SymbolIndex) -> 
 
 /// Where an input section arranged, if it is in the output.
 fn start_in(indexed_layout: &IndexedLayout, section: SectionKey) -> Option<u64>
-    ensures { (p : Project) (s : Layout) → IsIndexedLayout p s indexed_layout.now → result
-        ≡ option_map (λ (x : PlacedPiece). x.start) (placed_part s (object_name p section.object.0) section.part) }
+    ensures { (project : Project) (layout : Layout) → IsIndexedLayout project layout indexed_layout.now → result
+        ≡ option_map (λ (placed : PlacedPiece). placed.start)
+        (placed_part layout (object_name project section.object.0) section.part) }
 {
     match indexed_layout.find(section) {
         None => None,

@@ -53,8 +53,9 @@ fn is_defined(case: Case) -> bool
 
 /// The value of a name that no object defines.
 fn value_by_script(case: Case, given: Option<u64>) -> Option<SymbolValue>
-    ensures { IfSome result (λ v. (p : Project) (s : Layout) (name : List ℕ) → given ≡ script_value s name → value_of v
-        ≡ decided_value p s name (decision_of (λ key. key) case)) }
+    ensures { IfSome result (λ v. (project : Project) (layout : Layout) (name : List ℕ) → given
+        ≡ script_value layout name → value_of v
+        ≡ decided_value project layout name (decision_of (λ key. key) case)) }
 {
     match case {
         Case::Script | Case::Provided => match given {
@@ -90,8 +91,8 @@ fn add_named<'a>(
     list: &mut Vec<OutputSymbol<'a>>,
 ) -> Result<(), NoMemory>
     requires { IsNamed sources.now.symbol_table.now.names key.0 name.now }
-    ensures symbol { OnOk result ((p : Project) (s : Layout) → AreSources p s sources.now
-        → AddsSymbols p s (name.now ∷ []) list.old.items list.new.items) }
+    ensures symbol { OnOk result ((project : Project) (layout : Layout) → AreSources project layout sources.now
+        → AddsSymbols project layout (name.now ∷ []) list.old.items list.new.items) }
     ensures name { OnOk result (AddsAtMost name.now list.old.items list.new.items) }
 {
     // so that it is known that each key of a name has a case
@@ -117,8 +118,8 @@ fn add_unnamed<'a>(
     name: &'a [u8],
     list: &mut Vec<OutputSymbol<'a>>,
 ) -> Result<(), NoMemory>
-    ensures symbol { OnOk result ((p : Project) (s : Layout) → AreSources p s sources.now
-        → AddsSymbols p s (name.now ∷ []) list.old.items list.new.items) }
+    ensures symbol { OnOk result ((project : Project) (layout : Layout) → AreSources project layout sources.now
+        → AddsSymbols project layout (name.now ∷ []) list.old.items list.new.items) }
     ensures name { OnOk result (AddsAtMost name.now list.old.items list.new.items) }
 {
     let symbol_table = sources.symbol_table;
@@ -138,8 +139,8 @@ fn add_symbol<'a>(
     list: &mut Vec<OutputSymbol<'a>>,
 ) -> Result<(), NoMemory>
     requires { HasKeyOr sources.now.symbol_table.now candidate.now.name.now candidate.now.key }
-    ensures symbol { OnOk result ((p : Project) (s : Layout) → AreSources p s sources.now
-        → AddsSymbols p s (candidate.now.name.now ∷ []) list.old.items list.new.items) }
+    ensures symbol { OnOk result ((project : Project) (layout : Layout) → AreSources project layout sources.now
+        → AddsSymbols project layout (candidate.now.name.now ∷ []) list.old.items list.new.items) }
     ensures name { OnOk result (AddsAtMost candidate.now.name.now list.old.items list.new.items) }
 {
     match candidate.key {
@@ -185,8 +186,8 @@ fn add_unless_repeat<'a>(
 ) -> Result<(), NoMemory>
     requires place { place < length candidates.now }
     requires candidates { AreCandidates sources.now.symbol_table.now sources.now.script.now candidates.now }
-    ensures symbol { OnOk result ((p : Project) (s : Layout) → AreSources p s sources.now
-        → AddsSymbols p s (fresh (names_of candidates.now) place) list.old.items list.new.items) }
+    ensures symbol { OnOk result ((project : Project) (layout : Layout) → AreSources project layout sources.now
+        → AddsSymbols project layout (fresh (names_of candidates.now) place) list.old.items list.new.items) }
     ensures name { OnOk result
         (AddsAtMost (slice_index_or (names_of candidates.now) place []) list.old.items list.new.items) }
 {
@@ -207,8 +208,9 @@ pub(crate) fn symbols_of<'a>(
     candidates: &[Candidate<'a>],
 ) -> Result<Vec<OutputSymbol<'a>>, NoMemory>
     requires { AreCandidates sources.now.symbol_table.now sources.now.script.now candidates.now }
-    ensures symbols { IfOk result (λ list. (p : Project) (s : Layout) → AreSources p s sources.now → shown list.items
-        ≡ output_symbols p s) }
+    ensures symbols { IfOk result (λ list. (project : Project) (layout : Layout) → AreSources project layout sources.now
+        → shown list.items
+        ≡ output_symbols project layout) }
     ensures order { IfOk result (λ list. AreInOrder list.items) }
 {
     let mut list = Vec::with_capacity(alloc, candidates.len())?;

@@ -53,9 +53,9 @@ fn entry_value(
     given: &ScriptValues<'_>,
     link: &LinkView<'_, '_>,
 ) -> SymbolValue
-    ensures { (s : Layout) → IsSymbolTable project.now symbol_table.now → AreScriptValues s given.now
-        → IsLinkView (known_link project.now s symbol_table.now) link.now
-        → value_of result ≡ entry_point project.now s }
+    ensures { (layout : Layout) → IsSymbolTable project.now symbol_table.now → AreScriptValues layout given.now
+        → IsLinkView (known_link project.now layout symbol_table.now) link.now
+        → value_of result ≡ entry_point project.now layout }
 {
     match project.entry_symbol() {
         None => entry_point(link, None, None),
@@ -83,9 +83,9 @@ impl<'a> Values<'a> {
     ) -> Result<Values<'a>, NoMemory>
         requires symbol_table { IsSymbolTable project.now symbol_table.now }
         requires sorted { AreSorted symbol_table.now given.now.sorted.items }
-        ensures { IfOk result (λ v. (s : Layout) → AreScriptValues s given.now.values
-            → IsLinkView (known_link project.now s symbol_table.now) link.now
-            → AreValues project.now s symbol_table.now v) }
+        ensures { IfOk result (λ v. (layout : Layout) → AreScriptValues layout given.now.values
+            → IsLinkView (known_link project.now layout symbol_table.now) link.now
+            → AreValues project.now layout symbol_table.now v) }
     {
         let script = project.script();
         let names = name_values(alloc, link)?;

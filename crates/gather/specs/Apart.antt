@@ -7,8 +7,8 @@ use Rattle.ldmodel.specs.Project.{NamedObject, Project}
 
 -- the header numbers of its linked sections ascend
 abbrev pub IsAscending : NamedObject → Type 0
-IsAscending o = AllPairs (λ (s t : Section). s.number.0 < t.number.0) (map section_of o.object.sections)
+IsAscending object = AllPairs (λ (s t : Section). s.number.0 < t.number.0) (map section_of object.object.sections)
 
 -- those of each object do, as `Object::sections` says of an object
 abbrev pub AscendingSections : Project → Type 0
-AscendingSections p = All IsAscending p.objects
+AscendingSections project = All IsAscending project.objects

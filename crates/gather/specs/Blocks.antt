@@ -37,9 +37,10 @@ pub record IsInOrder (old new : List CommonBlock) : Type 0 where
 
 -- the common blocks of object number i
 abbrev pub AreBlocksOf : Project → ℕ → NamedObject → List CommonBlock → Type 0
-AreBlocksOf p i o blocks = map (block_of i o.name) blocks ≡ model.common_blocks p i o
+AreBlocksOf project i object blocks = map (block_of i object.name) blocks ≡ model.common_blocks project i object
 
 -- of all objects, in their order
 abbrev pub AreBlocks : Project → List (Vec CommonBlock Global) → Type 0
-AreBlocks p xs = AllZip (λ (o : ℕ × NamedObject) (x : Vec CommonBlock Global). AreBlocksOf p o.0 o.1 x.items)
-    (enumerate_from 0 p.objects) xs
+AreBlocks project xs =
+    AllZip (λ (o : ℕ × NamedObject) (x : Vec CommonBlock Global). AreBlocksOf project o.0 o.1 x.items)
+    (enumerate_from 0 project.objects) xs

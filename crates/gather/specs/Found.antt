@@ -12,11 +12,12 @@ use Rattle.ldmodel.specs.declared.sections.Part.TheVariants.{InTable, InCommon}
 
 -- the relocations of a part of an object; a common block has none
 abbrev pub relocations_of : Project → ℕ → Part → List Relocation
-relocations_of p object (InTable k) = option_map_or (λ (x : LinkedSection). x.relocations) (section_at p object k) []
-relocations_of p object (InCommon x) = []
+relocations_of project object (InTable k) =
+    option_map_or (λ (section : LinkedSection). section.relocations) (section_at project object k) []
+relocations_of project object (InCommon x) = []
 
 -- its names and relocations are those that its key has in the project
-pub record IsFound (p : Project) (s : InputSection) : Type 0 where
-  pub object : object_name p s.id.object ≡ s.object
-  pub name : name_of_part p s.id.object s.id.part ≡ s.name
-  pub relocations : relocations_of p s.id.object s.id.part ≡ s.relocations
+pub record IsFound (project : Project) (section : InputSection) : Type 0 where
+  pub object : object_name project section.id.object ≡ section.object
+  pub name : name_of_part project section.id.object section.id.part ≡ section.name
+  pub relocations : relocations_of project section.id.object section.id.part ≡ section.relocations

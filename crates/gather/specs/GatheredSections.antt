@@ -31,13 +31,13 @@ pub record Facts : Type 0 where
   pub statement : Option ℕ
 
 abbrev pub facts : Project → InputSection → Facts
-facts p s = record {
-  id = s.id;
-  kind = s.kind;
-  flags = s.flags;
-  size = s.size;
-  alignment = s.alignment;
-  statement = first_match p.script s.object s.name;
+facts project section = record {
+  id = section.id;
+  kind = section.kind;
+  flags = section.flags;
+  size = section.size;
+  alignment = section.alignment;
+  statement = first_match project.script section.object section.name;
 }
 
 abbrev pub shown_facts : GatheredSection → Facts
@@ -51,9 +51,9 @@ shown_facts x = record {
 }
 
 -- these are the input sections of the project, in their order, whose objects have their sections in order
-pub record AreGathered (p : Project) (xs : List GatheredSection) : Type 0 where
-  pub facts : map shown_facts xs ≡ map (facts p) (input_sections p)
-  pub ascending : AscendingSections p
+pub record AreGathered (project : Project) (xs : List GatheredSection) : Type 0 where
+  pub facts : map shown_facts xs ≡ map (facts project) (input_sections project)
+  pub ascending : AscendingSections project
 
 -- what is known of linked section s of object number i, whose match has this number
 abbrev pub linked_facts : ℕ → LinkedSection → Option ℕ → Facts

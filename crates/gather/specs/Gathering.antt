@@ -10,7 +10,7 @@ use Rattle.gather_sections.specs.SectionTable.{IsTableOf}
 use Rattle.gather.specs.declared.gathering.Gathering.{Gathering}
 
 -- its table numbers the input sections of the project, its rows are those of the project, its orphans are the faults
-pub record IsGathering (p : Project) (g : Gathering) : Type 0 where
-  pub table : IsTableOf p g.table
-  pub rows : rows_in p g.rows.items ≡ rows p
-  pub orphans : map (λ k. fault_of p (λ key. key) (Orphan k)) g.orphans.items ≡ gathering_faults p
+pub record IsGathering (project : Project) (g : Gathering) : Type 0 where
+  pub table : IsTableOf project g.table
+  pub rows : rows_in project g.rows.items ≡ rows project
+  pub orphans : map (λ k. fault_of project (λ key. key) (Orphan k)) g.orphans.items ≡ gathering_faults project

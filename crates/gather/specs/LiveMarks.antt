@@ -16,13 +16,14 @@ marked (b ∷ bs) (x ∷ xs) = if b then x ∷ marked bs xs else marked bs xs
 
 -- section number k of the project
 abbrev pub IsSectionAt : Project → ℕ → InputSection → Type 0
-IsSectionAt p k s = slice_get (input_sections p) k ≡ Some s
+IsSectionAt project k section = slice_get (input_sections project) k ≡ Some section
 
 -- the graph is that of the project's input sections, numbered from 0 in their order; of sections that are left out it
 -- may say anything else
-pub record IsGraphOf (p : Project) (g : Graph) : Type 0 where
-  pub out : g.out ≡ map (is_discarded p) (input_sections p)
-  pub roots : (k : ℕ) (s : InputSection) → IsSectionAt p k s → is_discarded p s ≡ false
-      → IsTrue (is_root p s) ↔ Contains g.roots k
-  pub references : (a b : ℕ) (s t : InputSection) → IsSectionAt p a s → IsSectionAt p b t → is_discarded p s ≡ false
-      → is_discarded p t ≡ false → IsTrue (refers_to p s t) ↔ LeadsTo g a b
+pub record IsGraphOf (project : Project) (g : Graph) : Type 0 where
+  pub out : g.out ≡ map (is_discarded project) (input_sections project)
+  pub roots : (k : ℕ) (section : InputSection) → IsSectionAt project k section → is_discarded project section ≡ false
+      → IsTrue (is_root project section) ↔ Contains g.roots k
+  pub references : (a b : ℕ) (section t : InputSection) → IsSectionAt project a section → IsSectionAt project b t
+      → is_discarded project section ≡ false
+      → is_discarded project t ≡ false → IsTrue (refers_to project section t) ↔ LeadsTo g a b

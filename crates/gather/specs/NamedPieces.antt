@@ -11,9 +11,9 @@ pieces_of xs = map (λ (x : NamedPiece). x.piece) xs
 
 -- the name beside a piece is that of its section
 abbrev pub HasName : Project → NamedPiece → Type 0
-HasName p x = x.name.now ≡ name_of_section p x.piece.section
+HasName project x = x.name.now ≡ name_of_section project x.piece.section
 
 -- these pieces, each with the name of its section
-pub record AreNamed (p : Project) (xs : List code.Piece) (named : List NamedPiece) : Type 0 where
+pub record AreNamed (project : Project) (xs : List code.Piece) (named : List NamedPiece) : Type 0 where
   pub pieces : pieces_of named ≡ xs
-  pub names : All (HasName p) named
+  pub names : All (HasName project) named

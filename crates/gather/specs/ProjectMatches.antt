@@ -8,10 +8,10 @@ use Rattle.ldmodel.specs.Project.{NamedObject, Project}
 use Rattle.gather.specs.declared.matches.Matches.{Matches}
 
 -- the statements that take the linked sections of an object, and its common blocks
-pub record IsMatched (script : List Statement) (o : NamedObject) (x : Matches) : Type 0 where
-  pub linked : map number_of x.linked.items ≡ matches_of script o.name o.object.sections
-  pub common : number_of x.common ≡ first_match script o.name (codes "COMMON")
+pub record IsMatched (script : List Statement) (object : NamedObject) (x : Matches) : Type 0 where
+  pub linked : map number_of x.linked.items ≡ matches_of script object.name object.object.sections
+  pub common : number_of x.common ≡ first_match script object.name (codes "COMMON")
 
 -- all objects, in their order
 abbrev pub AreMatched : Project → List Matches → Type 0
-AreMatched p xs = AllZip (IsMatched p.script) p.objects xs
+AreMatched project xs = AllZip (IsMatched project.script) project.objects xs

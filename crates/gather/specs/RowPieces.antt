@@ -16,11 +16,12 @@ use Rattle.ldmodel_project.specs.ByPlace.{piece_in}
 
 -- the pieces that a row of the code stands for
 abbrev pub shown_row : Project → Vec code.Piece Global → List Piece
-shown_row p row = map (piece_in p) row.items
+shown_row project row = map (piece_in project) row.items
 
 -- an input section as the piece of the statement that takes it
 abbrev pub taken_piece : Project → InputSection → Option Piece
-taken_piece p s = option_map (λ n. piece_of n s) (first_match p.script s.object s.name)
+taken_piece project section =
+    option_map (λ n. piece_of n section) (first_match project.script section.object section.name)
 
 -- those of a statement
 abbrev pub of_statement : List code.Piece → ℕ → List code.Piece
@@ -38,18 +39,18 @@ pub record AreBuckets (xs : List code.Piece) (count : ℕ) (buckets : List (Vec 
 
 -- a list is put in the order of a sort
 abbrev pub Orders : Project → Option Sort → (old new : List code.Piece) → Type 0
-Orders p sort old new = map (piece_in p) new ≡ sort_by (below sort) (map (piece_in p) old)
+Orders project sort old new = map (piece_in project) new ≡ sort_by (below sort) (map (piece_in project) old)
 
 -- the pieces of a statement come to the end of the row of its output section
-pub record AddsTo (p : Project) (place : InputPlace) (sort : Option Sort) (xs : List code.Piece)
+pub record AddsTo (project : Project) (place : InputPlace) (sort : Option Sort) (xs : List code.Piece)
     (old new : List (Vec code.Piece Global)) : Type 0 where
   pub long : length new ≡ length old
-  pub row : (k : ℕ) (d : Vec code.Piece Global) → k < length old → shown_row p (slice_index_or new k d)
-      ≡ shown_row p (slice_index_or old k d)
-      ++ (if is_in_section k place then sort_by (below sort) (map (piece_in p) xs) else [])
+  pub row : (k : ℕ) (d : Vec code.Piece Global) → k < length old → shown_row project (slice_index_or new k d)
+      ≡ shown_row project (slice_index_or old k d)
+      ++ (if is_in_section k place then sort_by (below sort) (map (piece_in project) xs) else [])
 
 -- what an input statement of this number brings to the row of output section number k
 abbrev pub pieces_at : Project → List code.Piece → (k : ℕ) → ℕ × InputStatementAt → List Piece
-pieces_at p xs k i =
+pieces_at project xs k i =
     if is_in_section k i.1.place then sort_by (below i.1.input.sort)
-    (filter (λ (y : Piece). y.statement == i.0) (map (piece_in p) xs)) else []
+    (filter (λ (y : Piece). y.statement == i.0) (map (piece_in project) xs)) else []

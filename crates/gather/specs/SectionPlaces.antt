@@ -44,33 +44,34 @@ pub record ArePlaces (xs : List GatheredSection) (n : ℕ) (place : SectionKey �
 
 -- the place is that of the section of this key in the project; there is none where the key is of no input section
 abbrev pub IsPlaceOf : Project → Option SectionId → Option ℕ → Type 0
-IsPlaceOf p id place =
-    (b : ℕ) (s : InputSection) → IsSectionAt p b s → IsTrue (is_section id s) ↔ (place ≡ Some b)
+IsPlaceOf project id place =
+    (b : ℕ) (section : InputSection) → IsSectionAt project b section → IsTrue (is_section id section) ↔ (place ≡ Some b)
 
 -- the places are those of the input sections of the project
 abbrev pub AreProjectPlaces : Project → (SectionKey → Option ℕ) → Type 0
-AreProjectPlaces p place = (k : SectionKey) → IsPlaceOf p (Some (section_id (λ key. key) k)) (place k)
+AreProjectPlaces project place = (k : SectionKey) → IsPlaceOf project (Some (section_id (λ key. key) k)) (place k)
 
 -- the numbers are those of the sections that these relocations of object number i refer to
 abbrev pub AreTargets : Project → ℕ → List Relocation → List ℕ → Type 0
-AreTargets p i rs numbers =
-    (b : ℕ) (s : InputSection) → IsSectionAt p b s
-    → IsTrue (list_any (λ r. is_section (target_section p i r) s) rs) ↔ Contains numbers b
+AreTargets project i rs numbers =
+    (b : ℕ) (section : InputSection) → IsSectionAt project b section
+    → IsTrue (list_any (λ r. is_section (target_section project i r) section) rs) ↔ Contains numbers b
 
 -- the numbers of those that these relocations refer to come after those that are there
-pub record AddsTargets (p : Project) (i : ℕ) (rs : List Relocation) (old new : List ℕ) : Type 0 where
+pub record AddsTargets (project : Project) (i : ℕ) (rs : List Relocation) (old new : List ℕ) : Type 0 where
   pub added : List ℕ
   pub is : new ≡ old ++ added
-  pub are : AreTargets p i rs added
+  pub are : AreTargets project i rs added
 
 -- a relocation of section number a refers to section number b, where there are such sections
 abbrev pub Refers : Project → ℕ → ℕ → Type 0
-Refers p a b = (s t : InputSection) → IsSectionAt p a s → IsSectionAt p b t → IsTrue (refers_to p s t)
+Refers project a b = (section t : InputSection) → IsSectionAt project a section → IsSectionAt project b t
+    → IsTrue (refers_to project section t)
 
 -- the parts by which references are found are those of the project
-pub record AreProjectReferences (p : Project) (symbol_table : SymbolTableState) (places : Places)
+pub record AreProjectReferences (project : Project) (symbol_table : SymbolTableState) (places : Places)
     (xs : List GatheredSection)
     : Type 0 where
-  pub named : IsSymbolTable p symbol_table
-  pub sections : AreGathered p xs
-  pub placed : AreProjectPlaces p (place_in places)
+  pub named : IsSymbolTable project symbol_table
+  pub sections : AreGathered project xs
+  pub placed : AreProjectPlaces project (place_in places)

@@ -10,9 +10,11 @@ use Rattle.ldmodel.specs.declared.names.Case.{Case}
 
 -- the object at this place of the project
 abbrev pub IsObjectAt : Project → ℕ → ObjectData → Type 0
-IsObjectAt p i object = option_map (λ (o : NamedObject). o.object) (slice_get p.objects i) ≡ Some object
+IsObjectAt project i object =
+    option_map (λ (object : NamedObject). object.object) (slice_get project.objects i) ≡ Some object
 
 -- a local symbol has no case; that of another is what its name stands for
 abbrev pub IsCaseOf : Project → NamedSymbol → Option Case → Type 0
-IsCaseOf p s None = is_local s.symbol.binding ≡ true
-IsCaseOf p s (Some c) = (is_local s.symbol.binding ≡ false) × (decision_of (λ key. key) c ≡ decision p s.name)
+IsCaseOf project symbol None = is_local symbol.symbol.binding ≡ true
+IsCaseOf project symbol (Some c) =
+    (is_local symbol.symbol.binding ≡ false) × (decision_of (λ key. key) c ≡ decision project symbol.name)

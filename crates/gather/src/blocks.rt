@@ -142,7 +142,8 @@ fn add_ranks(ranks: &mut Vec<Rank>, place: usize, blocks: &[CommonBlock]) -> Res
 ///
 /// Where memory runs out.
 pub(crate) fn block_ranks(alloc: Global, all: &[Vec<CommonBlock>]) -> Result<Vec<Rank>, NoMemory>
-    ensures { IfOk result (λ ranks. (p : Project) → AreBlocks p all.now → AreBlockRanks p ranks.items) }
+    ensures { IfOk result (λ ranks. (project : Project) → AreBlocks project all.now
+        → AreBlockRanks project ranks.items) }
 {
     let mut ranks = Vec::new(alloc);
     for (place, blocks) in all.iter().enumerate() {

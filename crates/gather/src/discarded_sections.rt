@@ -66,8 +66,8 @@ pub fn discarded_sections(
     orphans: Orphans,
     sections: &[GatheredSection],
 ) -> Result<Vec<bool>, NoMemory>
-    ensures { IfOk result (λ out. (p : Project) → p.script ≡ script.now → p.options.orphans ≡ orphans
-        → AreGathered p sections.now → out.items ≡ map (is_discarded p) (input_sections p)) }
+    ensures { IfOk result (λ out. (project : Project) → project.script ≡ script.now → project.options.orphans ≡ orphans
+        → AreGathered project sections.now → out.items ≡ map (is_discarded project) (input_sections project)) }
 {
     let statements = script.input_statements(alloc)?;
     each_discarded(alloc, &statements, orphans, sections)

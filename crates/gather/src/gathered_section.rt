@@ -142,9 +142,9 @@ fn add_object(
     matches: &Matches,
     blocks: &[CommonBlock],
 ) -> Result<(), NoMemory>
-    ensures added { OnOk result ((p : Project) → IsMatched p.script (shown_input input.now) matches.now
-        → AreBlocksOf p place (shown_input input.now) blocks.now → AddsFacts sections.old.items sections.new.items
-        (map (facts p) (object_inputs p place (shown_input input.now)))) }
+    ensures added { OnOk result ((project : Project) → IsMatched project.script (shown_input input.now) matches.now
+        → AreBlocksOf project place (shown_input input.now) blocks.now → AddsFacts sections.old.items sections.new.items
+        (map (facts project) (object_inputs project place (shown_input input.now)))) }
     ensures ascending { IsAscending (shown_input input.now) }
 {
     // so that what an object says of its sections is known

@@ -10,6 +10,7 @@ ghost use Rattle.gather.specs.LiveMarks.{IsSectionAt};
 /// ascend, as those of every object that was read do, what tells input sections apart tells their places apart.
 #[tactic(auto, using(crate::proofs::Ascending::sections_apart))]
 pub fn sections_apart()
-    ensures { (p : Project) → AscendingSections p → (a b : ℕ) (s t : InputSection) → IsSectionAt p a s
-        → IsSectionAt p b t → s.id ≡ t.id → a ≡ b }
+    ensures { (project : Project) → AscendingSections project → (a b : ℕ) (section t : InputSection)
+        → IsSectionAt project a section
+        → IsSectionAt project b t → section.id ≡ t.id → a ≡ b }
 {}

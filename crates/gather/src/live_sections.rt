@@ -24,8 +24,9 @@ use std::alloc::Global;
 /// Where memory runs out.
 pub fn not_discarded(alloc: Global, out: &[bool]) -> Result<Vec<bool>, NoMemory>
     ensures marks { IfOk result (λ marks. marks.items ≡ map not out.now) }
-    ensures live { IfOk result (λ marks. (p : Project) → p.options.gc ≡ false → out.now
-        ≡ map (is_discarded p) (input_sections p) → marked marks.items (input_sections p) ≡ live p) }
+    ensures live { IfOk result (λ marks. (project : Project) → project.options.gc ≡ false → out.now
+        ≡ map (is_discarded project) (input_sections project) → marked marks.items (input_sections project)
+        ≡ live project) }
 {
     live_by_path();
     let mut marks = Vec::with_capacity(alloc, out.len())?;
@@ -71,9 +72,9 @@ pub fn orphans(
     sections: &[GatheredSection],
     marks: &[bool],
 ) -> Result<Vec<SectionKey>, NoMemory>
-    ensures { IfOk result (λ found. (p : Project) → AreGathered p sections.now
-        → marked marks.now (input_sections p) ≡ live p → map (section_id (λ key. key)) found.items
-        ≡ map (λ (s : InputSection). s.id) (orphans p)) }
+    ensures { IfOk result (λ found. (project : Project) → AreGathered project sections.now
+        → marked marks.now (input_sections project) ≡ live project → map (section_id (λ key. key)) found.items
+        ≡ map (λ (section : InputSection). section.id) (orphans project)) }
 {
     let mut found = Vec::new(alloc);
     for (place, section) in sections.iter().enumerate() {

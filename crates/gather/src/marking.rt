@@ -73,9 +73,10 @@ pub fn mark<R: References>(
     ensures long { IfOk result (λ marks. length marks.items ≡ length out.now) }
     ensures reached { IfOk result (λ marks. (s : ℕ)
         → IsMarked marks.items s ↔ IsLive (graph_of out.now roots.now (R.refers references.now)) s) }
-    ensures live { IfOk result (λ marks. (p : Project) → p.options.gc ≡ true
-        → IsGraphOf p (graph_of out.now roots.now (R.refers references.now)) → marked marks.items (input_sections p)
-        ≡ live p) }
+    ensures live { IfOk result (λ marks. (project : Project) → project.options.gc ≡ true
+        → IsGraphOf project (graph_of out.now roots.now (R.refers references.now))
+        → marked marks.items (input_sections project)
+        ≡ live project) }
 {
     live_by_path();
     reach(alloc, out, roots, references)

@@ -83,9 +83,9 @@ pub fn roots(
     sections: &[GatheredSection],
     entry: Option<usize>,
 ) -> Result<Vec<usize>, NoMemory>
-    ensures { IfOk result (λ found. (p : Project) → p.script ≡ script.now
-        → AreGathered p sections.now → (k : ℕ) (s : InputSection) → IsSectionAt p k s
-        → (IsTrue (is_kept (taken_by p s)) ⊎ (entry ≡ Some k)) ↔ Contains found.items k) }
+    ensures { IfOk result (λ found. (project : Project) → project.script ≡ script.now
+        → AreGathered project sections.now → (k : ℕ) (section : InputSection) → IsSectionAt project k section
+        → (IsTrue (is_kept (taken_by project section)) ⊎ (entry ≡ Some k)) ↔ Contains found.items k) }
 {
     let statements = script.input_statements(alloc)?;
     let mut found = kept(alloc, &statements, sections)?;

@@ -13,8 +13,8 @@ use ldmodel_project::view::ProjectView;
 
 /// The name of the section of this header number; no bytes where it is no linked one.
 fn name_at(object: &Object, number: SectionIndex) -> &[u8]
-    ensures { result.now ≡ option_map_or (λ (x : LinkedSection). x.name)
-        (find (λ (x : LinkedSection). x.number.0 == number.0) object.now.sections) [] }
+    ensures { result.now ≡ option_map_or (λ (section : LinkedSection). section.name)
+        (find (λ (section : LinkedSection). section.number.0 == number.0) object.now.sections) [] }
 {
     // so that what an object says of its sections is known
     let _sections = object.sections();

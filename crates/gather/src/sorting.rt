@@ -73,7 +73,7 @@ fn alignment(piece: &Piece) -> u64
 
 /// Puts pieces in the order of their alignments, the greatest first.
 fn sort_by_alignment(pieces: &mut Vec<Piece>) -> Result<(), NoMemory>
-    ensures { (p : Project) → OnOk result (Orders p (Some ByAlignment) pieces.old.items pieces.new.items) }
+    ensures { (project : Project) → OnOk result (Orders project (Some ByAlignment) pieces.old.items pieces.new.items) }
 {
     row_by_order();
     pieces.sort_by(|a, b| alignment(b).cmp(&alignment(a)))

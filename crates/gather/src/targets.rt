@@ -33,7 +33,7 @@ fn section_at(place: usize, at: SymbolPlace) -> Option<SectionKey>
 
 /// Where a symbol is defined, if there is such a symbol.
 fn place_of(project: &ProjectView<'_>, entry: Entry) -> Option<SymbolPlace>
-    ensures { result ≡ option_map (λ (s : NamedSymbol). s.symbol.place)
+    ensures { result ≡ option_map (λ (symbol : NamedSymbol). symbol.symbol.place)
         (symbol_at project.now entry.key entry.symbol) }
 {
     match project.object(ObjectPlace(entry.key)) {

@@ -4,7 +4,7 @@ use Rattle.ldmodel.specs.Project.{NamedObject, Project}
 use Rattle.ldmodel.specs.Sections.{InputSection}
 
 -- an input section is of the object at its place, and stands under the name of that
-pub record IsOfObject (p : Project) (s : InputSection) : Type 0 where
+pub record IsOfObject (project : Project) (section : InputSection) : Type 0 where
   pub object : NamedObject
-  pub at : slice_get p.objects s.id.object ≡ Some object
-  pub name : object.name ≡ s.object
+  pub at : slice_get project.objects section.id.object ≡ Some object
+  pub name : object.name ≡ section.object

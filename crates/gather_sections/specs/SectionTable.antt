@@ -36,12 +36,13 @@ linked_of t n = option_map (λ (x : Slots). x.linked) (slice_get t.objects.items
 
 -- each input section of the project has a number, and no two parts of objects have the same one; the linked sections of
 -- objects are counted
-pub record IsTableOf (p : Project) (t : InputSectionTable) : Type 0 where
-  pub all : (s : InputSection) → Contains (input_sections p) s → IsSome (number_of t s.id.object s.id.part)
+pub record IsTableOf (project : Project) (t : InputSectionTable) : Type 0 where
+  pub all : (section : InputSection) → Contains (input_sections project) section
+      → IsSome (number_of t section.id.object section.id.part)
   pub below : (n : ℕ) (q : Part) (at : ℕ) → number_of t n q ≡ Some at → at < len_of t
   pub apart : (n m : ℕ) (q r : Part) (at : ℕ) → number_of t n q ≡ Some at → number_of t m r ≡ Some at
       → (n ≡ m) × (q ≡ r)
-  pub linked : (n before : ℕ) → linked_of t n ≡ Some before → before ≡ linked_in (take n p.objects)
+  pub linked : (n before : ℕ) → linked_of t n ≡ Some before → before ≡ linked_in (take n project.objects)
 
 -- a part is a common block whose rank is among these
 abbrev pub IsBlockAmong : List (ℕ × Bool × ℕ) → ℕ → Part → Type 0
@@ -50,6 +51,7 @@ IsBlockAmong ranks n (InCommon x) = Contains ranks (n, true, x.0)
 
 -- the ranks of the common blocks of the project are among these
 abbrev pub AreBlockRanks : Project → List (ℕ × Bool × ℕ) → Type 0
-AreBlockRanks p ranks =
-    (i : ℕ) (o : NamedObject) → slice_get p.objects i ≡ Some o
-    → All (λ (s : InputSection). IsBlockAmong ranks s.id.object s.id.part) (common_blocks p i o)
+AreBlockRanks project ranks =
+    (i : ℕ) (object : NamedObject) → slice_get project.objects i ≡ Some object
+    → All (λ (section : InputSection). IsBlockAmong ranks section.id.object section.id.part)
+    (common_blocks project i object)

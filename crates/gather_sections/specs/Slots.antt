@@ -14,18 +14,19 @@ slots_of headers n = slice_index_or headers n no_slots
 
 -- the linked sections of each object of the project are counted
 abbrev pub AreLinkedCounted : Project → List Slots → Type 0
-AreLinkedCounted p headers =
-    (i : ℕ) (o : NamedObject) (x : LinkedSection) → slice_get p.objects i ≡ Some o → Contains o.object.sections x
-    → x.number.0 < (slots_of headers i).count
+AreLinkedCounted project headers =
+    (i : ℕ) (object : NamedObject) (section : LinkedSection) → slice_get project.objects i ≡ Some object
+    → Contains object.object.sections section
+    → section.number.0 < (slots_of headers i).count
 
 -- how many linked sections these objects have
 abbrev pub linked_in : List NamedObject → ℕ
-linked_in objects = sum_by (λ (o : NamedObject). length o.object.sections) objects
+linked_in objects = sum_by (λ (object : NamedObject). length object.object.sections) objects
 
 -- of each object it is known how many linked sections those before it have
 abbrev pub AreLinkedBefore : Project → List Slots → Type 0
-AreLinkedBefore p headers =
-    (i : ℕ) (x : Slots) → slice_get headers i ≡ Some x → x.linked ≡ linked_in (take i p.objects)
+AreLinkedBefore project headers =
+    (i : ℕ) (x : Slots) → slice_get headers i ≡ Some x → x.linked ≡ linked_in (take i project.objects)
 
 -- the header numbers of objects do not meet, and all are below the total
 pub record AreLaid (headers : List Slots) (total : ℕ) : Type 0 where

@@ -9,5 +9,6 @@ ghost use Rattle.gather_sections.specs.OfObjects.{IsOfObject};
 /// Each input section of a project is of the object at its place, and stands under the name of that.
 #[tactic(auto, using(crate::proofs::OfObjects::of_objects))]
 pub fn sections_of_objects()
-    ensures { (p : Project) (s : InputSection) → Contains (input_sections p) s → IsOfObject p s }
+    ensures { (project : Project) (section : InputSection) → Contains (input_sections project) section
+        → IsOfObject project section }
 {}

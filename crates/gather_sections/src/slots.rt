@@ -40,7 +40,7 @@ fn count_to(section: SectionIndex) -> u32
 
 /// How many header numbers an object has up to that of its last linked section.
 fn count_of(object: &Object) -> u32
-    ensures { All (λ (x : LinkedSection). x.number.0 < result) object.now.sections }
+    ensures { All (λ (section : LinkedSection). section.number.0 < result) object.now.sections }
 {
     match object.sections().last() {
         None => 0,

@@ -10,9 +10,9 @@ use Rattle.ldi_stream.specs.declared.fault.RunFault.{RunFault}
 -- from a project on: from what the reader had to read and the writer showed before, to what the writer shows after.
 -- The answers to the stream are those of the definition
 abbrev pub HasAnswered : Project → (stream before after : Option (List ℕ)) → Result Status RunFault → Type 0
-HasAnswered p stream before after outcome =
+HasAnswered project stream before after outcome =
     IfOk outcome (λ status. IfSome stream (λ bytes. (out : List ℕ) × (last : Project) × Appends before after out
-    × Answers p bytes out last (status_of status)))
+    × Answers project bytes out last (status_of status)))
 
 -- what stands after each outcome: what is left to read, answers that the session still held back, of which there are
 -- none unless a write failed, and the project at the end

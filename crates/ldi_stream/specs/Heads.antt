@@ -57,10 +57,10 @@ later_words (Remove name) = name
 later_words (SetScript text) = decimal (length text)
 
 -- an edit with these words
-pub record IsEdit (first words : List ℕ) (c : Change) : Type 0 where
-  pub in_range : HasWords c
-  pub begins : first_word c ≡ first
-  pub goes_on : later_words c ≡ words
+pub record IsEdit (first words : List ℕ) (change : Change) : Type 0 where
+  pub in_range : HasWords change
+  pub begins : first_word change ≡ first
+  pub goes_on : later_words change ≡ words
 
 -- with each payload of the length that it announces, the head is an edit with these words
 abbrev pub IsRead : List ℕ → List ℕ → EditHead → Type 0
@@ -68,12 +68,12 @@ IsRead first words h = (payload : List ℕ) → length payload ≡ announced h �
 
 -- no edit has these words
 abbrev pub IsNoEdit : List ℕ → List ℕ → Type 0
-IsNoEdit first words = (c : Change) → IsEdit first words c → ⊥
+IsNoEdit first words = (change : Change) → IsEdit first words change → ⊥
 
 -- a command with this line
-pub record HasLine (text : List ℕ) (c : Command) : Type 0 where
-  pub is : IsCommand c
-  pub spelled : line c ≡ text
+pub record HasLine (text : List ℕ) (command : Command) : Type 0 where
+  pub is : IsCommand command
+  pub spelled : line command ≡ text
 
 -- what a line says, whatever its payload
 abbrev pub Says : List ℕ → CommandHead → Type 0
@@ -82,7 +82,7 @@ Says text (head.Ask q) = HasLine text (Ask (query_of q))
 
 -- no command has this line
 abbrev pub SaysNothing : List ℕ → Type 0
-SaysNothing text = (c : Command) → HasLine text c → ⊥
+SaysNothing text = (command : Command) → HasLine text command → ⊥
 
 -- bytes cut at their first space, if they have one
 abbrev pub SplitsWord : List ℕ → Option (Bor (List ℕ) × Bor (List ℕ)) → Type 0

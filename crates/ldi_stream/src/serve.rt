@@ -157,8 +157,8 @@ fn asked<L: Linker>(linker: &L, query: Query) -> &[u8]
 
 /// Answers bytes that no command begins.
 fn serve_bad<W: Sink>(sink: &mut W) -> Result<ServeStep, RunFault>
-    ensures stepped { (old new : Option (List ℕ)) (p : Project) → IfSome old IsBad
-        → Stepped (world old (W.written sink.old) p) (world new (W.written sink.new) p) result }
+    ensures stepped { (old new : Option (List ℕ)) (project : Project) → IfSome old IsBad
+        → Stepped (world old (W.written sink.old) project) (world new (W.written sink.new) project) result }
     ensures flushed { Flushed (W.held sink.old) (W.held sink.new) result }
     ensures counted { (r : ℕ) → FaultsCounted r r (W.failed sink.old) (W.failed sink.new) result }
 {

@@ -90,6 +90,6 @@ ldi choices = with_subcommand (with_subcommand top_app (session_app choices).top
     (link_app choices).top
 
 -- the command is this one, and none of its arguments is global
-pub record IsApp (a : App) (c : Command) : Type 0 where
-  pub app : app_of c ≡ a
-  pub local : (out-Command c).has_globals ≡ false
+pub record IsApp (a : App) (command : Command) : Type 0 where
+  pub app : app_of command ≡ a
+  pub local : (out-Command command).has_globals ≡ false

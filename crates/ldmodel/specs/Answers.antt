@@ -26,17 +26,17 @@ bytes_answer bytes = codes "bytes" ++ 32 ∷ (decimal (length bytes) ++ 10 ∷ b
 -- a command with a payload needs memory to take it in; `move` and `remove` may run out of memory only where the edit is
 -- accepted. That memory is short where this answer is given is said by the contracts of the code
 abbrev pub MayLackMemory : Project → Change → Type 0
-MayLackMemory p (Add name at bytes) = Unit {0}
-MayLackMemory p (Replace name bytes) = Unit {0}
-MayLackMemory p (SetScript text) = Unit {0}
-MayLackMemory p (Move name to) = (next : Project) × After p (Move name to) (Ok next)
-MayLackMemory p (Remove name) = (next : Project) × After p (Remove name) (Ok next)
+MayLackMemory project (Add name at bytes) = Unit {0}
+MayLackMemory project (Replace name bytes) = Unit {0}
+MayLackMemory project (SetScript text) = Unit {0}
+MayLackMemory project (Move name to) = (next : Project) × After project (Move name to) (Ok next)
+MayLackMemory project (Remove name) = (next : Project) × After project (Remove name) (Ok next)
 
 -- an accepted edit is answered by the link of the next project; a refused one leaves the project as it was
-pub data EditReply (p : Project) (c : Change) : List ℕ → Project → Type 0 where
-  accepted : (next : Project) → After p c (Ok next) → EditReply p c (linked_line (link next)) next
-  refused : (r : Refusal) → After p c (Err r) → EditReply p c (refused_line r) p
-  out_of_memory : MayLackMemory p c → EditReply p c (refused_line NoMemory) p
+pub data EditReply (project : Project) (change : Change) : List ℕ → Project → Type 0 where
+  accepted : (next : Project) → After project change (Ok next) → EditReply project change (linked_line (link next)) next
+  refused : (r : Refusal) → After project change (Err r) → EditReply project change (refused_line r) project
+  out_of_memory : MayLackMemory project change → EditReply project change (refused_line NoMemory) project
 
 -- what a query asks of a link
 abbrev pub asked : Query → Link → List ℕ
@@ -45,14 +45,15 @@ asked Map l = l.map
 asked Faults l = l.faults
 
 abbrev pub Reply : Project → Command → List ℕ → Project → Type 0
-Reply p (Edit change) answer next = EditReply p change answer next
-Reply p (Ask query) answer next = (answer ≡ bytes_answer (asked query (link p))) × (next ≡ p)
+Reply project (Edit change) answer next = EditReply project change answer next
+Reply project (Ask query) answer next = (answer ≡ bytes_answer (asked query (link project))) × (next ≡ project)
 
 -- command by command, from one project to the last
 pub data Replies : Project → List Command → List ℕ → Project → Type 0 where
-  none : {p : Project} → Replies p [] [] p
-  next : {p mid last : Project} {c : Command} {cs : List Command} (answer rest : List ℕ)
-      → Reply p c answer mid → Replies mid cs rest last → Replies p (c ∷ cs) (answer ++ rest) last
+  none : {project : Project} → Replies project [] [] project
+  next : {project mid last : Project} {command : Command} {cs : List Command} (answer rest : List ℕ)
+      → Reply project command answer mid → Replies mid cs rest last
+      → Replies project (command ∷ cs) (answer ++ rest) last
 
 -- how a session ends: with the status of the link at the end of the stream, or at bytes that no command begins
 pub data Status : Type 0 where
@@ -69,13 +70,13 @@ pub data Ending : List ℕ → List ℕ → Project → Status → Type 0 where
 
 -- the stream is cut into commands, as many as possible, and each has its answer: `tail` is what is left of the stream
 -- after the commands, `answers` are theirs, and `rest` is what is answered to the tail
-pub record Answers (p : Project) (stream out : List ℕ) (last : Project) (status : Status) : Type 0 where
+pub record Answers (project : Project) (stream out : List ℕ) (last : Project) (status : Status) : Type 0 where
   pub commands : List Command
   pub tail : List ℕ
   pub answers : List ℕ
   pub rest : List ℕ
   pub each : AreCommands commands
   pub cut : stream ≡ flat_map spelling commands ++ tail
-  pub replies : Replies p commands answers last
+  pub replies : Replies project commands answers last
   pub ending : Ending tail rest last status
   pub all : out ≡ answers ++ rest

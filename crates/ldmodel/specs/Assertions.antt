@@ -18,10 +18,10 @@ number_if_any NotInOutput = None
 
 -- what a condition may name
 abbrev pub final_scope : Project → Layout → Scope
-final_scope p s = record {
-  symbol = λ name. number_if_any (name_value p s name);
-  section = section_numbers s;
-  region = region_numbers s;
+final_scope project layout = record {
+  symbol = λ name. number_if_any (name_value project layout name);
+  section = section_numbers layout;
+  region = region_numbers layout;
 }
 
 abbrev pub is_true_value : Result ℕ ValueFault → Bool
@@ -30,12 +30,13 @@ is_true_value (Err f) = false
 
 -- no condition has `.`, so its value may be any
 abbrev pub condition_holds : Project → Layout → Expr → Bool
-condition_holds p s e = is_true_value (value (final_scope p s) 0 e)
+condition_holds project layout e = is_true_value (value (final_scope project layout) 0 e)
 
 abbrev pub fails : Project → Layout → AssertionAt → Bool
-fails p s a = not (condition_holds p s a.assertion.condition)
+fails project layout a = not (condition_holds project layout a.assertion.condition)
 
 -- the faults of ASSERTs, in the order of the text
 unfoldable pub assertion_faults : Project → Layout → List Fault
-assertion_faults p s =
-    map (λ (a : AssertionAt). AssertionFailed a.line a.assertion.message) (filter (fails p s) (asserts p.script))
+assertion_faults project layout =
+    map (λ (a : AssertionAt). AssertionFailed a.line a.assertion.message)
+    (filter (fails project layout) (asserts project.script))

@@ -48,7 +48,7 @@ payload (Edit change) = edit_payload change
 payload (Ask query) = []
 
 abbrev pub spelling : Command → List ℕ
-spelling c = line c ++ 10 ∷ payload c
+spelling command = line command ++ 10 ∷ payload command
 
 -- bytes other than a given one
 abbrev pub HasNo : ℕ → List ℕ → Type 0
@@ -80,9 +80,9 @@ HasWordsOf (Edit change) = HasWords change
 HasWordsOf (Ask query) = Unit {0}
 
 -- a command that a stream can spell
-pub record IsCommand (c : Command) : Type 0 where
-  pub short : length (line c) ≤ 512
-  pub words : HasWordsOf c
+pub record IsCommand (command : Command) : Type 0 where
+  pub short : length (line command) ≤ 512
+  pub words : HasWordsOf command
 
 abbrev pub AreCommands : List Command → Type 0
 AreCommands [] = Unit {0}

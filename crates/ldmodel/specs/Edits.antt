@@ -56,7 +56,7 @@ inner_number (NotAScript why) = script_refusal_number why
 inner_number _ = 0
 
 abbrev pub has_name : List ℕ → NamedObject → Bool
-has_name name o = bytes_eq o.name name
+has_name name object = bytes_eq object.name name
 
 -- where the object of a name stands
 abbrev pub place_of : List NamedObject → List ℕ → Option ℕ
@@ -84,29 +84,29 @@ is_full objects = nat_le 4096 (length objects)
 -- the refusals for which neither the object nor the script is looked at, in the order name in use, name unknown,
 -- position past the end, limit
 unfoldable pub early_refusal : Project → Change → Option Refusal
-early_refusal p (Add name at bytes) =
-    if is_in_use p.objects name then Some InUse
-    else (if nat_lt (length p.objects) at then Some PastEnd
-    else (if not (is_object_name name) || is_too_long bytes || is_full p.objects then Some Limit
+early_refusal project (Add name at bytes) =
+    if is_in_use project.objects name then Some InUse
+    else (if nat_lt (length project.objects) at then Some PastEnd
+    else (if not (is_object_name name) || is_too_long bytes || is_full project.objects then Some Limit
     else None))
-early_refusal p (Replace name bytes) =
-    if not (is_in_use p.objects name) then Some Unknown
+early_refusal project (Replace name bytes) =
+    if not (is_in_use project.objects name) then Some Unknown
     else (if is_too_long bytes then Some Limit
     else None)
-early_refusal p (Move name to) =
-    if not (is_in_use p.objects name) then Some Unknown
-    else (if nat_le (length p.objects) to then Some PastEnd
+early_refusal project (Move name to) =
+    if not (is_in_use project.objects name) then Some Unknown
+    else (if nat_le (length project.objects) to then Some PastEnd
     else None)
-early_refusal p (Remove name) = if not (is_in_use p.objects name) then Some Unknown else None
-early_refusal p (SetScript text) = if is_too_long text then Some Limit else None
+early_refusal project (Remove name) = if not (is_in_use project.objects name) then Some Unknown else None
+early_refusal project (SetScript text) = if is_too_long text then Some Limit else None
 
 abbrev pub new_object : List ℕ → List ℕ → NamedObject
 new_object name bytes = record { name = name; object = object_of bytes }
 
 -- the object at a place becomes another
 abbrev pub replaced : List NamedObject → NamedObject → Option ℕ → List NamedObject
-replaced objects o None = objects
-replaced objects o (Some i) = slice_set objects i o
+replaced objects object None = objects
+replaced objects object (Some i) = slice_set objects i object
 
 -- the object at a place is taken out
 abbrev pub removed : List NamedObject → Option ℕ → List NamedObject
@@ -123,18 +123,19 @@ moved objects to None = objects
 moved objects to (Some i) = insert (remove objects i) to (slice_index_or objects i unnamed)
 
 abbrev pub with_objects : Project → List NamedObject → Project
-with_objects p objects = record p { objects = objects }
+with_objects project objects = record project { objects = objects }
 
 -- the next project, where no early refusal applies
 abbrev pub Accepts : Project → Change → Project → Type 0
-Accepts p (Add name at bytes) q =
-    (object_refusal bytes ≡ None) × (q ≡ with_objects p (insert p.objects at (new_object name bytes)))
-Accepts p (Replace name bytes) q =
+Accepts project (Add name at bytes) q =
+    (object_refusal bytes ≡ None) × (q ≡ with_objects project (insert project.objects at (new_object name bytes)))
+Accepts project (Replace name bytes) q =
     (object_refusal bytes ≡ None)
-    × (q ≡ with_objects p (replaced p.objects (new_object name bytes) (place_of p.objects name)))
-Accepts p (Move name to) q = q ≡ with_objects p (moved p.objects to (place_of p.objects name))
-Accepts p (Remove name) q = q ≡ with_objects p (removed p.objects (place_of p.objects name))
-Accepts p (SetScript text) q = (s : List Statement) × IsScript text s × (q ≡ record p { script = s })
+    × (q ≡ with_objects project (replaced project.objects (new_object name bytes) (place_of project.objects name)))
+Accepts project (Move name to) q = q ≡ with_objects project (moved project.objects to (place_of project.objects name))
+Accepts project (Remove name) q = q ≡ with_objects project (removed project.objects (place_of project.objects name))
+Accepts project (SetScript text) q =
+    (statements : List Statement) × IsScript text statements × (q ≡ record project { script = statements })
 
 -- bytes that are no object
 abbrev pub RefusesObject : List ℕ → Refusal → Type 0
@@ -146,17 +147,18 @@ RefusesScript text r = (why : ScriptRefusal) × (why ≢ reader.NoMemory) × IsR
 
 -- what the readers refuse, where no early refusal applies
 abbrev pub Refuses : Project → Change → Refusal → Type 0
-Refuses p (Add name at bytes) r = RefusesObject bytes r
-Refuses p (Replace name bytes) r = RefusesObject bytes r
-Refuses p (Move name to) r = ⊥
-Refuses p (Remove name) r = ⊥
-Refuses p (SetScript text) r = RefusesScript text r
+Refuses project (Add name at bytes) r = RefusesObject bytes r
+Refuses project (Replace name bytes) r = RefusesObject bytes r
+Refuses project (Move name to) r = ⊥
+Refuses project (Remove name) r = ⊥
+Refuses project (SetScript text) r = RefusesScript text r
 
 -- the next project, or the refusal
 abbrev pub After : Project → Change → Result Project Refusal → Type 0
-After p c (Ok q) = (early_refusal p c ≡ None) × Accepts p c q
-After p c (Err r) = (early_refusal p c ≡ Some r) ⊎ ((early_refusal p c ≡ None) × Refuses p c r)
+After project change (Ok q) = (early_refusal project change ≡ None) × Accepts project change q
+After project change (Err r) =
+    (early_refusal project change ≡ Some r) ⊎ ((early_refusal project change ≡ None) × Refuses project change r)
 
 -- what a linker may answer: the refusal, or out of memory where no early refusal applies
 abbrev pub RefusedAs : Project → Change → Refusal → Type 0
-RefusedAs p c r = After p c (Err r) ⊎ ((early_refusal p c ≡ None) × (r ≡ NoMemory))
+RefusedAs project change r = After project change (Err r) ⊎ ((early_refusal project change ≡ None) × (r ≡ NoMemory))

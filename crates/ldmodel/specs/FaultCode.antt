@@ -27,29 +27,32 @@ use Rattle.ldmodel.specs.declared.sections.Part.{Part}
 use Rattle.ldmodel.specs.declared.sections.Part.TheVariants.{InTable, InCommon}
 
 abbrev pub name_of_symbol : Project → ℕ → ℕ → List ℕ
-name_of_symbol p object symbol = option_map_or (λ (x : NamedSymbol). x.name) (symbol_at p object symbol) []
+name_of_symbol project object symbol =
+    option_map_or (λ (symbol : NamedSymbol). symbol.name) (symbol_at project object symbol) []
 
 abbrev pub section_at : Project → ℕ → SectionIndex → Option LinkedSection
-section_at p object k = option_and_then (λ (o : NamedObject). section_numbered o k) (slice_get p.objects object)
+section_at project object k =
+    option_and_then (λ (object : NamedObject). section_numbered object k) (slice_get project.objects object)
 
 abbrev pub name_of_section : Project → ℕ → SectionIndex → List ℕ
-name_of_section p object k = option_map_or (λ (x : LinkedSection). x.name) (section_at p object k) []
+name_of_section project object k =
+    option_map_or (λ (section : LinkedSection). section.name) (section_at project object k) []
 
 -- a common block counts as a section of this name
 abbrev pub name_of_part : Project → ℕ → Part → List ℕ
-name_of_part p object (InTable k) = name_of_section p object k
-name_of_part p object (InCommon x) = codes "COMMON"
+name_of_part project object (InTable k) = name_of_section project object k
+name_of_part project object (InCommon x) = codes "COMMON"
 
 abbrev pub definer_of : Project → (number : ℕ → ℕ) → code_definer.Definer → Definer
-definer_of p number definer.Script = ByScript
-definer_of p number (definer.Object key) = ByObject (object_name p (number key.0))
+definer_of project number definer.Script = ByScript
+definer_of project number (definer.Object key) = ByObject (object_name project (number key.0))
 
 abbrev pub name_of_output : Project → ℕ → List ℕ
-name_of_output p k =
-    option_map_or (λ (x : OutputSectionAt). x.section.name) (slice_get (output_sections p.script) k) []
+name_of_output project k =
+    option_map_or (λ (x : OutputSectionAt). x.section.name) (slice_get (output_sections project.script) k) []
 
 abbrev pub name_of_region : Project → ℕ → List ℕ
-name_of_region p k = option_map_or (λ (r : Region). r.name) (slice_get (regions p.script) k) []
+name_of_region project k = option_map_or (λ (r : Region). r.name) (slice_get (regions project.script) k) []
 
 -- where a site stands: the place of its object in the project, its section, and the number of its relocation
 pub record SitePlace : Type 0 where
@@ -61,33 +64,36 @@ abbrev pub place_of : (number : ℕ → ℕ) → SiteKey → SitePlace
 place_of number t = record { object = number t.object.0; section = t.section; entry = t.entry }
 
 abbrev pub relocation_at : Project → SitePlace → Option Relocation
-relocation_at p t =
-    option_and_then (λ (x : LinkedSection). slice_get x.relocations t.entry) (section_at p t.object t.section)
+relocation_at project t =
+    option_and_then (λ (section : LinkedSection). slice_get section.relocations t.entry)
+    (section_at project t.object t.section)
 
 abbrev pub offset_of : Project → SitePlace → ℕ
-offset_of p t = option_map_or (λ (x : Relocation). x.offset) (relocation_at p t) 0
+offset_of project t = option_map_or (λ (x : Relocation). x.offset) (relocation_at project t) 0
 
 abbrev pub symbol_of : Project → SitePlace → ℕ
-symbol_of p t = option_map_or (λ (x : Relocation). x.symbol.0) (relocation_at p t) 0
+symbol_of project t = option_map_or (λ (x : Relocation). x.symbol.0) (relocation_at project t) 0
 
 abbrev pub kind_of : Project → SitePlace → RelocationKind
-kind_of p t = option_map_or (λ (x : Relocation). x.kind) (relocation_at p t) kind.None
+kind_of project t = option_map_or (λ (x : Relocation). x.kind) (relocation_at project t) kind.None
 
 -- a fault about a site, by the names of its object and section and its offset there
 abbrev pub at_site : Project → SitePlace → (List ℕ → List ℕ → ℕ → Fault) → Fault
-at_site p t fault = fault (object_name p t.object) (name_of_section p t.object t.section) (offset_of p t)
+at_site project t fault =
+    fault (object_name project t.object) (name_of_section project t.object t.section) (offset_of project t)
 
 abbrev pub undefined_at : Project → SitePlace → Fault
-undefined_at p t =
-    let name : List ℕ = name_of_symbol p t.object (symbol_of p t) in
-    at_site p t (λ object section offset. fault.UndefinedSymbol object section offset name)
+undefined_at project t =
+    let name : List ℕ = name_of_symbol project t.object (symbol_of project t) in
+    at_site project t (λ object section offset. fault.UndefinedSymbol object section offset name)
 
 abbrev pub missing_at : Project → SitePlace → Fault
-missing_at p t = at_site p t (λ object section offset. fault.TargetNotInOutput object section offset (symbol_of p t))
+missing_at project t =
+    at_site project t (λ object section offset. fault.TargetNotInOutput object section offset (symbol_of project t))
 
 abbrev pub overflow_at : Project → SitePlace → ℕ → Fault
-overflow_at p t value =
-    at_site p t (λ object section offset. fault.FieldOverflow object section offset (kind_of p t) value)
+overflow_at project t value =
+    at_site project t (λ object section offset. fault.FieldOverflow object section offset (kind_of project t) value)
 
 abbrev pub assertion_of : Option AssertionAt → Fault
 assertion_of a =
@@ -95,25 +101,28 @@ assertion_of a =
     (option_map_or (λ (x : AssertionAt). x.assertion.message) a [])
 
 unfoldable pub fault_of : Project → (number : ℕ → ℕ) → code.Fault → Fault
-fault_of p number (variant.DuplicateDefinition e first) =
+fault_of project number (variant.DuplicateDefinition e first) =
     let object : ℕ = number e.key in
-    fault.DuplicateDefinition (name_of_symbol p object e.symbol) (object_name p object) (definer_of p number first)
-fault_of p number variant.UndefinedEntry = fault.UndefinedEntry (unwrap_or (entry_symbol p) [])
-fault_of p number (variant.Orphan x) =
+    fault.DuplicateDefinition (name_of_symbol project object e.symbol) (object_name project object)
+    (definer_of project number first)
+fault_of project number variant.UndefinedEntry = fault.UndefinedEntry (unwrap_or (entry_symbol project) [])
+fault_of project number (variant.Orphan x) =
     let object : ℕ = number x.object.0 in
-    fault.Orphan (object_name p object) (name_of_part p object x.part)
-fault_of p number (variant.NotReady line name) =
-    fault.NotReady line (unwrap_or (slice_get (mentioned_names p.script) name.0) [])
-fault_of p number (variant.NoValue line) = fault.NoValue line
-fault_of p number (variant.MovedBack line) = fault.MovedBack line
-fault_of p number (variant.RegionFull x r) = fault.RegionFull (name_of_output p x.0) (name_of_region p r.0)
-fault_of p number (variant.PastAddressSpace line) = fault.PastAddressSpace line
-fault_of p number (variant.AddressesMeet x y) = fault.AddressesMeet (name_of_output p x.0) (name_of_output p y.0)
-fault_of p number (variant.LoadAddressesMeet x y) =
-    fault.LoadAddressesMeet (name_of_output p x.0) (name_of_output p y.0)
-fault_of p number (variant.ImageTooLong length) = fault.ImageTooLong length
-fault_of p number (variant.UndefinedSymbol t) = undefined_at p (place_of number t)
-fault_of p number (variant.TargetNotInOutput t) = missing_at p (place_of number t)
-fault_of p number variant.EntryNotInOutput = fault.EntryNotInOutput
-fault_of p number (variant.FieldOverflow t value) = overflow_at p (place_of number t) value
-fault_of p number (variant.AssertionFailed a) = assertion_of (slice_get (asserts p.script) a.0)
+    fault.Orphan (object_name project object) (name_of_part project object x.part)
+fault_of project number (variant.NotReady line name) =
+    fault.NotReady line (unwrap_or (slice_get (mentioned_names project.script) name.0) [])
+fault_of project number (variant.NoValue line) = fault.NoValue line
+fault_of project number (variant.MovedBack line) = fault.MovedBack line
+fault_of project number (variant.RegionFull x r) =
+    fault.RegionFull (name_of_output project x.0) (name_of_region project r.0)
+fault_of project number (variant.PastAddressSpace line) = fault.PastAddressSpace line
+fault_of project number (variant.AddressesMeet x y) =
+    fault.AddressesMeet (name_of_output project x.0) (name_of_output project y.0)
+fault_of project number (variant.LoadAddressesMeet x y) =
+    fault.LoadAddressesMeet (name_of_output project x.0) (name_of_output project y.0)
+fault_of project number (variant.ImageTooLong length) = fault.ImageTooLong length
+fault_of project number (variant.UndefinedSymbol t) = undefined_at project (place_of number t)
+fault_of project number (variant.TargetNotInOutput t) = missing_at project (place_of number t)
+fault_of project number variant.EntryNotInOutput = fault.EntryNotInOutput
+fault_of project number (variant.FieldOverflow t value) = overflow_at project (place_of number t) value
+fault_of project number (variant.AssertionFailed a) = assertion_of (slice_get (asserts project.script) a.0)

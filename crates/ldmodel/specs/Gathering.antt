@@ -16,7 +16,8 @@ use Rattle.ldmodel.specs.declared.options.Orphans.TheVariants.{Error, Discard}
 
 -- the input statement that takes an input section
 abbrev pub taken_by : Project → InputSection → Option InputStatementAt
-taken_by p s = option_and_then (slice_get (input_statements p.script)) (first_match p.script s.object s.name)
+taken_by project section = option_and_then (slice_get (input_statements project.script))
+    (first_match project.script section.object section.name)
 
 abbrev pub is_discard : InputPlace → Bool
 is_discard (InSection k) = false
@@ -28,12 +29,12 @@ are_discarded Discard = true
 
 -- whether it is left out, by the statement that takes it
 abbrev pub is_out_under : Project → InputSection → Option InputStatementAt → Bool
-is_out_under p s None = (s.size == 0) || are_discarded p.options.orphans
-is_out_under p s (Some i) = is_discard i.place
+is_out_under project section None = (section.size == 0) || are_discarded project.options.orphans
+is_out_under project section (Some i) = is_discard i.place
 
 unfoldable pub is_discarded : Project → InputSection → Bool
-is_discarded p s = is_out_under p s (taken_by p s)
+is_discarded project section = is_out_under project section (taken_by project section)
 
 -- the input sections that are not left out, in their order
 abbrev pub candidates : Project → List InputSection
-candidates p = filter (λ s. not (is_discarded p s)) (input_sections p)
+candidates project = filter (λ s. not (is_discarded project s)) (input_sections project)

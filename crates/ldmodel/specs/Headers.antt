@@ -28,13 +28,15 @@ segment_flags g = 4 + (if g.first.writable then 2 else 0) + (if g.first.executab
 
 -- 56 bytes of a PT_LOAD: p_type, p_flags; p_offset, p_vaddr, p_paddr; p_filesz, p_memsz, p_align
 unfoldable pub program_header : Segment → List ℕ
-program_header g =
-    to_le_bytes w32 1 ++ to_le_bytes w32 (segment_flags g.group)
-    ++ to_le_bytes w64 g.offset ++ to_le_bytes w64 (segment_start g) ++ to_le_bytes w64 (segment_load g)
-    ++ to_le_bytes w64 (file_size g.group) ++ to_le_bytes w64 (memory_size g.group) ++ to_le_bytes w64 page_size
+program_header segment =
+    to_le_bytes w32 1 ++ to_le_bytes w32 (segment_flags segment.group)
+    ++ to_le_bytes w64 segment.offset ++ to_le_bytes w64 (segment_start segment)
+    ++ to_le_bytes w64 (segment_load segment)
+    ++ to_le_bytes w64 (file_size segment.group) ++ to_le_bytes w64 (memory_size segment.group)
+    ++ to_le_bytes w64 page_size
 
 abbrev pub ascending : List Segment → List Segment
-ascending gs = sort_by (λ (g h : Segment). nat_lt (segment_start g) (segment_start h)) gs
+ascending gs = sort_by (λ (segment h : Segment). nat_lt (segment_start segment) (segment_start h)) gs
 
 abbrev pub program_headers : List Segment → List ℕ
 program_headers gs = flat_map program_header (ascending gs)

@@ -16,9 +16,9 @@ use Rattle.ldmodel.specs.declared.sections.Part.TheVariants.{InTable, InCommon}
 
 -- a linked section of object number i
 abbrev pub linked_input : ℕ → NamedObject → LinkedSection → InputSection
-linked_input i o s = record {
+linked_input i object s = record {
   id = record { object = i; part = InTable s.number };
-  object = o.name;
+  object = object.name;
   name = s.name;
   kind = s.kind;
   flags = s.flags;
@@ -51,16 +51,17 @@ block_of object entry _ = None
 
 -- that of an entry, if it owns one. A local entry, as the null entry is, owns none, since it declares no name
 abbrev pub block_at : Project → ℕ → NamedObject → ℕ × NamedSymbol → Option InputSection
-block_at p i o s = block_of o.name (record { object = i; symbol = s.0 }) (decision p s.1.name)
+block_at project i object s = block_of object.name (record { object = i; symbol = s.0 }) (decision project s.1.name)
 
 -- the common blocks that object number i owns, in the order of its symbol table
 abbrev pub common_blocks : Project → ℕ → NamedObject → List InputSection
-common_blocks p i o = filter_map (block_at p i o) (enumerate_from 0 o.object.symbols)
+common_blocks project i object = filter_map (block_at project i object) (enumerate_from 0 object.object.symbols)
 
 -- the sections of object number i
 abbrev pub object_inputs : Project → ℕ → NamedObject → List InputSection
-object_inputs p i o = map (linked_input i o) o.object.sections ++ common_blocks p i o
+object_inputs project i object = map (linked_input i object) object.object.sections ++ common_blocks project i object
 
 -- all input sections, in object order
 unfoldable pub input_sections : Project → List InputSection
-input_sections p = flat_map (λ (o : ℕ × NamedObject). object_inputs p o.0 o.1) (enumerate_from 0 p.objects)
+input_sections project =
+    flat_map (λ (o : ℕ × NamedObject). object_inputs project o.0 o.1) (enumerate_from 0 project.objects)

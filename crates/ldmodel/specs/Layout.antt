@@ -66,31 +66,32 @@ abbrev pub nothing_placed : Layout
 nothing_placed = record { dot = 0; dots = []; inputs = 0; symbols = []; regions = []; sections = [] }
 
 abbrev pub section_named : List PlacedOutput → List ℕ → Option PlacedOutput
-section_named sections name = find (λ (q : PlacedOutput). bytes_eq q.name name) sections
+section_named sections name = find (λ (output : PlacedOutput). bytes_eq output.name name) sections
 
 abbrev pub region_named : List MemoryRegion → List ℕ → Option MemoryRegion
-region_named regions name = find (λ (r : MemoryRegion). bytes_eq r.name name) regions
+region_named regions name = find (λ (region : MemoryRegion). bytes_eq region.name name) regions
 
 abbrev pub symbol_named : List ScriptSymbol → List ℕ → Option ScriptSymbol
-symbol_named symbols name = find (λ (x : ScriptSymbol). bytes_eq x.name name) symbols
+symbol_named symbols name = find (λ (symbol : ScriptSymbol). bytes_eq symbol.name name) symbols
 
 -- the value that the script gives a symbol
 abbrev pub script_value : Layout → List ℕ → Option ℕ
-script_value s name = option_map (λ (x : ScriptSymbol). x.value) (symbol_named s.symbols name)
+script_value layout name = option_map (λ (symbol : ScriptSymbol). symbol.value) (symbol_named layout.symbols name)
 
 abbrev pub section_numbers : Layout → List ℕ → Option SectionNumbers
-section_numbers s name =
-    option_map (λ (q : PlacedOutput). record { start = q.start; load = q.load; size = q.size })
-    (section_named s.sections name)
+section_numbers layout name =
+    option_map (λ (output : PlacedOutput). record { start = output.start; load = output.load; size = output.size })
+    (section_named layout.sections name)
 
 abbrev pub region_numbers : Layout → List ℕ → Option RegionNumbers
-region_numbers s name =
-    option_map (λ (r : MemoryRegion). record { origin = r.origin; extent = r.extent })
-    (region_named s.regions name)
+region_numbers layout name =
+    option_map (λ (region : MemoryRegion). record { origin = region.origin; extent = region.extent })
+    (region_named layout.regions name)
 
 -- an expression of the layout may name what is complete where it stands
 abbrev pub scope_of : Layout → Scope
-scope_of s = record { symbol = script_value s; section = section_numbers s; region = region_numbers s }
+scope_of layout =
+    record { symbol = script_value layout; section = section_numbers layout; region = region_numbers layout }
 
 -- a fault of an expression, with its line
 abbrev pub fault_at : ℕ → ValueFault → Fault
@@ -103,7 +104,7 @@ value_at line (Err f) = Err (fault_at line f)
 
 -- the number of an expression on a line
 unfoldable pub number : Layout → ℕ → Expr → Result ℕ Fault
-number s line e = value_at line (value (scope_of s) s.dot e)
+number layout line e = value_at line (value (scope_of layout) layout.dot e)
 
 -- a whole number that is to be an address, or an end
 abbrev pub address : ℕ → ℕ → Result ℕ Fault
@@ -111,8 +112,8 @@ address line x = if is_address x then Ok x else Err (fault.PastAddressSpace line
 
 -- `.` before a statement is kept
 abbrev pub noted : Layout → Layout
-noted s = record s { dots = s.dots ++ s.dot ∷ [] }
+noted layout = record layout { dots = layout.dots ++ layout.dot ∷ [] }
 
 -- a symbol is given a value
 abbrev pub with_symbol : Layout → List ℕ → ℕ → Layout
-with_symbol s name x = record s { symbols = s.symbols ++ record { name = name; value = x } ∷ [] }
+with_symbol layout name x = record layout { symbols = layout.symbols ++ record { name = name; value = x } ∷ [] }

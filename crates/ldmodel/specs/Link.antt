@@ -32,11 +32,12 @@ duplicate_fault d = fault.DuplicateDefinition d.name d.object d.first
 
 -- names that are defined twice, then an entry symbol that nothing defines
 unfoldable pub name_faults : Project → List Fault
-name_faults p = map duplicate_fault (duplicates p) ++ map UndefinedEntry (option_to_list (undefined_entry p))
+name_faults project =
+    map duplicate_fault (duplicates project) ++ map UndefinedEntry (option_to_list (undefined_entry project))
 
 -- live input sections that no input statement takes
 unfoldable pub gathering_faults : Project → List Fault
-gathering_faults p = map (λ (x : InputSection). Orphan x.object x.name) (orphans p)
+gathering_faults project = map (λ (x : InputSection). Orphan x.object x.name) (orphans project)
 
 -- the longest image (this project's limit)
 abbrev pub max_image_length : ℕ
@@ -44,26 +45,26 @@ max_image_length = 2 ^ 28
 
 -- a layout whose image is not too long
 abbrev pub of_length : ℕ → Layout → Result Layout (List Fault)
-of_length length s = if nat_lt max_image_length length then Err (ImageTooLong length ∷ []) else Ok s
+of_length length layout = if nat_lt max_image_length length then Err (ImageTooLong length ∷ []) else Ok layout
 
 -- a layout in which no output sections meet
 abbrev pub without_overlaps : Project → Layout → List Fault → Result Layout (List Fault)
-without_overlaps p s [] = of_length (image_length p s) s
-without_overlaps p s (f ∷ fs) = Err (f ∷ fs)
+without_overlaps project layout [] = of_length (image_length project layout) layout
+without_overlaps project layout (f ∷ fs) = Err (f ∷ fs)
 
 abbrev pub laid_out : Project → Result Layout Fault → Result Layout (List Fault)
-laid_out p (Err f) = Err (f ∷ [])
-laid_out p (Ok s) = without_overlaps p s (overlaps s.sections)
+laid_out project (Err f) = Err (f ∷ [])
+laid_out project (Ok s) = without_overlaps project s (overlaps s.sections)
 
 -- the layout, or its faults: the first of the placement; else the output sections that meet; else the length
 unfoldable pub layout : Project → Result Layout (List Fault)
-layout p = laid_out p (placement p.script (rows p) (provided p))
+layout project = laid_out project (placement project.script (rows project) (provided project))
 
 abbrev pub faulty : List Fault → Link
 faulty faults = record { status = 1; image = []; map = []; faults = fault_text faults }
 
 abbrev pub good : Project → Layout → Link
-good p s = record { status = 0; image = image p s; map = map_text p s; faults = [] }
+good project layout = record { status = 0; image = image project layout; map = map_text project layout; faults = [] }
 
 -- what comes next, unless a phase has faults
 abbrev pub unless : List Fault → Link → Link
@@ -71,11 +72,12 @@ unless [] next = next
 unless (f ∷ fs) next = faulty (f ∷ fs)
 
 abbrev pub relocated : Project → Layout → Link
-relocated p s = unless (relocation_faults p s) (unless (assertion_faults p s) (good p s))
+relocated project layout =
+    unless (relocation_faults project layout) (unless (assertion_faults project layout) (good project layout))
 
 abbrev pub placed : Project → Result Layout (List Fault) → Link
-placed p (Err faults) = faulty faults
-placed p (Ok s) = relocated p s
+placed project (Err faults) = faulty faults
+placed project (Ok s) = relocated project s
 
 unfoldable pub link : Project → Link
-link p = unless (name_faults p) (unless (gathering_faults p) (placed p (layout p)))
+link project = unless (name_faults project) (unless (gathering_faults project) (placed project (layout project)))

@@ -32,11 +32,11 @@ pub record RefusedEdit : Type 0 where
 -- edits one after the other, the first of these at a place among all: the project that they lead to, or the first that
 -- is refused
 pub data Course : ℕ → Project → List Change → Result Project RefusedEdit → Type 0 where
-  ended : {n : ℕ} {p : Project} → Course n p [] (Ok p)
-  refused : {n : ℕ} {p : Project} {c : Change} {cs : List Change} {why : Refusal}
-      → After p c (Err why) → Course n p (c ∷ cs) (Err (record { place = n; why = why }))
-  accepted : {n : ℕ} {p q : Project} {c : Change} {cs : List Change} {r : Result Project RefusedEdit}
-      → After p c (Ok q) → Course (suc n) q cs r → Course n p (c ∷ cs) r
+  ended : {n : ℕ} {project : Project} → Course n project [] (Ok project)
+  refused : {n : ℕ} {project : Project} {change : Change} {cs : List Change} {why : Refusal}
+      → After project change (Err why) → Course n project (change ∷ cs) (Err (record { place = n; why = why }))
+  accepted : {n : ℕ} {project q : Project} {change : Change} {cs : List Change} {r : Result Project RefusedEdit}
+      → After project change (Ok q) → Course (suc n) q cs r → Course n project (change ∷ cs) r
 
 -- what a link of files answers
 pub data LinkAnswer : Type 0 where
@@ -51,7 +51,7 @@ Linking options script objects r = Course 0 (empty_project options) (link_edits 
 -- that memory is short where this is answered is said by the contracts of the code
 abbrev pub LinkAnswers : LinkOptions → (script : List ℕ) → List ObjectFile → LinkAnswer → Type 0
 LinkAnswers options script objects (Linked result) =
-    (p : Project) × Linking options script objects (Ok p) × (result ≡ link p)
+    (project : Project) × Linking options script objects (Ok project) × (result ≡ link project)
 LinkAnswers options script objects (RefusedAt edit) = Linking options script objects (Err edit)
 LinkAnswers options script objects NoMemory = Unit {0}
 

@@ -20,7 +20,8 @@ use Rattle.ldmodel.specs.declared.sections.Part.TheVariants.{InTable, InCommon}
 
 -- a symbol of object number i, by its number
 abbrev pub symbol_at : Project → ℕ → ℕ → Option NamedSymbol
-symbol_at p i k = option_and_then (λ (o : NamedObject). slice_get o.object.symbols k) (slice_get p.objects i)
+symbol_at project i k =
+    option_and_then (λ (object : NamedObject). slice_get object.object.symbols k) (slice_get project.objects i)
 
 -- the section that a symbol of object number i is defined in
 abbrev pub section_of_place : ℕ → SymbolPlace → Option SectionId
@@ -28,49 +29,54 @@ section_of_place i (place.Section k) = Some (record { object = i; part = InTable
 section_of_place i _ = None
 
 abbrev pub section_of_entry : Project → Entry → Option SectionId
-section_of_entry p e =
-    option_and_then (λ (s : NamedSymbol). section_of_place e.object s.symbol.place) (symbol_at p e.object e.symbol)
+section_of_entry project e =
+    option_and_then (λ (symbol : NamedSymbol). section_of_place e.object symbol.symbol.place)
+    (symbol_at project e.object e.symbol)
 
 -- the section that a name is defined in; a number, as the script's, is in none
 abbrev pub section_of_decision : Project → Decision → Option SectionId
-section_of_decision p (Strong e) = section_of_entry p e
-section_of_decision p (Weak e) = section_of_entry p e
-section_of_decision p (Common owner size alignment) =
+section_of_decision project (Strong e) = section_of_entry project e
+section_of_decision project (Weak e) = section_of_entry project e
+section_of_decision project (Common owner size alignment) =
     Some (record { object = owner.object; part = InCommon (record { 0 = owner.symbol }) })
-section_of_decision p _ = None
+section_of_decision project _ = None
 
 -- the section that a symbol of object number i refers to: a local one its own, another that of its name, also where
 -- the object itself defines that
 abbrev pub section_of_symbol : Project → ℕ → NamedSymbol → Option SectionId
-section_of_symbol p i s =
-    if is_local s.symbol.binding then section_of_place i s.symbol.place else section_of_decision p (decision p s.name)
+section_of_symbol project i symbol =
+    if is_local symbol.symbol.binding then section_of_place i symbol.symbol.place
+    else section_of_decision project (decision project symbol.name)
 
 -- the section of the target of a relocation of object number i, whatever the relocation does
 unfoldable pub target_section : Project → ℕ → Relocation → Option SectionId
-target_section p i r = option_and_then (section_of_symbol p i) (symbol_at p i r.symbol.0)
+target_section project i relocation =
+    option_and_then (section_of_symbol project i) (symbol_at project i relocation.symbol.0)
 
 -- the section of the entry symbol
 unfoldable pub entry_section : Project → Option SectionId
-entry_section p = option_and_then (λ name. section_of_decision p (decision p name)) (entry_symbol p)
+entry_section project =
+    option_and_then (λ name. section_of_decision project (decision project name)) (entry_symbol project)
 
 abbrev pub is_section : Option SectionId → InputSection → Bool
-is_section id s = option_map_or (is_same s.id) id false
+is_section id section = option_map_or (is_same section.id) id false
 
 abbrev pub is_kept : Option InputStatementAt → Bool
 is_kept i = option_map_or (λ (x : InputStatementAt). x.input.keep) i false
 
 -- where garbage collection starts
 abbrev pub is_root : Project → InputSection → Bool
-is_root p s = is_section (entry_section p) s || is_kept (taken_by p s)
+is_root project section = is_section (entry_section project) section || is_kept (taken_by project section)
 
 -- a relocation of one has its target in the other
 abbrev pub refers_to : Project → InputSection → InputSection → Bool
-refers_to p a b = list_any (λ r. is_section (target_section p a.id.object r) b) a.relocations
+refers_to project a b = list_any (λ r. is_section (target_section project a.id.object r) b) a.relocations
 
 -- the live sections, in their order; on the way to one stands none that is left out
 unfoldable pub live : Project → List InputSection
-live p = if p.options.gc then reached (is_root p) (refers_to p) (candidates p) else candidates p
+live project = if project.options.gc then reached (is_root project) (refers_to project) (candidates project)
+    else candidates project
 
 -- the live sections that no statement takes: a fault each
 unfoldable pub orphans : Project → List InputSection
-orphans p = filter (λ s. is_none (taken_by p s)) (live p)
+orphans project = filter (λ s. is_none (taken_by project s)) (live project)

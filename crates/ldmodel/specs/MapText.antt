@@ -10,22 +10,25 @@ use Rattle.ldmodel.specs.SymbolValues.{SymbolValue, Number, NotDefined, NotInOut
 
 -- `entry ADDRESS`
 abbrev pub entry_line : Project → Layout → List ℕ
-entry_line p s = line_of (codes "entry" ∷ hex (number_or_0 (entry_point p s)) ∷ [])
+entry_line project layout = line_of (codes "entry" ∷ hex (number_or_0 (entry_point project layout)) ∷ [])
 
 -- `rwx`, with a hyphen for what a section may not be: it may always be read
 abbrev pub flag_letters : PlacedOutput → List ℕ
-flag_letters q =
-    codes "r" ++ (if q.writable then codes "w" else codes "-") ++ (if q.executable then codes "x" else codes "-")
+flag_letters output =
+    codes "r" ++ (if output.writable then codes "w" else codes "-")
+    ++ (if output.executable then codes "x" else codes "-")
 
 -- `piece ADDRESS SIZE OBJECT SECTION`
 abbrev pub piece_line : PlacedPiece → List ℕ
-piece_line x = line_of (codes "piece" ∷ hex x.start ∷ hex x.piece.size ∷ x.piece.object ∷ x.piece.name ∷ [])
+piece_line placed =
+    line_of (codes "piece" ∷ hex placed.start ∷ hex placed.piece.size ∷ placed.piece.object ∷ placed.piece.name ∷ [])
 
 -- `section NAME START LOAD SIZE FLAGS`, and its input sections
 abbrev pub section_lines : PlacedOutput → List ℕ
-section_lines q =
-    line_of (codes "section" ∷ q.name ∷ hex q.start ∷ hex q.load ∷ hex q.size ∷ flag_letters q ∷ [])
-    ++ flat_map piece_line q.pieces
+section_lines output =
+    line_of (codes "section" ∷ output.name ∷ hex output.start ∷ hex output.load ∷ hex output.size
+    ∷ flag_letters output ∷ [])
+    ++ flat_map piece_line output.pieces
 
 -- 16 hyphens where the symbol's section is not in the output; every symbol that the map lists is defined, so that
 -- `NotDefined` does not come up
@@ -36,7 +39,9 @@ value_word NotInOutput = replicate 16 45
 
 -- `symbol VALUE NAME OWNER`
 abbrev pub symbol_line : Project → OutputSymbol → List ℕ
-symbol_line p x = line_of (codes "symbol" ∷ value_word x.value ∷ x.name ∷ owner p x.decision ∷ [])
+symbol_line project symbol =
+    line_of (codes "symbol" ∷ value_word symbol.value ∷ symbol.name ∷ owner project symbol.decision ∷ [])
 
 unfoldable pub map_text : Project → Layout → List ℕ
-map_text p s = entry_line p s ++ flat_map section_lines s.sections ++ flat_map (symbol_line p) (output_symbols p s)
+map_text project layout = entry_line project layout ++ flat_map section_lines layout.sections
+    ++ flat_map (symbol_line project) (output_symbols project layout)

@@ -70,4 +70,4 @@ in_command (top.Sections items) = flat_map (λ (i : Item). in_item i.command) it
 in_command (top.Directive c) = in_directive c
 
 unfoldable pub mentioned_names : List Statement → List (List ℕ)
-mentioned_names script = flat_map (λ (s : Statement). in_command s.command) script
+mentioned_names script = flat_map (λ (statement : Statement). in_command statement.command) script

@@ -23,42 +23,45 @@ pub record DuplicateDefinition : Type 0 where
 
 -- the name of object number i
 abbrev pub object_name : Project → ℕ → List ℕ
-object_name p i = option_map_or (λ (o : NamedObject). o.name) (slice_get p.objects i) []
+object_name project i = option_map_or (λ (object : NamedObject). object.name) (slice_get project.objects i) []
 
 -- the strong definitions of a name
 abbrev pub strong_definitions : Project → List ℕ → List Declaration
-strong_definitions p name = filter is_strong (entries p.objects name)
+strong_definitions project name = filter is_strong (entries project.objects name)
 
 abbrev pub is_first_of : List Declaration → Declaration → Bool
 is_first_of [] d = false
 is_first_of (x ∷ xs) d = is_same_entry x.entry d.entry
 
 abbrev pub first_among : Project → List Declaration → Definer
-first_among p [] = ByScript
-first_among p (x ∷ xs) = ByObject (object_name p x.entry.object)
+first_among project [] = ByScript
+first_among project (x ∷ xs) = ByObject (object_name project x.entry.object)
 
 -- a strong definition that isn't the first one of its name
 abbrev pub is_duplicate : Project → Declaration → Bool
-is_duplicate p d = is_strong d && (is_assigned p.script d.name || not (is_first_of (strong_definitions p d.name) d))
+is_duplicate project d =
+    is_strong d && (is_assigned project.script d.name || not (is_first_of (strong_definitions project d.name) d))
 
 abbrev pub first_definer : Project → List ℕ → Definer
-first_definer p name = if is_assigned p.script name then ByScript else first_among p (strong_definitions p name)
+first_definer project name =
+    if is_assigned project.script name then ByScript else first_among project (strong_definitions project name)
 
 abbrev pub duplicate : Project → Declaration → DuplicateDefinition
-duplicate p d = record { name = d.name; object = object_name p d.entry.object; first = first_definer p d.name }
+duplicate project d =
+    record { name = d.name; object = object_name project d.entry.object; first = first_definer project d.name }
 
 -- in object order, then symbol order
 unfoldable pub duplicates : Project → List DuplicateDefinition
-duplicates p = map (duplicate p) (filter (is_duplicate p) (declarations p.objects))
+duplicates project = map (duplicate project) (filter (is_duplicate project) (declarations project.objects))
 
 abbrev pub if_undefined : List ℕ → Decision → Option (List ℕ)
 if_undefined name Undefined = Some name
 if_undefined name _ = None
 
 abbrev pub undefined_among : Project → Option (List ℕ) → Option (List ℕ)
-undefined_among p None = None
-undefined_among p (Some name) = if_undefined name (decision p name)
+undefined_among project None = None
+undefined_among project (Some name) = if_undefined name (decision project name)
 
 -- the entry symbol, if it is undefined
 unfoldable pub undefined_entry : Project → Option (List ℕ)
-undefined_entry p = undefined_among p (entry_symbol p)
+undefined_entry project = undefined_among project (entry_symbol project)

@@ -60,7 +60,7 @@ unfoldable pub declarations_of : List (ℕ × List NamedSymbol) → List Declara
 declarations_of tables = flat_map declarations_in tables
 
 abbrev pub symbol_tables : List NamedObject → List (List NamedSymbol)
-symbol_tables objects = map (λ (o : NamedObject). o.object.symbols) objects
+symbol_tables objects = map (λ (object : NamedObject). object.object.symbols) objects
 
 -- all declarations, in object order and then symbol order
 abbrev pub declarations : List NamedObject → List Declaration
@@ -141,7 +141,8 @@ decided by_script by_provide ds =
 
 -- what a name stands for
 unfoldable pub decision : Project → List ℕ → Decision
-decision p name = decided (is_assigned p.script name) (is_provided p.script name) (entries p.objects name)
+decision project name =
+    decided (is_assigned project.script name) (is_provided project.script name) (entries project.objects name)
 
 abbrev pub is_provided_case : Decision → Bool
 is_provided_case Provided = true
@@ -149,12 +150,12 @@ is_provided_case _ = false
 
 -- the names of the script's PROVIDEs that are in force, in the order of the text
 unfoldable pub provided : Project → List (List ℕ)
-provided p = filter (λ name. is_provided_case (decision p name)) (provided_names p.script)
+provided project = filter (λ name. is_provided_case (decision project name)) (provided_names project.script)
 
 -- the entry symbol (GNU ld manual, "Setting the Entry Point"): that of the option, else that of ENTRY; without one the
 -- entry point is 0
 unfoldable pub entry_symbol : Project → Option (List ℕ)
-entry_symbol p = option_or p.options.entry (entry_of p.script)
+entry_symbol project = option_or project.options.entry (entry_of project.script)
 
 -- a list without what stands in it a second time
 abbrev pub distinct : List (List ℕ) → List (List ℕ)
@@ -166,4 +167,5 @@ names_in_objects objects = map (λ (d : Declaration). d.name) (declarations obje
 
 -- the names that objects declare or that the script assigns or provides, each once
 unfoldable pub declared_names : Project → List (List ℕ)
-declared_names p = distinct (names_in_objects p.objects ++ assigned_names p.script ++ provided_names p.script)
+declared_names project =
+    distinct (names_in_objects project.objects ++ assigned_names project.script ++ provided_names project.script)

@@ -30,15 +30,17 @@ is_defined Duplicate = false
 is_defined _ = true
 
 abbrev pub output_symbol : Project → Layout → List ℕ → OutputSymbol
-output_symbol p s name = record { name = name; decision = decision p name; value = name_value p s name }
+output_symbol project layout name =
+    record { name = name; decision = decision project name; value = name_value project layout name }
 
 unfoldable pub output_symbols : Project → Layout → List OutputSymbol
-output_symbols p s =
-    filter (λ (x : OutputSymbol). is_defined x.decision) (map (output_symbol p s) (in_byte_order (declared_names p)))
+output_symbols project layout =
+    filter (λ (symbol : OutputSymbol). is_defined symbol.decision)
+    (map (output_symbol project layout) (in_byte_order (declared_names project)))
 
 -- the object that a name's definition stands in, or `script`
 abbrev pub owner : Project → Decision → List ℕ
-owner p (Strong e) = object_name p e.object
-owner p (Weak e) = object_name p e.object
-owner p (Common e size alignment) = object_name p e.object
-owner p _ = codes "script"
+owner project (Strong e) = object_name project e.object
+owner project (Weak e) = object_name project e.object
+owner project (Common e size alignment) = object_name project e.object
+owner project _ = codes "script"

@@ -56,15 +56,16 @@ use Rattle.ldmodel.specs.Rows.{Piece, piece_alignment}
 
 -- NAME = e
 abbrev pub assigned : Layout → ℕ → Assignment → Result Layout Fault
-assigned s line a = and_then (number s line a.value) (λ x. Ok (with_symbol s a.name x))
+assigned layout line a = and_then (number layout line a.value) (λ x. Ok (with_symbol layout a.name x))
 
 -- NAME = e; PROVIDE(NAME = e), which does nothing where it is not in force; ASSERT, which is tested at the end of the
 -- link
 unfoldable pub directive_step : List (List ℕ) → Layout → ℕ → Directive → Result Layout Fault
-directive_step provided s line (directive.Assign a) = assigned s line a
-directive_step provided s line (directive.Provide a) = if list_any (bytes_eq a.name) provided then assigned s line a
-    else Ok s
-directive_step provided s line (directive.Assert a) = Ok s
+directive_step provided layout line (directive.Assign a) = assigned layout line a
+directive_step provided layout line (directive.Provide a) =
+    if list_any (bytes_eq a.name) provided then assigned layout line a
+    else Ok layout
+directive_step provided layout line (directive.Assert a) = Ok layout
 
 -- THE HEAD of an output section: its alignment, start and load address (GNU ld manual, "Output Section Address",
 -- "Output Section LMA" and "Forced Output Alignment"). In its expressions `.` is the value before the section. That an
@@ -85,8 +86,8 @@ pub record Head : Type 0 where
 
 -- the number of an expression that may be absent
 abbrev pub number_if_given : Layout → ℕ → Option Expr → Result (Option ℕ) Fault
-number_if_given s line None = Ok None
-number_if_given s line (Some e) = and_then (number s line e) (λ x. Ok (Some x))
+number_if_given layout line None = Ok None
+number_if_given layout line (Some e) = and_then (number layout line e) (λ x. Ok (Some x))
 
 -- the expression of AT(e)
 abbrev pub given_load : Load → Option Expr
@@ -101,10 +102,10 @@ given_alignment line (Some a) = if is_power_of_two a then Ok a else Err (NoValue
 
 -- the expressions of a head, in the order of the text
 unfoldable pub given : Layout → ℕ → OutputSection → Result Given Fault
-given s line o =
-    and_then (number_if_given s line o.address) (λ at.
-    and_then (number_if_given s line (given_load o.load)) (λ load.
-    and_then (number_if_given s line o.alignment) (λ align.
+given layout line o =
+    and_then (number_if_given layout line o.address) (λ at.
+    and_then (number_if_given layout line (given_load o.load)) (λ load.
+    and_then (number_if_given layout line o.alignment) (λ align.
     and_then (given_alignment line align) (λ alignment.
     Ok (record { address = at; load = load; alignment = alignment })))))
 
@@ -115,17 +116,17 @@ widest a (p ∷ row) = widest (max a (piece_alignment p)) row
 
 -- the next free address of a region
 abbrev pub next_free : Layout → List ℕ → ℕ
-next_free s r = option_map_or (λ (x : MemoryRegion). x.next) (region_named s.regions r) 0
+next_free layout r = option_map_or (λ (x : MemoryRegion). x.next) (region_named layout.regions r) 0
 
 -- where a section without an address may begin: at the next free address of its region, or at `.`
 abbrev pub first_free : Layout → Option (List ℕ) → ℕ
-first_free s None = s.dot
-first_free s (Some r) = next_free s r
+first_free layout None = layout.dot
+first_free layout (Some r) = next_free layout r
 
 -- an address that is given is taken as it is
 unfoldable pub section_start : Layout → ℕ → Option (List ℕ) → Option ℕ → ℕ → Result ℕ Fault
-section_start s line region (Some x) alignment = Ok x
-section_start s line region None alignment = address line (next_multiple_of (first_free s region) alignment)
+section_start layout line region (Some x) alignment = Ok x
+section_start layout line region None alignment = address line (next_multiple_of (first_free layout region) alignment)
 
 abbrev pub same_region : Option (List ℕ) → Option (List ℕ) → Bool
 same_region None None = true
@@ -134,33 +135,34 @@ same_region _ _ = false
 
 -- start less load address, modulo 2^64
 abbrev pub difference_of : PlacedOutput → ℕ
-difference_of q = minus_modulo q.start q.load
+difference_of output = minus_modulo output.start output.load
 
 -- that of the last earlier output section of a region, 0 without one; sections that name no region count as one region
 unfoldable pub difference_in : List PlacedOutput → Option (List ℕ) → ℕ
 difference_in sections region =
-    option_map_or difference_of (last_or None (filter (λ (q : PlacedOutput). same_region q.region region) sections)) 0
+    option_map_or difference_of (last_or None
+    (filter (λ (output : PlacedOutput). same_region output.region region) sections)) 0
 
 -- without AT(e) or AT>region: the start, where an address is given; else as far from the start as in the last section
 -- of the same region
 abbrev pub unstated_load : Layout → Option (List ℕ) → Option ℕ → ℕ → ℕ
-unstated_load s region (Some x) start = start
-unstated_load s region None start = minus_modulo start (difference_in s.sections region)
+unstated_load layout region (Some x) start = start
+unstated_load layout region None start = minus_modulo start (difference_in layout.sections region)
 
 unfoldable pub load_address : Layout → ℕ → OutputSection → Given → ℕ → ℕ → Result ℕ Fault
-load_address s line o g alignment start = load_by o.load g.load where
+load_address layout line o g alignment start = load_by o.load g.load where
   load_by : Load → Option ℕ → Result ℕ Fault
-  load_by (InRegion r) load = address line (next_multiple_of (next_free s r) alignment)
+  load_by (InRegion r) load = address line (next_multiple_of (next_free layout r) alignment)
   load_by l (Some x) = Ok x
-  load_by l None = Ok (unstated_load s o.region g.address start)
+  load_by l None = Ok (unstated_load layout o.region g.address start)
 
 -- faults come in this order: the expressions, the start, the load address
 unfoldable pub head_of : Layout → List Piece → ℕ → OutputSection → Result Head Fault
-head_of s row line o =
-    and_then (given s line o) (λ g.
+head_of layout row line o =
+    and_then (given layout line o) (λ g.
     let alignment : ℕ = widest g.alignment row in
-    and_then (section_start s line o.region g.address alignment) (λ start.
-    and_then (load_address s line o g alignment start) (λ load.
+    and_then (section_start layout line o.region g.address alignment) (λ start.
+    and_then (load_address layout line o g alignment start) (λ load.
     Ok (record { alignment = alignment; start = start; load = load }))))
 
 -- THE BODY of an output section (GNU ld manual, "Output Section Description", "Output Section Data" and "The Location
@@ -180,7 +182,7 @@ pub record Body : Type 0 where
 
 -- `.` goes on to a number
 abbrev pub with_dot : Body → ℕ → Body
-with_dot b x = record b { layout = record b.layout { dot = x } }
+with_dot body x = record body { layout = record body.layout { dot = x } }
 
 -- the least multiple of its alignment not below `.`
 abbrev pub piece_start : ℕ → Piece → ℕ
@@ -188,55 +190,56 @@ piece_start dot p = next_multiple_of dot (piece_alignment p)
 
 -- the next entry of the row takes its place
 unfoldable pub piece_placed : ℕ → Body → Piece → List Piece → Result Body Fault
-piece_placed line b p rest =
-    let start : ℕ = piece_start b.layout.dot p in
+piece_placed line body p rest =
+    let start : ℕ = piece_start body.layout.dot p in
     and_then (address line (start + p.size)) (λ end.
-    Ok (record (with_dot b end) { rest = rest; pieces = b.pieces ++ record { start = start; piece = p } ∷ [] }))
+    Ok (record (with_dot body end) { rest = rest; pieces = body.pieces ++ record { start = start; piece = p } ∷ [] }))
 
 -- the entries of input statement number n: those with this number that the row begins with. In the rows of `Rows` these
 -- are all entries of the statement, since a row goes statement by statement
 unfoldable pub pieces_placed : ℕ → ℕ → Body → List Piece → Result Body Fault
-pieces_placed line n b [] = Ok b
-pieces_placed line n b (p ∷ rest) =
-    if p.statement == n then and_then (piece_placed line b p rest) (λ c. pieces_placed line n c rest) else Ok b
+pieces_placed line n body [] = Ok body
+pieces_placed line n body (p ∷ rest) =
+    if p.statement == n then and_then (piece_placed line body p rest) (λ c. pieces_placed line n c rest) else Ok body
 
 -- an input statement; input statements are numbered from 0 in the order of the script
 abbrev pub input_step : ℕ → Body → Result Body Fault
-input_step line b =
-    and_then (pieces_placed line b.layout.inputs b b.rest) (λ c.
-    Ok (record c { layout = record c.layout { inputs = b.layout.inputs + 1 } }))
+input_step line body =
+    and_then (pieces_placed line body.layout.inputs body body.rest) (λ c.
+    Ok (record c { layout = record c.layout { inputs = body.layout.inputs + 1 } }))
 
 abbrev pub with_data : Body → List ℕ → Body
-with_data b bytes =
-    record b { data_commands = b.data_commands ++ record { start = b.layout.dot; bytes = bytes } ∷ [] }
+with_data body bytes =
+    record body { data_commands = body.data_commands ++ record { start = body.layout.dot; bytes = bytes } ∷ [] }
 
 -- BYTE, SHORT, LONG, QUAD: the lowest bytes of a number, the lowest of them first, where `.` stands
 abbrev pub data_step : ℕ → Body → Width → Expr → Result Body Fault
-data_step line b w e =
-    and_then (number b.layout line e) (λ x.
-    and_then (address line (b.layout.dot + byte_count w)) (λ end.
-    Ok (with_dot (with_data b (little_bytes (byte_count w) x)) end)))
+data_step line body w e =
+    and_then (number body.layout line e) (λ x.
+    and_then (address line (body.layout.dot + byte_count w)) (λ end.
+    Ok (with_dot (with_data body (little_bytes (byte_count w) x)) end)))
 
 -- `.` goes on to a whole number, and not back
 abbrev pub moved_on : ℕ → Body → ℕ → Result Body Fault
-moved_on line b to =
-    if nat_lt to b.layout.dot then Err (MovedBack line) else and_then (address line to) (λ x. Ok (with_dot b x))
+moved_on line body to =
+    if nat_lt to body.layout.dot then Err (MovedBack line) else and_then (address line to) (λ x. Ok (with_dot body x))
 
 -- `. = . + e`, also spelled `. += e`
 abbrev pub advanced : ℕ → Body → Expr → Result Body Fault
-advanced line b e = and_then (number b.layout line e) (λ x. moved_on line b (b.layout.dot + x))
+advanced line body e = and_then (number body.layout line e) (λ x. moved_on line body (body.layout.dot + x))
 
 -- `. = ALIGN(e)`, a value modulo 2^64; `. = e`, which counts from the section's start
 abbrev pub set_to : ℕ → Body → Option DotForm → Result Body Fault
-set_to line b (Some (Advance e)) = advanced line b e
-set_to line b (Some (Align e)) = and_then (number b.layout line (expression.AlignDot e)) (λ x. moved_on line b x)
-set_to line b (Some (Offset e)) = and_then (number b.layout line e) (λ x. moved_on line b (b.start + x))
+set_to line body (Some (Advance e)) = advanced line body e
+set_to line body (Some (Align e)) =
+    and_then (number body.layout line (expression.AlignDot e)) (λ x. moved_on line body x)
+set_to line body (Some (Offset e)) = and_then (number body.layout line e) (λ x. moved_on line body (body.start + x))
 -- no script has another form
-set_to line b None = Ok b
+set_to line body None = Ok body
 
 abbrev pub dot_step : ℕ → Body → DotCommand → Result Body Fault
-dot_step line b (Add e) = advanced line b e
-dot_step line b (Set e) = set_to line b (dot_form e)
+dot_step line body (Add e) = advanced line body e
+dot_step line body (Set e) = set_to line body (dot_form e)
 
 unfoldable pub body_command_step : List (List ℕ) → ℕ → Body → BodyCommand → Result Body Fault
 body_command_step provided line b (body.Dot c) = dot_step line b c
@@ -247,7 +250,7 @@ body_command_step provided line b (body.Input i) = input_step line b
 
 -- a statement of the body
 abbrev pub body_step : List (List ℕ) → Body → BodyStatement → Result Body Fault
-body_step provided b s = body_command_step provided s.line (record b { layout = noted b.layout }) s.command
+body_step provided body s = body_command_step provided s.line (record body { layout = noted body.layout }) s.command
 
 -- THE END of an output section: its size, load size and flags, whether its memory regions have room for it, and where
 -- they go on (GNU ld manual, "Output Section Region"; gABI, "Sections": SHF_WRITE and SHF_EXECINSTR). That a region
@@ -259,26 +262,27 @@ is_nobits Nobits = true
 is_nobits _ = false
 
 abbrev pub is_empty : PlacedPiece → Bool
-is_empty x = x.piece.size == 0
+is_empty placed = placed.piece.size == 0
 
 -- an input section that brings bytes into the file
 abbrev pub is_in_file : PlacedPiece → Bool
-is_in_file x = not (is_nobits x.piece.kind) && not (is_empty x)
+is_in_file placed = not (is_nobits placed.piece.kind) && not (is_empty placed)
 
 -- a data command is in a body, or such an input section
 abbrev pub has_contents : Body → Bool
-has_contents b = not (length b.data_commands == 0) || list_any is_in_file b.pieces
+has_contents body = not (length body.data_commands == 0) || list_any is_in_file body.pieces
 
 -- an input section of nonzero size has a flag
 abbrev pub has_flag : ℕ → Body → Bool
-has_flag flag b = list_any (λ (x : PlacedPiece). not (bit_and x.piece.flags flag == 0) && not (is_empty x)) b.pieces
+has_flag flag body =
+    list_any (λ (placed : PlacedPiece). not (bit_and placed.piece.flags flag == 0) && not (is_empty placed)) body.pieces
 
 -- it has file bytes if there is something of that kind in it. The flags are the union over the input sections of
 -- nonzero size; a section that takes memory but no file bytes may be written
 unfoldable pub placed_section : OutputSection → Head → Body → PlacedOutput
-placed_section o h b =
-    let size : ℕ = b.layout.dot - h.start in
-    let in_file : Bool = not (size == 0) && has_contents b in
+placed_section o h body =
+    let size : ℕ = body.layout.dot - h.start in
+    let in_file : Bool = not (size == 0) && has_contents body in
     record {
       name = o.name;
       region = o.region;
@@ -288,21 +292,22 @@ placed_section o h b =
       load = h.load;
       has_file_bytes = in_file;
       load_size = if in_file then size else 0;
-      writable = has_flag SHF_WRITE b || (not (size == 0) && not in_file);
-      executable = has_flag SHF_EXECINSTR b;
+      writable = has_flag SHF_WRITE body || (not (size == 0) && not in_file);
+      executable = has_flag SHF_EXECINSTR body;
       fill = o.fill;
-      pieces = b.pieces;
-      data_commands = b.data_commands;
+      pieces = body.pieces;
+      data_commands = body.data_commands;
     }
 
 -- a range of addresses of nonzero size lies in a region
 abbrev pub is_within : MemoryRegion → ℕ → ℕ → Bool
-is_within r at size = (size == 0) || (nat_le r.origin at && nat_le (at + size) (r.origin + r.extent))
+is_within region at size =
+    (size == 0) || (nat_le region.origin at && nat_le (at + size) (region.origin + region.extent))
 
 -- a section, where the region that it names, if any, has room for a range
 abbrev pub with_room : Option MemoryRegion → ℕ → ℕ → PlacedOutput → Result PlacedOutput Fault
-with_room None at size q = Ok q
-with_room (Some r) at size q = if is_within r at size then Ok q else Err (RegionFull q.name r.name)
+with_room None at size output = Ok output
+with_room (Some r) at size output = if is_within r at size then Ok output else Err (RegionFull output.name r.name)
 
 -- the region of AT>region
 abbrev pub load_region : Load → Option (List ℕ)
@@ -311,53 +316,58 @@ load_region (At e) = None
 load_region (InRegion r) = Some r
 
 abbrev pub find_region : Layout → Option (List ℕ) → Option MemoryRegion
-find_region s r = option_and_then (region_named s.regions) r
+find_region layout r = option_and_then (region_named layout.regions) r
 
 -- a region's next free address, where it is the one that is named
 abbrev pub freed_from : Option (List ℕ) → ℕ → List MemoryRegion → List MemoryRegion
 freed_from None next regions = regions
 freed_from (Some name) next regions =
-    map (λ (r : MemoryRegion). if bytes_eq r.name name then record r { next = next } else r) regions
+    map (λ (region : MemoryRegion). if bytes_eq region.name name then record region { next = next } else region) regions
 
 -- after a section its region goes on at its end, then that of AT>region at its load end
 abbrev pub with_section : Layout → OutputSection → PlacedOutput → Layout
-with_section s o q = record s {
-  regions = freed_from (load_region o.load) (q.load + q.load_size) (freed_from o.region (q.start + q.size) s.regions);
-  sections = s.sections ++ q ∷ [];
+with_section layout o output = record layout {
+  regions = freed_from (load_region o.load) (output.load + output.load_size)
+      (freed_from o.region (output.start + output.size) layout.regions);
+  sections = layout.sections ++ output ∷ [];
 }
 
 -- faults come in this order: the region, the region of load addresses, the load end
 unfoldable pub section_end : ℕ → OutputSection → Head → Body → Result Layout Fault
-section_end line o h b =
-    let q : PlacedOutput = placed_section o h b in
-    and_then (with_room (find_region b.layout o.region) q.start q.size q) (λ _.
-    and_then (with_room (find_region b.layout (load_region o.load)) q.load q.load_size q) (λ _.
+section_end line o h body =
+    let q : PlacedOutput = placed_section o h body in
+    and_then (with_room (find_region body.layout o.region) q.start q.size q) (λ _.
+    and_then (with_room (find_region body.layout (load_region o.load)) q.load q.load_size q) (λ _.
     and_then (address line (q.load + q.load_size)) (λ _.
-    Ok (with_section b.layout o q))))
+    Ok (with_section body.layout o q))))
 
 -- THE WHOLE (GNU ld manual, "SECTIONS Command", "MEMORY Command" and "The Location Counter"). What `.` is after each
 -- statement is this project's own where the manual leaves it open.
 
 abbrev pub with_region : Layout → List ℕ → ℕ → ℕ → Layout
-with_region s name origin extent =
-    record s { regions = s.regions ++ record { name = name; origin = origin; extent = extent; next = origin } ∷ [] }
+with_region layout name origin extent =
+    record layout {
+      regions = layout.regions ++ record { name = name; origin = origin; extent = extent; next = origin }
+          ∷ [];
+    }
 
 -- a region of MEMORY, whose next free address is at first where it begins
 unfoldable pub region_step : Layout → Region → Result Layout Fault
-region_step s r =
-    and_then (number s r.line r.origin) (λ origin.
-    and_then (number s r.line r.extent) (λ extent.
-    Ok (with_region s r.name origin extent)))
+region_step layout r =
+    and_then (number layout r.line r.origin) (λ origin.
+    and_then (number layout r.line r.extent) (λ extent.
+    Ok (with_region layout r.name origin extent)))
 
 -- outside output sections `.` may go back, and a sum is one of expressions, modulo 2^64
 abbrev pub free_dot_step : Layout → ℕ → DotCommand → Result Layout Fault
-free_dot_step s line (Set e) = and_then (number s line e) (λ x. Ok (record s { dot = x }))
-free_dot_step s line (Add e) = and_then (number s line e) (λ x. Ok (record s { dot = plus_modulo s.dot x }))
+free_dot_step layout line (Set e) = and_then (number layout line e) (λ x. Ok (record layout { dot = x }))
+free_dot_step layout line (Add e) =
+    and_then (number layout line e) (λ x. Ok (record layout { dot = plus_modulo layout.dot x }))
 
 -- a section begins to be placed
 abbrev pub opened : Layout → List Piece → Head → Body
-opened s row h = record {
-  layout = record s { dot = h.start };
+opened layout row h = record {
+  layout = record layout { dot = h.start };
   start = h.start;
   rest = row;
   pieces = [];
@@ -366,35 +376,37 @@ opened s row h = record {
 
 -- head, body and end of an output section; after it `.` is its end
 unfoldable pub section_step : List (List ℕ) → List Piece → Layout → ℕ → OutputSection → Result Layout Fault
-section_step provided row s line o =
-    and_then (head_of s row line o) (λ h.
-    and_then (run (body_step provided) (opened s row h) o.body) (λ b.
+section_step provided row layout line o =
+    and_then (head_of layout row line o) (λ h.
+    and_then (run (body_step provided) (opened layout row h) o.body) (λ b.
     section_end line o h b))
 
 -- the row of the next output section: its number is how many sections are complete, since each output section statement
 -- adds one, and `/DISCARD/` none and has no row
 abbrev pub next_row : List (List Piece) → Layout → List Piece
-next_row rows s = slice_index_or rows (length s.sections) []
+next_row rows layout = slice_index_or rows (length layout.sections) []
 
 unfoldable pub item_command_step : List (List Piece) → List (List ℕ) → ℕ → Layout → ItemCommand → Result Layout Fault
-item_command_step rows provided line s (item.Dot c) = free_dot_step s line c
-item_command_step rows provided line s (item.Directive c) = directive_step provided s line c
-item_command_step rows provided line s (item.Section o) = section_step provided (next_row rows s) s line o
-item_command_step rows provided line s (item.Discard inputs) = Ok (record s { inputs = s.inputs + length inputs })
+item_command_step rows provided line layout (item.Dot c) = free_dot_step layout line c
+item_command_step rows provided line layout (item.Directive c) = directive_step provided layout line c
+item_command_step rows provided line layout (item.Section o) =
+    section_step provided (next_row rows layout) layout line o
+item_command_step rows provided line layout (item.Discard inputs) =
+    Ok (record layout { inputs = layout.inputs + length inputs })
 
 -- a statement of SECTIONS
 abbrev pub item_step : List (List Piece) → List (List ℕ) → Layout → Item → Result Layout Fault
-item_step rows provided s i = item_command_step rows provided i.line (noted s) i.command
+item_step rows provided layout i = item_command_step rows provided i.line (noted layout) i.command
 
 unfoldable pub command_step : List (List Piece) → List (List ℕ) → ℕ → Layout → Command → Result Layout Fault
-command_step rows provided line s (top.Entry name) = Ok s
-command_step rows provided line s (top.Memory regions) = run region_step s regions
-command_step rows provided line s (top.Sections items) = run (item_step rows provided) s items
-command_step rows provided line s (top.Directive c) = directive_step provided s line c
+command_step rows provided line layout (top.Entry name) = Ok layout
+command_step rows provided line layout (top.Memory regions) = run region_step layout regions
+command_step rows provided line layout (top.Sections items) = run (item_step rows provided) layout items
+command_step rows provided line layout (top.Directive c) = directive_step provided layout line c
 
 -- a statement of the script
 abbrev pub statement_step : List (List Piece) → List (List ℕ) → Layout → Statement → Result Layout Fault
-statement_step rows provided s x = command_step rows provided x.line s x.command
+statement_step rows provided layout x = command_step rows provided x.line layout x.command
 
 -- the layout of a script with these rows, in which the PROVIDEs of these names are in force; or its first fault
 unfoldable pub placement : List Statement → List (List Piece) → List (List ℕ) → Result Layout Fault

@@ -20,19 +20,19 @@ use Rattle.ldmodel.specs.declared.segment.Segment as code
 
 -- the numbers of an output section
 abbrev pub placed_of : PlacedOutput → Placed
-placed_of q = record {
-  start = q.start;
-  size = q.size;
-  load = q.load;
-  has_file_bytes = q.has_file_bytes;
-  load_size = q.load_size;
-  alignment = q.alignment;
-  writable = q.writable;
-  executable = q.executable;
+placed_of output = record {
+  start = output.start;
+  size = output.size;
+  load = output.load;
+  has_file_bytes = output.has_file_bytes;
+  load_size = output.load_size;
+  alignment = output.alignment;
+  writable = output.writable;
+  executable = output.executable;
 }
 
 abbrev pub starts_of : PlacedOutput → List ℕ
-starts_of q = map (λ (x : PlacedPiece). x.start) q.pieces
+starts_of output = map (λ (placed : PlacedPiece). placed.start) output.pieces
 
 -- a data command, with the number of its output section
 pub record NumberedData : Type 0 where
@@ -60,28 +60,28 @@ abbrev pub symbol_of : List Statement → code_symbol.ScriptSymbol → ScriptSym
 symbol_of script x = record { name = name_given_by script x.command.0; value = x.value }
 
 abbrev pub region_of : MemoryRegion → PlacedRegion
-region_of r = record { origin = r.origin; extent = r.extent }
+region_of region = record { origin = region.origin; extent = region.extent }
 
 -- what is lent is the layout of a script
-pub record IsPlacementView (script : List Statement) (s : Layout) (view : PlacementView) : Type 0 where
-  pub sections : view.sections.now ≡ map placed_of s.sections
-  pub starts : view.starts.now ≡ flat_map starts_of s.sections
-  pub data_commands : map data_of view.data_commands.now ≡ flat_map numbered (enumerate_from 0 s.sections)
-  pub dots : view.dots.now ≡ s.dots
-  pub symbols : map (symbol_of script) view.symbols.now ≡ s.symbols
-  pub regions : view.regions.now ≡ map region_of s.regions
+pub record IsPlacementView (script : List Statement) (layout : Layout) (view : PlacementView) : Type 0 where
+  pub sections : view.sections.now ≡ map placed_of layout.sections
+  pub starts : view.starts.now ≡ flat_map starts_of layout.sections
+  pub data_commands : map data_of view.data_commands.now ≡ flat_map numbered (enumerate_from 0 layout.sections)
+  pub dots : view.dots.now ≡ layout.dots
+  pub symbols : map (symbol_of script) view.symbols.now ≡ layout.symbols
+  pub regions : view.regions.now ≡ map region_of layout.regions
 
 -- a segment of the code
-pub record IsSegment (sections : List PlacedOutput) (g : Segment) (x : code.Segment) : Type 0 where
-  pub offset : x.offset ≡ g.offset
-  pub start : x.start ≡ segment_start g
-  pub load : x.load ≡ segment_load g
-  pub in_file : x.file_size ≡ file_size g.group
-  pub in_memory : x.memory_size ≡ memory_size g.group
-  pub writable : x.writable ≡ g.group.first.writable
-  pub executable : x.executable ≡ g.group.first.executable
-  pub first : slice_get sections x.first.0 ≡ Some g.group.first
-  pub last : slice_get sections x.last.0 ≡ last_or (Some g.group.first) g.group.others
+pub record IsSegment (sections : List PlacedOutput) (segment : Segment) (x : code.Segment) : Type 0 where
+  pub offset : x.offset ≡ segment.offset
+  pub start : x.start ≡ segment_start segment
+  pub load : x.load ≡ segment_load segment
+  pub in_file : x.file_size ≡ file_size segment.group
+  pub in_memory : x.memory_size ≡ memory_size segment.group
+  pub writable : x.writable ≡ segment.group.first.writable
+  pub executable : x.executable ≡ segment.group.first.executable
+  pub first : slice_get sections x.first.0 ≡ Some segment.group.first
+  pub last : slice_get sections x.last.0 ≡ last_or (Some segment.group.first) segment.group.others
 
 -- the segments of a link
 abbrev pub AreSegments : List PlacedOutput → List Segment → List code.Segment → Type 0

@@ -33,49 +33,53 @@ is_evaluated _ = true
 
 -- the sites of a section that starts at an address, in the order of its table
 abbrev pub sites_at : NamedObject → LinkedSection → ℕ → List Site
-sites_at o x start =
-    map (λ r. record { object = o; section = x; start = start; relocation = r })
-    (filter (λ (r : Relocation). is_evaluated r.kind) x.relocations)
+sites_at object section start =
+    map (λ r. record { object = object; section = section; start = start; relocation = r })
+    (filter (λ (relocation : Relocation). is_evaluated relocation.kind) section.relocations)
 
 -- those of a section, none where it is not in the output
 abbrev pub sites_of_section : Layout → NamedObject → LinkedSection → List Site
-sites_of_section s o x =
-    option_map_or (λ (y : PlacedPiece). sites_at o x y.start) (placed_part s o.name (InTable x.number)) []
+sites_of_section layout object section =
+    option_map_or (λ (y : PlacedPiece). sites_at object section y.start)
+    (placed_part layout object.name (InTable section.number)) []
 
 -- all sites by their place: object by object, section by section, in the order of the tables
 unfoldable pub sites : Project → Layout → List Site
-sites p s = flat_map (λ (o : NamedObject). flat_map (sites_of_section s o) o.object.sections) p.objects
+sites project layout = flat_map (λ (object : NamedObject). flat_map
+    (sites_of_section layout object) object.object.sections) project.objects
 
 -- the symbol that a site names
 abbrev pub site_symbol : Site → Option NamedSymbol
-site_symbol t = slice_get t.object.object.symbols t.relocation.symbol.0
+site_symbol site = slice_get site.object.object.symbols site.relocation.symbol.0
 
 -- S
 abbrev pub site_value : Project → Layout → Site → SymbolValue
-site_value p s t = option_map_or (referenced_value p s t.object) (site_symbol t) NotDefined
+site_value project layout site =
+    option_map_or (referenced_value project layout site.object) (site_symbol site) NotDefined
 
 -- P: the address of the field
 abbrev pub site_place : Site → ℕ
-site_place t = t.start + t.relocation.offset
+site_place site = site.start + site.relocation.offset
 
 abbrev pub site_name : Site → List ℕ
-site_name t = option_map_or (λ (x : NamedSymbol). x.name) (site_symbol t) []
+site_name site = option_map_or (λ (symbol : NamedSymbol). symbol.name) (site_symbol site) []
 
 -- a field, or the fault of a value out of range
 abbrev pub field_or_overflow : Site → Result (List ℕ) Overflow → Result (List ℕ) Fault
-field_or_overflow t (Ok field) = Ok field
-field_or_overflow t (Err e) =
-    Err (FieldOverflow t.object.name t.section.name t.relocation.offset t.relocation.kind e.value)
+field_or_overflow site (Ok field) = Ok field
+field_or_overflow site (Err e) =
+    Err (FieldOverflow site.object.name site.section.name site.relocation.offset site.relocation.kind e.value)
 
 abbrev pub site_field_with : Site → SymbolValue → Result (List ℕ) Fault
-site_field_with t (Number x) = field_or_overflow t (field_of t.relocation x (site_place t))
-site_field_with t NotDefined = Err (UndefinedSymbol t.object.name t.section.name t.relocation.offset (site_name t))
-site_field_with t NotInOutput =
-    Err (TargetNotInOutput t.object.name t.section.name t.relocation.offset t.relocation.symbol.0)
+site_field_with site (Number x) = field_or_overflow site (field_of site.relocation x (site_place site))
+site_field_with site NotDefined =
+    Err (UndefinedSymbol site.object.name site.section.name site.relocation.offset (site_name site))
+site_field_with site NotInOutput =
+    Err (TargetNotInOutput site.object.name site.section.name site.relocation.offset site.relocation.symbol.0)
 
 -- the bytes of a site's field, or its fault
 unfoldable pub site_field : Project → Layout → Site → Result (List ℕ) Fault
-site_field p s t = site_field_with t (site_value p s t)
+site_field project layout site = site_field_with site (site_value project layout site)
 
 abbrev pub entry_fault : SymbolValue → List Fault
 entry_fault NotInOutput = EntryNotInOutput ∷ []
@@ -83,13 +87,15 @@ entry_fault _ = []
 
 -- the faults of relocation: first that of the entry symbol, then those of the sites in their order
 unfoldable pub relocation_faults : Project → Layout → List Fault
-relocation_faults p s = entry_fault (entry_point p s) ++ filter_map (λ t. result_err (site_field p s t)) (sites p s)
+relocation_faults project layout = entry_fault (entry_point project layout)
+    ++ filter_map (λ t. result_err (site_field project layout t)) (sites project layout)
 
 -- a field in its place in its section
 abbrev pub patch_of : Site → Result (List ℕ) Fault → Option Patch
-patch_of t (Ok field) = Some (record { offset = t.relocation.offset; field = field })
-patch_of t (Err f) = None
+patch_of site (Ok field) = Some (record { offset = site.relocation.offset; field = field })
+patch_of site (Err f) = None
 
 -- the fields of a section that starts at an address
 abbrev pub fields_of : Project → Layout → NamedObject → LinkedSection → ℕ → List Patch
-fields_of p s o x start = filter_map (λ t. patch_of t (site_field p s t)) (sites_at o x start)
+fields_of project layout object section start =
+    filter_map (λ t. patch_of t (site_field project layout t)) (sites_at object section start)

@@ -36,23 +36,24 @@ pub record Piece : Type 0 where
   pub alignment : ℕ
 
 abbrev pub piece_of : ℕ → InputSection → Piece
-piece_of n s = record {
+piece_of n section = record {
   statement = n;
-  object = s.object;
-  part = s.id.part;
-  name = s.name;
-  kind = s.kind;
-  flags = s.flags;
-  size = s.size;
-  alignment = s.alignment;
+  object = section.object;
+  part = section.id.part;
+  name = section.name;
+  kind = section.kind;
+  flags = section.flags;
+  size = section.size;
+  alignment = section.alignment;
 }
 
 abbrev pub is_taken_by : Project → ℕ → InputSection → Bool
-is_taken_by p n s = option_map_or (λ k. k == n) (first_match p.script s.object s.name) false
+is_taken_by project n section =
+    option_map_or (λ k. k == n) (first_match project.script section.object section.name) false
 
 -- the live sections that input statement number n takes
 abbrev pub taken : Project → ℕ → List Piece
-taken p n = map (piece_of n) (filter (is_taken_by p n) (live p))
+taken project n = map (piece_of n) (filter (is_taken_by project n) (live project))
 
 -- the alignment of a piece: 0 counts as 1
 abbrev pub piece_alignment : Piece → ℕ
@@ -70,16 +71,16 @@ is_in_section k InDiscard = false
 
 -- the pieces of an input statement, in the order of its sort
 abbrev pub sorted_pieces : Project → ℕ → InputStatementAt → List Piece
-sorted_pieces p n i = sort_by (below i.input.sort) (taken p n)
+sorted_pieces project n i = sort_by (below i.input.sort) (taken project n)
 
 -- those of an input statement, with its number, where it stands in output section number k
 abbrev pub pieces_in : Project → ℕ → ℕ × InputStatementAt → List Piece
-pieces_in p k i = if is_in_section k i.1.place then sorted_pieces p i.0 i.1 else []
+pieces_in project k i = if is_in_section k i.1.place then sorted_pieces project i.0 i.1 else []
 
 -- the row of output section number k, statement by statement
 abbrev pub row : Project → ℕ → List Piece
-row p k = flat_map (pieces_in p k) (enumerate_from 0 (input_statements p.script))
+row project k = flat_map (pieces_in project k) (enumerate_from 0 (input_statements project.script))
 
 -- one row for each output section, in script order; /DISCARD/ has none
 unfoldable pub rows : Project → List (List Piece)
-rows p = map (row p) (range_with_len 0 (length (output_sections p.script)))
+rows project = map (row project) (range_with_len 0 (length (output_sections project.script)))

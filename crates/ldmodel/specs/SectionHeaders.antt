@@ -35,12 +35,13 @@ header_bytes h =
 
 -- the names in the order of the headers, from number 1 on
 abbrev pub header_names : Layout → List (List ℕ)
-header_names s =
-    map (λ (q : PlacedOutput). q.name) s.sections ++ codes ".symtab" ∷ codes ".strtab" ∷ codes ".shstrtab" ∷ []
+header_names layout =
+    map (λ (output : PlacedOutput). output.name) layout.sections
+    ++ codes ".symtab" ∷ codes ".strtab" ∷ codes ".shstrtab" ∷ []
 
 -- `.shstrtab`
 unfoldable pub header_name_table : Layout → List ℕ
-header_name_table s = string_table (header_names s)
+header_name_table layout = string_table (header_names layout)
 
 -- the bytes of a part of the tail, and where they stand
 pub record FilePart : Type 0 where
@@ -60,29 +61,30 @@ abbrev pub part_at : ℕ → List ℕ → FilePart
 part_at offset bytes = record { offset = offset; bytes = bytes }
 
 unfoldable pub tables : Project → Layout → Tables
-tables p s =
+tables project layout =
     let symbols : FilePart =
-    part_at (next_multiple_of (loaded_end (segments s.sections)) 8) (output_symbol_table p s) in
-    let symbol_names : FilePart = part_at (end_of_part symbols) (symbol_name_table p s) in
+    part_at (next_multiple_of (loaded_end (segments layout.sections)) 8) (output_symbol_table project layout) in
+    let symbol_names : FilePart = part_at (end_of_part symbols) (symbol_name_table project layout) in
     record {
       symbols = symbols;
       symbol_names = symbol_names;
-      header_names = part_at (end_of_part symbol_names) (header_name_table s);
+      header_names = part_at (end_of_part symbol_names) (header_name_table layout);
     }
 
 -- the flags of an output section
 abbrev pub section_flags : PlacedOutput → ℕ
-section_flags q = SHF_ALLOC + (if q.writable then SHF_WRITE else 0) + (if q.executable then SHF_EXECINSTR else 0)
+section_flags output =
+    SHF_ALLOC + (if output.writable then SHF_WRITE else 0) + (if output.executable then SHF_EXECINSTR else 0)
 
 -- an address that was given may be no multiple of the alignment: then 1 stands in its place
 abbrev pub stated_alignment : PlacedOutput → ℕ
-stated_alignment q = if q.start % q.alignment == 0 then q.alignment else 1
+stated_alignment output = if output.start % output.alignment == 0 then output.alignment else 1
 
 -- the header of output section number i. sh_offset has 64 bits: it is modulo 2^64. In a link without faults only that
 -- of a section without file bytes can be as great, since an image has its limit
 abbrev pub output_header : Layout → List Segment → ℕ × PlacedOutput → SectionHeader
-output_header s gs x = record {
-  name = name_offset (header_names s) x.0;
+output_header layout gs x = record {
+  name = name_offset (header_names layout) x.0;
   type = if x.1.has_file_bytes then SHT_PROGBITS else SHT_NOBITS;
   flags = section_flags x.1;
   address = x.1.start;
@@ -119,28 +121,30 @@ table_headers k names t =
 
 -- all headers, the null header first
 unfoldable pub section_headers : Project → Layout → List ℕ
-section_headers p s =
+section_headers project layout =
     replicate 64 0
-    ++ flat_map (λ x. header_bytes (output_header s (segments s.sections) x)) (enumerate_from 0 s.sections)
-    ++ flat_map header_bytes (table_headers (length s.sections) (header_names s) (tables p s))
+    ++ flat_map (λ x. header_bytes (output_header layout (segments layout.sections) x))
+    (enumerate_from 0 layout.sections)
+    ++ flat_map header_bytes (table_headers (length layout.sections) (header_names layout) (tables project layout))
 
 -- how many headers there are, and the number of that of their names
 abbrev pub header_count : Layout → ℕ
-header_count s = length s.sections + 4
+header_count layout = length layout.sections + 4
 
 abbrev pub header_names_number : Layout → ℕ
-header_names_number s = length s.sections + 3
+header_names_number layout = length layout.sections + 3
 
 -- the section headers in their place
 unfoldable pub header_part : Project → Layout → FilePart
-header_part p s = part_at (next_multiple_of (end_of_part ((tables p s).header_names)) 8) (section_headers p s)
+header_part project layout =
+    part_at (next_multiple_of (end_of_part ((tables project layout).header_names)) 8) (section_headers project layout)
 
 -- the parts of the tail
 abbrev pub tail : Project → Layout → List FilePart
-tail p s =
-    let t : Tables = tables p s in
-    t.symbols ∷ t.symbol_names ∷ t.header_names ∷ header_part p s ∷ []
+tail project layout =
+    let t : Tables = tables project layout in
+    t.symbols ∷ t.symbol_names ∷ t.header_names ∷ header_part project layout ∷ []
 
 -- the length of the image
 unfoldable pub image_length : Project → Layout → ℕ
-image_length p s = end_of_part (header_part p s)
+image_length project layout = end_of_part (header_part project layout)

@@ -14,17 +14,17 @@ abbrev pub page_size : ℕ
 page_size = 4096
 
 abbrev pub end_of : PlacedOutput → ℕ
-end_of q = q.start + q.size
+end_of output = output.start + output.size
 
 -- a section stands in the segment of the one before it: their flags are equal, and so are their distances from start to
 -- load address; it begins at the other's end or less than a page past it; and it isn't so that it alone has file bytes
 abbrev pub shares_segment : PlacedOutput → PlacedOutput → Bool
-shares_segment p q =
-    beq p.writable q.writable && beq p.executable q.executable
-    && (difference_of p == difference_of q)
-    && nat_le (end_of p) q.start
-    && nat_lt q.start (end_of p + page_size)
-    && not (q.has_file_bytes && not p.has_file_bytes)
+shares_segment p output =
+    beq p.writable output.writable && beq p.executable output.executable
+    && (difference_of p == difference_of output)
+    && nat_le (end_of p) output.start
+    && nat_lt output.start (end_of p + page_size)
+    && not (output.has_file_bytes && not p.has_file_bytes)
 
 -- the sections of a segment: the first, and the others
 pub record Group : Type 0 where
@@ -36,10 +36,10 @@ group_sections g = g.first ∷ g.others
 
 -- a section before the groups of those after it
 abbrev pub with_front : PlacedOutput → List Group → List Group
-with_front q [] = record { first = q; others = [] } ∷ []
-with_front q (g ∷ gs) =
-    if shares_segment q g.first then record { first = q; others = group_sections g } ∷ gs
-    else (record { first = q; others = [] } ∷ g ∷ gs)
+with_front output [] = record { first = output; others = [] } ∷ []
+with_front output (g ∷ gs) =
+    if shares_segment output g.first then record { first = output; others = group_sections g } ∷ gs
+    else (record { first = output; others = [] } ∷ g ∷ gs)
 
 -- neighbours that share a segment stand in one group
 unfoldable pub groups : List PlacedOutput → List Group
@@ -53,22 +53,23 @@ pub record Segment : Type 0 where
 
 -- p_vaddr and p_paddr: the addresses of the first section
 abbrev pub segment_start : Segment → ℕ
-segment_start g = g.group.first.start
+segment_start segment = segment.group.first.start
 
 abbrev pub segment_load : Segment → ℕ
-segment_load g = g.group.first.load
+segment_load segment = segment.group.first.load
 
 -- the end of a section, counted from the segment's start
 abbrev pub reach : Group → PlacedOutput → ℕ
-reach g q = end_of q - g.first.start
+reach g output = end_of output - g.first.start
 
 -- p_filesz: up to the end of the last section with file bytes, 0 without one
 abbrev pub file_size : Group → ℕ
-file_size g = fold (λ n (q : PlacedOutput). if q.has_file_bytes then reach g q else n) 0 (group_sections g)
+file_size g =
+    fold (λ n (output : PlacedOutput). if output.has_file_bytes then reach g output else n) 0 (group_sections g)
 
 -- p_memsz: up to the end of the last section
 abbrev pub memory_size : Group → ℕ
-memory_size g = fold (λ n (q : PlacedOutput). reach g q) 0 (group_sections g)
+memory_size g = fold (λ n (output : PlacedOutput). reach g output) 0 (group_sections g)
 
 -- the least number not below an end that is congruent to an address modulo the page size
 abbrev pub congruent : ℕ → ℕ → ℕ
@@ -80,7 +81,7 @@ begun end g = record { offset = congruent end g.first.start; group = g }
 
 -- the end of the last file bytes so far
 abbrev pub file_end : ℕ → Segment → ℕ
-file_end end g = if file_size g.group == 0 then end else g.offset + file_size g.group
+file_end end segment = if file_size segment.group == 0 then end else segment.offset + file_size segment.group
 
 -- segments one after the other, the first past an end
 abbrev pub begun_from : ℕ → List Group → List Segment
@@ -92,7 +93,7 @@ abbrev pub headers_end : ℕ → ℕ
 headers_end count = 64 + 56 * count
 
 abbrev pub nonempty : List PlacedOutput → List PlacedOutput
-nonempty sections = filter (λ (q : PlacedOutput). not (q.size == 0)) sections
+nonempty sections = filter (λ (output : PlacedOutput). not (output.size == 0)) sections
 
 unfoldable pub segments : List PlacedOutput → List Segment
 segments sections = let gs : List Group = groups (nonempty sections) in begun_from (headers_end (length gs)) gs
@@ -107,14 +108,15 @@ pub record SectionInFile : Type 0 where
   pub section : PlacedOutput
 
 abbrev pub in_segment : Segment → PlacedOutput → SectionInFile
-in_segment g q = record { offset = g.offset + (q.start - segment_start g); section = q }
+in_segment segment output =
+    record { offset = segment.offset + (output.start - segment_start segment); section = output }
 
 -- the output sections of nonzero size in the file
 abbrev pub in_file : List Segment → List SectionInFile
-in_file gs = flat_map (λ (g : Segment). map (in_segment g) (group_sections g.group)) gs
+in_file gs = flat_map (λ (segment : Segment). map (in_segment segment) (group_sections segment.group)) gs
 
 -- where an output section begins in the file; 0 where its size is 0
 abbrev pub file_offset : List Segment → PlacedOutput → ℕ
-file_offset gs q =
+file_offset gs output =
     option_map_or (λ (x : SectionInFile). x.offset)
-    (find (λ (x : SectionInFile). bytes_eq x.section.name q.name) (in_file gs)) 0
+    (find (λ (x : SectionInFile). bytes_eq x.section.name output.name) (in_file gs)) 0

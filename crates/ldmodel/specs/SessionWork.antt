@@ -33,7 +33,8 @@ objects_read _ = 0
 
 -- the names that the object of a name declares; none where there is no such object
 abbrev pub names_of : Project → List ℕ → List (List ℕ)
-names_of p object = option_map_or (λ (o : NamedObject). names_in_objects (o ∷ [])) (object_named p object) []
+names_of project object =
+    option_map_or (λ (object : NamedObject). names_in_objects (object ∷ [])) (object_named project object) []
 
 -- the symbols that an expression names
 abbrev pub symbols_named : Expr → List (List ℕ)
@@ -53,21 +54,22 @@ asserted_names script = flat_map (λ (a : AssertionAt). symbols_named a.assertio
 
 -- the names that a script assigns, provides or names in an ASSERT, and the entry symbol
 abbrev pub names_by_script : Project → List (List ℕ)
-names_by_script p =
-    assigned_names p.script ++ provided_names p.script ++ asserted_names p.script ++ option_to_list (entry_symbol p)
+names_by_script project =
+    assigned_names project.script ++ provided_names project.script ++ asserted_names project.script
+    ++ option_to_list (entry_symbol project)
 
 -- the names that an edit touches: those that the object declares before it and after it; for a script those of all
 -- objects and of both scripts
 abbrev pub named_by : Project → Change → Project → List (List ℕ)
-named_by p (Add name at bytes) q = names_of p name ++ names_of q name
-named_by p (Replace name bytes) q = names_of p name ++ names_of q name
-named_by p (Move name to) q = names_of p name ++ names_of q name
-named_by p (Remove name) q = names_of p name ++ names_of q name
-named_by p (SetScript text) q = names_in_objects p.objects ++ names_by_script p ++ names_by_script q
+named_by project (Add name at bytes) q = names_of project name ++ names_of q name
+named_by project (Replace name bytes) q = names_of project name ++ names_of q name
+named_by project (Move name to) q = names_of project name ++ names_of q name
+named_by project (Remove name) q = names_of project name ++ names_of q name
+named_by project (SetScript text) q = names_in_objects project.objects ++ names_by_script project ++ names_by_script q
 
 -- each of them once
 unfoldable pub touched_names : Project → Change → Project → List (List ℕ)
-touched_names p change q = distinct (named_by p change q)
+touched_names project change q = distinct (named_by project change q)
 
 -- the entries of rows from a row on
 abbrev pub entries_from : ℕ → List (List Piece) → ℕ
@@ -131,6 +133,6 @@ pub record IsWork (old : GoodLink) (change : Change) (new : GoodLink) (before af
 
 -- the bound of an incremental linker: where either link has faults, it says nothing
 abbrev pub IsSessionWork : Project → Change → Project → Counts → Counts → Type 0
-IsSessionWork p change q before after =
-    (s t : Layout) → (link p).status ≡ 0 → (link q).status ≡ 0 → layout p ≡ Ok s → layout q ≡ Ok t
-    → IsWork (record { project = p; layout = s }) change (record { project = q; layout = t }) before after
+IsSessionWork project change q before after =
+    (s t : Layout) → (link project).status ≡ 0 → (link q).status ≡ 0 → layout project ≡ Ok s → layout q ≡ Ok t
+    → IsWork (record { project = project; layout = s }) change (record { project = q; layout = t }) before after

@@ -33,35 +33,37 @@ pub record LinkedPiece : Type 0 where
 
 -- no bytes, where the output section has none in the file
 abbrev pub range_in : List Segment → PlacedOutput → PlacedPiece → FileRange
-range_in gs q x =
-    if q.has_file_bytes && not (x.piece.size == 0)
-    then record { offset = file_offset gs q + (x.start - q.start); length = x.piece.size }
+range_in gs output placed =
+    if output.has_file_bytes && not (placed.piece.size == 0)
+    then record { offset = file_offset gs output + (placed.start - output.start); length = placed.piece.size }
     else record { offset = 0; length = 0 }
 
 abbrev pub text_of : Project → List ℕ → List ℕ
-text_of p object = option_map_or (λ (o : NamedObject). o.object.text) (object_named p object) []
+text_of project object = option_map_or (λ (object : NamedObject). object.object.text) (object_named project object) []
 
 abbrev pub linked_piece : Project → List Segment → PlacedOutput → PlacedPiece → LinkedPiece
-linked_piece p gs q x = record {
-  object = x.piece.object;
-  text = text_of p x.piece.object;
-  part = x.piece.part;
-  start = x.start;
-  size = x.piece.size;
-  range = range_in gs q x;
+linked_piece project gs output placed = record {
+  object = placed.piece.object;
+  text = text_of project placed.piece.object;
+  part = placed.piece.part;
+  start = placed.start;
+  size = placed.piece.size;
+  range = range_in gs output placed;
 }
 
 -- the input sections in the output, in their order
 unfoldable pub linked_pieces : Project → Layout → List LinkedPiece
-linked_pieces p s = flat_map (λ (q : PlacedOutput). map (linked_piece p (segments s.sections) q) q.pieces) s.sections
+linked_pieces project layout = flat_map (λ (output : PlacedOutput). map
+    (linked_piece project (segments layout.sections) output) output.pieces) layout.sections
 
 abbrev pub same_range : FileRange → FileRange → Bool
 same_range a b = (a.offset == b.offset) && (a.length == b.length)
 
 abbrev pub same_piece : LinkedPiece → LinkedPiece → Bool
-same_piece x y =
-    bytes_eq x.object y.object && bytes_eq x.text y.text && is_same_part x.part y.part && (x.start == y.start)
-    && (x.size == y.size) && same_range x.range y.range
+same_piece piece y =
+    bytes_eq piece.object y.object && bytes_eq piece.text y.text && is_same_part piece.part y.part
+    && (piece.start == y.start)
+    && (piece.size == y.size) && same_range piece.range y.range
 
 -- a project and a layout. Links without faults are meant, with the layout that `layout` gives; what is said here of two
 -- such holds of any two
@@ -70,35 +72,36 @@ pub record GoodLink : Type 0 where
   pub layout : Layout
 
 abbrev pub link_pieces : GoodLink → List LinkedPiece
-link_pieces l = linked_pieces l.project l.layout
+link_pieces link = linked_pieces link.project link.layout
 
 -- an input section of the new link that the old one has too
 abbrev pub has_stayed : GoodLink → LinkedPiece → Bool
-has_stayed old x = list_any (same_piece x) (link_pieces old)
+has_stayed old piece = list_any (same_piece piece) (link_pieces old)
 
 unfoldable pub stayed : GoodLink → GoodLink → List LinkedPiece
 stayed old new = filter (has_stayed old) (link_pieces new)
 
 abbrev pub sites_in_section : NamedObject → LinkedPiece → Option LinkedSection → List Site
-sites_in_section o x None = []
-sites_in_section o x (Some y) = sites_at o y x.start
+sites_in_section object piece None = []
+sites_in_section object piece (Some y) = sites_at object y piece.start
 
 -- the sites of an input section; a common block has none
 abbrev pub sites_in_part : Project → LinkedPiece → Part → List Site
-sites_in_part p x (InTable k) =
-    option_map_or (λ (o : NamedObject). sites_in_section o x (section_numbered o k)) (object_named p x.object) []
-sites_in_part p x (InCommon k) = []
+sites_in_part project piece (InTable k) =
+    option_map_or (λ (object : NamedObject). sites_in_section object piece (section_numbered object k))
+    (object_named project piece.object) []
+sites_in_part project piece (InCommon k) = []
 
 abbrev pub sites_in : Project → LinkedPiece → List Site
-sites_in p x = sites_in_part p x x.part
+sites_in project piece = sites_in_part project piece piece.part
 
 -- the value of a site's symbol in a link; a link without faults has one for each site
 abbrev pub site_value_in : GoodLink → Site → ℕ
-site_value_in l t = number_or_0 (site_value l.project l.layout t)
+site_value_in link site = number_or_0 (site_value link.project link.layout site)
 
 -- the site's symbol has another value
 abbrev pub is_moved : GoodLink → GoodLink → Site → Bool
-is_moved old new t = not (site_value_in old t == site_value_in new t)
+is_moved old new site = not (site_value_in old site == site_value_in new site)
 
 -- the sites in input sections that stayed whose symbol has another value
 unfoldable pub retargeted : GoodLink → GoodLink → List Site

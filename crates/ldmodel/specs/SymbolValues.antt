@@ -26,15 +26,15 @@ pub data SymbolValue : Type 0 where
 
 -- all input sections in the output, in their order
 abbrev pub placed_pieces : Layout → List PlacedPiece
-placed_pieces s = flat_map (λ (q : PlacedOutput). q.pieces) s.sections
+placed_pieces layout = flat_map (λ (output : PlacedOutput). output.pieces) layout.sections
 
 -- a part of an object is this piece
 abbrev pub is_part : List ℕ → Part → PlacedPiece → Bool
-is_part object part x = bytes_eq x.piece.object object && is_same_part x.piece.part part
+is_part object part placed = bytes_eq placed.piece.object object && is_same_part placed.piece.part part
 
 -- a part of an object in the output
 abbrev pub placed_part : Layout → List ℕ → Part → Option PlacedPiece
-placed_part s object part = find (is_part object part) (placed_pieces s)
+placed_part layout object part = find (is_part object part) (placed_pieces layout)
 
 -- an address at an offset from where a part of an object starts
 abbrev pub address_in : Option PlacedPiece → ℕ → SymbolValue
@@ -44,19 +44,19 @@ address_in (Some x) offset = Number (plus_modulo x.start offset)
 -- the value of a symbol by its own entry; entry number 0 of a table has the value 0. The object reader leaves no other
 -- entry that is looked up here undefined, and none common
 abbrev pub own_value : Layout → List ℕ → SymbolPlace → ℕ → SymbolValue
-own_value s object (place.Section k) value = address_in (placed_part s object (InTable k)) value
-own_value s object place.Absolute value = Number value
-own_value s object place.Undefined value = Number 0
-own_value s object place.Common value = NotDefined
+own_value layout object (place.Section k) value = address_in (placed_part layout object (InTable k)) value
+own_value layout object place.Absolute value = Number value
+own_value layout object place.Undefined value = Number 0
+own_value layout object place.Common value = NotDefined
 
 -- the symbol of an entry
 abbrev pub symbol_of_entry : Project → Entry → Option Symbol
-symbol_of_entry p e = option_map (λ (x : NamedSymbol). x.symbol) (symbol_at p e.object e.symbol)
+symbol_of_entry project e = option_map (λ (symbol : NamedSymbol). symbol.symbol) (symbol_at project e.object e.symbol)
 
 abbrev pub entry_value : Project → Layout → Entry → SymbolValue
-entry_value p s e =
-    option_map_or (λ (x : Symbol). own_value s (object_name p e.object) x.place x.value)
-    (symbol_of_entry p e) NotDefined
+entry_value project layout e =
+    option_map_or (λ (x : Symbol). own_value layout (object_name project e.object) x.place x.value)
+    (symbol_of_entry project e) NotDefined
 
 -- the number of the symbol of an entry
 abbrev pub symbol_index : Entry → SymbolIndex
@@ -69,26 +69,26 @@ value_or_undefined (Some x) = Number x
 -- the value of a name, by what it stands for: that of its definition, the address of its common block, or the number
 -- that the script gives it
 abbrev pub decided_value : Project → Layout → List ℕ → Decision → SymbolValue
-decided_value p s name (Strong e) = entry_value p s e
-decided_value p s name (Weak e) = entry_value p s e
-decided_value p s name (Common owner size alignment) =
-    address_in (placed_part s (object_name p owner.object) (InCommon (symbol_index owner))) 0
-decided_value p s name Script = value_or_undefined (script_value s name)
-decided_value p s name Provided = value_or_undefined (script_value s name)
-decided_value p s name Undefined = NotDefined
+decided_value project layout name (Strong e) = entry_value project layout e
+decided_value project layout name (Weak e) = entry_value project layout e
+decided_value project layout name (Common owner size alignment) =
+    address_in (placed_part layout (object_name project owner.object) (InCommon (symbol_index owner))) 0
+decided_value project layout name Script = value_or_undefined (script_value layout name)
+decided_value project layout name Provided = value_or_undefined (script_value layout name)
+decided_value project layout name Undefined = NotDefined
 -- a link with such a name ends before
-decided_value p s name Duplicate = NotDefined
+decided_value project layout name Duplicate = NotDefined
 
 unfoldable pub name_value : Project → Layout → List ℕ → SymbolValue
-name_value p s name = decided_value p s name (decision p name)
+name_value project layout name = decided_value project layout name (decision project name)
 
 abbrev pub value_if_named : Project → Layout → Option (List ℕ) → SymbolValue
-value_if_named p s None = Number 0
-value_if_named p s (Some name) = name_value p s name
+value_if_named project layout None = Number 0
+value_if_named project layout (Some name) = name_value project layout name
 
 -- e_entry: the value of the entry symbol; without one it is 0
 unfoldable pub entry_point : Project → Layout → SymbolValue
-entry_point p s = value_if_named p s (entry_symbol p)
+entry_point project layout = value_if_named project layout (entry_symbol project)
 
 -- a number, or else 0
 abbrev pub number_or_0 : SymbolValue → ℕ

@@ -60,45 +60,46 @@ kind_number kind.File = STT_FILE
 kind_number kind.Common = STT_OBJECT
 
 abbrev pub entry_type : Project → Entry → ℕ
-entry_type p e = option_map_or (λ (x : Symbol). kind_number x.kind) (symbol_of_entry p e) STT_NOTYPE
+entry_type project e = option_map_or (λ (x : Symbol). kind_number x.kind) (symbol_of_entry project e) STT_NOTYPE
 
 abbrev pub st_type_of : Project → Decision → ℕ
-st_type_of p (Strong e) = entry_type p e
-st_type_of p (Weak e) = entry_type p e
-st_type_of p (Common owner size alignment) = STT_OBJECT
-st_type_of p _ = STT_NOTYPE
+st_type_of project (Strong e) = entry_type project e
+st_type_of project (Weak e) = entry_type project e
+st_type_of project (Common owner size alignment) = STT_OBJECT
+st_type_of project _ = STT_NOTYPE
 
 abbrev pub entry_size : Project → Entry → ℕ
-entry_size p e = option_map_or (λ (x : Symbol). x.size) (symbol_of_entry p e) 0
+entry_size project e = option_map_or (λ (x : Symbol). x.size) (symbol_of_entry project e) 0
 
 abbrev pub st_size : Project → Decision → ℕ
-st_size p (Strong e) = entry_size p e
-st_size p (Weak e) = entry_size p e
-st_size p (Common owner size alignment) = size
-st_size p _ = 0
+st_size project (Strong e) = entry_size project e
+st_size project (Weak e) = entry_size project e
+st_size project (Common owner size alignment) = size
+st_size project _ = 0
 
 -- the number of the header of the output section that a part of an object stands in. It is asked of symbols with a
 -- value alone, so that some output section holds the part; SHN_ABS, where none does, stands in no symbol table
 abbrev pub header_of_part : Layout → List ℕ → Part → ℕ
-header_of_part s object part =
+header_of_part layout object part =
     option_map_or (λ n. n + 1)
-    (position (λ (q : PlacedOutput). list_any (is_part object part) q.pieces) s.sections) SHN_ABS
+    (position (λ (output : PlacedOutput). list_any (is_part object part) output.pieces) layout.sections) SHN_ABS
 
 abbrev pub header_of_place : Layout → List ℕ → SymbolPlace → ℕ
-header_of_place s object (place.Section k) = header_of_part s object (InTable k)
-header_of_place s object _ = SHN_ABS
+header_of_place layout object (place.Section k) = header_of_part layout object (InTable k)
+header_of_place layout object _ = SHN_ABS
 
 abbrev pub entry_header : Project → Layout → Entry → ℕ
-entry_header p s e =
-    option_map_or (λ (x : Symbol). header_of_place s (object_name p e.object) x.place) (symbol_of_entry p e) SHN_ABS
+entry_header project layout e =
+    option_map_or (λ (x : Symbol). header_of_place layout (object_name project e.object) x.place)
+    (symbol_of_entry project e) SHN_ABS
 
 -- SHN_ABS for a number of an object or of the script
 abbrev pub st_shndx : Project → Layout → Decision → ℕ
-st_shndx p s (Strong e) = entry_header p s e
-st_shndx p s (Weak e) = entry_header p s e
-st_shndx p s (Common owner size alignment) =
-    header_of_part s (object_name p owner.object) (InCommon (symbol_index owner))
-st_shndx p s _ = SHN_ABS
+st_shndx project layout (Strong e) = entry_header project layout e
+st_shndx project layout (Weak e) = entry_header project layout e
+st_shndx project layout (Common owner size alignment) =
+    header_of_part layout (object_name project owner.object) (InCommon (symbol_index owner))
+st_shndx project layout _ = SHN_ABS
 
 -- a symbol that has a value, and that value
 pub record ValuedSymbol : Type 0 where
@@ -107,32 +108,34 @@ pub record ValuedSymbol : Type 0 where
   pub value : ℕ
 
 abbrev pub with_value : OutputSymbol → SymbolValue → Option ValuedSymbol
-with_value x (Number v) = Some (record { name = x.name; decision = x.decision; value = v })
-with_value x NotDefined = None
-with_value x NotInOutput = None
+with_value symbol (Number v) = Some (record { name = symbol.name; decision = symbol.decision; value = v })
+with_value symbol NotDefined = None
+with_value symbol NotInOutput = None
 
 -- the symbols of the symbol table
 abbrev pub table_symbols : Project → Layout → List ValuedSymbol
-table_symbols p s = filter_map (λ (x : OutputSymbol). with_value x x.value) (output_symbols p s)
+table_symbols project layout =
+    filter_map (λ (symbol : OutputSymbol). with_value symbol symbol.value) (output_symbols project layout)
 
 abbrev pub symbol_names : Project → Layout → List (List ℕ)
-symbol_names p s = map (λ (x : ValuedSymbol). x.name) (table_symbols p s)
+symbol_names project layout = map (λ (x : ValuedSymbol). x.name) (table_symbols project layout)
 
 abbrev pub symbol_entry : Project → Layout → ℕ × ValuedSymbol → SymbolEntry
-symbol_entry p s x = record {
-  name = name_offset (symbol_names p s) x.0;
+symbol_entry project layout x = record {
+  name = name_offset (symbol_names project layout) x.0;
   binding = st_binding x.1.decision;
-  type = st_type_of p x.1.decision;
-  section = st_shndx p s x.1.decision;
+  type = st_type_of project x.1.decision;
+  section = st_shndx project layout x.1.decision;
   value = x.1.value;
-  size = st_size p x.1.decision;
+  size = st_size project x.1.decision;
 }
 
 -- `.symtab`: a null entry, and those of the symbols
 unfoldable pub output_symbol_table : Project → Layout → List ℕ
-output_symbol_table p s =
-    replicate 24 0 ++ flat_map (λ x. symbol_bytes (symbol_entry p s x)) (enumerate_from 0 (table_symbols p s))
+output_symbol_table project layout =
+    replicate 24 0 ++ flat_map (λ x. symbol_bytes (symbol_entry project layout x))
+    (enumerate_from 0 (table_symbols project layout))
 
 -- `.strtab`
 unfoldable pub symbol_name_table : Project → Layout → List ℕ
-symbol_name_table p s = string_table (symbol_names p s)
+symbol_name_table project layout = string_table (symbol_names project layout)

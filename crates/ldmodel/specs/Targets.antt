@@ -21,9 +21,9 @@ or_weak weak v = v
 
 -- S: the value of a symbol that a relocation of an object names
 unfoldable pub referenced_value : Project → Layout → NamedObject → NamedSymbol → SymbolValue
-referenced_value p s o x =
-    if is_local x.symbol.binding then own_value s o.name x.symbol.place x.symbol.value
-    else or_weak (is_weak_binding x.symbol.binding) (name_value p s x.name)
+referenced_value project layout object symbol =
+    if is_local symbol.symbol.binding then own_value layout object.name symbol.symbol.place symbol.symbol.value
+    else or_weak (is_weak_binding symbol.symbol.binding) (name_value project layout symbol.name)
 
 -- what the value of a symbol turns on in the link: a name; where a section of an object starts; or nothing
 pub data Target : Type 0 where
@@ -36,10 +36,12 @@ local_target object (place.Section k) = Section object k
 local_target object _ = Fixed
 
 abbrev pub target_of : NamedObject → NamedSymbol → Target
-target_of o x = if is_local x.symbol.binding then local_target o.name x.symbol.place else Name x.name
+target_of object symbol =
+    if is_local symbol.symbol.binding then local_target object.name symbol.symbol.place else Name symbol.name
 
 -- the number of a target: the value of a name, where an undefined one counts as 0, or the address of a section
 unfoldable pub target_number : Project → Layout → Target → ℕ
-target_number p s (Name name) = number_or_0 (name_value p s name)
-target_number p s (Section object k) = option_map_or (λ (x : PlacedPiece). x.start) (placed_part s object (InTable k)) 0
-target_number p s Fixed = 0
+target_number project layout (Name name) = number_or_0 (name_value project layout name)
+target_number project layout (Section object k) =
+    option_map_or (λ (placed : PlacedPiece). placed.start) (placed_part layout object (InTable k)) 0
+target_number project layout Fixed = 0

@@ -8,10 +8,10 @@ use Rattle.ldmodel.specs.Stayed.{GoodLink, LinkedPiece, link_pieces, has_stayed,
 -- the sites of the new link outside input sections that stayed
 abbrev pub sites_outside : GoodLink → GoodLink → List Site
 sites_outside old new =
-    flat_map (sites_in new.project) (filter (λ (x : LinkedPiece). not (has_stayed old x)) (link_pieces new))
+    flat_map (sites_in new.project) (filter (λ (piece : LinkedPiece). not (has_stayed old piece)) (link_pieces new))
 
 abbrev pub bytes_stayed : GoodLink → GoodLink → ℕ
-bytes_stayed old new = sum_by (λ (x : LinkedPiece). x.range.length) (stayed old new)
+bytes_stayed old new = sum_by (λ (piece : LinkedPiece). piece.range.length) (stayed old new)
 
 abbrev pub retargeted_bytes : GoodLink → GoodLink → ℕ
-retargeted_bytes old new = sum_by (λ (t : Site). width t.relocation.kind) (retargeted old new)
+retargeted_bytes old new = sum_by (λ (site : Site). width site.relocation.kind) (retargeted old new)

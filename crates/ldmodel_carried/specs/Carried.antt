@@ -11,30 +11,30 @@ use Rattle.ldmodel_laws.specs.Spread.{IsSpread, piece_end}
 
 -- an input section of both links: the same part of an object of one name and the same bytes, with as many bytes in the
 -- file
-pub record IsCarried (old new : GoodLink) (x y : LinkedPiece) : Type 0 where
-  pub before : Contains (link_pieces old) x
+pub record IsCarried (old new : GoodLink) (piece y : LinkedPiece) : Type 0 where
+  pub before : Contains (link_pieces old) piece
   pub after : Contains (link_pieces new) y
-  pub object : x.object ≡ y.object
-  pub text : x.text ≡ y.text
-  pub part : x.part ≡ y.part
-  pub length : x.range.length ≡ y.range.length
+  pub object : piece.object ≡ y.object
+  pub text : piece.text ≡ y.text
+  pub part : piece.part ≡ y.part
+  pub length : piece.range.length ≡ y.range.length
 
 -- a site, where its section starts at an address
 abbrev pub at_start : ℕ → Site → Site
-at_start start t = record t { start = start }
+at_start start site = record site { start = start }
 
 -- the value of a site's relocation in a link
 abbrev pub worth : GoodLink → Site → ℕ
-worth l t = relocation_value t.relocation (site_value_in l t) (site_place t)
+worth link site = relocation_value site.relocation (site_value_in link site) (site_place site)
 
 -- a site has another value than it had where its section started at this address
 abbrev pub has_changed : GoodLink → GoodLink → (before : ℕ) → Site → Bool
-has_changed old new before t = not (worth old (at_start before t) == worth new t)
+has_changed old new before site = not (worth old (at_start before site) == worth new site)
 
 -- byte n of a gap that begins where an input section of nonzero size ends: all from there on is bare
-pub record IsPast (q : PlacedOutput) (x : PlacedPiece) (n : ℕ) : Type 0 where
-  pub spread : IsSpread q
-  pub among : Contains q.pieces x
-  pub some : 0 < x.piece.size
-  pub filled : Each (λ (d : PlacedData). 0 < length d.bytes) q.data_commands
-  pub bare : (at : ℕ) → piece_end x ≤ at → at ≤ piece_end x + n → IsBare q at
+pub record IsPast (output : PlacedOutput) (placed : PlacedPiece) (n : ℕ) : Type 0 where
+  pub spread : IsSpread output
+  pub among : Contains output.pieces placed
+  pub some : 0 < placed.piece.size
+  pub filled : Each (λ (d : PlacedData). 0 < length d.bytes) output.data_commands
+  pub bare : (at : ℕ) → piece_end placed ≤ at → at ≤ piece_end placed + n → IsBare output at

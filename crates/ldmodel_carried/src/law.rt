@@ -15,25 +15,30 @@ ghost use Rattle.ldmodel_carried.specs.Shifted.{Downs, HasCome, Precedes, Run, U
 /// A byte of an input section that both links have is the same in both images, wherever the section stands in each,
 /// outside of the fields whose relocations have another value.
 pub fn carried_bytes()
-    ensures { (old new : GoodLink) → IsGood old → IsGood new → (x y : LinkedPiece) → IsCarried old new x y → (i : ℕ)
-        → ((t : Site) → Contains (sites_in new.project y) t → has_changed old new x.start t ≡ true → IsOutside i t)
+    ensures { (old new : GoodLink) → IsGood old → IsGood new → (piece y : LinkedPiece) → IsCarried old new piece y
+        → (i : ℕ)
+        → ((site : Site) → Contains (sites_in new.project y) site → has_changed old new piece.start site ≡ true
+        → IsOutside i site)
         → i < y.range.length
-        → byte_at old.project old.layout (x.range.offset + i) ≡ byte_at new.project new.layout (y.range.offset + i) }
+        → byte_at old.project old.layout (piece.range.offset + i)
+        ≡ byte_at new.project new.layout (y.range.offset + i) }
 {}
 
 /// A relocation of such an input section that has the value that it had, and whose symbol has one, has a field: it need
 /// not be evaluated, and has no fault.
 pub fn carried_sites()
-    ensures { (old new : GoodLink) → IsGood old → AreRead new.project → (x y : LinkedPiece) → IsCarried old new x y
-        → (t : Site) → Contains (sites_in new.project y) t → has_changed old new x.start t ≡ false
-        → (v : ℕ) → site_value new.project new.layout t ≡ Number v → HasField new t }
+    ensures { (old new : GoodLink) → IsGood old → AreRead new.project → (piece y : LinkedPiece)
+        → IsCarried old new piece y
+        → (site : Site) → Contains (sites_in new.project y) site → has_changed old new piece.start site ≡ false
+        → (v : ℕ) → site_value new.project new.layout site ≡ Number v → HasField new site }
 {}
 
 /// A gap that begins where an input section ends has the same bytes wherever the section stands, where the fill is the
 /// same.
 pub fn carried_gaps()
-    ensures { (q r : PlacedOutput) (x y : PlacedPiece) (n : ℕ) → q.fill ≡ r.fill → IsPast q x n → IsPast r y n
-        → gap_byte q (piece_end x + n) ≡ gap_byte r (piece_end y + n) }
+    ensures { (output r : PlacedOutput) (placed y : PlacedPiece) (n : ℕ) → output.fill ≡ r.fill → IsPast output placed n
+        → IsPast r y n
+        → gap_byte output (piece_end placed + n) ≡ gap_byte r (piece_end y + n) }
 {}
 
 /// Runs that keep their order can be moved in place: where those that go up are moved from the last on, and then those

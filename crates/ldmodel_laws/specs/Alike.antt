@@ -37,7 +37,7 @@ names_given (c ∷ cs) = given_names c.command ++ names_given cs
 
 -- the value that symbols give a name
 abbrev pub value_in : List ScriptSymbol → List ℕ → Option ℕ
-value_in symbols name = option_map (λ (x : ScriptSymbol). x.value) (symbol_named symbols name)
+value_in symbols name = option_map (λ (symbol : ScriptSymbol). symbol.value) (symbol_named symbols name)
 
 -- names that differ, and that neither of two lists of symbols has
 abbrev pub AreNew : List (List ℕ) → List ScriptSymbol → List ScriptSymbol → Type 0
@@ -51,17 +51,17 @@ pub record AreSymbolsAlike (names : List (List ℕ)) (xs ys : List ScriptSymbol)
   pub new : AreNew names xs ys
 
 -- two layouts, after which these names are given values, differ in symbols alone
-pub record AreAlike (names : List (List ℕ)) (s t : Layout) : Type 0 where
-  pub same : t ≡ record s { symbols = t.symbols }
-  pub symbols : AreSymbolsAlike names s.symbols t.symbols
+pub record AreAlike (names : List (List ℕ)) (layout t : Layout) : Type 0 where
+  pub same : t ≡ record layout { symbols = t.symbols }
+  pub symbols : AreSymbolsAlike names layout.symbols t.symbols
 
 abbrev pub with_symbols : Body → List ScriptSymbol → Body
-with_symbols b symbols = record b { layout = record b.layout { symbols = symbols } }
+with_symbols body symbols = record body { layout = record body.layout { symbols = symbols } }
 
 -- so do two bodies
-pub record AreBodiesAlike (names : List (List ℕ)) (b c : Body) : Type 0 where
-  pub same : c ≡ with_symbols b c.layout.symbols
-  pub symbols : AreSymbolsAlike names b.layout.symbols c.layout.symbols
+pub record AreBodiesAlike (names : List (List ℕ)) (body c : Body) : Type 0 where
+  pub same : c ≡ with_symbols body c.layout.symbols
+  pub symbols : AreSymbolsAlike names body.layout.symbols c.layout.symbols
 
 -- rows are the same before a number
 abbrev pub AreSameBefore : ℕ → List (List Piece) → List (List Piece) → Type 0
@@ -69,29 +69,29 @@ AreSameBefore first earlier rows = (k : ℕ) → k < first → slice_index_or ea
 
 -- the head of an output section is the same
 abbrev pub HeadsAgree : Type 0
-HeadsAgree = (names : List (List ℕ)) (row : List Piece) (s t : Layout) (line : ℕ) (o : OutputSection) (h g : Head)
-    → AreAlike names s t → head_of s row line o ≡ Ok h → head_of t row line o ≡ Ok g → h ≡ g
+HeadsAgree = (names : List (List ℕ)) (row : List Piece) (layout t : Layout) (line : ℕ) (o : OutputSection) (h g : Head)
+    → AreAlike names layout t → head_of layout row line o ≡ Ok h → head_of t row line o ≡ Ok g → h ≡ g
 
 -- a statement of a body leads to bodies that are alike
 abbrev pub BodiesStayAlike : Type 0
-BodiesStayAlike = (earlier provided names : List (List ℕ)) (x : BodyStatement) (b c d e : Body)
-    → AreBodiesAlike (names_given (directives_of x.line x.command) ++ names) b c
-    → body_step earlier b x ≡ Ok d → body_step provided c x ≡ Ok e → AreBodiesAlike names d e
+BodiesStayAlike = (earlier provided names : List (List ℕ)) (x : BodyStatement) (body c d e : Body)
+    → AreBodiesAlike (names_given (directives_of x.line x.command) ++ names) body c
+    → body_step earlier body x ≡ Ok d → body_step provided c x ≡ Ok e → AreBodiesAlike names d e
 
 -- a statement of SECTIONS leads to layouts that are alike, as long as the rows of their output sections are the same
 abbrev pub ItemsStayAlike : Type 0
 ItemsStayAlike = (first : ℕ) (old rows : List (List Piece)) (earlier provided names : List (List ℕ)) (x : Item)
-    (s t u v : Layout) → AreSameBefore first old rows
-    → AreAlike (names_given (item_directives x.line x.command) ++ names) s t
-    → item_step old earlier s x ≡ Ok u → item_step rows provided t x ≡ Ok v → length v.sections ≤ first
+    (layout t u v : Layout) → AreSameBefore first old rows
+    → AreAlike (names_given (item_directives x.line x.command) ++ names) layout t
+    → item_step old earlier layout x ≡ Ok u → item_step rows provided t x ≡ Ok v → length v.sections ≤ first
     → AreAlike names u v
 
 -- so do the statements of a script
 abbrev pub StatementsStayAlike : Type 0
 StatementsStayAlike = (first : ℕ) (old rows : List (List Piece)) (earlier provided names : List (List ℕ))
-    (xs : List Statement) (s t u v : Layout) → AreSameBefore first old rows
-    → AreAlike (names_given (all_directives xs) ++ names) s t
-    → run (statement_step old earlier) s xs ≡ Ok u → run (statement_step rows provided) t xs ≡ Ok v
+    (xs : List Statement) (layout t u v : Layout) → AreSameBefore first old rows
+    → AreAlike (names_given (all_directives xs) ++ names) layout t
+    → run (statement_step old earlier) layout xs ≡ Ok u → run (statement_step rows provided) t xs ≡ Ok v
     → length v.sections ≤ first → AreAlike names u v
 
 -- statements of a script up to one of SECTIONS, and those from there on

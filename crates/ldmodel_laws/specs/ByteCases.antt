@@ -17,32 +17,37 @@ use Rattle.ldmodel.specs.declared.sections.Part.TheVariants.{InTable, InCommon}
 
 -- byte i of a section that starts at an address: that of the field that covers it, else its own, which is 0 for NOBITS
 abbrev pub section_byte : Project → Layout → NamedObject → ℕ → ℕ → LinkedSection → ℕ
-section_byte p s o start i x = patched_byte x.bytes (fields_of p s o x start) i
+section_byte project layout object start i section =
+    patched_byte section.bytes (fields_of project layout object section start) i
 
 abbrev pub object_byte : Project → Layout → SectionIndex → ℕ → ℕ → NamedObject → ℕ
-object_byte p s k start i o = option_map_or (section_byte p s o start i) (section_numbered o k) 0
+object_byte project layout k start i object =
+    option_map_or (section_byte project layout object start i) (section_numbered object k) 0
 
 -- a common block is 0
 abbrev pub part_byte : Project → Layout → List ℕ → Part → ℕ → ℕ → ℕ
-part_byte p s object (InTable k) start i = option_map_or (object_byte p s k start i) (object_named p object) 0
-part_byte p s object (InCommon x) start i = 0
+part_byte project layout object (InTable k) start i =
+    option_map_or (object_byte project layout k start i) (object_named project object) 0
+part_byte project layout object (InCommon x) start i = 0
 
 -- the byte of an input section at an address
 abbrev pub piece_byte : Project → Layout → ℕ → PlacedPiece → ℕ
-piece_byte p s at x = part_byte p s x.piece.object x.piece.part x.start (at - x.start)
+piece_byte project layout at placed =
+    part_byte project layout placed.piece.object placed.piece.part placed.start (at - placed.start)
 
 -- of the input section that lies there, else of the data command, else of the gap
 abbrev pub byte_among : Project → Layout → PlacedOutput → ℕ → Option PlacedPiece → Option PlacedData → ℕ
-byte_among p s q at (Some x) d = piece_byte p s at x
-byte_among p s q at None (Some d) = data_byte at d
-byte_among p s q at None None = gap_byte q at
+byte_among project layout output at (Some x) d = piece_byte project layout at x
+byte_among project layout output at None (Some d) = data_byte at d
+byte_among project layout output at None None = gap_byte output at
 
 -- the byte of an output section at an address
 abbrev pub output_byte : Project → Layout → PlacedOutput → ℕ → ℕ
-output_byte p s q at = byte_among p s q at (covering_piece q at) (covering_data q at)
+output_byte project layout output at =
+    byte_among project layout output at (covering_piece output at) (covering_data output at)
 
 -- the byte at an offset past the headers: of the output section there, else of the part of the tail
 abbrev pub byte_past_headers : Project → Layout → ℕ → Option SectionInFile → Option FilePart → ℕ
-byte_past_headers p s o (Some x) t = output_byte p s x.section (x.section.start + (o - x.offset))
-byte_past_headers p s o None (Some t) = slice_index t.bytes (o - t.offset)
-byte_past_headers p s o None None = 0
+byte_past_headers project layout o (Some x) t = output_byte project layout x.section (x.section.start + (o - x.offset))
+byte_past_headers project layout o None (Some t) = slice_index t.bytes (o - t.offset)
+byte_past_headers project layout o None None = 0

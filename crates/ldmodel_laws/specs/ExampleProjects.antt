@@ -88,7 +88,7 @@ discarded name inputs =
 
 -- `a.o` and `b.o`, each with one symbol and no section
 abbrev pub of_symbols : NamedSymbol → NamedSymbol → Project
-of_symbols s t = project (object (codes "a.o") [] (s ∷ []) ∷ object (codes "b.o") [] (t ∷ []) ∷ []) []
+of_symbols symbol t = project (object (codes "a.o") [] (symbol ∷ []) ∷ object (codes "b.o") [] (t ∷ []) ∷ []) []
 
 -- objects under the script `PROVIDE(end = .)`
 abbrev pub providing : List NamedObject → Project
@@ -134,8 +134,8 @@ commons_in_bss =
 -- the same as `collected` where `a.o` refers to `f` by a relocation that changes nothing, or to a common `buf`, which
 -- is in `b.o` and `c.o`
 abbrev pub collected_by : Relocation → NamedSymbol → NamedSymbol → Project
-collected_by r target owned =
-    let text : LinkedSection = section 1 (codes ".text") 1 (r ∷ []) in
+collected_by relocation target owned =
+    let text : LinkedSection = section 1 (codes ".text") 1 (relocation ∷ []) in
     let a : NamedObject = object (codes "a.o") (text ∷ []) (defined Global 1 (codes "_start") ∷ target ∷ []) in
     let b : NamedObject = object (codes "b.o") (section 1 (codes ".text.f") 1 [] ∷ []) (owned ∷ []) in
     let c : NamedObject = object (codes "c.o") (section 1 (codes ".text.g") 1 [] ∷ []) (owned ∷ []) in

@@ -123,4 +123,4 @@ abbrev pub names : List (List Piece) → List (List (List ℕ × List ℕ))
 names rows = map (λ (row : List Piece). map (λ (x : Piece). (x.object, x.name)) row) rows
 
 abbrev pub section_names : List InputSection → List (List ℕ × List ℕ)
-section_names ss = map (λ (s : InputSection). (s.object, s.name)) ss
+section_names ss = map (λ (section : InputSection). (section.object, section.name)) ss

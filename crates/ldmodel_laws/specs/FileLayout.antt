@@ -22,7 +22,7 @@ abbrev pub last_of : Group → PlacedOutput
 last_of g = last_from g.first g.others
 
 abbrev pub Shares : PlacedOutput → PlacedOutput → Type 0
-Shares p q = shares_segment p q ≡ true
+Shares p output = shares_segment p output ≡ true
 
 -- the sections of a group share a segment, each with the one before it
 abbrev pub IsTogether : Group → Type 0
@@ -50,5 +50,5 @@ BeginFrom end [] = Unit {0}
 BeginFrom end (g ∷ gs) = IsLeastCongruent end (segment_start g) g.offset × BeginFrom (file_end end g) gs
 
 pub record IsFileLayout (sections : List PlacedOutput) (segments : List Segment) : Type 0 where
-  pub grouping : IsGrouping (nonempty sections) (map (λ (g : Segment). g.group) segments)
+  pub grouping : IsGrouping (nonempty sections) (map (λ (segment : Segment). segment.group) segments)
   pub offsets : BeginFrom (headers_end (length segments)) segments

@@ -6,8 +6,8 @@ use Rattle.ldmodel_laws.specs.Spread.{EachLater}
 
 -- no two output sections have one name, as the script reader has found
 abbrev pub AreNamed : List PlacedOutput → Type 0
-AreNamed sections = EachLater (λ (q r : PlacedOutput). bytes_eq q.name r.name ≡ false) sections
+AreNamed sections = EachLater (λ (output r : PlacedOutput). bytes_eq output.name r.name ≡ false) sections
 
 -- where an input section begins in the file
 abbrev pub offset_in_file : List Segment → PlacedOutput → PlacedPiece → ℕ
-offset_in_file gs q x = file_offset gs q + (x.start - q.start)
+offset_in_file gs output placed = file_offset gs output + (placed.start - output.start)

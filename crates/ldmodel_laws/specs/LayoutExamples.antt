@@ -75,12 +75,14 @@ region name o l = record { line = 1; name = name; origin = Number o; extent = Nu
 
 -- start, size, load address and load size of each output section
 abbrev pub numbers_of : Result Layout Fault → List (List ℕ)
-numbers_of (Ok s) = map (λ (q : PlacedOutput). q.start ∷ q.size ∷ q.load ∷ q.load_size ∷ []) s.sections
+numbers_of (Ok s) =
+    map (λ (output : PlacedOutput). output.start ∷ output.size ∷ output.load ∷ output.load_size ∷ []) s.sections
 numbers_of (Err f) = []
 
 -- where the input sections start
 abbrev pub starts_of : Result Layout Fault → List (List ℕ)
-starts_of (Ok s) = map (λ (q : PlacedOutput). map (λ (x : PlacedPiece). x.start) q.pieces) s.sections
+starts_of (Ok s) =
+    map (λ (output : PlacedOutput). map (λ (placed : PlacedPiece). placed.start) output.pieces) s.sections
 starts_of (Err f) = []
 
 abbrev pub dot_of : Result Layout Fault → List ℕ

@@ -5,7 +5,7 @@ use Rattle.ldmodel.specs.Project.{Project}
 
 -- a project, or a refusal
 abbrev pub HasOutcome : Project → Change → Type 0
-HasOutcome p c = (x : Result Project Refusal) × After p c x
+HasOutcome project change = (x : Result Project Refusal) × After project change x
 
 -- an edit of objects
 abbrev pub IsNoScript : Change → Type 0

@@ -25,13 +25,13 @@ pub record SectionOutline : Type 0 where
   pub alignment : ℕ
 
 abbrev pub section_outline : LinkedSection → SectionOutline
-section_outline x = record {
-  number = x.number;
-  name = x.name;
-  kind = x.kind;
-  flags = x.flags;
-  size = x.size;
-  alignment = x.alignment;
+section_outline section = record {
+  number = section.number;
+  name = section.name;
+  kind = section.kind;
+  flags = section.flags;
+  size = section.size;
+  alignment = section.alignment;
 }
 
 -- an object under its name, without what its sections hold
@@ -41,35 +41,35 @@ pub record ObjectOutline : Type 0 where
   pub sections : List SectionOutline
 
 abbrev pub object_outline : NamedObject → ObjectOutline
-object_outline o = record {
-  name = o.name;
-  symbols = o.object.symbols;
-  sections = map section_outline o.object.sections;
+object_outline object = record {
+  name = object.name;
+  symbols = object.object.symbols;
+  sections = map section_outline object.object.sections;
 }
 
 -- the symbols that the relocations of a section name, in their order
 abbrev pub section_targets : LinkedSection → List SymbolIndex
-section_targets x = map (λ (r : Relocation). r.symbol) x.relocations
+section_targets section = map (λ (relocation : Relocation). relocation.symbol) section.relocations
 
 -- those of an object, section by section
 abbrev pub object_targets : NamedObject → List (List SymbolIndex)
-object_targets o = map section_targets o.object.sections
+object_targets object = map section_targets object.object.sections
 
 -- the second project has, in one place, an object that differs from that of the first in what its sections hold alone;
 -- where sections are dropped that nothing refers to, the relocations of each section name the same symbols, in their
 -- order
-pub record DiffersInContents (p q : Project) (place : ℕ) : Type 0 where
-  pub script : p.script ≡ q.script
-  pub options : p.options ≡ q.options
-  pub references : p.options.gc ≡ true → map object_targets p.objects ≡ map object_targets q.objects
-  pub outlines : map object_outline p.objects ≡ map object_outline q.objects
-  pub others : (j : ℕ) → (j ≡ place → ⊥) → slice_get p.objects j ≡ slice_get q.objects j
+pub record DiffersInContents (project q : Project) (place : ℕ) : Type 0 where
+  pub script : project.script ≡ q.script
+  pub options : project.options ≡ q.options
+  pub references : project.options.gc ≡ true → map object_targets project.objects ≡ map object_targets q.objects
+  pub outlines : map object_outline project.objects ≡ map object_outline q.objects
+  pub others : (j : ℕ) → (j ≡ place → ⊥) → slice_get project.objects j ≡ slice_get q.objects j
 
 -- what the image of the second project has in common with that of the first, at a layout
-pub record HasSameFrame (p q : Project) (s : Layout) : Type 0 where
-  pub headers : file_headers p s ≡ file_headers q s
-  pub tail : tail p s ≡ tail q s
-  pub length : image_length p s ≡ image_length q s
-  pub entry : entry_point p s ≡ entry_point q s
-  pub references : (j : ℕ) (a b : NamedObject) (x : NamedSymbol) → slice_get p.objects j ≡ Some a
-      → slice_get q.objects j ≡ Some b → referenced_value p s a x ≡ referenced_value q s b x
+pub record HasSameFrame (project q : Project) (layout : Layout) : Type 0 where
+  pub headers : file_headers project layout ≡ file_headers q layout
+  pub tail : tail project layout ≡ tail q layout
+  pub length : image_length project layout ≡ image_length q layout
+  pub entry : entry_point project layout ≡ entry_point q layout
+  pub references : (j : ℕ) (a b : NamedObject) (symbol : NamedSymbol) → slice_get project.objects j ≡ Some a
+      → slice_get q.objects j ≡ Some b → referenced_value project layout a symbol ≡ referenced_value q layout b symbol

@@ -17,13 +17,14 @@ Differ x y = (bytes_eq x.object y.object && is_same_part x.part y.part) ≡ fals
 
 -- the sections of an object have different numbers, as they stand in the table of its headers
 abbrev pub AreNumbered : Project → Type 0
-AreNumbered p =
-    Each (λ (o : NamedObject).
-    EachLater (λ (x y : LinkedSection). (x.number.0 == y.number.0) ≡ false) o.object.sections) p.objects
+AreNumbered project =
+    Each (λ (object : NamedObject).
+    EachLater (λ (section y : LinkedSection). (section.number.0 == y.number.0) ≡ false) object.object.sections)
+    project.objects
 
 -- a placement of the rows of a project whose objects and sections can be told apart: no input section stands in it
 -- twice
-pub record IsPlacedOnce (p : Project) (s : Layout) : Type 0 where
-  pub placed : placement p.script (rows p) (provided p) ≡ Ok s
-  pub names : AreNamesDistinct p.objects
-  pub numbers : AreNumbered p
+pub record IsPlacedOnce (project : Project) (layout : Layout) : Type 0 where
+  pub placed : placement project.script (rows project) (provided project) ≡ Ok layout
+  pub names : AreNamesDistinct project.objects
+  pub numbers : AreNumbered project

@@ -12,7 +12,7 @@ use Rattle.ldmodel.specs.Rows.{Piece}
 
 -- the entries of rows that stand in an output section
 abbrev pub entries_in : PlacedOutput → List Piece
-entries_in q = map (λ (x : PlacedPiece). x.piece) q.pieces
+entries_in output = map (λ (placed : PlacedPiece). placed.piece) output.pieces
 
 -- each member and each one after it
 abbrev pub EachLater : {X : Type 0} → (X → X → Type 0) → List X → Type 0
@@ -20,26 +20,26 @@ EachLater R [] = Unit {0}
 EachLater R (x ∷ xs) = Each (R x) xs × EachLater R xs
 
 abbrev pub piece_end : PlacedPiece → ℕ
-piece_end x = x.start + x.piece.size
+piece_end placed = placed.start + placed.piece.size
 
 abbrev pub data_end : PlacedData → ℕ
 data_end d = d.start + length d.bytes
 
 -- an input section and a data command share no address
 abbrev pub AreApart : PlacedPiece → PlacedData → Type 0
-AreApart x d = (piece_end x ≤ d.start) ⊎ (data_end d ≤ x.start)
+AreApart placed d = (piece_end placed ≤ d.start) ⊎ (data_end d ≤ placed.start)
 
 -- input sections and data commands lie from `start` up to `end`, each past the earlier ones of its kind, and none of
 -- one kind shares an address with one of the other
 pub record AreSpread (start end : ℕ) (pieces : List PlacedPiece) (data_commands : List PlacedData) : Type 0 where
-  pub pieces_inside : Each (λ (x : PlacedPiece). (start ≤ x.start) × (piece_end x ≤ end)) pieces
+  pub pieces_inside : Each (λ (placed : PlacedPiece). (start ≤ placed.start) × (piece_end placed ≤ end)) pieces
   pub data_inside : Each (λ (d : PlacedData). (start ≤ d.start) × (data_end d ≤ end)) data_commands
-  pub pieces_ascend : EachLater (λ (x y : PlacedPiece). piece_end x ≤ y.start) pieces
+  pub pieces_ascend : EachLater (λ (placed y : PlacedPiece). piece_end placed ≤ y.start) pieces
   pub data_ascend : EachLater (λ (d e : PlacedData). data_end d ≤ e.start) data_commands
-  pub apart : Each (λ (x : PlacedPiece). Each (AreApart x) data_commands) pieces
+  pub apart : Each (λ (placed : PlacedPiece). Each (AreApart placed) data_commands) pieces
 
 abbrev pub IsSpread : PlacedOutput → Type 0
-IsSpread q = AreSpread q.start (q.start + q.size) q.pieces q.data_commands
+IsSpread output = AreSpread output.start (output.start + output.size) output.pieces output.data_commands
 
 -- how many values of `.` a statement of SECTIONS adds: its own, and those of the body of an output section
 abbrev pub dots_of_command : ItemCommand → ℕ
@@ -58,7 +58,7 @@ dots_in script = dots_of_all (items script)
 
 -- a statement of SECTIONS keeps `.` as it was before it, and then that before each statement of a body: as many as
 -- `values`
-pub record Notes (values : ℕ) (s t : Layout) : Type 0 where
+pub record Notes (values : ℕ) (layout t : Layout) : Type 0 where
   pub more : List ℕ
-  pub dots : t.dots ≡ s.dots ++ s.dot ∷ more
+  pub dots : t.dots ≡ layout.dots ++ layout.dot ∷ more
   pub count : suc (length more) ≡ values

@@ -14,41 +14,43 @@ use Rattle.ldmodel_laws.specs.Placed.{IsLeastMultiple, with_piece}
 -- what a statement of a body does: `.` before it is kept, an input statement is counted, a symbol is given a value, `.`
 -- goes on to an address, the next entry of the row takes its place, or a data command does
 pub data BodyEffect : Body → Body → Type 0 where
-  dot_noted : {b : Body} → BodyEffect b (record b { layout = noted b.layout })
-  inputs_counted : {b : Body} (n : ℕ) → BodyEffect b (record b { layout = record b.layout { inputs = n } })
-  symbol_given : {b : Body} (name : List ℕ) (x : ℕ) → BodyEffect b (record b { layout = with_symbol b.layout name x })
-  dot_moved : {b : Body} (to : ℕ) → b.layout.dot ≤ to → to < 2 ^ 64 → BodyEffect b (with_dot b to)
-  entry_placed : {b : Body} {p : Piece} {rest : List Piece} (start : ℕ) → b.rest ≡ p ∷ rest
-      → IsLeastMultiple (piece_alignment p) b.layout.dot start → start + p.size < 2 ^ 64
-      → BodyEffect b (with_piece b p rest start)
-  data_added : {b : Body} (bytes : List ℕ) → b.layout.dot + length bytes < 2 ^ 64
-      → BodyEffect b (with_dot (with_data b bytes) (b.layout.dot + length bytes))
+  dot_noted : {body : Body} → BodyEffect body (record body { layout = noted body.layout })
+  inputs_counted : {body : Body} (n : ℕ) → BodyEffect body (record body { layout = record body.layout { inputs = n } })
+  symbol_given : {body : Body} (name : List ℕ) (x : ℕ)
+      → BodyEffect body (record body { layout = with_symbol body.layout name x })
+  dot_moved : {body : Body} (to : ℕ) → body.layout.dot ≤ to → to < 2 ^ 64 → BodyEffect body (with_dot body to)
+  entry_placed : {body : Body} {p : Piece} {rest : List Piece} (start : ℕ) → body.rest ≡ p ∷ rest
+      → IsLeastMultiple (piece_alignment p) body.layout.dot start → start + p.size < 2 ^ 64
+      → BodyEffect body (with_piece body p rest start)
+  data_added : {body : Body} (bytes : List ℕ) → body.layout.dot + length bytes < 2 ^ 64
+      → BodyEffect body (with_dot (with_data body bytes) (body.layout.dot + length bytes))
 
 -- effects one after the other
 pub data BodyEffects : Body → Body → Type 0 where
-  no_effect : {b : Body} → BodyEffects b b
-  effect_then : {b c d : Body} → BodyEffect b c → BodyEffects c d → BodyEffects b d
+  no_effect : {body : Body} → BodyEffects body body
+  effect_then : {body c d : Body} → BodyEffect body c → BodyEffects c d → BodyEffects body d
 
 -- output sections and regions stay as they are
-pub record AddsNothing (s t : Layout) : Type 0 where
-  pub sections : t.sections ≡ s.sections
-  pub regions : t.regions ≡ s.regions
+pub record AddsNothing (layout t : Layout) : Type 0 where
+  pub sections : t.sections ≡ layout.sections
+  pub regions : t.regions ≡ layout.regions
 
 -- an output section begins, its body is filled, which adds nothing else, and it is added
-pub record AddsSection (s : Layout) (o : OutputSection) (t : Layout) : Type 0 where
+pub record AddsSection (layout : Layout) (o : OutputSection) (t : Layout) : Type 0 where
   pub row : List Piece
   pub head : Head
   pub last : Body
-  pub body : BodyEffects (opened s row head) last
-  pub nothing : AddsNothing s last.layout
+  pub body : BodyEffects (opened layout row head) last
+  pub nothing : AddsNothing layout last.layout
   pub after : with_section last.layout o (placed_section o head last) ≡ t
 
 -- a layout comes of another by these regions and output sections
 pub data Trace : Layout → List Region → List OutputSectionAt → Layout → Type 0 where
-  all_added : {s : Layout} → Trace s [] [] s
-  nothing_added : {s t u : Layout} {rs : List Region} {os : List OutputSectionAt} → AddsNothing s t → Trace t rs os u
-      → Trace s rs os u
-  region_added : {s u : Layout} {r : Region} {rs : List Region} {os : List OutputSectionAt} (origin extent : ℕ)
-      → Trace (with_region s r.name origin extent) rs os u → Trace s (r ∷ rs) os u
-  section_added : {s t u : Layout} {rs : List Region} {o : OutputSectionAt} {os : List OutputSectionAt}
-      → AddsSection s o.section t → Trace t rs os u → Trace s rs (o ∷ os) u
+  all_added : {layout : Layout} → Trace layout [] [] layout
+  nothing_added : {layout t u : Layout} {rs : List Region} {os : List OutputSectionAt} → AddsNothing layout t
+      → Trace t rs os u
+      → Trace layout rs os u
+  region_added : {layout u : Layout} {r : Region} {rs : List Region} {os : List OutputSectionAt} (origin extent : ℕ)
+      → Trace (with_region layout r.name origin extent) rs os u → Trace layout (r ∷ rs) os u
+  section_added : {layout t u : Layout} {rs : List Region} {o : OutputSectionAt} {os : List OutputSectionAt}
+      → AddsSection layout o.section t → Trace t rs os u → Trace layout rs (o ∷ os) u

@@ -14,34 +14,35 @@ use Rattle.ldmodel_laws.specs.Spread.{IsSpread}
 
 -- a site without a fault
 abbrev pub HasField : GoodLink → Site → Type 0
-HasField l t = (field : List ℕ) × (site_field l.project l.layout t ≡ Ok field)
+HasField link site = (field : List ℕ) × (site_field link.project link.layout site ≡ Ok field)
 
 -- objects are what their bytes spell
 abbrev pub AreRead : Project → Type 0
-AreRead p = Each (λ (o : NamedObject). o.object ≡ object_of o.object.text) p.objects
+AreRead project = Each (λ (object : NamedObject). object.object ≡ object_of object.object.text) project.objects
 
 -- a site's symbol has one value in both links
 abbrev pub HasSameValue : GoodLink → GoodLink → Site → Type 0
-HasSameValue old new t = site_value old.project old.layout t ≡ site_value new.project new.layout t
+HasSameValue old new site = site_value old.project old.layout site ≡ site_value new.project new.layout site
 
 -- nothing meets in an output section; output sections have different names; objects are what their bytes spell; each
 -- site of an input section in the output has its field
-pub record IsGood (l : GoodLink) : Type 0 where
-  pub spread : Each IsSpread l.layout.sections
-  pub named : AreNamed l.layout.sections
-  pub read : AreRead l.project
-  pub fields : (x : LinkedPiece) → Contains (link_pieces l) x → Each (HasField l) (sites_in l.project x)
+pub record IsGood (link : GoodLink) : Type 0 where
+  pub spread : Each IsSpread link.layout.sections
+  pub named : AreNamed link.layout.sections
+  pub read : AreRead link.project
+  pub fields : (piece : LinkedPiece) → Contains (link_pieces link) piece
+      → Each (HasField link) (sites_in link.project piece)
 
 -- a link without faults of layout and relocation, of a project whose objects and script were read and whose objects
 -- have different names
-pub record IsFaultless (l : GoodLink) : Type 0 where
-  pub layout : layout l.project ≡ Ok l.layout
-  pub relocated : relocation_faults l.project l.layout ≡ []
-  pub names : AreNamesDistinct l.project.objects
-  pub numbers : AreNumbered l.project
-  pub read : AreRead l.project
-  pub named : AreNamed l.layout.sections
+pub record IsFaultless (link : GoodLink) : Type 0 where
+  pub layout : layout link.project ≡ Ok link.layout
+  pub relocated : relocation_faults link.project link.layout ≡ []
+  pub names : AreNamesDistinct link.project.objects
+  pub numbers : AreNumbered link.project
+  pub read : AreRead link.project
+  pub named : AreNamed link.layout.sections
 
 -- byte i of an input section lies outside the field of a site of it
 abbrev pub IsOutside : ℕ → Site → Type 0
-IsOutside i t = (i < t.relocation.offset) ⊎ (t.relocation.offset + width t.relocation.kind ≤ i)
+IsOutside i site = (i < site.relocation.offset) ⊎ (site.relocation.offset + width site.relocation.kind ≤ i)

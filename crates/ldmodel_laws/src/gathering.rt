@@ -33,10 +33,11 @@ pub fn first_match_by_splitting()
 /// root, each next one the target of some relocation of the one before; without it, where it is not left out. Live
 /// sections stand in the order of all.
 pub fn live_by_path()
-    ensures collected { (p : Project) (s : InputSection) → p.options.gc ≡ true
-        → Contains (live p) s ↔ Path (is_root p) (refers_to p) (candidates p) s }
-    ensures all { (p : Project) → p.options.gc ≡ false → live p ≡ candidates p }
-    ensures in_order { (p : Project) → (test : InputSection → Bool) × (live p ≡ filter test (candidates p)) }
+    ensures collected { (project : Project) (section : InputSection) → project.options.gc ≡ true
+        → Contains (live project) section ↔ Path (is_root project) (refers_to project) (candidates project) section }
+    ensures all { (project : Project) → project.options.gc ≡ false → live project ≡ candidates project }
+    ensures in_order { (project : Project) → (test : InputSection → Bool)
+        × (live project ≡ filter test (candidates project)) }
 {}
 
 /// Pieces in the order of a sort, such as those that a statement takes, are the one list that has them ascending by the
@@ -50,6 +51,6 @@ pub fn row_by_order()
 /// part of one object. The names of objects are distinct (`edits::names_stay_distinct`), and the sections of each have
 /// different numbers, as the object reader gives them.
 pub fn once_in_rows()
-    ensures { (p : Project) → AreNamesDistinct p.objects → AreNumbered p
-        → EachLater Differ (flat_map (λ r. r) (rows p)) }
+    ensures { (project : Project) → AreNamesDistinct project.objects → AreNumbered project
+        → EachLater Differ (flat_map (λ r. r) (rows project)) }
 {}

@@ -22,26 +22,28 @@ ghost use Rattle.ldmodel_laws.specs.Spread.{IsSpread};
 /// where the gap of an address begins up to that address nothing is covered, and there the section starts, or something
 /// that is not empty ends.
 pub fn gap_is_longest_run()
-    ensures { (q : PlacedOutput) (at : ℕ) → q.start ≤ at → IsBare q at → IsGapStart q at (gap_start q at) }
+    ensures { (output : PlacedOutput) (at : ℕ) → output.start ≤ at → IsBare output at
+        → IsGapStart output at (gap_start output at) }
 {}
 
 /// The fields of an input section share no byte, where its relocations do not, as the object reader has found; and each
 /// field has a byte and ends in the section, where the relocations do.
 pub fn fields_are_apart()
-    ensures apart { (p : Project) (s : Layout) (o : NamedObject) (x : LinkedSection) (start : ℕ)
-        → object.AreApart x.relocations → patches.AreApart (fields_of p s o x start) }
-    ensures within { (p : Project) (s : Layout) (o : NamedObject) (x : LinkedSection) (start : ℕ)
-        → All (λ (r : Relocation). field_end r ≤ x.size) x.relocations
-        → All (IsWithin x.size) (fields_of p s o x start) }
+    ensures apart { (project : Project) (layout : Layout) (o : NamedObject) (section : LinkedSection) (start : ℕ)
+        → object.AreApart section.relocations → patches.AreApart (fields_of project layout o section start) }
+    ensures within { (project : Project) (layout : Layout) (object : NamedObject) (section : LinkedSection) (start : ℕ)
+        → All (λ (relocation : Relocation). field_end relocation ≤ section.size) section.relocations
+        → All (IsWithin section.size) (fields_of project layout object section start) }
 {}
 
 /// The image has the bytes of an input section where it stands in the file, in an output section with file bytes: each
 /// byte is that of the field that covers it, else that of the section. Output sections have different names, as the
 /// script reader has found, and nothing in them meets (`layout::nothing_meets`).
 pub fn byte_of_piece()
-    ensures { (p : Project) (s : Layout) (q : PlacedOutput) (x : PlacedPiece) (i : ℕ)
-        → Each IsSpread s.sections → AreNamed s.sections
-        → Contains s.sections q → q.has_file_bytes ≡ true → Contains q.pieces x → i < x.piece.size
-        → byte_at p s (offset_in_file (segments s.sections) q x + i)
-        ≡ part_byte p s x.piece.object x.piece.part x.start i }
+    ensures { (project : Project) (layout : Layout) (output : PlacedOutput) (placed : PlacedPiece) (i : ℕ)
+        → Each IsSpread layout.sections → AreNamed layout.sections
+        → Contains layout.sections output → output.has_file_bytes ≡ true → Contains output.pieces placed → i
+        < placed.piece.size
+        → byte_at project layout (offset_in_file (segments layout.sections) output placed + i)
+        ≡ part_byte project layout placed.piece.object placed.piece.part placed.start i }
 {}

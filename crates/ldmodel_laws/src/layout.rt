@@ -26,51 +26,51 @@ ghost use Rattle.ldmodel_laws.specs.Traces.{Trace};
 /// moves `.` to its end. A fault is the first exactly where the statements, regions or entries before one, at whatever
 /// depth, lead to a state in which that one has it.
 pub fn placement_by_steps()
-    ensures placed { (script : List Statement) (rows : List (List Piece)) (provided : List (List ℕ)) (s : Layout)
-        → (placement script rows provided ≡ Ok s) ↔ IsPlacement script rows provided s }
-    ensures faulty { (script : List Statement) (rows : List (List Piece)) (provided : List (List ℕ)) (f : Fault)
-        → (placement script rows provided ≡ Err f) ↔ IsFirstFault script rows provided f }
+    ensures placed { (script : List Statement) (rows : List (List Piece)) (provided : List (List ℕ)) (layout : Layout)
+        → (placement script rows provided ≡ Ok layout) ↔ IsPlacement script rows provided layout }
+    ensures faulty { (script : List Statement) (rows : List (List Piece)) (provided : List (List ℕ)) (fault : Fault)
+        → (placement script rows provided ≡ Err fault) ↔ IsFirstFault script rows provided fault }
 {}
 
 /// A layout comes of the regions and output sections of its script, each added once and in the order of the text;
 /// nothing else adds to them. An output section is added when its body is filled, effect by effect: `.` goes on to an
 /// address, an entry of the row or a data command takes its place, a symbol is given a value.
 pub fn layout_by_effects()
-    ensures { (script : List Statement) (rows : List (List Piece)) (provided : List (List ℕ)) (s : Layout)
-        → placement script rows provided ≡ Ok s
-        → Trace nothing_placed (regions script) (output_sections script) s }
+    ensures { (script : List Statement) (rows : List (List Piece)) (provided : List (List ℕ)) (layout : Layout)
+        → placement script rows provided ≡ Ok layout
+        → Trace nothing_placed (regions script) (output_sections script) layout }
 {}
 
 /// Each entry of every row is placed once and in the order of the row, whichever PROVIDEs are in force: what stands in
 /// the output sections are the rows.
 pub fn placed_are_rows()
-    ensures { (p : Project) (provided : List (List ℕ)) (s : Layout)
-        → placement p.script (rows p) provided ≡ Ok s → map entries_in s.sections ≡ rows p }
+    ensures { (project : Project) (provided : List (List ℕ)) (layout : Layout)
+        → placement project.script (rows project) provided ≡ Ok layout → map entries_in layout.sections ≡ rows project }
 {}
 
 /// What a layout keeps of `.` is its value before each statement of SECTIONS and of the body of an output section, one
 /// for each, in the order of the text: a statement of SECTIONS adds the value before itself and then those of its body,
 /// a statement of a body adds the value before itself, and a script has as many as it has such statements.
 pub fn dots_by_statement()
-    ensures counted { (script : List Statement) (rows : List (List Piece)) (provided : List (List ℕ)) (s : Layout)
-        → placement script rows provided ≡ Ok s → length s.dots ≡ dots_in script }
-    ensures of_item { (rows : List (List Piece)) (provided : List (List ℕ)) (s : Layout) (i : Item) (t : Layout)
-        → item_step rows provided s i ≡ Ok t → Notes (dots_of i) s t }
-    ensures of_body { (provided : List (List ℕ)) (b : Body) (x : BodyStatement) (c : Body)
-        → body_step provided b x ≡ Ok c → c.layout.dots ≡ b.layout.dots ++ b.layout.dot ∷ [] }
+    ensures counted { (script : List Statement) (rows : List (List Piece)) (provided : List (List ℕ)) (layout : Layout)
+        → placement script rows provided ≡ Ok layout → length layout.dots ≡ dots_in script }
+    ensures of_item { (rows : List (List Piece)) (provided : List (List ℕ)) (layout : Layout) (i : Item) (t : Layout)
+        → item_step rows provided layout i ≡ Ok t → Notes (dots_of i) layout t }
+    ensures of_body { (provided : List (List ℕ)) (body : Body) (x : BodyStatement) (c : Body)
+        → body_step provided body x ≡ Ok c → c.layout.dots ≡ body.layout.dots ++ body.layout.dot ∷ [] }
 {}
 
 /// An output section has file bytes exactly where it is loaded: one of size 0 has none.
 pub fn loaded_with_file_bytes()
-    ensures { (o : OutputSection) (h : Head) (b : Body)
-        → (placed_section o h b).has_file_bytes ≡ not ((placed_section o h b).load_size == 0) }
+    ensures { (o : OutputSection) (h : Head) (body : Body)
+        → (placed_section o h body).has_file_bytes ≡ not ((placed_section o h body).load_size == 0) }
 {}
 
 /// In an output section of a placement nothing meets: its input sections and its data commands lie from its start up to
 /// its end, each past the earlier ones of its kind, and none of one kind shares an address with one of the other.
 pub fn nothing_meets()
-    ensures { (script : List Statement) (rows : List (List Piece)) (provided : List (List ℕ)) (s : Layout)
-        → placement script rows provided ≡ Ok s → Each IsSpread s.sections }
+    ensures { (script : List Statement) (rows : List (List Piece)) (provided : List (List ℕ)) (layout : Layout)
+        → placement script rows provided ≡ Ok layout → Each IsSpread layout.sections }
 {}
 
 /// Two layouts of a script whose rows are the same before a number, and that both come to the same statement of
@@ -80,9 +80,9 @@ pub fn nothing_meets()
 /// symbol that is not there has a fault.
 pub fn placements_alike()
     ensures { (script before : List Statement) (items : List Item) (first : ℕ) (old rows : List (List Piece))
-        (earlier provided : List (List ℕ)) (s t : Layout) → IsSound script → IsPartedAt script before items
-        → AreSameBefore first old rows → LeadTo old earlier before items s → LeadTo rows provided before items t
-        → length t.sections ≤ first → AreAlike [] s t }
+        (earlier provided : List (List ℕ)) (layout t : Layout) → IsSound script → IsPartedAt script before items
+        → AreSameBefore first old rows → LeadTo old earlier before items layout → LeadTo rows provided before items t
+        → length t.sections ≤ first → AreAlike [] layout t }
 {}
 
 /// `placements_alike` step by step: what leads from layouts, or from bodies of output sections, that differ in symbols

@@ -17,9 +17,9 @@ pub fn decided_renumbered()
 /// What a name stands for may as well be decided over the symbol tables of the objects under keys, in the order of the
 /// objects.
 pub fn decision_by_keys()
-    ensures { (number : ℕ → ℕ) (p : Project) (tables : List (ℕ × List NamedSymbol)) (name : List ℕ)
-        → AreTablesOf number p.objects tables
-        → decision p name ≡ renumbered_decision number
-        (decided (is_assigned p.script name) (is_provided p.script name)
+    ensures { (number : ℕ → ℕ) (project : Project) (tables : List (ℕ × List NamedSymbol)) (name : List ℕ)
+        → AreTablesOf number project.objects tables
+        → decision project name ≡ renumbered_decision number
+        (decided (is_assigned project.script name) (is_provided project.script name)
         (filter (is_of_name name) (declarations_of tables))) }
 {}

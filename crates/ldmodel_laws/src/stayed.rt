@@ -23,80 +23,85 @@ ghost use Rattle.ldmodel_laws.specs.Untouched.{AreRead, HasField, HasSameValue, 
 /// Untouched bytes: a byte of an input section that stayed, outside the fields of its sites whose symbol has another
 /// value, is the same in both images.
 pub fn untouched_bytes()
-    ensures { (old new : GoodLink) → IsGood old → IsGood new → (x : LinkedPiece) → Contains (stayed old new) x
-        → (i : ℕ) → ((t : Site) → Contains (retargeted old new) t → Contains (sites_in new.project x) t → IsOutside i t)
-        → i < x.range.length
-        → byte_at old.project old.layout (x.range.offset + i) ≡ byte_at new.project new.layout (x.range.offset + i) }
+    ensures { (old new : GoodLink) → IsGood old → IsGood new → (piece : LinkedPiece) → Contains (stayed old new) piece
+        → (i : ℕ) → ((site : Site) → Contains (retargeted old new) site → Contains (sites_in new.project piece) site
+        → IsOutside i site)
+        → i < piece.range.length
+        → byte_at old.project old.layout (piece.range.offset + i)
+        ≡ byte_at new.project new.layout (piece.range.offset + i) }
 {}
 
 /// Retargeted sites are found: a site in an input section that stayed whose symbol has another value names a target
 /// whose number is another in the two links; so an index from targets to sites has it under such a target.
 pub fn retargeted_by_target()
     ensures { (old new : GoodLink) → IsGood old → IsGood new
-        → (t : Site) (a : NamedSymbol) → Contains (retargeted old new) t → site_symbol t ≡ Some a
-        → target_number old.project old.layout (target_of t.object a)
-        ≢ target_number new.project new.layout (target_of t.object a) }
+        → (site : Site) (a : NamedSymbol) → Contains (retargeted old new) site → site_symbol site ≡ Some a
+        → target_number old.project old.layout (target_of site.object a)
+        ≢ target_number new.project new.layout (target_of site.object a) }
 {}
 
 /// A link without faults is good: what `untouched_bytes` and `retargeted_by_target` ask of it holds.
 pub fn faultless_is_good()
-    ensures { (l : GoodLink) → IsFaultless l → IsGood l }
+    ensures { (link : GoodLink) → IsFaultless link → IsGood link }
 {}
 
 /// An input section in an output section is one of the link; and those that stayed are those of the new link that the
 /// old one has too.
 pub fn stayed_in_both()
-    ensures linked { (l : GoodLink) (q : PlacedOutput) (z : PlacedPiece) → Contains l.layout.sections q
-        → Contains q.pieces z
-        → Contains (link_pieces l) (linked_piece l.project (segments l.layout.sections) q z) }
-    ensures stayed { (old new : GoodLink) (x : LinkedPiece)
-        → Contains (stayed old new) x ↔ (Contains (link_pieces new) x × (has_stayed old x ≡ true)) }
+    ensures linked { (link : GoodLink) (output : PlacedOutput) (z : PlacedPiece) → Contains link.layout.sections output
+        → Contains output.pieces z
+        → Contains (link_pieces link) (linked_piece link.project (segments link.layout.sections) output z) }
+    ensures stayed { (old new : GoodLink) (piece : LinkedPiece)
+        → Contains (stayed old new) piece ↔ (Contains (link_pieces new) piece × (has_stayed old piece ≡ true)) }
 {}
 
 /// The bytes of an input section lie in the image; those of one that stayed lie in the old image too.
 pub fn pieces_in_image()
-    ensures own { (l : GoodLink) → IsGood l → (x : LinkedPiece) → Contains (link_pieces l) x → (i : ℕ)
-        → i < x.range.length → x.range.offset + i < image_length l.project l.layout }
-    ensures old { (old new : GoodLink) → IsGood old → (x : LinkedPiece) → Contains (stayed old new) x → (i : ℕ)
-        → i < x.range.length → x.range.offset + i < image_length old.project old.layout }
+    ensures own { (link : GoodLink) → IsGood link → (piece : LinkedPiece) → Contains (link_pieces link) piece → (i : ℕ)
+        → i < piece.range.length → piece.range.offset + i < image_length link.project link.layout }
+    ensures old { (old new : GoodLink) → IsGood old → (piece : LinkedPiece) → Contains (stayed old new) piece → (i : ℕ)
+        → i < piece.range.length → piece.range.offset + i < image_length old.project old.layout }
 {}
 
 /// Each site of an input section has a field, which is as wide as its relocation says; and the image has the field in
 /// its place, where the relocations of the section share no byte, as the object reader has found.
 pub fn fields_in_image()
-    ensures found { (l : GoodLink) → IsGood l → (x : LinkedPiece) → Contains (link_pieces l) x → (t : Site)
-        → Contains (sites_in l.project x) t → HasField l t }
-    ensures some { (l : GoodLink) (x : LinkedPiece) (t : Site) → Contains (sites_in l.project x) t
-        → 0 < width t.relocation.kind }
-    ensures wide { (l : GoodLink) (x : LinkedPiece) (t : Site) (field : List ℕ) → Contains (sites_in l.project x) t
-        → site_field l.project l.layout t ≡ Ok field → length field ≡ width t.relocation.kind }
-    ensures byte { (l : GoodLink) → IsGood l → (x : LinkedPiece) → Contains (link_pieces l) x → (t : Site)
-        → Contains (sites_in l.project x) t → AreApart t.section.relocations → (field : List ℕ)
-        → site_field l.project l.layout t ≡ Ok field → (i : ℕ) → i < length field
-        → t.relocation.offset + i < x.range.length
-        → byte_at l.project l.layout (x.range.offset + (t.relocation.offset + i)) ≡ slice_index field i }
+    ensures found { (link : GoodLink) → IsGood link → (piece : LinkedPiece) → Contains (link_pieces link) piece
+        → (site : Site)
+        → Contains (sites_in link.project piece) site → HasField link site }
+    ensures some { (link : GoodLink) (piece : LinkedPiece) (site : Site) → Contains (sites_in link.project piece) site
+        → 0 < width site.relocation.kind }
+    ensures wide { (link : GoodLink) (piece : LinkedPiece) (site : Site) (field : List ℕ)
+        → Contains (sites_in link.project piece) site
+        → site_field link.project link.layout site ≡ Ok field → length field ≡ width site.relocation.kind }
+    ensures byte { (link : GoodLink) → IsGood link → (piece : LinkedPiece) → Contains (link_pieces link) piece
+        → (site : Site)
+        → Contains (sites_in link.project piece) site → AreApart site.section.relocations → (field : List ℕ)
+        → site_field link.project link.layout site ≡ Ok field → (i : ℕ) → i < length field
+        → site.relocation.offset + i < piece.range.length
+        → byte_at link.project link.layout (piece.range.offset + (site.relocation.offset + i)) ≡ slice_index field i }
 {}
 
 /// A site whose symbol has the same value in both links has the same field in them. In an input section that stayed,
 /// where the old link is good, it has a field: a relocation that need not be evaluated again has no fault.
 pub fn unmoved_sites()
-    ensures same { (old new : GoodLink) (t : Site) → HasSameValue old new t
-        → site_field new.project new.layout t ≡ site_field old.project old.layout t }
-    ensures found { (old new : GoodLink) → IsGood old → AreRead new.project → (x : LinkedPiece) (t : Site)
-        → Contains (stayed old new) x → Contains (sites_in new.project x) t → HasSameValue old new t
-        → HasField new t }
+    ensures same { (old new : GoodLink) (site : Site) → HasSameValue old new site
+        → site_field new.project new.layout site ≡ site_field old.project old.layout site }
+    ensures found { (old new : GoodLink) → IsGood old → AreRead new.project → (piece : LinkedPiece) (site : Site)
+        → Contains (stayed old new) piece → Contains (sites_in new.project piece) site → HasSameValue old new site
+        → HasField new site }
 {}
 
 /// The sites in input sections that stayed are retargeted exactly where their symbols have other values, compared as
 /// values and not as numbers: 0 is also the number of a symbol that nothing defines and of one whose section is not in
 /// the output. So a test that fails exactly where the values are equal keeps the retargeted sites, in their order.
 pub fn moved_by_value()
-    ensures one { (old new : GoodLink) → IsGood old → IsGood new → (x : LinkedPiece) (t : Site)
-        → Contains (stayed old new) x → Contains (sites_in new.project x) t
-        → HasSameValue old new t ↔ (is_moved old new t ≡ false) }
+    ensures one { (old new : GoodLink) → IsGood old → IsGood new → (piece : LinkedPiece) (site : Site)
+        → Contains (stayed old new) piece → Contains (sites_in new.project piece) site
+        → HasSameValue old new site ↔ (is_moved old new site ≡ false) }
     ensures all { (old new : GoodLink) → IsGood old → IsGood new → (test : Site → Bool)
-        → ((t : Site) → Contains (flat_map (sites_in new.project) (stayed old new)) t
-        → (test t ≡ false) ↔ HasSameValue old new t)
+        → ((site : Site) → Contains (flat_map (sites_in new.project) (stayed old new)) site
+        → (test site ≡ false) ↔ HasSameValue old new site)
         → filter test (flat_map (sites_in new.project) (stayed old new)) ≡ retargeted old new }
 {}
 
@@ -104,30 +109,31 @@ pub fn moved_by_value()
 /// sites, each as often, also of those that a test keeps. The sites by input sections are those in input sections that
 /// stayed, and the others. The layout may have faults of relocation; one without faults at all is such a layout.
 pub fn sites_by_piece()
-    ensures same { (p : Project) (s : Layout) → IsPlacedOnce p s
-        → IsPermutation (sites p s) (flat_map (sites_in p) (linked_pieces p s)) }
-    ensures kept { (p : Project) (s : Layout) (test : Site → Bool) → IsPlacedOnce p s
-        → IsPermutation (filter test (sites p s)) (filter test (flat_map (sites_in p) (linked_pieces p s))) }
+    ensures same { (project : Project) (layout : Layout) → IsPlacedOnce project layout
+        → IsPermutation (sites project layout) (flat_map (sites_in project) (linked_pieces project layout)) }
+    ensures kept { (project : Project) (layout : Layout) (test : Site → Bool) → IsPlacedOnce project layout
+        → IsPermutation (filter test (sites project layout))
+        (filter test (flat_map (sites_in project) (linked_pieces project layout))) }
     ensures parted { (old new : GoodLink) → IsPermutation (flat_map (sites_in new.project) (link_pieces new))
         (flat_map (sites_in new.project) (stayed old new) ++ sites_outside old new) }
-    ensures faultless { (l : GoodLink) → IsFaultless l → IsPlacedOnce l.project l.layout }
+    ensures faultless { (link : GoodLink) → IsFaultless link → IsPlacedOnce link.project link.layout }
 {}
 
 /// Whether a site lies in an input section that stayed follows from the object and the number of its section: an input
 /// section stayed exactly where its part of its object is among those that did. So one pass over the sites in the order
 /// of the objects finds those that are retargeted, by a test of values too, and those outside of what stayed.
 pub fn stayed_by_part()
-    ensures piece { (old new : GoodLink) → IsPlacedOnce new.project new.layout → (x : LinkedPiece)
-        → Contains (link_pieces new) x → has_part_stayed old new x.object x.part ≡ has_stayed old x }
-    ensures site { (old new : GoodLink) → IsPlacedOnce new.project new.layout → (t : Site)
-        → Contains (sites new.project new.layout) t → lies_in_stayed old new t ≡ true
-        → (x : LinkedPiece) × Contains (stayed old new) x × Contains (sites_in new.project x) t }
+    ensures piece { (old new : GoodLink) → IsPlacedOnce new.project new.layout → (piece : LinkedPiece)
+        → Contains (link_pieces new) piece → has_part_stayed old new piece.object piece.part ≡ has_stayed old piece }
+    ensures site { (old new : GoodLink) → IsPlacedOnce new.project new.layout → (site : Site)
+        → Contains (sites new.project new.layout) site → lies_in_stayed old new site ≡ true
+        → (piece : LinkedPiece) × Contains (stayed old new) piece × Contains (sites_in new.project piece) site }
     ensures moved { (old new : GoodLink) → IsPlacedOnce new.project new.layout
         → IsPermutation (filter (λ t. lies_in_stayed old new t && is_moved old new t)
         (sites new.project new.layout)) (retargeted old new) }
     ensures valued { (old new : GoodLink) → IsPlacedOnce new.project new.layout → IsGood old → IsGood new
-        → (test : Site → Bool) → ((t : Site) → Contains (sites new.project new.layout) t
-        → lies_in_stayed old new t ≡ true → (test t ≡ false) ↔ HasSameValue old new t)
+        → (test : Site → Bool) → ((site : Site) → Contains (sites new.project new.layout) site
+        → lies_in_stayed old new site ≡ true → (test site ≡ false) ↔ HasSameValue old new site)
         → IsPermutation (filter (λ t. lies_in_stayed old new t && test t) (sites new.project new.layout))
         (retargeted old new) }
     ensures outside { (old new : GoodLink) → IsPlacedOnce new.project new.layout
@@ -146,5 +152,5 @@ pub fn stayed_in_image()
 pub fn retargeted_in_index()
     ensures { (old new : GoodLink) → IsGood old → IsGood new → IsPlacedOnce new.project new.layout
         → (index : Target → List Site) → HasSites new.project new.layout index
-        → (t : Site) → Contains (retargeted old new) t → IsFound old new index t }
+        → (site : Site) → Contains (retargeted old new) site → IsFound old new index site }
 {}

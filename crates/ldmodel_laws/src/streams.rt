@@ -5,14 +5,14 @@ ghost use Rattle.ldmodel.specs.Commands.{AreCommands, BeginsCommand, Command, Ha
 
 /// The line of a command has no line feed.
 pub fn lines_without_feed()
-    ensures { (c : Command) → IsCommand c → HasNo 10 (line c) }
+    ensures { (command : Command) → IsCommand command → HasNo 10 (line command) }
 {}
 
 /// No spelling of a command begins another: a text that begins with two commands begins with one, and what follows it
 /// is the same.
 pub fn one_first_command()
-    ensures { (c d : Command) (x y : List ℕ) → IsCommand c → IsCommand d
-        → spelling c ++ x ≡ spelling d ++ y → (c ≡ d) × (x ≡ y) }
+    ensures { (command d : Command) (x y : List ℕ) → IsCommand command → IsCommand d
+        → spelling command ++ x ≡ spelling d ++ y → (command ≡ d) × (x ≡ y) }
 {}
 
 /// No stream is cut into commands in two ways: where no command begins what is left, the commands are the same and so

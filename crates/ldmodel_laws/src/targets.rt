@@ -11,8 +11,9 @@ ghost use Rattle.ldmodel.specs.Targets.{referenced_value, target_number, target_
 /// that turns on it, where its section is in the output of both: so an index from targets to relocations finds each
 /// relocation whose symbol has another value.
 pub fn target_decides_value()
-    ensures { (p r : Project) (s t : Layout) (o : NamedObject) (x : NamedSymbol)
-        → referenced_value p s o x ≢ NotInOutput → referenced_value r t o x ≢ NotInOutput
-        → target_number p s (target_of o x) ≡ target_number r t (target_of o x)
-        → number_or_0 (referenced_value p s o x) ≡ number_or_0 (referenced_value r t o x) }
+    ensures { (project r : Project) (layout t : Layout) (object : NamedObject) (symbol : NamedSymbol)
+        → referenced_value project layout object symbol ≢ NotInOutput → referenced_value r t object symbol ≢ NotInOutput
+        → target_number project layout (target_of object symbol) ≡ target_number r t (target_of object symbol)
+        → number_or_0 (referenced_value project layout object symbol)
+        ≡ number_or_0 (referenced_value r t object symbol) }
 {}

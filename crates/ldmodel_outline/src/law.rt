@@ -18,49 +18,56 @@ ghost use Rattle.ldmodel_laws.specs.Outline.{HasSameFrame, DiffersInContents};
 
 /// Names stand for the same, and have the same faults.
 pub fn retouched_names()
-    ensures decided { (p q : Project) (i : ℕ) → DiffersInContents p q i → (name : List ℕ)
-        → decision p name ≡ decision q name }
-    ensures provided { (p q : Project) (i : ℕ) → DiffersInContents p q i → provided p ≡ provided q }
-    ensures faults { (p q : Project) (i : ℕ) → DiffersInContents p q i → name_faults p ≡ name_faults q }
+    ensures decided { (project q : Project) (i : ℕ) → DiffersInContents project q i → (name : List ℕ)
+        → decision project name ≡ decision q name }
+    ensures provided { (project q : Project) (i : ℕ) → DiffersInContents project q i → provided project ≡ provided q }
+    ensures faults { (project q : Project) (i : ℕ) → DiffersInContents project q i → name_faults project
+        ≡ name_faults q }
 {}
 
 /// The same input sections stand in the same rows, and as many are orphans.
 pub fn retouched_rows()
-    ensures rows { (p q : Project) (i : ℕ) → DiffersInContents p q i → rows p ≡ rows q }
-    ensures faults { (p q : Project) (i : ℕ) → DiffersInContents p q i → gathering_faults p ≡ gathering_faults q }
+    ensures rows { (project q : Project) (i : ℕ) → DiffersInContents project q i → rows project ≡ rows q }
+    ensures faults { (project q : Project) (i : ℕ) → DiffersInContents project q i → gathering_faults project
+        ≡ gathering_faults q }
 {}
 
 /// Symbols are worth the same at a layout.
 pub fn retouched_values()
-    ensures names { (p q : Project) (i : ℕ) → DiffersInContents p q i → (s : Layout) (name : List ℕ)
-        → name_value p s name ≡ name_value q s name }
-    ensures entry { (p q : Project) (i : ℕ) → DiffersInContents p q i → (s : Layout) → entry_point p s
-        ≡ entry_point q s }
-    ensures references { (p q : Project) (i : ℕ) → DiffersInContents p q i → (s : Layout) (j : ℕ) (a b : NamedObject)
-        → slice_get p.objects j ≡ Some a → slice_get q.objects j ≡ Some b → (x : NamedSymbol)
-        → referenced_value p s a x ≡ referenced_value q s b x }
+    ensures names { (project q : Project) (i : ℕ) → DiffersInContents project q i → (layout : Layout) (name : List ℕ)
+        → name_value project layout name ≡ name_value q layout name }
+    ensures entry { (project q : Project) (i : ℕ) → DiffersInContents project q i → (layout : Layout)
+        → entry_point project layout
+        ≡ entry_point q layout }
+    ensures references { (project q : Project) (i : ℕ) → DiffersInContents project q i
+        → (layout : Layout) (j : ℕ) (a b : NamedObject)
+        → slice_get project.objects j ≡ Some a → slice_get q.objects j ≡ Some b → (symbol : NamedSymbol)
+        → referenced_value project layout a symbol ≡ referenced_value q layout b symbol }
 {}
 
 /// The map is the same, and so are the headers and the tail of the image, and the assertions that fail.
 pub fn retouched_frame()
-    ensures map { (p q : Project) (i : ℕ) → DiffersInContents p q i → (s : Layout) → map_text p s ≡ map_text q s }
-    ensures headers { (p q : Project) (i : ℕ) → DiffersInContents p q i → (s : Layout)
-        → file_headers p s ≡ file_headers q s }
-    ensures tail { (p q : Project) (i : ℕ) → DiffersInContents p q i → (s : Layout) → tail p s ≡ tail q s }
-    ensures length { (p q : Project) (i : ℕ) → DiffersInContents p q i → (s : Layout)
-        → image_length p s ≡ image_length q s }
-    ensures frame { (p q : Project) (i : ℕ) → DiffersInContents p q i → (s : Layout) → HasSameFrame p q s }
-    ensures assertions { (p q : Project) (i : ℕ) → DiffersInContents p q i → (s : Layout)
-        → assertion_faults p s ≡ assertion_faults q s }
+    ensures map { (project q : Project) (i : ℕ) → DiffersInContents project q i → (layout : Layout)
+        → map_text project layout ≡ map_text q layout }
+    ensures headers { (project q : Project) (i : ℕ) → DiffersInContents project q i → (layout : Layout)
+        → file_headers project layout ≡ file_headers q layout }
+    ensures tail { (project q : Project) (i : ℕ) → DiffersInContents project q i → (layout : Layout)
+        → tail project layout ≡ tail q layout }
+    ensures length { (project q : Project) (i : ℕ) → DiffersInContents project q i → (layout : Layout)
+        → image_length project layout ≡ image_length q layout }
+    ensures frame { (project q : Project) (i : ℕ) → DiffersInContents project q i → (layout : Layout)
+        → HasSameFrame project q layout }
+    ensures assertions { (project q : Project) (i : ℕ) → DiffersInContents project q i → (layout : Layout)
+        → assertion_faults project layout ≡ assertion_faults q layout }
 {}
 
 /// The layout is the same.
 pub fn retouched_layout()
-    ensures { (p q : Project) (i : ℕ) → DiffersInContents p q i → layout p ≡ layout q }
+    ensures { (project q : Project) (i : ℕ) → DiffersInContents project q i → layout project ≡ layout q }
 {}
 
 /// Where the first link has no faults, and no relocation of the second project is a fault, neither has the second link.
 pub fn retouched_link()
-    ensures { (p q : Project) (i : ℕ) → DiffersInContents p q i → (s : Layout) → layout p ≡ Ok s
-        → (link p).status ≡ 0 → relocation_faults q s ≡ [] → link q ≡ good q s }
+    ensures { (project q : Project) (i : ℕ) → DiffersInContents project q i → (s : Layout) → layout project ≡ Ok s
+        → (link project).status ≡ 0 → relocation_faults q s ≡ [] → link q ≡ good q s }
 {}

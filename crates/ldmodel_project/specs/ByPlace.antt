@@ -14,16 +14,16 @@ use Rattle.ldmodel.specs.declared.sections.SectionKey.{SectionKey}
 
 -- the name of an input section
 abbrev pub name_of_section : Project → SectionKey → List ℕ
-name_of_section p k = name_of_part p k.object.0 k.part
+name_of_section project k = name_of_part project k.object.0 k.part
 
 -- an entry of a row
 abbrev pub piece_in : Project → code.Piece → Piece
-piece_in p x = piece_of (object_name p) (name_of_section p) x
+piece_in project x = piece_of (object_name project) (name_of_section project) x
 
 -- rows
 abbrev pub rows_in : Project → List (Vec code.Piece Global) → List (List Piece)
-rows_in p rows = map (λ (row : List code.Piece). map (piece_in p) row) (map vec_items rows)
+rows_in project rows = map (λ (row : List code.Piece). map (piece_in project) row) (map vec_items rows)
 
 -- faults
 abbrev pub faults_in : Project → List code_fault.Fault → List Fault
-faults_in p faults = map (fault_of p (λ key. key)) faults
+faults_in project faults = map (fault_of project (λ key. key)) faults

@@ -13,4 +13,4 @@ shown_inputs xs = map shown_input xs
 
 -- no name is empty
 abbrev pub AreObjectsNamed : List NamedObject → Type 0
-AreObjectsNamed objects = Each (λ (o : NamedObject). 0 < length o.name) objects
+AreObjectsNamed objects = Each (λ (object : NamedObject). 0 < length object.name) objects

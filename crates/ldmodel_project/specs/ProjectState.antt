@@ -32,18 +32,18 @@ pub record ProjectState : Type 0 where
   pub options : LinkOptions
 
 abbrev pub listing_of : ProjectState → Listing
-listing_of h = record { entries = h.contents.entries; script = h.script; options = h.options }
+listing_of state = record { entries = state.contents.entries; script = state.script; options = state.options }
 
 -- the project that is kept
 abbrev pub held : ProjectState → Project
-held h = project_of (listing_of h)
+held state = project_of (listing_of state)
 
 -- what a staged edit makes of it
 abbrev pub next_listing : ProjectState → Staged → Listing
-next_listing h s = record {
-  entries = next_entries h.contents.entries s.objects;
-  script = unwrap_or s.script h.script;
-  options = h.options;
+next_listing state s = record {
+  entries = next_entries state.contents.entries s.objects;
+  script = unwrap_or s.script state.script;
+  options = state.options;
 }
 
 -- there may be more room, and all else is the same
@@ -53,14 +53,14 @@ pub record SameHolding (old new : ProjectState) : Type 0 where
 
 -- all growths of an edit of the objects alone, which leads to these; or there was no memory
 abbrev pub Makes : ProjectState → List NamedObject → Result Staged EditRefusal → Type 0
-Makes h next (Ok s) = IsStaged h.contents s.objects next × (s.script ≡ None)
-Makes h next (Err r) = r ≡ NoMemory
+Makes state next (Ok s) = IsStaged state.contents s.objects next × (s.script ≡ None)
+Makes state next (Err r) = r ≡ NoMemory
 
 -- the same of another script
 abbrev pub MakesScript : ProjectState → List Statement → Result Staged EditRefusal → Type 0
-MakesScript h next (Ok s) =
-    IsStaged h.contents s.objects (held h).objects × (s.script ≡ Some next) × (edited_key s.objects.step ≡ None)
-MakesScript h next (Err r) = r ≡ NoMemory
+MakesScript state next (Ok s) =
+    IsStaged state.contents s.objects (held state).objects × (s.script ≡ Some next) × (edited_key s.objects.step ≡ None)
+MakesScript state next (Err r) = r ≡ NoMemory
 
 -- a staged script touches no object
 abbrev pub EditsOne : Staged → Type 0
@@ -68,10 +68,10 @@ EditsOne s = IfSome s.script (λ _. edited_key s.objects.step ≡ None)
 
 -- the edit is staged, leads where the definition says, and says what it touches; or it is refused
 abbrev pub Stages : ProjectState → Change → Result Staged EditRefusal → Type 0
-Stages h change (Ok s) =
-    Fits h.contents s.objects × After (held h) change (Ok (project_of (next_listing h s)))
-    × ChangesOneObject h.contents.entries s.objects × EditsOne s
-Stages h change (Err r) = RefusedAs (held h) change (refusal_of r)
+Stages state change (Ok s) =
+    Fits state.contents s.objects × After (held state) change (Ok (project_of (next_listing state s)))
+    × ChangesOneObject state.contents.entries s.objects × EditsOne s
+Stages state change (Err r) = RefusedAs (held state) change (refusal_of r)
 
 -- at most one object is read
 abbrev pub ReadsAtMostOne : Counts → Counts → Type 0

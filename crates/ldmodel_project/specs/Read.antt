@@ -6,4 +6,4 @@ use Rattle.ldmodel.specs.Project.{NamedObject}
 
 -- each is what its bytes spell
 abbrev pub AreObjectsRead : List NamedObject → Type 0
-AreObjectsRead objects = Each (λ (o : NamedObject). o.object ≡ object_of o.object.text) objects
+AreObjectsRead objects = Each (λ (object : NamedObject). object.object ≡ object_of object.object.text) objects

@@ -23,7 +23,8 @@ may_have marks name = slice_index_or marks (place_in (length marks) name) true
 
 -- the mark of the name of each object is set
 abbrev pub AreTagged : List Bool → Slab NamedObject → Type 0
-AreTagged marks slots = (key : ℕ) (o : NamedObject) → get slots key ≡ Some o → may_have marks o.name ≡ true
+AreTagged marks slots =
+    (key : ℕ) (object : NamedObject) → get slots key ≡ Some object → may_have marks object.name ≡ true
 
 -- no mark goes
 abbrev pub KeepsMarks : List Bool → List Bool → Type 0
@@ -31,4 +32,5 @@ KeepsMarks old new = (name : List ℕ) → may_have old name ≡ true → may_ha
 
 -- the mark of the name that a step puts is set
 abbrev pub NotesPut : List Bool → Step → Type 0
-NotesPut marks step = (key : ℕ) (o : NamedObject) → put_under step key ≡ Some o → may_have marks o.name ≡ true
+NotesPut marks step =
+    (key : ℕ) (object : NamedObject) → put_under step key ≡ Some object → may_have marks object.name ≡ true

@@ -120,7 +120,7 @@ impl<'a> ProjectView<'a> {
     /// The object of a key.
     pub fn object(&self, key: ObjectPlace) -> Option<&'a Object>
         ensures { option_copied result
-            ≡ option_map (λ (o : NamedObject). o.object) (slice_get self.now.objects key.0) }
+            ≡ option_map (λ (object : NamedObject). object.object) (slice_get self.now.objects key.0) }
     {
         match self.inputs.get(key.0) {
             Some(input) => Some(input.object),

@@ -69,10 +69,10 @@ joined g number q =
 
 -- a group alone
 abbrev pub single : PlacedOutput → Group
-single q = record { first = q; others = [] }
+single output = record { first = output; others = [] }
 
 abbrev pub extended : Group → PlacedOutput → Group
-extended g q = record { first = g.first; others = g.others ++ q ∷ [] }
+extended g output = record { first = g.first; others = g.others ++ output ∷ [] }
 
 -- a group that may go on, and its last output section
 pub record Current : Type 0 where
@@ -113,5 +113,6 @@ pub record Grouped (sections rest : List PlacedOutput) (done : List code.Group) 
 -- the step over output section number k
 pub record Takes (done : List code.Group) (running : Option Running) (k : ℕ) (placed : Placed)
     (new_done : List code.Group) (new_running : Option Running) : Type 0 where
-  pub at : (sections rest : List PlacedOutput) (q : PlacedOutput) → slice_get sections k ≡ Some q
-      → placed_of q ≡ placed → Grouped sections (q ∷ rest) done running → Grouped sections rest new_done new_running
+  pub at : (sections rest : List PlacedOutput) (output : PlacedOutput) → slice_get sections k ≡ Some output
+      → placed_of output ≡ placed → Grouped sections (output ∷ rest) done running
+      → Grouped sections rest new_done new_running

@@ -21,12 +21,14 @@ use Rattle.place.specs.declared.indexed_layout.IndexedLayout.{IndexedLayout}
 
 -- where an input section stands, how many bytes it takes, and the number of its output section
 abbrev pub IsSectionAddress : Project → Layout → SectionKey → Option SectionAddress → Type 0
-IsSectionAddress p s k None = placed_part s (object_name p k.object.0) k.part ≡ None
-IsSectionAddress p s k (Some x) =
-    (option_map (λ (y : PlacedPiece). y.start) (placed_part s (object_name p k.object.0) k.part) ≡ Some x.start)
-    × (position (λ (q : PlacedOutput). list_any (is_part (object_name p k.object.0) k.part) q.pieces) s.sections
+IsSectionAddress project layout k None = placed_part layout (object_name project k.object.0) k.part ≡ None
+IsSectionAddress project layout k (Some x) =
+    (option_map (λ (y : PlacedPiece). y.start) (placed_part layout (object_name project k.object.0) k.part)
+    ≡ Some x.start)
+    × (position (λ (output : PlacedOutput). list_any (is_part (object_name project k.object.0) k.part) output.pieces)
+    layout.sections
     ≡ Some x.section.0)
-    × (option_map (λ (y : PlacedPiece). y.piece.size) (placed_part s (object_name p k.object.0) k.part)
+    × (option_map (λ (y : PlacedPiece). y.piece.size) (placed_part layout (object_name project k.object.0) k.part)
     ≡ Some x.size)
 
 -- what stands under a number
@@ -45,9 +47,9 @@ place_in x k = part_in x k.object.0 k.part
 
 -- the numbers, the rows and the layout are those of the project, input sections are found where they stand, and each
 -- stands once
-pub record IsIndexedLayout (p : Project) (s : Layout) (x : IndexedLayout) : Type 0 where
-  pub table : IsTableOf p x.table
-  pub rows : rows_in p x.rows.items ≡ model.rows p
-  pub link_layout : IsLinkLayout p s x.link_layout
-  pub places : (k : SectionKey) → IsSectionAddress p s k (place_in x k)
-  pub apart : AreInPlace p s
+pub record IsIndexedLayout (project : Project) (layout : Layout) (x : IndexedLayout) : Type 0 where
+  pub table : IsTableOf project x.table
+  pub rows : rows_in project x.rows.items ≡ model.rows project
+  pub link_layout : IsLinkLayout project layout x.link_layout
+  pub places : (k : SectionKey) → IsSectionAddress project layout k (place_in x k)
+  pub apart : AreInPlace project layout

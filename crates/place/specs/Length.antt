@@ -10,14 +10,15 @@ use Rattle.ldmodel.specs.declared.segment.Segment.{Segment}
 use Rattle.place.specs.declared.length.TailSizes.{TailSizes}
 
 -- what the caller counted is the tail of a link
-pub record AreTailSizes (p : Project) (s : Layout) (tail : TailSizes) : Type 0 where
-  pub symbols : tail.symbols ≡ length (table_symbols p s)
-  pub symbol_names : tail.symbol_names ≡ length (symbol_name_table p s)
-  pub header_names : tail.header_names ≡ length (header_name_table s)
-  pub sections : tail.sections ≡ length s.sections
+pub record AreTailSizes (project : Project) (layout : Layout) (tail : TailSizes) : Type 0 where
+  pub symbols : tail.symbols ≡ length (table_symbols project layout)
+  pub symbol_names : tail.symbol_names ≡ length (symbol_name_table project layout)
+  pub header_names : tail.header_names ≡ length (header_name_table layout)
+  pub sections : tail.sections ≡ length layout.sections
 
 -- it is the length of the image of each link that has these segments and this tail
 abbrev pub IsImageLength : List Segment → TailSizes → ℕ → Type 0
 IsImageLength xs tail n =
-    (p : Project) (s : Layout) → AreSegments s.sections (segments s.sections) xs → AreTailSizes p s tail
-    → n ≡ image_length p s
+    (project : Project) (layout : Layout) → AreSegments layout.sections (segments layout.sections) xs
+    → AreTailSizes project layout tail
+    → n ≡ image_length project layout

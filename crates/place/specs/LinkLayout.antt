@@ -22,34 +22,34 @@ use Rattle.place.specs.declared.link_layout.LinkLayout.{LinkLayout}
 
 -- s is the layout of the project but for the length of its image, and l is s; a later layout of the script may take
 -- its placement over; output sections have different names
-pub record IsLinkLayout (p : Project) (s : Layout) (l : LinkLayout) : Type 0 where
-  pub placed : placement p.script (rows p) (provided p) ≡ Ok s
+pub record IsLinkLayout (project : Project) (s : Layout) (l : LinkLayout) : Type 0 where
+  pub placed : placement project.script (rows project) (provided project) ≡ Ok s
   pub apart : overlaps s.sections ≡ []
-  pub layout : layout p ≡ of_length (image_length p s) s
-  pub places : AreOf p.script s l.placement
-  pub kept : IsPlacement p.script (rows p) (provided p) l.placement
+  pub layout : layout project ≡ of_length (image_length project s) s
+  pub places : AreOf project.script s l.placement
+  pub kept : IsPlacement project.script (rows project) (provided project) l.placement
   pub segments : AreSegments s.sections (segments s.sections) l.segments.items
   pub offsets : AllZip (IsOffset s) s.sections l.offsets.items
   pub named : AreNamed s.sections
 
 -- places of the project's layout, in which no output sections meet
-pub record HasPlaces (p : Project) (l : Places) : Type 0 where
+pub record HasPlaces (project : Project) (l : Places) : Type 0 where
   pub layout : Layout
-  pub placed : placement p.script (rows p) (provided p) ≡ Ok layout
+  pub placed : placement project.script (rows project) (provided project) ≡ Ok layout
   pub apart : overlaps layout.sections ≡ []
-  pub places : AreOf p.script layout l
-  pub kept : IsPlacement p.script (rows p) (provided p) l
+  pub places : AreOf project.script layout l
+  pub kept : IsPlacement project.script (rows project) (provided project) l
 
-pub record HasLayout (p : Project) (l : LinkLayout) : Type 0 where
+pub record HasLayout (project : Project) (l : LinkLayout) : Type 0 where
   pub layout : Layout
-  pub is : IsLinkLayout p layout l
+  pub is : IsLinkLayout project layout l
 
 -- the project has no layout, and these are all the faults; or memory ran out
 abbrev pub IsWhy : Project → LayoutFault → Type 0
-IsWhy p (Faulty fs) = layout p ≡ Err (faults_in p fs.items)
-IsWhy p NoMemory = ⊤
+IsWhy project (Faulty fs) = layout project ≡ Err (faults_in project fs.items)
+IsWhy project NoMemory = ⊤
 
 -- this fault alone, or memory ran out
 abbrev pub IsOne : LayoutFault → Fault → Type 0
-IsOne (Faulty fs) f = fs.items ≡ f ∷ []
-IsOne NoMemory f = ⊤
+IsOne (Faulty fs) fault = fs.items ≡ fault ∷ []
+IsOne NoMemory fault = ⊤

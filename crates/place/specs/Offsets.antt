@@ -7,15 +7,15 @@ use Rattle.ldmodel.specs.declared.segment.Segment.{Segment}
 
 -- where an output section begins in the file
 abbrev pub IsOffset : Layout → PlacedOutput → ℕ → Type 0
-IsOffset s q o = o ≡ file_offset (segments s.sections) q
+IsOffset layout output o = o ≡ file_offset (segments layout.sections) output
 
 -- where an output section of a segment begins in the file
 abbrev pub offset_at : Segment → Placed → ℕ
-offset_at g q = g.offset + (q.start - g.start)
+offset_at segment q = segment.offset + (q.start - segment.start)
 
 -- the last output section of a segment ends where the segment does
 abbrev pub is_last : Segment → Placed → Bool
-is_last g q = ((q.start + q.size) - g.start) == g.memory_size
+is_last segment q = ((q.start + q.size) - segment.start) == segment.memory_size
 
 -- where output sections begin in the file: one of size 0 at 0, each other one in the first of the segments, up to the
 -- last one of that

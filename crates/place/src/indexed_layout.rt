@@ -98,8 +98,8 @@ impl IndexedLayout {
         requires table { IsTableOf project.now table }
         requires rows { rows_in project.now rows.items ≡ model.rows project.now }
         ensures link_layout { IfOk result (λ x. x.link_layout ≡ link_layout) }
-        ensures indexed_layout { IfOk result (λ x. (s : Layout) → IsLinkLayout project.now s x.link_layout
-            → IsIndexedLayout project.now s x) }
+        ensures indexed_layout { IfOk result (λ x. (layout : Layout) → IsLinkLayout project.now layout x.link_layout
+            → IsIndexedLayout project.now layout x) }
     {
         nothing_meets();
         placed_are_rows();
@@ -122,8 +122,8 @@ impl IndexedLayout {
     /// How many linked sections the objects before this one have, in all.
     pub fn linked_before(&self, object: ObjectPlace) -> Option<usize>
         ensures is { result ≡ linked_of self.now.table object.0 }
-        ensures linked { (p : Project) (s : Layout) → IsIndexedLayout p s self.now
-            → IfSome result (λ n. n ≡ linked_in (take object.0 p.objects)) }
+        ensures linked { (project : Project) (layout : Layout) → IsIndexedLayout project layout self.now
+            → IfSome result (λ n. n ≡ linked_in (take object.0 project.objects)) }
     {
         self.table.linked_before(object)
     }
@@ -149,8 +149,8 @@ impl IndexedLayout {
     /// is logarithmic in the number of common blocks.
     pub fn find(&self, section: SectionKey) -> Option<SectionAddress>
         ensures is { result ≡ place_in self.now section }
-        ensures place { (p : Project) (s : Layout) → IsIndexedLayout p s self.now
-            → IsSectionAddress p s section result }
+        ensures place { (project : Project) (layout : Layout) → IsIndexedLayout project layout self.now
+            → IsSectionAddress project layout section result }
     {
         self.part(section.object.0, section.part)
     }

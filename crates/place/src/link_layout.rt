@@ -71,7 +71,8 @@ fn one(alloc: Global, fault: Fault) -> LayoutFault
 /// What a fault of the placement says of the project.
 #[tactic(auto, unfolding(ldmodel::specs::Link::layout))]
 fn reported(alloc: Global, fault: PlaceFault) -> LayoutFault
-    ensures { (p : Project) → outcomes.IsWhy p.script (model.rows p) (provided p) fault → IsWhy p result }
+    ensures { (project : Project) → outcomes.IsWhy project.script (model.rows project) (provided project) fault
+        → IsWhy project result }
 {
     match fault {
         PlaceFault::First(fault) => one(alloc, fault),

@@ -10,7 +10,7 @@ use ldmodel_project::view::ProjectView;
 
 /// The sections of an object that was read have different numbers. The call does nothing.
 fn sections_differ(object: &Object)
-    ensures { EachLater (λ (x y : LinkedSection). (x.number.0 == y.number.0) ≡ false) object.now.sections }
+    ensures { EachLater (λ (section y : LinkedSection). (section.number.0 == y.number.0) ≡ false) object.now.sections }
 {
     // so that what an object says of its sections is known
     let _sections = object.sections();

@@ -78,8 +78,10 @@ pub(crate) fn offsets(
     sections: &[Placed],
     segments: &[Segment],
 ) -> Result<Vec<u128>, NoMemory>
-    ensures { IfOk result (λ v. (s : Layout) → AreNamed s.sections → map placed_of s.sections ≡ sections.now
-        → AreSegments s.sections (model.segments s.sections) segments.now → AllZip (IsOffset s) s.sections v.items) }
+    ensures { IfOk result (λ v. (layout : Layout) → AreNamed layout.sections → map placed_of layout.sections
+        ≡ sections.now
+        → AreSegments layout.sections (model.segments layout.sections) segments.now
+        → AllZip (IsOffset layout) layout.sections v.items) }
 {
     segments_by_neighbours();
     let mut offsets = Vec::with_capacity(alloc, sections.len())?;

@@ -57,16 +57,16 @@ pub record BodyAlongside (starts : List ℕ) (b : Body) (xs : List BodyStatement
   pub alike : AreBodiesAlike (names_given (directives_in xs) ++ names) body b
   pub last : Body
   pub comes : run (body_step provided) body xs ≡ Ok last
-  pub starts_are : map (λ (x : PlacedPiece). x.start) last.pieces ≡ starts
+  pub starts_are : map (λ (placed : PlacedPiece). placed.start) last.pieces ≡ starts
 
 -- an previous layout, which differs in symbols alone, goes on with this output section, whose input sections have these
 -- starts
-pub record SectionAlongside (row : List Piece) (s : Layout) (line : ℕ) (o : OutputSection) (starts : List ℕ)
+pub record SectionAlongside (row : List Piece) (layout : Layout) (line : ℕ) (o : OutputSection) (starts : List ℕ)
     : Type 0 where
   pub provided : List (List ℕ)
   pub names : List (List ℕ)
   pub state : Layout
-  pub alike : AreAlike (names_given (directives_in o.body) ++ names) state s
+  pub alike : AreAlike (names_given (directives_in o.body) ++ names) state layout
   pub after : Layout
   pub comes : section_step provided row state line o ≡ Ok after
   pub section : PlacedOutput
@@ -75,32 +75,33 @@ pub record SectionAlongside (row : List Piece) (s : Layout) (line : ℕ) (o : Ou
 
 -- where an output section is the next statement, and its row is as it was, an previous layout goes on with it
 abbrev pub IsAlongside : Naming → Input → Layout → List KeyedSection → ℕ → ItemCommand → Type 0
-IsAlongside n i s sections line (item.Section o) =
+IsAlongside n i layout sections line (item.Section o) =
     (starts : List ℕ) → i.kept.same_provided ≡ false → length sections < i.kept.first
     → AreStartsOf i.kept.earlier (length sections) (length (starts_in sections)) starts
-    → SectionAlongside (slice_index_or (rows_of n i) (length sections) []) s line o starts
-IsAlongside n i s sections line (item.Dot c) = ⊤
-IsAlongside n i s sections line (item.Directive c) = ⊤
-IsAlongside n i s sections line (item.Discard inputs) = ⊤
+    → SectionAlongside (slice_index_or (rows_of n i) (length sections) []) layout line o starts
+IsAlongside n i layout sections line (item.Dot c) = ⊤
+IsAlongside n i layout sections line (item.Directive c) = ⊤
+IsAlongside n i layout sections line (item.Discard inputs) = ⊤
 
 -- an previous layout, which differs in symbols alone, goes on with these statements of SECTIONS to one with which the
 -- kept one begins
-pub record ItemsAlongside (n : Naming) (i : Input) (script : List Statement) (s : Layout) (xs : List Item)
+pub record ItemsAlongside (n : Naming) (i : Input) (script : List Statement) (layout : Layout) (xs : List Item)
     : Type 0 where
   pub rows : List (List Piece)
   pub same : Same i.kept.first rows (rows_of n i)
   pub provided : List (List ℕ)
   pub names : List (List ℕ)
   pub state : Layout
-  pub alike : AreAlike (names_given (items_directives xs) ++ names) state s
+  pub alike : AreAlike (names_given (items_directives xs) ++ names) state layout
   pub leads : Leads script i.kept (run (item_step rows provided) state xs)
 
 -- the same of all statements of a script
-pub record ScriptAlongside (n : Naming) (i : Input) (script : List Statement) (s : Layout) (statements : List Statement)
+pub record ScriptAlongside (n : Naming) (i : Input) (script : List Statement) (layout : Layout)
+    (statements : List Statement)
     : Type 0 where
   pub rows : List (List Piece)
   pub same : Same i.kept.first rows (rows_of n i)
   pub provided : List (List ℕ)
   pub state : Layout
-  pub alike : AreAlike (names_given (all_directives statements)) state s
+  pub alike : AreAlike (names_given (all_directives statements)) state layout
   pub leads : Leads script i.kept (run (statement_step rows provided) state statements)

@@ -18,12 +18,12 @@ abbrev pub data_in : List PlacedOutput → List NumberedData
 data_in sections = flat_map numbered (enumerate_from 0 sections)
 
 -- the numbers of a layout
-pub record IsAt (b : Boundary) (s : Layout) : Type 0 where
-  pub dot : b.dot ≡ s.dot
-  pub dots : b.dots ≡ length s.dots
-  pub inputs : b.inputs ≡ s.inputs
-  pub symbols : b.symbols ≡ length s.symbols
-  pub data_commands : b.data_commands ≡ length (data_in s.sections)
+pub record IsAt (b : Boundary) (layout : Layout) : Type 0 where
+  pub dot : b.dot ≡ layout.dot
+  pub dots : b.dots ≡ length layout.dots
+  pub inputs : b.inputs ≡ layout.inputs
+  pub symbols : b.symbols ≡ length layout.symbols
+  pub data_commands : b.data_commands ≡ length (data_in layout.sections)
 
 -- the statement at a place, as far as it is that of an output section
 abbrev pub sections_at : List Item → ℕ → List OutputSectionAt
@@ -51,8 +51,9 @@ pub record AreNoted (rows : List (List Piece)) (provided : List (List ℕ)) (sta
   pub many : length bs ≡ complete
 
 -- those of the statements of a script that begin with a layout
-pub record AreBoundariesOf (rows : List (List Piece)) (provided : List (List ℕ)) (s : Layout) (script : List Statement)
+pub record AreBoundariesOf (rows : List (List Piece)) (provided : List (List ℕ)) (layout : Layout)
+    (script : List Statement)
     (bs : List Boundary) : Type 0 where
   pub start : Layout
-  pub comes : run (statement_step rows provided) s (before_sections script) ≡ Ok start
+  pub comes : run (statement_step rows provided) layout (before_sections script) ≡ Ok start
   pub all : AreBoundaries rows provided start (items_within script) bs

@@ -16,8 +16,8 @@ use Rattle.place_sections.specs.declared.state.LayoutCursor.{LayoutCursor}
 
 -- a body in some layout, of which nothing is left to be placed; no end turns on where it starts or on what is left
 abbrev pub placed_body : Naming → Layout → LayoutCursor → Body
-placed_body n s h = record {
-  layout = s;
+placed_body n layout h = record {
+  layout = layout;
   start = 0;
   rest = [];
   pieces = map (piece_at n) (map keyed_piece h.pieces.items);
@@ -33,7 +33,8 @@ body_alone n h = placed_body n (record nothing_placed { dot = h.dot }) h
 
 -- the load end of an output section for which the regions have room
 abbrev pub load_end : ℕ → OutputSection → List MemoryRegion → PlacedOutput → Result ℕ Fault
-load_end line o regions q =
-    and_then (with_room (option_and_then (region_named regions) o.region) q.start q.size q) (λ _.
-    and_then (with_room (option_and_then (region_named regions) (load_region o.load)) q.load q.load_size q) (λ _.
-    address line (q.load + q.load_size)))
+load_end line o regions output =
+    and_then (with_room (option_and_then (region_named regions) o.region) output.start output.size output) (λ _.
+    and_then (with_room (option_and_then (region_named regions) (load_region o.load)) output.load output.load_size
+    output) (λ _.
+    address line (output.load + output.load_size)))

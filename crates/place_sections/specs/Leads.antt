@@ -28,7 +28,7 @@ pub record Begins {X : Type 0} (xs ys : List X) : Type 0 where
   pub is : ys ≡ xs ++ later
 
 abbrev pub counts_of : List PlacedOutput → List ℕ
-counts_of sections = map (λ (q : PlacedOutput). length q.pieces) sections
+counts_of sections = map (λ (output : PlacedOutput). length output.pieces) sections
 
 -- it comes to a layout with which the kept one begins; symbols are those of a script
 pub record Leads (script : List Statement) (k : ReusablePlacement) (wanted : Result Layout Fault) : Type 0 where

@@ -11,11 +11,12 @@ use Rattle.ldmodel.specs.declared.placed.Placed.{Placed}
 
 -- output sections with the names of those of a script, in its order
 abbrev pub AreOutputs : Project → List PlacedOutput → Type 0
-AreOutputs p s =
-    map (λ (q : PlacedOutput). q.name) s ≡ map (λ (o : OutputSectionAt). o.section.name) (output_sections p.script)
+AreOutputs project s =
+    map (λ (output : PlacedOutput). output.name) s
+    ≡ map (λ (o : OutputSectionAt). o.section.name) (output_sections project.script)
 
 -- faults are those of output sections that meet, in each project whose output sections stand so
 abbrev pub AreOverlaps : List Placed → List code.Fault → Type 0
 AreOverlaps placed faults =
-    (p : Project) (number : ℕ → ℕ) (s : List PlacedOutput) → map placed_of s ≡ placed → AreOutputs p s
-    → map (fault_of p number) faults ≡ overlaps s
+    (project : Project) (number : ℕ → ℕ) (s : List PlacedOutput) → map placed_of s ≡ placed → AreOutputs project s
+    → map (fault_of project number) faults ≡ overlaps s

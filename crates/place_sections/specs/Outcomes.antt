@@ -44,7 +44,8 @@ pub record AreMeetings (script : List Statement) (rows : List (List Piece)) (pro
   pub layout : Layout
   pub placed : placement script rows provided ≡ Ok layout
   pub some : overlaps layout.sections ≢ []
-  pub all : (p : Project) (number : ℕ → ℕ) → p.script ≡ script → map (fault_of p number) fs ≡ overlaps layout.sections
+  pub all : (project : Project) (number : ℕ → ℕ) → project.script ≡ script → map (fault_of project number) fs
+      ≡ overlaps layout.sections
 
 -- why there are no such places
 abbrev pub IsWhy : List Statement → List (List Piece) → List (List ℕ) → PlaceFault → Type 0

@@ -37,16 +37,16 @@ abbrev pub Ends : List Placed → Type 0
 Ends sections = All (λ (q : Placed). q.start + q.size < 2 ^ 64) sections
 
 -- they are those of the layout of a script, and its symbols are found under the numbers of their commands, which rise
-pub record AreOf (script : List Statement) (s : Layout) (p : Places) : Type 0 where
-  pub sections : p.sections ≡ map placed_of s.sections
-  pub counts : p.counts ≡ map (λ (q : PlacedOutput). length q.pieces) s.sections
-  pub starts : p.starts ≡ flat_map starts_of s.sections
-  pub data_commands : map data_of p.data_commands ≡ flat_map numbered (enumerate_from 0 s.sections)
-  pub dots : p.dots ≡ s.dots
-  pub symbols : map (symbol_of script) p.symbols ≡ s.symbols
+pub record AreOf (script : List Statement) (layout : Layout) (p : Places) : Type 0 where
+  pub sections : p.sections ≡ map placed_of layout.sections
+  pub counts : p.counts ≡ map (λ (output : PlacedOutput). length output.pieces) layout.sections
+  pub starts : p.starts ≡ flat_map starts_of layout.sections
+  pub data_commands : map data_of p.data_commands ≡ flat_map numbered (enumerate_from 0 layout.sections)
+  pub dots : p.dots ≡ layout.dots
+  pub symbols : map (symbol_of script) p.symbols ≡ layout.symbols
   pub found : AreFound script p.symbols
   pub rises : Rises p.symbols
-  pub regions : p.regions ≡ map region_of s.regions
+  pub regions : p.regions ≡ map region_of layout.regions
 
 -- the script with these rows, in which these PROVIDEs are in force, has a layout, and these are its places, with where
 -- it had come to before each output section and after all statements of SECTIONS
@@ -61,7 +61,8 @@ pub record IsPlacement (script : List Statement) (rows : List (List Piece)) (pro
 
 -- a fault of the code stands for one of the definition, whatever project has the script
 abbrev pub StandsFor : List Statement → code_fault.Fault → Fault → Type 0
-StandsFor script f fault = (p : Project) (number : ℕ → ℕ) → p.script ≡ script → fault_of p number f ≡ fault
+StandsFor script f fault =
+    (project : Project) (number : ℕ → ℕ) → project.script ≡ script → fault_of project number f ≡ fault
 
 -- the first fault of the layout
 pub record IsFirstFault (script : List Statement) (rows : List (List Piece)) (provided : List (List ℕ))

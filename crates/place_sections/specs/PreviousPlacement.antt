@@ -18,17 +18,18 @@ Same first earlier rows = (k : ℕ) → k < first → slice_index_or earlier k [
 
 -- with earlier rows, the same before the number, the statements of SECTIONS come to a layout with which the kept one
 -- begins, and the boundaries are theirs
-pub record PreviousPlacement (n : Naming) (i : Input) (script : List Statement) (s : Layout)
+pub record PreviousPlacement (n : Naming) (i : Input) (script : List Statement) (layout : Layout)
     (items : List Item) : Type 0 where
   pub rows : List (List Piece)
   pub same : Same i.kept.first rows (rows_of n i)
-  pub leads : Leads script i.kept (run (item_step rows i.provided.now) s items)
-  pub boundaries : AreBoundaries rows i.provided.now s items i.kept.boundaries.now
+  pub leads : Leads script i.kept (run (item_step rows i.provided.now) layout items)
+  pub boundaries : AreBoundaries rows i.provided.now layout items i.kept.boundaries.now
 
 -- the same of all statements of a script
-pub record EarlierScript (n : Naming) (i : Input) (script : List Statement) (s : Layout) (statements : List Statement)
+pub record EarlierScript (n : Naming) (i : Input) (script : List Statement) (layout : Layout)
+    (statements : List Statement)
     : Type 0 where
   pub rows : List (List Piece)
   pub same : Same i.kept.first rows (rows_of n i)
-  pub leads : Leads script i.kept (run (statement_step rows i.provided.now) s statements)
-  pub boundaries : AreBoundariesOf rows i.provided.now s statements i.kept.boundaries.now
+  pub leads : Leads script i.kept (run (statement_step rows i.provided.now) layout statements)
+  pub boundaries : AreBoundariesOf rows i.provided.now layout statements i.kept.boundaries.now

@@ -11,8 +11,8 @@ use ldmodel_laws::layout::layout_by_effects;
 
 /// The output sections of a layout are those of its script, in the order of the text: what `overlaps` asks of a caller.
 pub fn outputs_are_of_script()
-    ensures { (p : Project) (rows : List (List Piece)) (provided : List (List ℕ)) (s : Layout)
-        → placement p.script rows provided ≡ Ok s → AreOutputs p s.sections }
+    ensures { (project : Project) (rows : List (List Piece)) (provided : List (List ℕ)) (layout : Layout)
+        → placement project.script rows provided ≡ Ok layout → AreOutputs project layout.sections }
 {
     layout_by_effects();
 }

@@ -62,8 +62,8 @@ impl Placement {
         ensures symbols { result.symbols.now ≡ self.now.symbols }
         ensures regions { result.regions.now ≡ self.now.regions }
         ensures ends { Ends result.sections.now }
-        ensures placement { (script : List Statement) (s : Layout) → AreOf script s self.now
-            → IsPlacementView script s result }
+        ensures placement { (script : List Statement) (layout : Layout) → AreOf script layout self.now
+            → IsPlacementView script layout result }
     {
         PlacementView {
             sections: &self.sections,

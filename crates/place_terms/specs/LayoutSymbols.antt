@@ -28,7 +28,8 @@ AreFound script symbols = All (λ (x : code.ScriptSymbol). IsFound script x) sym
 -- the value of the first symbol of a name
 abbrev pub value_of : List ScriptSymbol → List ℕ → Option ℕ
 value_of symbols name =
-    option_map (λ (x : ScriptSymbol). x.value) (find (λ (x : ScriptSymbol). bytes_eq x.name name) symbols)
+    option_map (λ (symbol : ScriptSymbol). symbol.value)
+    (find (λ (symbol : ScriptSymbol). bytes_eq symbol.name name) symbols)
 
 -- the value of the first symbol that the command of a number gives
 abbrev pub value_under : List code.ScriptSymbol → ℕ → Option ℕ

@@ -7,4 +7,4 @@ abbrev pub region_of : RegionState → MemoryRegion
 region_of x = record { name = x.name.now; origin = x.origin; extent = x.extent; next = x.next }
 
 abbrev pub region_names : List MemoryRegion → List (List ℕ)
-region_names regions = map (λ (r : MemoryRegion). r.name) regions
+region_names regions = map (λ (region : MemoryRegion). region.name) regions

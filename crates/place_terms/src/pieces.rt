@@ -41,8 +41,8 @@ fn has_this_flag(at: &PieceAt<'_>, flag: u64) -> bool
 /// Whether one of these input sections that is not empty has a flag.
 pub fn any_with_flag(pieces: &[PieceAt<'_>], flag: u64) -> bool
     ghost naming: { Naming }
-    ensures { result ≡ list_any (λ (x : PlacedPiece). not (bit_and x.piece.flags flag == 0)
-        && not (is_empty x)) (map (piece_at naming) (map keyed_piece pieces.now)) }
+    ensures { result ≡ list_any (λ (placed : PlacedPiece). not (bit_and placed.piece.flags flag == 0)
+        && not (is_empty placed)) (map (piece_at naming) (map keyed_piece pieces.now)) }
 {
     for at in pieces {
         if has_this_flag(at, flag) {

@@ -10,7 +10,7 @@ use Rattle.ldmodel_project.specs.Listing.{objects_of}
 use Rattle.ldmodel_project.specs.Tables.{tables_under}
 
 -- what names stand for over the objects under their keys, and which statements take the input sections of each object
-pub record IsKept (l : Listing) (a : SymbolTableState) (ms : List Matches) : Type 0 where
-  pub tables : a.kept.names.objects ≡ tables_under l.entries
-  pub names : AreKept l.script a.kept
+pub record IsKept (l : Listing) (table : SymbolTableState) (ms : List Matches) : Type 0 where
+  pub tables : table.kept.names.objects ≡ tables_under l.entries
+  pub names : AreKept l.script table.kept
   pub matches : AllZip (IsMatched l.script) (objects_of l.entries) ms

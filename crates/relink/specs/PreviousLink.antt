@@ -38,16 +38,17 @@ IsNoneOf old x =
 
 -- each object that is listed is that of the link at its origin; one without is none of its
 pub record IsSince (old : List NamedObject) (origin : ℕ → Option ℕ) (es : List Listed) : Type 0 where
-  pub same : (key j : ℕ) (o : NamedObject) → found_under es key ≡ Some o → origin key ≡ Some j
-      → slice_get old j ≡ Some o
-  pub fresh : (key : ℕ) (o : NamedObject) → found_under es key ≡ Some o → origin key ≡ None → IsNoneOf old o
+  pub same : (key j : ℕ) (object : NamedObject) → found_under es key ≡ Some object → origin key ≡ Some j
+      → slice_get old j ≡ Some object
+  pub fresh : (key : ℕ) (object : NamedObject) → found_under es key ≡ Some object → origin key ≡ None
+      → IsNoneOf old object
 
 -- the tables are of a link without faults whose image these bytes are, and the listed objects are related to it; so is
 -- the script, where it is said to be the same
 pub record IsOfGoodLink (l : Listing) (bytes : List ℕ) (x : PreviousLink) : Type 0 where
   pub old : GoodLink
   pub table : IsLinkSnapshot old x.good
-  pub names : map (λ v. v.items) x.names.items ≡ map (λ (o : NamedObject). o.name) old.project.objects
+  pub names : map (λ v. v.items) x.names.items ≡ map (λ (object : NamedObject). object.name) old.project.objects
   pub since : IsSince old.project.objects (origin_of x.origins.items) l.entries
   pub options : old.project.options ≡ l.options
   pub script : x.same_script ≡ true → old.project.script ≡ l.script
@@ -126,11 +127,11 @@ HasUpdateOutcome l previous old new (RewrittenInPlace origins) = IsRewrittenBy l
 -- the object that an edit puts is none of the link
 abbrev pub Knows : PreviousLink → List Listed → Step → Type 0
 Knows x es step =
-    (old : List NamedObject) → map (λ v. v.items) x.names.items ≡ map (λ (o : NamedObject). o.name) old
+    (old : List NamedObject) → map (λ v. v.items) x.names.items ≡ map (λ (object : NamedObject). object.name) old
     → IsSince old (origin_of x.origins.items) es → PutsNoneOf old step
 
 -- what an edit means to the previous link, where it puts an object over the same one or another
-pub record IsEffect (h : ProjectState) (s : Staged) (same : Bool) (a : LinkOutcome) (previous : Option PreviousLink)
+pub record IsEffect (state : ProjectState) (s : Staged) (same : Bool) (a : LinkOutcome) (previous : Option PreviousLink)
     (e : EditEffect)
     : Type 0 where
   -- where the answer has no faults, what comes is known to be none of the previous link's objects
@@ -155,7 +156,7 @@ replaced_by (Some old) (Some object) (Some new) =
     Some (record { old = record { 0 = old }; object = object; new = record { 0 = new } })
 
 abbrev pub object_under : List Listed → ℕ → Option ObjectData
-object_under es key = option_map (λ (o : NamedObject). o.object) (found_under es key)
+object_under es key = option_map (λ (object : NamedObject). object.object) (found_under es key)
 
 -- the object of the link in whose place a step puts one, which then stands there
 abbrev pub replaced_in : (ℕ → Option ℕ) → List Listed → Step → Option ℕ → Option ReplacedObjectState

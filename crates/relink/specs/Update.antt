@@ -23,7 +23,8 @@ use Rattle.relink.specs.declared.link_tables.LinkTables.{LinkTables}
 use Rattle.relink.specs.declared.previous.UpdateOutcome.{UpdateOutcome}
 
 -- what must hold before an edit is followed, over the previous link, if that is lent
-pub record CanUpdate (h : ProjectState) (s : Staged) (t : LinkTables) (lent : Option PreviousState) (bytes : List ℕ)
+pub record CanUpdate (state : ProjectState) (s : Staged) (tables : LinkTables) (lent : Option PreviousState)
+    (bytes : List ℕ)
     : Type 0 where
   -- the staged edit fits the objects of the project
   pub fits : Fits h.contents s.objects
@@ -37,7 +38,8 @@ pub record CanUpdate (h : ProjectState) (s : Staged) (t : LinkTables) (lent : Op
   pub previous : IfSome lent (HasPreviousImage (project_of (next_listing h s)) bytes)
 
 -- what holds after an edit has been followed
-pub record IsUpdated (h : ProjectState) (s : Staged) (lent : Option PreviousState) (t : LinkTables) (old new : List ℕ)
+pub record IsUpdated (state : ProjectState) (s : Staged) (lent : Option PreviousState) (tables : LinkTables)
+    (old new : List ℕ)
     (before after : Counts) (f : UpdateOutcome) : Type 0 where
   -- the link is that of the next project, and its image is drawn, if it has one
   pub link : HasUpdateOutcome (next_listing h s) lent old new f
@@ -49,7 +51,7 @@ pub record IsUpdated (h : ProjectState) (s : Staged) (lent : Option PreviousStat
   pub worked : HasWorked (project_of (next_listing h s)) lent before after f
 
 -- what holds where memory runs out before an edit has been followed
-pub record IsRolledBack (h : ProjectState) (t : LinkTables) (old new : List ℕ) : Type 0 where
+pub record IsRolledBack (state : ProjectState) (tables : LinkTables) (old new : List ℕ) : Type 0 where
   -- what is kept is of the project as before
   pub kept : IsKept (listing_of h) t.symbol_table t.matches.items
   -- the canvas is as it was
@@ -65,7 +67,7 @@ pub record KeepsObjects (script : List Statement) (old new : LinkTables) : Type 
   pub matches : new.matches.items ≡ old.matches.items
 
 -- all memory is taken that a change of one object needs
-pub record HasRoom (next : Listing) (x : ObjectChange) (t : LinkTables) (c : IncomingChange) : Type 0 where
+pub record HasRoom (next : Listing) (x : ObjectChange) (tables : LinkTables) (c : IncomingChange) : Type 0 where
   -- the symbol table can be changed without memory
   pub names : IsReadyFor t.symbol_table.kept x
   -- there is room for the matches of two more objects

@@ -27,15 +27,15 @@ pub record Decides (old new : Counts) (decided : List (List ℕ)) : Type 0 where
 
 -- a link over the last one places, evaluates and writes what it has to beside it, and counts exactly that
 abbrev pub HasWorked : Project → Option PreviousState → Counts → Counts → UpdateOutcome → Type 0
-HasWorked p previous before after (Faulty text) = ⊤
-HasWorked p previous before after (Good x m) = IsWorkBeside p previous before after
-HasWorked p previous before after (RewrittenInPlace origins) = IsWorkBeside p previous before after
+HasWorked project previous before after (Faulty text) = ⊤
+HasWorked project previous before after (Good x m) = IsWorkBeside project previous before after
+HasWorked project previous before after (RewrittenInPlace origins) = IsWorkBeside project previous before after
 
 -- at most one object is read, and none but for an edit that brings one; and at most the names that the edit touches are
 -- decided, each once; no count falls
-pub record IsReadingWork (p : Project) (change : Change) (q : Project) (before after : Counts) : Type 0 where
+pub record IsReadingWork (project : Project) (change : Change) (q : Project) (before after : Counts) : Type 0 where
   pub objects : Rises before.objects after.objects (objects_read change)
-  pub names : Rises before.names after.names (length (touched_names p change q))
+  pub names : Rises before.names after.names (length (touched_names project change q))
   pub pieces : before.pieces ≤ after.pieces
   pub fields : before.fields ≤ after.fields
   pub bytes : before.bytes ≤ after.bytes
@@ -43,9 +43,9 @@ pub record IsReadingWork (p : Project) (change : Change) (q : Project) (before a
 -- the names that are decided anew: those that the object of an edit declares before it and after it; where it goes,
 -- those that it declared; for a script those of all objects
 abbrev pub decided_by : Project → Change → Project → List (List ℕ)
-decided_by p (Remove name) q = names_of p name
-decided_by p (SetScript text) q = names_in_objects p.objects
-decided_by p change q = named_by p change q
+decided_by project (Remove name) q = names_of project name
+decided_by project (SetScript text) q = names_in_objects project.objects
+decided_by project change q = named_by project change q
 
 -- what was worked out between two links without faults is counted: the object that an edit brings; the names of
 -- `decided_by`, each once; the entries of the rows from the first one on that differs, or from an earlier one, before
@@ -60,14 +60,14 @@ pub record IsCounted (old : GoodLink) (change : Change) (new : GoodLink) (before
 
 -- so it is, unless the edit leads to the project that is there, whose link is kept
 abbrev pub HasCounted : Project → Change → Project → Counts → Counts → Type 0
-HasCounted p change q before after =
-    (s t : Layout) → (link p).status ≡ 0 → (link q).status ≡ 0 → layout p ≡ Ok s → layout q ≡ Ok t
-    → (q ≡ p)
-    ⊎ IsCounted (record { project = p; layout = s }) change (record { project = q; layout = t }) before after
+HasCounted project change q before after =
+    (s t : Layout) → (link project).status ≡ 0 → (link q).status ≡ 0 → layout project ≡ Ok s → layout q ≡ Ok t
+    → (q ≡ project)
+    ⊎ IsCounted (record { project = project; layout = s }) change (record { project = q; layout = t }) before after
 
 -- objects are read and names decided as said above, whether a link has faults or not; and between two links without
 -- faults all five counts keep to the bound of an incremental linker, and are those of what was worked out
 abbrev pub IsWholeWork : Project → Change → Project → Counts → Counts → Type 0
-IsWholeWork p change q before after =
-    IsReadingWork p change q before after × IsSessionWork p change q before after
-    × HasCounted p change q before after
+IsWholeWork project change q before after =
+    IsReadingWork project change q before after × IsSessionWork project change q before after
+    × HasCounted project change q before after

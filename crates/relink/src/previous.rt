@@ -161,7 +161,7 @@ impl PreviousLink {
     /// than each of those, or other bytes than the one in whose place it comes.
     fn is_new(&self, project: &Project, key: ObjectKey, named: &NamedObject) -> bool
         ensures { result ≡ true → (old : List NamedObject)
-            → map (λ v. v.items) self.now.names.items ≡ map (λ (o : NamedObject). o.name) old
+            → map (λ v. v.items) self.now.names.items ≡ map (λ (object : NamedObject). object.name) old
             → IsSince old (origin_of self.now.origins.items) project.now.contents.entries → IsNoneOf old named.now }
     {
         let place = self.place_of_other(project, key, named);
@@ -171,7 +171,7 @@ impl PreviousLink {
     /// Whether the object that an edit puts, if it puts one, is known to be no object of the previous link.
     fn knows(&self, project: &Project, staged: &Staged) -> bool
         ensures { result ≡ true → (old : List NamedObject)
-            → map (λ v. v.items) self.now.names.items ≡ map (λ (o : NamedObject). o.name) old
+            → map (λ v. v.items) self.now.names.items ≡ map (λ (object : NamedObject). object.name) old
             → IsSince old (origin_of self.now.origins.items) project.now.contents.entries
             → PutsNoneOf old staged.now.objects.step }
     {

@@ -32,7 +32,7 @@ use symres::SymbolTable;
 /// The names of these objects, in their order. Fails where memory runs out.
 fn names_of(alloc: Global, inputs: &[InputObject<'_>]) -> Result<Vec<Vec<u8>>, NoMemory>
     ensures { IfOk result (λ v. map (λ n. n.items) v.items
-        ≡ map (λ (o : NamedObject). o.name) (shown_inputs inputs.now)) }
+        ≡ map (λ (object : NamedObject). object.name) (shown_inputs inputs.now)) }
 {
     let mut names = Vec::with_capacity(alloc, inputs.len())?;
     for input in inputs {

@@ -12,8 +12,8 @@ use Rattle.relink_driver.specs.declared.fault.LinkFault.TheVariants.{Refused, Me
 
 -- the edit at a place is the one that is refused, or memory ran out
 abbrev pub EndsAt : ℕ → Project → Change → LinkFault → Type 0
-EndsAt n p c (Refused place why) = (place ≡ n) × After p c (Err (refusal_of why))
-EndsAt n p c Memory = Unit {0}
+EndsAt n project change (Refused place why) = (place ≡ n) × After project change (Err (refusal_of why))
+EndsAt n project change Memory = Unit {0}
 
 -- all objects are added, behind the script; or one is refused; or memory ran out
 abbrev pub Adds : Project → List ObjectFile → Project → Result Unit LinkFault → Type 0

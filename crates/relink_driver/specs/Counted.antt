@@ -25,14 +25,15 @@ use Rattle.emit.specs.declared.relocated.Relocated.{Relocated}
 -- only input sections are counted: the entries of the rows from this one on. No row before it differs, from those of
 -- the previous link; where the project follows that at once, it is the first that does; and where the script is
 -- another, it is the first of all
-pub record ArePlaced (p : Project) (previous : Option PreviousState) (before after : Counts) : Type 0 where
+pub record ArePlaced (project : Project) (previous : Option PreviousState) (before after : Counts) : Type 0 where
   pub first : ℕ
-  pub counted : after ≡ raised before Pieces (entries_from first (rows p))
-  pub same : (old : GoodLink) (x : PreviousState) → previous ≡ Some x → IsPreviousOf old p x
-      → AreSameBefore old.project p first
+  pub counted : after ≡ raised before Pieces (entries_from first (rows project))
+  pub same : (old : GoodLink) (x : PreviousState) → previous ≡ Some x → IsPreviousOf old project x
+      → AreSameBefore old.project project first
   pub changed :
-      (old : GoodLink) (x : PreviousState) → previous ≡ Some x → IsPreviousOf old p x → IsNext old.project p x
-      → IsFirstChanged old.project p first
+      (old : GoodLink) (x : PreviousState) → previous ≡ Some x → IsPreviousOf old project x
+      → IsNext old.project project x
+      → IsFirstChanged old.project project first
   pub anew : (x : PreviousState) → previous ≡ Some x → x.same_script ≡ false → first ≡ 0
 
 -- the fields of sites outside of what stayed, and of those in it whose symbol has another value; the patches are no
@@ -42,17 +43,19 @@ pub record CountsFields (old new : GoodLink) (r : Relocated) (before after : Cou
   pub few : patch_bytes r.retargeted.items ≤ retargeted_bytes old new
 
 -- only fields are counted, and beside an previous link these
-pub record AreEvaluated (p : Project) (s : Layout) (y : StayedSections) (r : Relocated)
+pub record AreEvaluated (project : Project) (layout : Layout) (stayed : StayedSections) (r : Relocated)
     (before after : Counts) : Type 0 where
   pub fields : (n : ℕ) × (after ≡ raised before Fields n)
   pub beside :
-      (old : GoodLink) → IfSome (previous_of y.previous) (IsPreviousOf old p) → IsSome y.previous → IsGood old
-      → IsGood (new_link p s) → CountsFields old (new_link p s) r before after
+      (old : GoodLink) → IfSome (previous_of stayed.previous) (IsPreviousOf old project) → IsSome stayed.previous
+      → IsGood old
+      → IsGood (new_link project layout) → CountsFields old (new_link project layout) r before after
 
 -- so it is at the layout of these tables
 abbrev pub HasEvaluated : Project → StayedSections → Relocated → Counts → Counts → Type 0
-HasEvaluated p y r before after = (s : Layout) → IsLinkLayout p s y.indexed_layout.now.link_layout
-    → AreEvaluated p s y r before after
+HasEvaluated project stayed r before after =
+    (layout : Layout) → IsLinkLayout project layout stayed.indexed_layout.now.link_layout
+    → AreEvaluated project layout stayed r before after
 
 -- the bytes of the image outside of what stayed, and of the patches
 abbrev pub bytes_spent : GoodLink → GoodLink → Relocated → ℕ
@@ -60,16 +63,17 @@ bytes_spent old new r =
     patch_bytes r.retargeted.items + (image_length new.project new.layout - bytes_stayed old new)
 
 -- only bytes of the image are counted, and beside an previous link these
-pub record IsWritten (p : Project) (s : Layout) (y : StayedSections) (r : Relocated)
+pub record IsWritten (project : Project) (layout : Layout) (stayed : StayedSections) (r : Relocated)
     (before after : Counts) : Type 0 where
   pub bytes : (n : ℕ) × (after ≡ raised before Bytes n)
   pub beside :
-      (old : GoodLink) → IfSome (previous_of y.previous) (IsPreviousOf old p) → IsSome y.previous
-      → after ≡ raised before Bytes (bytes_spent old (new_link p s) r)
+      (old : GoodLink) → IfSome (previous_of stayed.previous) (IsPreviousOf old project) → IsSome stayed.previous
+      → after ≡ raised before Bytes (bytes_spent old (new_link project layout) r)
 
 abbrev pub HasWritten : Project → StayedSections → Relocated → Counts → Counts → Type 0
-HasWritten p y r before after = (s : Layout) → IsLinkLayout p s y.indexed_layout.now.link_layout
-    → IsWritten p s y r before after
+HasWritten project stayed r before after =
+    (layout : Layout) → IsLinkLayout project layout stayed.indexed_layout.now.link_layout
+    → IsWritten project layout stayed r before after
 
 -- the bytes of an image that is drawn over the earlier one: those outside of what stayed, with those of fields in it of
 -- symbols of another value
@@ -95,8 +99,9 @@ pub record IsImageCount (old new : GoodLink) (before after : Counts) : Type 0 wh
   pub exactly : IsDrawnCount old new written ⊎ IsInPlaceCount old new written
 
 -- no input section is counted, and of the image this
-pub record AreDrawn (p : Project) (previous : Option PreviousState) (before after : Counts) : Type 0 where
+pub record AreDrawn (project : Project) (previous : Option PreviousState) (before after : Counts) : Type 0 where
   pub pieces : after.pieces ≡ before.pieces
   pub image :
-      (old : GoodLink) (x : PreviousState) (s : Layout) → previous ≡ Some x → IsPreviousOf old p x → layout p ≡ Ok s
-      → IsImageCount old (new_link p s) before after
+      (old : GoodLink) (x : PreviousState) (s : Layout) → previous ≡ Some x → IsPreviousOf old project x
+      → layout project ≡ Ok s
+      → IsImageCount old (new_link project s) before after

@@ -7,6 +7,6 @@ use Rattle.ldmodel.specs.Stayed.{GoodLink}
 
 -- no symbol that a relocation of an object without a mark names has another value
 abbrev pub AreDirtyObjects : GoodLink → Project → Layout → List Bool → Type 0
-AreDirtyObjects old p s dirty =
-    (i : ℕ) (t : Site) → slice_index_or dirty i true ≡ false → slice_get p.objects i ≡ Some t.object
-    → site_value old.project old.layout t ≡ site_value p s t
+AreDirtyObjects old project layout dirty =
+    (i : ℕ) (site : Site) → slice_index_or dirty i true ≡ false → slice_get project.objects i ≡ Some site.object
+    → site_value old.project old.layout site ≡ site_value project layout site

@@ -26,56 +26,58 @@ origin_beside place i = if i == place then None else Some i
 
 -- nothing differs from the previous link, which is the one that is answered, but what the sections of one object hold;
 -- where sections are dropped that nothing refers to, their relocations name the same symbols, in their order
-pub record IsNextLink (x : PreviousState) (p : Project) (r : ReplacedObjectState) : Type 0 where
-  pub script : x.same_script ≡ true
-  pub current : x.is_current ≡ true
-  pub replaced : x.replaced ≡ Some r
+pub record IsNextLink (previous : PreviousState) (project : Project) (r : ReplacedObjectState) : Type 0 where
+  pub script : previous.same_script ≡ true
+  pub current : previous.is_current ≡ true
+  pub replaced : previous.replaced ≡ Some r
   pub place : r.old.0 ≡ r.new.0
-  pub objects : x.objects ≡ length p.objects
-  pub origins : (i : ℕ) → i < length p.objects → slice_index_or x.from i None ≡ origin_beside r.new.0 i
+  pub objects : previous.objects ≡ length project.objects
+  pub origins : (i : ℕ) → i < length project.objects → slice_index_or previous.from i None ≡ origin_beside r.new.0 i
   pub after : NamedObject
-  pub at : slice_get p.objects r.new.0 ≡ Some after
+  pub at : slice_get project.objects r.new.0 ≡ Some after
   pub symbols : r.object.symbols ≡ after.object.symbols
   pub sections : map section_outline r.object.sections ≡ map section_outline after.object.sections
-  pub references : p.options.gc ≡ true
+  pub references : project.options.gc ≡ true
       → map section_targets r.object.sections ≡ map section_targets after.object.sections
 
 -- what the laws on outlines say of two projects, at the layout of the first
-pub record IsKeptLink (p q : Project) (s : Layout) : Type 0 where
-  pub decided : (name : List ℕ) → decision p name ≡ decision q name
-  pub provided : provided p ≡ provided q
-  pub worth : (name : List ℕ) → name_value p s name ≡ name_value q s name
-  pub rows : rows p ≡ rows q
-  pub layout : model.layout p ≡ model.layout q
-  pub frame : HasSameFrame p q s
-  pub map : map_text p s ≡ map_text q s
-  pub link : model.layout p ≡ Ok s → (model.link p).status ≡ 0 → relocation_faults q s ≡ []
+pub record IsKeptLink (project q : Project) (s : Layout) : Type 0 where
+  pub decided : (name : List ℕ) → decision project name ≡ decision q name
+  pub provided : provided project ≡ provided q
+  pub worth : (name : List ℕ) → name_value project s name ≡ name_value q s name
+  pub rows : rows project ≡ rows q
+  pub layout : model.layout project ≡ model.layout q
+  pub frame : HasSameFrame project q s
+  pub map : map_text project s ≡ map_text q s
+  pub link : model.layout project ≡ Ok s → (model.link project).status ≡ 0 → relocation_faults q s ≡ []
       → model.link q ≡ model.good q s
 
 -- the previous link is the one that is answered, and what is kept of it is right for the new one, which has no faults,
 -- the same map and this image
-pub record IsInPlaceOutcome (p : Project) (previous : Option PreviousState) (bytes : List ℕ) : Type 0 where
+pub record IsInPlaceOutcome (project : Project) (previous : Option PreviousState) (bytes : List ℕ) : Type 0 where
   pub before : PreviousState
   pub was : previous ≡ Some before
   pub current : before.is_current ≡ true
   pub place : ℕ
-  pub retouched : (old : GoodLink) → IsPreviousOf old p before → DiffersInContents old.project p place
+  pub retouched : (old : GoodLink) → IsPreviousOf old project before → DiffersInContents old.project project place
   pub layout : Layout
-  pub link : model.link p ≡ model.good p layout
-  pub table : IsLinkSnapshot (record { project = p; layout = layout }) before.good
-  pub names : (old : GoodLink) → IsPreviousOf old p before
-      → map (λ (o : NamedObject). o.name) p.objects ≡ map (λ (o : NamedObject). o.name) old.project.objects
-  pub map : (old : GoodLink) → IsPreviousOf old p before → map_text p layout ≡ map_text old.project old.layout
-  pub image : bytes ≡ image p layout
+  pub link : model.link project ≡ model.good project layout
+  pub table : IsLinkSnapshot (record { project = project; layout = layout }) before.good
+  pub names : (old : GoodLink) → IsPreviousOf old project before
+      → map (λ (object : NamedObject). object.name) project.objects
+      ≡ map (λ (object : NamedObject). object.name) old.project.objects
+  pub map : (old : GoodLink) → IsPreviousOf old project before → map_text project layout
+      ≡ map_text old.project old.layout
+  pub image : bytes ≡ image project layout
 
 -- how many bytes of the image a section of an object of this name has of its own
 abbrev pub own_bytes : GoodLink → List ℕ → LinkedSection → ℕ
-own_bytes l object x =
-    option_map_or (λ (y : LinkedPiece). size_in_file x.kind y.range.length)
-    (find (is_linked_part object (InTable x.number)) (link_pieces l)) 0
+own_bytes link object section =
+    option_map_or (λ (y : LinkedPiece). size_in_file section.kind y.range.length)
+    (find (is_linked_part object (InTable section.number)) (link_pieces link)) 0
 
 -- how many those of the object of a place have
 abbrev pub bytes_of_object : GoodLink → ℕ → ℕ
-bytes_of_object l place =
-    option_map_or (λ (o : NamedObject). sum_by (own_bytes l o.name) o.object.sections)
-    (slice_get l.project.objects place) 0
+bytes_of_object link place =
+    option_map_or (λ (object : NamedObject). sum_by (own_bytes link object.name) object.object.sections)
+    (slice_get link.project.objects place) 0

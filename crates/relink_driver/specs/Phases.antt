@@ -30,72 +30,76 @@ use Rattle.emit.specs.values.declared.link_view.LinkView.{LinkView}
 use Rattle.emit.specs.values.declared.values.Values.{Values}
 
 -- the previous link is one without faults
-pub record HasPreviousLink (new : Project) (x : PreviousState) : Type 0 where
+pub record HasPreviousLink (new : Project) (previous : PreviousState) : Type 0 where
   pub old : GoodLink
-  pub is : IsPreviousOf old new x
+  pub is : IsPreviousOf old new previous
 
 -- everything has its place, and the layout has no fault but perhaps the length of the image
-pub record IsLaidOut (p : Project) (a : IndexedLayout) : Type 0 where
+pub record IsLaidOut (project : Project) (a : IndexedLayout) : Type 0 where
   pub layout : Layout
-  pub link_layout : IsLinkLayout p layout a.link_layout
-  pub indexed_layout : (s : Layout) → IsLinkLayout p s a.link_layout → IsIndexedLayout p s a
-  pub rest : link p ≡ placed p (model.layout p)
+  pub link_layout : IsLinkLayout project layout a.link_layout
+  pub indexed_layout : (layout : Layout) → IsLinkLayout project layout a.link_layout → IsIndexedLayout project layout a
+  pub rest : link project ≡ placed project (model.layout project)
 
 -- a link whose parts have their places is known
-pub record IsKnown (p : Project) (a : SymbolTableState) (l : LinkLayout) (w : LinkView) : Type 0 where
+pub record IsKnown (project : Project) (table : SymbolTableState) (l : LinkLayout) (w : LinkView) : Type 0 where
   pub layout : Layout
-  pub link_layout : IsLinkLayout p layout l
-  pub view : IsLinkView (known_link p layout a) w
-  pub rest : link p ≡ placed p (model.layout p)
+  pub link_layout : IsLinkLayout project layout l
+  pub view : IsLinkView (known_link project layout table) w
+  pub rest : link project ≡ placed project (model.layout project)
 
 -- and all names have their values
-pub record IsPlaced (p : Project) (l : LinkLayout) (w : LinkView) (v : Values) : Type 0 where
+pub record IsPlaced (project : Project) (l : LinkLayout) (w : LinkView) (v : Values) : Type 0 where
   pub symbol_table : SymbolTableState
-  pub known : IsKnown p symbol_table l w
-  pub values : AreValues p known.layout symbol_table v
+  pub known : IsKnown project symbol_table l w
+  pub values : AreValues project known.layout symbol_table v
 
 -- the image is not too long either
-pub record IsShort (p : Project) (l : LinkLayout) (w : LinkView) (v : Values) : Type 0 where
-  pub placed : IsPlaced p l w v
-  pub length : image_length p placed.known.layout ≤ max_image_length
-  pub rest : link p ≡ model.relocated p placed.known.layout
+pub record IsShort (project : Project) (l : LinkLayout) (w : LinkView) (v : Values) : Type 0 where
+  pub placed : IsPlaced project l w v
+  pub length : image_length project placed.known.layout ≤ max_image_length
+  pub rest : link project ≡ model.relocated project placed.known.layout
 
 -- the tables of a link at a layout beside those of the earlier one, if there is one
-pub record AreBeside (p : Project) (s : Layout) (y : StayedSections) : Type 0 where
-  pub indexed_layout : IsIndexedLayout p s y.indexed_layout.now
-  pub previous : IfSome (previous_of y.previous) (HasPreviousLink p)
-  pub dirty : (old : GoodLink) → IfSome (previous_of y.previous) (IsPreviousOf old p)
-      → AreDirtyObjects old p s y.dirty.now
+pub record AreBeside (project : Project) (layout : Layout) (stayed : StayedSections) : Type 0 where
+  pub indexed_layout : IsIndexedLayout project layout stayed.indexed_layout.now
+  pub previous : IfSome (previous_of stayed.previous) (HasPreviousLink project)
+  pub dirty : (old : GoodLink) → IfSome (previous_of stayed.previous) (IsPreviousOf old project)
+      → AreDirtyObjects old project layout stayed.dirty.now
 
 -- at the layout of these tables
 abbrev pub IsBeside : Project → StayedSections → Type 0
-IsBeside p y = (s : Layout) → IsLinkLayout p s y.indexed_layout.now.link_layout → AreBeside p s y
+IsBeside project stayed = (layout : Layout) → IsLinkLayout project layout stayed.indexed_layout.now.link_layout
+    → AreBeside project layout stayed
 
 -- patches of what stayed: they end within the image, and are those of each previous link that this one may be
-pub record ArePatches (p : Project) (s : Layout) (y : StayedSections) (r : Relocated) : Type 0 where
-  pub ends : All (EndsBy (image_length p s)) r.retargeted.items
-  pub patches : (old : GoodLink) → IfSome (previous_of y.previous) (IsPreviousOf old p) → IsSome y.previous
-      → ArePatchesOf old (new_link p s) r.retargeted.items
+pub record ArePatches (project : Project) (layout : Layout) (stayed : StayedSections) (r : Relocated) : Type 0 where
+  pub ends : All (EndsBy (image_length project layout)) r.retargeted.items
+  pub patches : (old : GoodLink) → IfSome (previous_of stayed.previous) (IsPreviousOf old project)
+      → IsSome stayed.previous
+      → ArePatchesOf old (new_link project layout) r.retargeted.items
 
 -- all relocations have their fields, but those of what stayed
-pub record IsFilled (p : Project) (y : StayedSections) (v : Values) (r : Relocated) : Type 0 where
+pub record IsFilled (project : Project) (stayed : StayedSections) (v : Values) (r : Relocated) : Type 0 where
   pub known_by : LinkView
-  pub short : IsShort p y.indexed_layout.now.link_layout known_by v
-  pub names : AreNamesDistinct p.objects
-  pub beside : AreBeside p short.placed.known.layout y
+  pub short : IsShort project stayed.indexed_layout.now.link_layout known_by v
+  pub names : AreNamesDistinct project.objects
+  pub beside : AreBeside project short.placed.known.layout stayed
   pub fields :
-      AreRunsUnless (known_link p short.placed.known.layout short.placed.symbol_table) (λ k. is_some (range_of y k))
+      AreRunsUnless (known_link project short.placed.known.layout short.placed.symbol_table)
+      (λ k. is_some (range_of stayed k))
       r.patches.items r.ends.items
-  pub patches : ArePatches p short.placed.known.layout y r
-  pub good : IsGood (new_link p short.placed.known.layout)
-  pub rest : link p
-      ≡ unless (assertion_faults p short.placed.known.layout) (model.good p short.placed.known.layout)
+  pub patches : ArePatches project short.placed.known.layout stayed r
+  pub good : IsGood (new_link project short.placed.known.layout)
+  pub rest : link project
+      ≡ unless (assertion_faults project short.placed.known.layout) (model.good project short.placed.known.layout)
 
 -- all assertions hold
-pub record IsFaultless (p : Project) (y : StayedSections) (v : Values) (r : Relocated) : Type 0 where
-  pub filled : IsFilled p y v r
-  pub rest : link p ≡ model.good p filled.short.placed.known.layout
+pub record IsFaultless (project : Project) (stayed : StayedSections) (v : Values) (r : Relocated) : Type 0 where
+  pub filled : IsFilled project stayed v r
+  pub rest : link project ≡ model.good project filled.short.placed.known.layout
 
 -- these bytes are the image at the layout of these tables
 abbrev pub IsImage : Project → StayedSections → List ℕ → Type 0
-IsImage p y bytes = (s : Layout) → IsLinkLayout p s y.indexed_layout.now.link_layout → bytes ≡ image p s
+IsImage project stayed bytes =
+    (layout : Layout) → IsLinkLayout project layout stayed.indexed_layout.now.link_layout → bytes ≡ image project layout

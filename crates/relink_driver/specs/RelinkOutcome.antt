@@ -18,33 +18,33 @@ use Rattle.relink_driver.specs.declared.incremental.RelinkOutcome.{RelinkOutcome
 use Rattle.relink_driver.specs.declared.incremental.RelinkOutcome.TheVariants as ended
 
 -- the previous link is one whose image this is
-pub record HasPreviousImage (new : Project) (bytes : List ℕ) (x : PreviousState) : Type 0 where
+pub record HasPreviousImage (new : Project) (bytes : List ℕ) (previous : PreviousState) : Type 0 where
   pub old : GoodLink
-  pub is : IsPreviousOf old new x
+  pub is : IsPreviousOf old new previous
   pub image : bytes ≡ image old.project old.layout
 
 -- a link without faults at the layout of these tables, whose image and map these are
-pub record IsEmitted (p : Project) (a : IndexedLayout) (bytes map : List ℕ) : Type 0 where
+pub record IsEmitted (project : Project) (a : IndexedLayout) (bytes map : List ℕ) : Type 0 where
   pub layout : Layout
-  pub link_layout : IsLinkLayout p layout a.link_layout
-  pub good : IsGood (record { project = p; layout = layout })
-  pub names : AreNamesDistinct p.objects
-  pub is : model.layout p ≡ Ok layout
-  pub rest : link p ≡ model.good p layout
-  pub link : link p ≡ record { status = 0; image = bytes; map = map; faults = [] }
-  pub image : bytes ≡ image p layout
+  pub link_layout : IsLinkLayout project layout a.link_layout
+  pub good : IsGood (record { project = project; layout = layout })
+  pub names : AreNamesDistinct project.objects
+  pub is : model.layout project ≡ Ok layout
+  pub rest : link project ≡ model.good project layout
+  pub link : link project ≡ record { status = 0; image = bytes; map = map; faults = [] }
+  pub image : bytes ≡ image project layout
 
 -- a link without faults, whose image these bytes are
-pub record IsGoodOutcome (p : Project) (bytes : List ℕ) (g : LinkSnapshot) (map : List ℕ) : Type 0 where
+pub record IsGoodOutcome (project : Project) (bytes : List ℕ) (g : LinkSnapshot) (map : List ℕ) : Type 0 where
   pub layout : Layout
-  pub link : link p ≡ record { status = 0; image = bytes; map = map; faults = [] }
-  pub table : IsLinkSnapshot (record { project = p; layout = layout }) g
-  pub image : bytes ≡ image p layout
+  pub link : link project ≡ record { status = 0; image = bytes; map = map; faults = [] }
+  pub table : IsLinkSnapshot (record { project = project; layout = layout }) g
+  pub image : bytes ≡ image project layout
 
 -- fault lines, where the bytes are as they were; or a link without faults, of which all but the image may be that of
 -- the previous link
 abbrev pub HasRelinkOutcome : Project → Option PreviousState → List ℕ → List ℕ → RelinkOutcome → Type 0
-HasRelinkOutcome p previous old new (ended.Faulty t) =
-    (link p ≡ record { status = 1; image = []; map = []; faults = t.items }) × (new ≡ old)
-HasRelinkOutcome p previous old new (ended.Good g m) = IsGoodOutcome p new g m.items
-HasRelinkOutcome p previous old new ended.RewrittenInPlace = IsInPlaceOutcome p previous new
+HasRelinkOutcome project previous old new (ended.Faulty t) =
+    (link project ≡ record { status = 1; image = []; map = []; faults = t.items }) × (new ≡ old)
+HasRelinkOutcome project previous old new (ended.Good g m) = IsGoodOutcome project new g m.items
+HasRelinkOutcome project previous old new ended.RewrittenInPlace = IsInPlaceOutcome project previous new

@@ -12,10 +12,11 @@ HasReplaced (Some r) i = r.new.0 ≡ i
 
 -- the new project follows the earlier one at once: its script is known to be the same, and each of its objects that is
 -- none of the earlier ones, but has the name of one, is known to have come in its place
-pub record IsNext (old new : Project) (x : PreviousState) : Type 0 where
-  pub script : x.same_script ≡ true
-  pub known : (i : ℕ) (o y : NamedObject) → slice_get new.objects i ≡ Some o → slice_index_or x.from i None ≡ None
-      → Contains old.objects y → y.name ≡ o.name → HasReplaced x.replaced i
+pub record IsNext (old new : Project) (previous : PreviousState) : Type 0 where
+  pub script : previous.same_script ≡ true
+  pub known : (i : ℕ) (object y : NamedObject) → slice_get new.objects i ≡ Some object
+      → slice_index_or previous.from i None ≡ None
+      → Contains old.objects y → y.name ≡ object.name → HasReplaced previous.replaced i
 
 -- no row before this one differs
 abbrev pub AreSameBefore : Project → Project → ℕ → Type 0

@@ -21,10 +21,10 @@ use Rattle.relink_driver.specs.StayedSections.{PreviousState, ReplacedObjectStat
 
 -- the linked section of a number
 abbrev pub numbered : List LinkedSection → SectionIndex → Option LinkedSection
-numbered sections k = find (λ (x : LinkedSection). x.number.0 == k.0) sections
+numbered sections k = find (λ (section : LinkedSection). section.number.0 == k.0) sections
 
 abbrev pub section_name : ObjectData → SectionIndex → List ℕ
-section_name o k = option_map_or (λ (x : LinkedSection). x.name) (numbered o.sections k) []
+section_name o k = option_map_or (λ (section : LinkedSection). section.name) (numbered o.sections k) []
 
 -- a common block counts as a section of this name
 abbrev pub part_name : ObjectData → Part → List ℕ
@@ -37,18 +37,21 @@ has_same_name a part b = bytes_eq (part_name a part) (part_name b.object part)
 -- the object of a section came in the place of that of the earlier one, and the earlier one's part has the same name in
 -- both
 abbrev pub came_for : ReplacedObjectState → Project → SectionKey → SectionKey → Bool
-came_for r p a b =
+came_for r project a b =
     (r.old.0 == a.object.0)
-    && ((r.new.0 == b.object.0) && option_map_or (has_same_name r.object a.part) (slice_get p.objects b.object.0) false)
+    && ((r.new.0 == b.object.0) && option_map_or (has_same_name r.object a.part)
+    (slice_get project.objects b.object.0) false)
 
 -- by the place that the object had in the previous link, if it was there
 abbrev pub is_of_same_object : PreviousState → Project → SectionKey → SectionKey → Option ℕ → Bool
-is_of_same_object x p a b (Some i) = i == a.object.0
-is_of_same_object x p a b None = option_map_or (λ (r : ReplacedObjectState). came_for r p a b) x.replaced false
+is_of_same_object previous project a b (Some i) = i == a.object.0
+is_of_same_object previous project a b None =
+    option_map_or (λ (r : ReplacedObjectState). came_for r project a b) previous.replaced false
 
 -- a section of the new link is that of the earlier one
 abbrev pub is_same_section : PreviousState → Project → SectionKey → SectionKey → Bool
-is_same_section x p a b = is_same_part a.part b.part && is_of_same_object x p a b (last_place x b.object)
+is_same_section previous project a b =
+    is_same_part a.part b.part && is_of_same_object previous project a b (last_place previous b.object)
 
 -- a number for each kind
 abbrev pub kind_number : SectionKind → ℕ
@@ -61,22 +64,23 @@ kind_number PreinitArray = 5
 kind_number Unwind = 6
 
 abbrev pub is_same_piece : PreviousState → Project → Piece → Piece → Bool
-is_same_piece x p a b =
+is_same_piece previous project a b =
     (a.statement.0 == b.statement.0)
-    && (is_same_section x p a.section b.section
+    && (is_same_section previous project a.section b.section
     && ((kind_number a.kind == kind_number b.kind)
     && ((a.flags == b.flags) && ((a.size == b.size) && (a.alignment == b.alignment)))))
 
 abbrev pub are_same_pieces : PreviousState → Project → List Piece → List Piece → Bool
-are_same_pieces x p before now = list_all (λ (c : Piece × Piece). is_same_piece x p c.0 c.1) (zip before now)
+are_same_pieces previous project before now =
+    list_all (λ (c : Piece × Piece). is_same_piece previous project c.0 c.1) (zip before now)
 
 abbrev pub is_same_row : PreviousState → Project → List Piece → List Piece → Bool
-is_same_row x p before now = (length before == length now) && are_same_pieces x p before now
+is_same_row previous project before now = (length before == length now) && are_same_pieces previous project before now
 
 -- a row and the earlier one of its number
 abbrev pub is_changed : PreviousState → Project → Vec Piece × Vec Piece → Bool
-is_changed x p rows = not (is_same_row x p (vec_items rows.0) (vec_items rows.1))
+is_changed previous project rows = not (is_same_row previous project (vec_items rows.0) (vec_items rows.1))
 
 -- the number of the first row that differs; how many both have, where none does
 abbrev pub first_changed : PreviousState → Project → List (Vec Piece) → List (Vec Piece) → ℕ
-first_changed x p before now = position_or_len (is_changed x p) (zip before now)
+first_changed previous project before now = position_or_len (is_changed previous project) (zip before now)

@@ -65,23 +65,23 @@ previous_of x = option_map previous_state x
 
 -- where an object stood in the previous link
 abbrev pub last_place : PreviousState → ObjectPlace → Option ℕ
-last_place x k = slice_index_or x.from k.0 None
+last_place previous k = slice_index_or previous.from k.0 None
 
 -- where an input section did
 abbrev pub standing_from : PreviousState → Part → ℕ → Option SectionLocation
-standing_from x part i =
-    location_in x.good.indexed_layout (record { object = record { 0 = i }; part = part })
+standing_from previous part i =
+    location_in previous.good.indexed_layout (record { object = record { 0 = i }; part = part })
 
 unfoldable pub previous_location : PreviousState → SectionKey → Option SectionLocation
-previous_location x k = option_and_then (standing_from x k.part) (last_place x k.object)
+previous_location previous k = option_and_then (standing_from previous k.part) (last_place previous k.object)
 
 -- what a symbol of an object was worth in it
 abbrev pub value_from : PreviousState → SymbolIndex → Option ℕ → SymbolValue
-value_from x index None = NotDefined
-value_from x index (Some i) = value_at x.good.symbols i index.0
+value_from previous index None = NotDefined
+value_from previous index (Some i) = value_at previous.good.symbols i index.0
 
 abbrev pub previous_value : PreviousState → ObjectPlace → SymbolIndex → SymbolValue
-previous_value x k index = value_from x index (last_place x k)
+previous_value previous k index = value_from previous index (last_place previous k)
 
 -- it stayed where it stands as it stood
 abbrev pub kept_at : Option SectionLocation → Option SectionLocation → Option FileRange
@@ -98,23 +98,23 @@ abbrev pub range_of : StayedSections → SectionKey → Option FileRange
 range_of s k = kept_range (previous_of s.previous) s.indexed_layout.now k
 
 -- this object of the earlier project was replaced by that of the new one which has its name
-pub record IsReplaced (p q : Project) (r : ReplacedObjectState) : Type 0 where
+pub record IsReplaced (project q : Project) (r : ReplacedObjectState) : Type 0 where
   pub before : NamedObject
   pub after : NamedObject
-  pub old : slice_get p.objects r.old.0 ≡ Some before
+  pub old : slice_get project.objects r.old.0 ≡ Some before
   pub new : slice_get q.objects r.new.0 ≡ Some after
   pub object : before.object ≡ r.object
   pub name : after.name ≡ before.name
 
 -- the previous link is this one, with this number of objects, which are those of the next project as its origins say;
 -- its options are the same, and so is its script where it is said to be
-pub record IsPreviousOf (old : GoodLink) (new : Project) (x : PreviousState) : Type 0 where
-  pub table : IsLinkSnapshot old x.good
-  pub objects : x.objects ≡ length old.project.objects
+pub record IsPreviousOf (old : GoodLink) (new : Project) (previous : PreviousState) : Type 0 where
+  pub table : IsLinkSnapshot old previous.good
+  pub objects : previous.objects ≡ length old.project.objects
   pub options : old.project.options ≡ new.options
-  pub origins : AreOrigins old.project new x.from
-  pub script : x.same_script ≡ true → old.project.script ≡ new.script
-  pub replaced : IfSome x.replaced (IsReplaced old.project new)
+  pub origins : AreOrigins old.project new previous.from
+  pub script : previous.same_script ≡ true → old.project.script ≡ new.script
+  pub replaced : IfSome previous.replaced (IsReplaced old.project new)
 
 -- the new link, at a layout whose image is not too long, and the earlier one, if there is one
 pub record AreStayedSections (s : StayedSections) (old : GoodLink) (l : KnownLink) : Type 0 where

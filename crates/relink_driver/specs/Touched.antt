@@ -24,18 +24,18 @@ pub record IsTouchedCount (old new : GoodLink) (place : ℕ) (before after : Cou
 
 -- a relocation has a fault
 abbrev pub HasFault : Project → Type 0
-HasFault p = (s : Layout) → layout p ≡ Ok s → relocation_faults p s ≡ [] → ⊥
+HasFault project = (s : Layout) → layout project ≡ Ok s → relocation_faults project s ≡ [] → ⊥
 
 -- so it is beside each link that the earlier one may be
 abbrev pub IsTouchedWork : Project → PreviousState → (place : ℕ) → Counts → Counts → Type 0
-IsTouchedWork p x place before after =
-    (old : GoodLink) (s : Layout) → IsPreviousOf old p x → layout p ≡ Ok s
-    → IsTouchedCount old (new_link p s) place before after
+IsTouchedWork project previous place before after =
+    (old : GoodLink) (s : Layout) → IsPreviousOf old project previous → layout project ≡ Ok s
+    → IsTouchedCount old (new_link project s) place before after
 
 -- the link is the earlier one with another image; or the canvas is as it was, and nothing is counted unless a
 -- relocation has a fault
 abbrev pub HasTouched : Project → Option PreviousState → (old new : List ℕ) → Counts → Counts → Bool → Type 0
-HasTouched p previous old new before after true =
-    IsInPlaceOutcome p previous new × ReadsNothing before after × IsWorkBeside p previous before after
-HasTouched p previous old new before after false =
-    (new ≡ old) × ((after ≡ before) ⊎ (HasFault p × ReadsNothing before after))
+HasTouched project previous old new before after true =
+    IsInPlaceOutcome project previous new × ReadsNothing before after × IsWorkBeside project previous before after
+HasTouched project previous old new before after false =
+    (new ≡ old) × ((after ≡ before) ⊎ (HasFault project × ReadsNothing before after))

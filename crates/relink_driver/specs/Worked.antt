@@ -15,21 +15,22 @@ use Rattle.relink_driver.specs.declared.incremental.RelinkOutcome.TheVariants as
 
 -- the entries of the rows from this one on are placed, before which no row differs; where the project follows the
 -- earlier one at once, it is the first that does; and where the script is another, it is the first of all
-pub record IsLinkWork (old new : GoodLink) (x : PreviousState) (before after : Counts) : Type 0 where
+pub record IsLinkWork (old new : GoodLink) (previous : PreviousState) (before after : Counts) : Type 0 where
   pub first : ℕ
   pub pieces : after.pieces ≡ capped before.pieces (entries_from first (rows new.project))
   pub same : AreSameBefore old.project new.project first
-  pub changed : IsNext old.project new.project x → IsFirstChanged old.project new.project first
-  pub anew : x.same_script ≡ false → first ≡ 0
+  pub changed : IsNext old.project new.project previous → IsFirstChanged old.project new.project first
+  pub anew : previous.same_script ≡ false → first ≡ 0
   pub image : IsImageCount old new before after
 
 -- beside each previous link that this one may be
 abbrev pub IsWorkBeside : Project → Option PreviousState → Counts → Counts → Type 0
-IsWorkBeside p previous before after =
-    (old : GoodLink) (x : PreviousState) (s : Layout) → previous ≡ Some x → IsPreviousOf old p x → layout p ≡ Ok s
-    → IsLinkWork old (record { project = p; layout = s }) x before after
+IsWorkBeside project previous before after =
+    (old : GoodLink) (x : PreviousState) (s : Layout) → previous ≡ Some x → IsPreviousOf old project x → layout project
+    ≡ Ok s
+    → IsLinkWork old (record { project = project; layout = s }) x before after
 
 abbrev pub HasWorked : Project → Option PreviousState → Counts → Counts → RelinkOutcome → Type 0
-HasWorked p previous before after (ended.Faulty t) = ⊤
-HasWorked p previous before after (ended.Good g m) = IsWorkBeside p previous before after
-HasWorked p previous before after ended.RewrittenInPlace = IsWorkBeside p previous before after
+HasWorked project previous before after (ended.Faulty t) = ⊤
+HasWorked project previous before after (ended.Good g m) = IsWorkBeside project previous before after
+HasWorked project previous before after ended.RewrittenInPlace = IsWorkBeside project previous before after

@@ -67,9 +67,9 @@ pub fn dirty_objects(
     previous: Option<PreviousView<'_>>,
     symbols: &SymbolValues,
 ) -> Result<Vec<bool>, NoMemory>
-    ensures { IfOk result (λ dirty. (old : GoodLink) (s : Layout)
+    ensures { IfOk result (λ dirty. (old : GoodLink) (layout : Layout)
         → IfSome (previous_of previous.entry) (IsPreviousOf old project.now)
-        → AreSymbolValues project.now s symbols.now → AreDirtyObjects old project.now s dirty.items) }
+        → AreSymbolValues project.now layout symbols.now → AreDirtyObjects old project.now layout dirty.items) }
 {
     let inputs = project.inputs();
     let mut dirty = Vec::with_capacity(alloc, inputs.len())?;

@@ -78,8 +78,8 @@ fn find_replaced<'a>(
 /// What the laws on projects whose objects have the same outlines say of a link beside an earlier one. The call does
 /// nothing.
 fn outlines_decide()
-    ensures { (old : GoodLink) (p : Project) (i : ℕ) → DiffersInContents old.project p i
-        → IsKeptLink old.project p old.layout }
+    ensures { (old : GoodLink) (project : Project) (i : ℕ) → DiffersInContents old.project project i
+        → IsKeptLink old.project project old.layout }
 {
     retouched_names();
     retouched_rows();

@@ -84,8 +84,8 @@ fn emit_output(
 ) -> Result<Vec<u8>, PassError>
     requires indexed_layout { IsLaidOut (project_of context) indexed_layout.now }
     requires short { IsShort (project_of context) indexed_layout.now.link_layout view.now values.now }
-    requires symbols { (s : Layout) → IsLinkLayout (project_of context) s indexed_layout.now.link_layout
-        → AreSymbolValues (project_of context) s symbols.now }
+    requires symbols { (layout : Layout) → IsLinkLayout (project_of context) layout indexed_layout.now.link_layout
+        → AreSymbolValues (project_of context) layout symbols.now }
     requires previous { IfSome (previous_of context.previous) (HasPreviousImage (project_of context) canvas.old.bytes) }
     ensures good { IfOk result (λ map. IsEmitted
         (project_of context.entry) indexed_layout.now canvas.new.bytes map.items) }

@@ -186,9 +186,9 @@ pub(crate) fn evaluate_relocations(
     requires short { IsShort (project_of context) stayed_sections.now.indexed_layout.now.link_layout view.now
         values.now }
     requires beside { IsBeside (project_of context) stayed_sections.now }
-    requires symbols { (s : Layout) → IsLinkLayout
-        (project_of context) s stayed_sections.now.indexed_layout.now.link_layout
-        → AreSymbolValues (project_of context) s symbols.now }
+    requires symbols { (layout : Layout) → IsLinkLayout
+        (project_of context) layout stayed_sections.now.indexed_layout.now.link_layout
+        → AreSymbolValues (project_of context) layout symbols.now }
     ensures good { IfOk result (λ r. IsFilled (project_of context.entry) stayed_sections.now values.now r) }
     ensures stop { IfErr result (λ stop. IsPassError (link (project_of context.entry)) stop) }
     ensures reads { OnOk result (ReadsNothing meter.old meter.new) }

@@ -103,11 +103,11 @@ impl<'a> StayedSections<'a> {
     /// Each input section that stayed is known to have stayed, where there is an previous link; each that is known to
     /// have stayed has. The call does nothing.
     pub fn is_complete(&self)
-        ensures complete { (old : GoodLink) (l : KnownLink) → AreStayedSections self.now old l
+        ensures complete { (old : GoodLink) (link : KnownLink) → AreStayedSections self.now old link
             → IsSome self.now.previous
-            → IsComplete (range_of self.now) old l }
-        ensures sound { (old : GoodLink) (l : KnownLink) → AreStayedSections self.now old l
-            → IsSound (range_of self.now) old l }
+            → IsComplete (range_of self.now) old link }
+        ensures sound { (old : GoodLink) (link : KnownLink) → AreStayedSections self.now old link
+            → IsSound (range_of self.now) old link }
         ensures none { self.now.previous ≡ None → (k : SectionKey) → range_of self.now k ≡ None }
     {
         sections_in_file();

@@ -66,8 +66,9 @@ pub fn symbol_values(
     link: &LinkView<'_, '_>,
     names: &[SymbolValue],
 ) -> Result<SymbolValues, NoMemory>
-    ensures { IfOk result (λ t. (s : Layout) (a : SymbolTableState) → IsLinkView (known_link project.now s a) link.now
-        → AreNameValues (known_link project.now s a) names.now → AreSymbolValues project.now s t) }
+    ensures { IfOk result (λ t. (layout : Layout) (table : SymbolTableState)
+        → IsLinkView (known_link project.now layout table) link.now
+        → AreNameValues (known_link project.now layout table) names.now → AreSymbolValues project.now layout t) }
 {
     let inputs = project.inputs();
     let count = count_symbols(inputs)?;

@@ -43,19 +43,20 @@ pub record IsTableAt (objects : List (ℕ × List NamedSymbol)) (place : ℕ) (s
 
 -- a symbol defines a name that is defined twice, and this is the key of the name; or it doesn't
 abbrev pub IsDoubled : Project → List (Option (List ℕ)) → Declaration → Option NameKey → Type 0
-IsDoubled p names d None = is_strong d ≡ true → decision p d.name ≡ Duplicate → ⊥
-IsDoubled p names d (Some k) = (is_strong d ≡ true) × IsNamed names k.0 d.name × (decision p d.name ≡ Duplicate)
+IsDoubled project names d None = is_strong d ≡ true → decision project d.name ≡ Duplicate → ⊥
+IsDoubled project names d (Some k) =
+    (is_strong d ≡ true) × IsNamed names k.0 d.name × (decision project d.name ≡ Duplicate)
 
 abbrev pub is_seen : Declaration → Bool
 is_seen d = not (is_local d.symbol.binding)
 
 -- what a symbol declares
 abbrev pub declared_by : ℕ → ℕ → NamedSymbol → List Declaration
-declared_by place number s = filter is_seen (declaration place (number, s) ∷ [])
+declared_by place number symbol = filter is_seen (declaration place (number, symbol) ∷ [])
 
 -- the declarations of the project begin with these
 abbrev pub Begins : Project → List Declaration → Type 0
-Begins p ds = (rest : List Declaration) × (declarations p.objects ≡ ds ++ rest)
+Begins project ds = (rest : List Declaration) × (declarations project.objects ≡ ds ++ rest)
 
 -- the strong definitions of a name
 abbrev pub strongs : List ℕ → List Declaration → List Declaration
@@ -67,8 +68,8 @@ first_entry (d ∷ ds) = Some d.entry
 
 -- of each name that is defined twice the first definition among these is noted under its key, and these are the faults
 -- of those that aren't the first
-pub record AreFound (p : Project) (names : List (Option (List ℕ))) (ds : List Declaration)
+pub record AreFound (project : Project) (names : List (Option (List ℕ))) (ds : List Declaration)
     (firsts : List (Option code_names.Entry)) (faults : List code.Fault) : Type 0 where
-  pub noted : (k : ℕ) (name : List ℕ) → IsNamed names k name → decision p name ≡ Duplicate
+  pub noted : (k : ℕ) (name : List ℕ) → IsNamed names k name → decision project name ≡ Duplicate
       → option_map by_place (slice_index_or firsts k None) ≡ first_entry (strongs name ds)
-  pub told : faults_in p faults ≡ map duplicate_fault (map (duplicate p) (filter (is_duplicate p) ds))
+  pub told : faults_in project faults ≡ map duplicate_fault (map (duplicate project) (filter (is_duplicate project) ds))

@@ -5,12 +5,12 @@ use Rattle.symres.specs.SymbolTable.{IsNameAt, IsSeenAt, SymbolTableState}
 use Rattle.symres_table.specs.State.{AreDistinct}
 
 -- a symbol has a key, which is that of its name and has a case
-pub record HasKey (a : SymbolTableState) (place number : ℕ) : Type 0 where
+pub record HasKey (table : SymbolTableState) (place number : ℕ) : Type 0 where
   pub key : ℕ
-  pub name : IsNameAt a place number key
-  pub case : HasCase a.cases key
+  pub name : IsNameAt table place number key
+  pub case : HasCase table.cases key
 
 -- each symbol that isn't local has one, and no two keys have one name
-pub record AreKeyed (a : SymbolTableState) : Type 0 where
-  pub distinct : AreDistinct a.names
-  pub keyed : (place number : ℕ) → IsSeenAt a.objects place number → HasKey a place number
+pub record AreKeyed (table : SymbolTableState) : Type 0 where
+  pub distinct : AreDistinct table.names
+  pub keyed : (place number : ℕ) → IsSeenAt table.objects place number → HasKey table place number

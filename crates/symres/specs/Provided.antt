@@ -9,16 +9,17 @@ use Rattle.ldmodel.specs.declared.script_symbol.DirectiveIndex.{DirectiveIndex}
 
 -- whether a command is a PROVIDE that is in force
 abbrev pub in_force : Project → Directive → Bool
-in_force p (directive.Assign a) = false
-in_force p (directive.Provide a) = is_provided_case (decision p a.name)
-in_force p (directive.Assert a) = false
+in_force project (directive.Assign a) = false
+in_force project (directive.Provide a) = is_provided_case (decision project a.name)
+in_force project (directive.Assert a) = false
 
 -- the names of those in force among these commands
 abbrev pub names_in_force : Project → List DirectiveAt → List (List ℕ)
-names_in_force p commands =
-    filter (λ name. is_provided_case (decision p name))
+names_in_force project commands =
+    filter (λ name. is_provided_case (decision project name))
     (map (λ (a : AssignmentAt). a.assignment.name) (provided_in commands))
 
 -- the number of a command comes after those that are there, if the command is a PROVIDE in force
 abbrev pub AddsIfInForce : Project → ℕ → Directive → (old new : List DirectiveIndex) → Type 0
-AddsIfInForce p n command old new = new ≡ old ++ (if in_force p command then (record { 0 = n }) ∷ [] else [])
+AddsIfInForce project n command old new =
+    new ≡ old ++ (if in_force project command then (record { 0 = n }) ∷ [] else [])

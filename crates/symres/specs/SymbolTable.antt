@@ -31,14 +31,14 @@ state_of d order = record {
 }
 
 -- the key has a name, and the case is what it stands for in the project
-pub record IsDecision (p : Project) (names : List (Option (List ℕ))) (k : ℕ) (c : Case) : Type 0 where
+pub record IsDecision (project : Project) (names : List (Option (List ℕ))) (k : ℕ) (c : Case) : Type 0 where
   pub named : HasName names k
-  pub case : (name : List ℕ) → IsNamed names k name → decision_of (λ key. key) c ≡ decision p name
+  pub case : (name : List ℕ) → IsNamed names k name → decision_of (λ key. key) c ≡ decision project name
 
 -- the objects are those of the project, and each case is that of the name of its key
-pub record IsSymbolTable (p : Project) (a : SymbolTableState) : Type 0 where
-  pub objects : a.objects ≡ enumerate_from 0 (symbol_tables p.objects)
-  pub sound : (k : ℕ) (c : Case) → case_at a.cases k ≡ Some c → IsDecision p a.names k c
+pub record IsSymbolTable (project : Project) (table : SymbolTableState) : Type 0 where
+  pub objects : table.objects ≡ enumerate_from 0 (symbol_tables project.objects)
+  pub sound : (k : ℕ) (c : Case) → case_at table.cases k ≡ Some c → IsDecision project table.names k c
 
 -- the object at the place has a symbol of this number, which isn't local
 pub record IsSeenAt (objects : List (ℕ × List NamedSymbol)) (place number : ℕ) : Type 0 where
@@ -49,6 +49,6 @@ pub record IsSeenAt (objects : List (ℕ × List NamedSymbol)) (place number : �
 
 -- the key is that of the name of the symbol of this number of the object at the place
 abbrev pub IsNameAt : SymbolTableState → (place number k : ℕ) → Type 0
-IsNameAt a place number k =
+IsNameAt table place number k =
     (t : ℕ × List NamedSymbol) (d : NamedSymbol)
-    → IsNamed a.names k (slice_index_or (slice_index_or a.objects place t).1 number d).name
+    → IsNamed table.names k (slice_index_or (slice_index_or table.objects place t).1 number d).name

@@ -139,7 +139,8 @@ impl SymbolTable {
     fn doubled_key(&self, place: usize, object: &Object, number: u32) -> Option<NameKey>
         requires table { IsTableAt self.now.objects place object.now.symbols }
         requires number { number < length object.now.symbols }
-        ensures key { (p : Project) (d : NamedSymbol) → IsSymbolTable p self.now → IsDoubled p self.now.names
+        ensures key { (project : Project) (d : NamedSymbol) → IsSymbolTable project self.now
+            → IsDoubled project self.now.names
             (declaration place (number, slice_index_or object.now.symbols number d)) result }
         ensures within { (k : NameKey) → result ≡ Some k → k.0 < length self.now.cases }
     {
@@ -167,11 +168,12 @@ impl SymbolTable {
         requires number { number < length object.now.symbols }
         requires long { length firsts.old.items ≡ length self.now.cases }
         ensures long { length firsts.new.items ≡ length firsts.old.items }
-        ensures found { OnOk result ((p : Project) (d : NamedSymbol) (ds : List Declaration)
-            → IsSymbolTable p self.now → p.script ≡ script.now
-            → Begins p (ds ++ declared_by place number (slice_index_or object.now.symbols number d))
-            → AreFound p self.now.names ds firsts.old.items faults.old.items
-            → AreFound p self.now.names (ds ++ declared_by place number (slice_index_or object.now.symbols number d))
+        ensures found { OnOk result ((project : Project) (d : NamedSymbol) (ds : List Declaration)
+            → IsSymbolTable project self.now → project.script ≡ script.now
+            → Begins project (ds ++ declared_by place number (slice_index_or object.now.symbols number d))
+            → AreFound project self.now.names ds firsts.old.items faults.old.items
+            → AreFound project self.now.names (ds
+            ++ declared_by place number (slice_index_or object.now.symbols number d))
             firsts.new.items faults.new.items) }
     {
         match self.doubled_key(place, object, number) {
@@ -206,11 +208,12 @@ impl SymbolTable {
         requires table { IsTableAt self.now.objects place object.now.symbols }
         requires long { length firsts.old.items ≡ length self.now.cases }
         ensures long { length firsts.new.items ≡ length firsts.old.items }
-        ensures found { OnOk result ((p : Project) (ds : List Declaration) → IsSymbolTable p self.now → p.script
+        ensures found { OnOk result ((project : Project) (ds : List Declaration) → IsSymbolTable project self.now
+            → project.script
             ≡ script.now
-            → Begins p (ds ++ declarations_in (place, object.now.symbols))
-            → AreFound p self.now.names ds firsts.old.items faults.old.items
-            → AreFound p self.now.names (ds ++ declarations_in (place, object.now.symbols)) firsts.new.items
+            → Begins project (ds ++ declarations_in (place, object.now.symbols))
+            → AreFound project self.now.names ds firsts.old.items faults.old.items
+            → AreFound project self.now.names (ds ++ declarations_in (place, object.now.symbols)) firsts.new.items
             faults.new.items) }
     {
         for number in 0..object.symbols().len() as u32 {

@@ -35,7 +35,8 @@ fn is_provided(case: Case) -> bool
 impl SymbolTable {
     /// Whether a command is a PROVIDE that is in force.
     fn is_in_force(&self, script: &Script, command: &Directive) -> bool
-        ensures { (p : Project) → IsSymbolTable p self.now → p.script ≡ script.now → result ≡ in_force p command.now }
+        ensures { (project : Project) → IsSymbolTable project self.now → project.script ≡ script.now → result
+            ≡ in_force project command.now }
     {
         match command {
             Directive::Provide(assignment) => {
@@ -53,8 +54,8 @@ impl SymbolTable {
         command: &Directive,
         list: &mut Vec<DirectiveIndex>,
     ) -> Result<(), NoMemory>
-        ensures { OnOk result ((p : Project) → IsSymbolTable p self.now → p.script ≡ script.now
-            → AddsIfInForce p number command.now list.old.items list.new.items) }
+        ensures { OnOk result ((project : Project) → IsSymbolTable project self.now → project.script ≡ script.now
+            → AddsIfInForce project number command.now list.old.items list.new.items) }
     {
         if !self.is_in_force(script, command) {
             return Ok(());
@@ -75,8 +76,9 @@ impl SymbolTable {
     ///
     /// Where memory runs out, or where the script has more than 2^32 commands, which none that was read has.
     pub fn provided(&self, alloc: Global, script: &Script) -> Result<Vec<DirectiveIndex>, NoMemory>
-        ensures { IfOk result (λ list. (p : Project) → IsSymbolTable p self.now → p.script ≡ script.now
-            → map (λ (k : DirectiveIndex). name_given_by p.script k.0) list.items ≡ provided p) }
+        ensures { IfOk result (λ list. (project : Project) → IsSymbolTable project self.now → project.script
+            ≡ script.now
+            → map (λ (k : DirectiveIndex). name_given_by project.script k.0) list.items ≡ provided project) }
     {
         let commands = script.all_directives(alloc)?;
         let mut list = Vec::new(alloc);

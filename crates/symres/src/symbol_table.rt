@@ -65,8 +65,9 @@ impl SymbolTable {
         script: &Script,
         meter: &mut Meter,
     ) -> Result<SymbolTable, NoMemory>
-        ensures symbol_table { IfOk result (λ symbol_table. (p : Project) → p.objects ≡ shown_inputs inputs.now
-            → p.script ≡ script.now → IsSymbolTable p symbol_table) }
+        ensures symbol_table { IfOk result (λ symbol_table. (project : Project) → project.objects
+            ≡ shown_inputs inputs.now
+            → project.script ≡ script.now → IsSymbolTable project symbol_table) }
         ensures objects { IfOk result (λ a. a.kept.names.objects ≡ tables_of inputs.now) }
         ensures kept { IfOk result (λ a. AreKept script.now a.kept) }
     {
@@ -81,10 +82,10 @@ impl SymbolTable {
 
     /// What a name stands for among objects under their places is decided under their keys. The call does nothing.
     pub(crate) fn decided_by_keys(&self)
-        ensures { (p : Project) (name : List ℕ)
-            → symbol_tables p.objects ≡ map (λ (t : ℕ × List NamedSymbol). t.1) self.now.kept.names.objects
-            → decision p name ≡ renumbered_decision (place_or_0 (keys_of self.now.kept.names.objects))
-            (decision_in p.script self.now.kept.names name) }
+        ensures { (project : Project) (name : List ℕ)
+            → symbol_tables project.objects ≡ map (λ (t : ℕ × List NamedSymbol). t.1) self.now.kept.names.objects
+            → decision project name ≡ renumbered_decision (place_or_0 (keys_of self.now.kept.names.objects))
+            (decision_in project.script self.now.kept.names name) }
     {
         decision_by_keys();
         tables_by_place();
@@ -95,9 +96,9 @@ impl SymbolTable {
     /// While the cases are kept for the script of a project, and the objects are those of the project, the cases are
     /// what the names of the project stand for. The call does nothing.
     pub fn names_kept(&self)
-        ensures { (p : Project) → AreKept p.script self.now.kept
-            → symbol_tables p.objects ≡ map (λ (t : ℕ × List NamedSymbol). t.1) self.now.kept.names.objects
-            → IsSymbolTable p self.now }
+        ensures { (project : Project) → AreKept project.script self.now.kept
+            → symbol_tables project.objects ≡ map (λ (t : ℕ × List NamedSymbol). t.1) self.now.kept.names.objects
+            → IsSymbolTable project self.now }
     {
         // so that the invariant of the field is known
         let _order = &self.order;
@@ -151,9 +152,9 @@ impl SymbolTable {
 
     /// What any name stands for, such as the entry symbol: the name is hashed and looked up.
     pub fn case_named(&self, script: &Script, name: &[u8]) -> Case
-        ensures case { (p : Project) → IsSymbolTable p self.now → p.script ≡ script.now
+        ensures case { (project : Project) → IsSymbolTable project self.now → project.script ≡ script.now
             → decision_of (λ key. key) result
-            ≡ decision p name.now }
+            ≡ decision project name.now }
     {
         self.decided_by_keys();
         place_case(&self.order, self.decisions.case_named(script, name))

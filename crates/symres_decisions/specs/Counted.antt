@@ -11,7 +11,8 @@ use Rattle.symres_table.specs.State.{entries_of}
 -- the names that a symbol table declares
 abbrev pub declared_in : List NamedSymbol → List (List ℕ)
 declared_in symbols =
-    map (λ (s : NamedSymbol). s.name) (filter (λ (s : NamedSymbol). not (is_local s.symbol.binding)) symbols)
+    map (λ (symbol : NamedSymbol). symbol.name)
+    (filter (λ (symbol : NamedSymbol). not (is_local symbol.symbol.binding)) symbols)
 
 -- those of all tables
 abbrev pub declared_names : List (ℕ × List NamedSymbol) → List (List ℕ)

@@ -20,17 +20,18 @@ use Rattle.symres_decisions.specs.Decided.{AreCases, HasCase, IsCase, KeepsCases
 
 -- a local symbol has no key; that of another is the key of its name
 abbrev pub IsKeyOf : List (Option (List ℕ)) → NamedSymbol → Option NameKey → Type 0
-IsKeyOf names s None = is_local s.symbol.binding ≡ true
-IsKeyOf names s (Some k) = (is_local s.symbol.binding ≡ false) × IsNamed names k.0 s.name
+IsKeyOf names symbol None = is_local symbol.symbol.binding ≡ true
+IsKeyOf names symbol (Some k) = (is_local symbol.symbol.binding ≡ false) × IsNamed names k.0 symbol.name
 
 -- each name that the symbols declare is known
 abbrev pub AreKnown : List (Option (List ℕ)) → List NamedSymbol → Type 0
 AreKnown names symbols =
-    All (λ (s : NamedSymbol). is_local s.symbol.binding ≡ false → (k : ℕ) × IsNamed names k s.name) symbols
+    All (λ (symbol : NamedSymbol). is_local symbol.symbol.binding ≡ false → (k : ℕ)
+    × IsNamed names k symbol.name) symbols
 
 -- unless the symbol is local, the key is that of its name
 abbrev pub IsNotedFor : List (Option (List ℕ)) → NamedSymbol → NameKey → Type 0
-IsNotedFor names s k = is_local s.symbol.binding ≡ false → IsNamed names k.0 s.name
+IsNotedFor names symbol k = is_local symbol.symbol.binding ≡ false → IsNamed names k.0 symbol.name
 
 -- these keys are noted for the first of these symbols
 abbrev pub AreNoted : List (Option (List ℕ)) → List NamedSymbol → List NameKey → Type 0

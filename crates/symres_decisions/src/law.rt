@@ -16,7 +16,7 @@ pub fn names_of_objects()
     ensures all { (objects : List NamedObject) (tables : List (ℕ × List NamedSymbol))
         → map (λ (t : ℕ × List NamedSymbol). t.1) tables ≡ symbol_tables objects
         → declared_names tables ≡ names_in_objects objects }
-    ensures one { (o : NamedObject) → declared_in o.object.symbols ≡ names_in_objects (o ∷ []) }
+    ensures one { (object : NamedObject) → declared_in object.object.symbols ≡ names_in_objects (object ∷ []) }
 {}
 
 /// A longer list has at least as many names, each counted once.

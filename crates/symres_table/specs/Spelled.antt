@@ -49,7 +49,7 @@ AreOf names symbols ss =
 
 -- a symbol that other objects see
 abbrev pub is_seen : NamedSymbol → Bool
-is_seen s = not (is_local s.symbol.binding)
+is_seen symbol = not (is_local symbol.symbol.binding)
 
 -- the numbers stand for those of these symbols that other objects see
 pub record SpellsSeen (names : List (Option (List ℕ))) (ss : List Numbered) (symbols : List NamedSymbol) : Type 0 where

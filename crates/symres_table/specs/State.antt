@@ -18,7 +18,8 @@ entries_of name tables = filter (is_of_name name) (declarations_of tables)
 
 -- the symbols of this name that aren't local
 abbrev pub naming : List ℕ → List NamedSymbol → List NamedSymbol
-naming name symbols = filter (λ (s : NamedSymbol). not (is_local s.symbol.binding) && bytes_eq name s.name) symbols
+naming name symbols =
+    filter (λ (symbol : NamedSymbol). not (is_local symbol.symbol.binding) && bytes_eq name symbol.name) symbols
 
 -- the objects without the one of the key
 abbrev pub without : ℕ → List (ℕ × List NamedSymbol) → List (ℕ × List NamedSymbol)
@@ -100,14 +101,14 @@ IsNameOfSymbol names key number tables n =
 pub record IsSeenAt (tables : List (ℕ × List NamedSymbol)) (place number : ℕ) : Type 0 where
   pub within : place < length tables
   pub symbol : (t : ℕ × List NamedSymbol) → number < length (slice_index_or tables place t).1
-  pub seen : (t : ℕ × List NamedSymbol) (s : NamedSymbol)
-      → is_local (slice_index_or (slice_index_or tables place t).1 number s).symbol.binding ≡ false
+  pub seen : (t : ℕ × List NamedSymbol) (symbol : NamedSymbol)
+      → is_local (slice_index_or (slice_index_or tables place t).1 number symbol).symbol.binding ≡ false
 
 -- the key is that of the name of the symbol of this number of the object at the place
 abbrev pub IsNameAt : List (Option (List ℕ)) → List (ℕ × List NamedSymbol) → (place number n : ℕ) → Type 0
 IsNameAt names tables place number n =
-    (t : ℕ × List NamedSymbol) (s : NamedSymbol)
-    → IsNamed names n (slice_index_or (slice_index_or tables place t).1 number s).name
+    (t : ℕ × List NamedSymbol) (symbol : NamedSymbol)
+    → IsNamed names n (slice_index_or (slice_index_or tables place t).1 number symbol).name
 
 -- the key of an entered object
 abbrev pub object_key : ℕ × List NamedSymbol → ObjectKey
@@ -130,7 +131,7 @@ HasNumber s name = (n : ℕ) × IsNamed s.names n name × (n < length s.room)
 
 -- an object with this symbol table can be entered, and no memory is taken
 pub record MayEnter (s : State) (symbols : List NamedSymbol) : Type 0 where
-  pub known : All (λ (x : NamedSymbol). is_local x.symbol.binding ≡ false → HasNumber s x.name) symbols
+  pub known : All (λ (symbol : NamedSymbol). is_local symbol.symbol.binding ≡ false → HasNumber s symbol.name) symbols
   pub room : (n : ℕ) (name : List ℕ) → IsNamed s.names n name → n < length s.room
       → length (entries_of name s.objects) + length (naming name symbols) ≤ slice_index_or s.room n 0
   pub order : 0 < s.order_room

@@ -219,8 +219,8 @@ pub fn number_all(
     repeats: &Repeats,
     list: &mut Vec<Numbered>,
 )
-    requires known { All (λ (s : NamedSymbol). is_local s.symbol.binding ≡ false → (n : ℕ)
-        × IsNamed known.now.slots n s.name) object.now.symbols }
+    requires known { All (λ (symbol : NamedSymbol). is_local symbol.symbol.binding ≡ false → (n : ℕ)
+        × IsNamed known.now.slots n symbol.name) object.now.symbols }
     requires empty { list.old.items ≡ [] }
     requires room { length object.now.symbols ≤ vec_capacity list.old }
     ensures spelled { Spells known.now.slots list.new.items object.now.symbols }

@@ -55,7 +55,7 @@ impl Project {
     /// The object under a key.
     pub fn object(&self, key: ObjectKey) -> Option<&Object>
         ensures { option_copied result
-            ≡ option_map (λ (o : NamedObject). o.object) (found_under self.now.contents.entries key.0) }
+            ≡ option_map (λ (object : NamedObject). object.object) (found_under self.now.contents.entries key.0) }
     {
         match self.named(key) {
             Some(named) => Some(named.object()),
@@ -110,7 +110,7 @@ impl<'a> Next<'a> {
     /// The object under a key.
     pub fn object(&self, key: ObjectKey) -> Option<&'a Object>
         ensures { option_copied result
-            ≡ option_map (λ (o : NamedObject). o.object) (found_under self.now.entries key.0) }
+            ≡ option_map (λ (object : NamedObject). object.object) (found_under self.now.entries key.0) }
     {
         match self.named(key) {
             Some(named) => Some(named.object()),

@@ -21,8 +21,8 @@ use ldscript::Script;
 
 /// An edit of the objects alone, for which all memory was had.
 fn staged(grown: Result<StagedObjects, NoMemory>) -> Result<Staged, EditRefusal>
-    ensures ok { (h : ProjectState) (next : List NamedObject) → IfOk grown (λ s. IsStaged h.contents s next)
-        → Makes h next result }
+    ensures ok { (state : ProjectState) (next : List NamedObject) → IfOk grown (λ s. IsStaged state.contents s next)
+        → Makes state next result }
     ensures touching { (before : Option ℕ) → IfOk grown (IsEditing before)
         → IfOk result (λ s. IsEditing before s.objects) }
     ensures after { (after : Option ℕ) → IfOk grown (λ s. s.places.after ≡ after)
