@@ -112,7 +112,7 @@ pub record Adds (link : KnownLink) (IsDone : Evaluated → Type 0) (before after
   -- its patches in the file
   pub patches : after.patches ≡ before.patches ++ evaluated.patches
   -- and the faults of its sites, each of which counts
-  pub counts : IsCounted l evaluated.sites before.faults after.faults before.counts after.counts
+  pub counts : IsCounted link evaluated.sites before.faults after.faults before.counts after.counts
 
 -- what was evaluated of these input sections was added, one after another
 pub record AreChanged (old : GoodLink) (link : KnownLink) (range : SectionKey → Option FileRange)

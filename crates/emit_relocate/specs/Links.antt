@@ -22,7 +22,7 @@ use Rattle.emit_relocate.specs.declared.site.PlacedInput.{PlacedInput}
 
 -- these may be the links at hand, by what the linker knows of them: `knows` of `Known`, and that of `Earlier`
 pub record AreLinks {L E : Type 0} (knows : L → KnownLink → Type 0) (knows_both : E → GoodLink → KnownLink → Type 0)
-    (m : Links L E) (old : GoodLink) (link : KnownLink) : Type 0 where
+    (m : Links L E) (old : GoodLink) (l : KnownLink) : Type 0 where
   -- the link whose relocations are evaluated
   pub link : knows m.link.now l
   -- the earlier one beside it
@@ -35,22 +35,22 @@ pub record AreLinks {L E : Type 0} (knows : L → KnownLink → Type 0) (knows_b
 -- an input section is that at hand
 pub record IsAtHand (link : KnownLink) (m : InputSection) (s : ObjectSection) : Type 0 where
   -- the key is that of the section's object
-  pub object_is : named_object l m.key ≡ Some s.object
+  pub object_is : named_object link m.key ≡ Some s.object
   -- which was read
   pub read_is : s.object.object ≡ m.object.now
   -- the section has this place among those of its object
   pub section_is : slice_get s.object.object.sections m.index.0 ≡ Some s.section
   -- the values are those of the object's symbols
-  pub values_are : IsRow l s.object m.values.now
+  pub values_are : IsRow link s.object m.values.now
 
 -- an input section is that at hand, where it is in the output
 pub record IsPlacedAt (link : KnownLink) (s : ObjectSection) (m : PlacedInput) : Type 0 where
   -- its place in the layout
   pub piece : PlacedPiece
-  pub piece_is : placed_part l.layout s.object.name (InTable s.section.number) ≡ Some piece
+  pub piece_is : placed_part link.layout s.object.name (InTable s.section.number) ≡ Some piece
   pub start_is : m.start ≡ piece.start
   -- the section itself
-  pub section_is : IsPlaced l m s.object s.section
+  pub section_is : IsPlaced link m s.object s.section
 
 -- it is there, or not in the output
 abbrev pub IsPlaceOf : KnownLink → ObjectSection → Option PlacedInput → Type 0
@@ -71,15 +71,15 @@ pub record IsKeptAt (old : GoodLink) (link : KnownLink) (range : SectionKey → 
   -- what is known
   pub known : Some r ≡ range key
   -- and is so
-  pub stayed : HasStayedAt old l key r
+  pub stayed : HasStayedAt old link key r
 
 -- an input section is that at hand, and its symbols may have other values than in the previous link
 pub record IsStayedAt {E : Type 0} (knows_both : E → GoodLink → KnownLink → Type 0)
     (range : E → SectionKey → Option FileRange) (m : StayedSection E) (old : GoodLink) (link : KnownLink)
     (s : ObjectSection) : Type 0 where
   -- the links
-  pub links : knows_both m.earlier.now old l
+  pub links : knows_both m.earlier.now old link
   -- some section of its object is known to have stayed
   pub kept : IsKept (range m.earlier.now) m.section.object
   -- the section in its place
-  pub section_is : IsPlaced l m.section s.object s.section
+  pub section_is : IsPlaced link m.section s.object s.section

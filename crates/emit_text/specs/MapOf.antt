@@ -67,5 +67,5 @@ pub record IsMapOf (project : Project) (number : ℕ → ℕ) (layout : Layout) 
   pub rows : map (shown_row project number) (map vec_items m.rows.now) ≡ map row_of layout.sections
   pub symbols : AreSymbolsOf project number layout m.symbols.now
   -- each name that stands for something is one of theirs
-  pub complete : (name : List ℕ) → Contains (declared_names p) name → is_defined (decision p name) ≡ true
+  pub complete : (name : List ℕ) → Contains (declared_names project) name → is_defined (decision project name) ≡ true
       → Contains (symbol_names m.symbols.now) name

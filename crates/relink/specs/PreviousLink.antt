@@ -137,7 +137,7 @@ pub record IsEffect (state : ProjectState) (s : Staged) (same : Bool) (a : LinkO
   -- where the answer has no faults, what comes is known to be none of the previous link's objects
   pub current : is_good a ≡ true → e.known ≡ true
   -- where it has faults, what is known to be none of them is none of them
-  pub knows : is_good a ≡ false → e.known ≡ true → IfSome previous (λ x. Knows x h.contents.entries s.objects.step)
+  pub knows : is_good a ≡ false → e.known ≡ true → IfSome previous (λ x. Knows x state.contents.entries s.objects.step)
   -- the key that has no origin any more is the one under which an object comes or goes
   pub lost : e.gone ≡ lost_key same s.objects.step
   -- the previous link is the one that is answered where the answer has no faults

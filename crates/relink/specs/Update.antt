@@ -27,33 +27,33 @@ pub record CanUpdate (state : ProjectState) (s : Staged) (tables : LinkTables) (
     (bytes : List ℕ)
     : Type 0 where
   -- the staged edit fits the objects of the project
-  pub fits : Fits h.contents s.objects
+  pub fits : Fits state.contents s.objects
   -- it says where the object that it touches stands, before it and after it
-  pub arranged : ChangesOneObject h.contents.entries s.objects
+  pub arranged : ChangesOneObject state.contents.entries s.objects
   -- where it has a script, it touches no object
   pub one : EditsOne s
   -- what is kept is of the project
-  pub kept : IsKept (listing_of h) t.symbol_table t.matches.items
+  pub kept : IsKept (listing_of state) tables.symbol_table tables.matches.items
   -- what is lent is of an previous link without faults, whose image these bytes are
-  pub previous : IfSome lent (HasPreviousImage (project_of (next_listing h s)) bytes)
+  pub previous : IfSome lent (HasPreviousImage (project_of (next_listing state s)) bytes)
 
 -- what holds after an edit has been followed
 pub record IsUpdated (state : ProjectState) (s : Staged) (lent : Option PreviousState) (tables : LinkTables)
     (old new : List ℕ)
     (before after : Counts) (f : UpdateOutcome) : Type 0 where
   -- the link is that of the next project, and its image is drawn, if it has one
-  pub link : HasUpdateOutcome (next_listing h s) lent old new f
+  pub link : HasUpdateOutcome (next_listing state s) lent old new f
   -- what is kept is of the next project
-  pub kept : IsKept (next_listing h s) t.symbol_table t.matches.items
+  pub kept : IsKept (next_listing state s) tables.symbol_table tables.matches.items
   -- no object is read, and the names that the edit touches are decided, each once
-  pub decides : Decides before after (names_of_edit h.contents.entries s.objects)
+  pub decides : Decides before after (names_of_edit state.contents.entries s.objects)
   -- what the link places, evaluates and writes is counted
-  pub worked : HasWorked (project_of (next_listing h s)) lent before after f
+  pub worked : HasWorked (project_of (next_listing state s)) lent before after f
 
 -- what holds where memory runs out before an edit has been followed
 pub record IsRolledBack (state : ProjectState) (tables : LinkTables) (old new : List ℕ) : Type 0 where
   -- what is kept is of the project as before
-  pub kept : IsKept (listing_of h) t.symbol_table t.matches.items
+  pub kept : IsKept (listing_of state) tables.symbol_table tables.matches.items
   -- the canvas is as it was
   pub canvas : new ≡ old
 
@@ -69,9 +69,9 @@ pub record KeepsObjects (script : List Statement) (old new : LinkTables) : Type 
 -- all memory is taken that a change of one object needs
 pub record HasRoom (next : Listing) (x : ObjectChange) (tables : LinkTables) (c : IncomingChange) : Type 0 where
   -- the symbol table can be changed without memory
-  pub names : IsReadyFor t.symbol_table.kept x
+  pub names : IsReadyFor tables.symbol_table.kept x
   -- there is room for the matches of two more objects
-  pub matches : vec_len t.matches + 2 ≤ vec_capacity t.matches
+  pub matches : vec_len tables.matches + 2 ≤ vec_capacity tables.matches
   -- the keys of the next objects are in their order
   pub order : c.order ≡ keys_of next.entries
   -- the matches are those of the object that comes, if one does
