@@ -104,7 +104,7 @@ module _ (laws : Laws) (old new : GoodLink) (stays : SectionKey → Bool) (ys : 
   are_kept h =
       by_piece (IsKept old new) (λ x w y k is e. k.is ∙ h k.section (linked_in new x.section w) is e)
 
--- ---- what an previous link says
+-- ---- what a previous link says
 
 abbrev link_at : GoodLink → SymbolTableState → KnownLink
 link_at new a = known_link new.project new.layout a

@@ -1,4 +1,4 @@
--- Which input sections of an image stay where an previous link has them.
+-- Which input sections of an image stay where a previous link has them.
 use Rattle.std.specs.Prelude.{◌≡◌, Bool, Contains, IfSome, Option, true}
 use Rattle.emit_image.specs.declared.section.ImagePiece.{ImagePiece}
 use Rattle.ldmodel.specs.Layout.{PlacedPiece}

@@ -117,7 +117,7 @@ fn draw_outputs(
 }
 
 /// Draws the image of a link without faults onto a canvas, and counts the bytes that it writes: all but those of the
-/// input sections of which an previous link says that they stayed. In these only the patches are written, whose offsets
+/// input sections of which a previous link says that they stayed. In these only the patches are written, whose offsets
 /// are places in the file.
 ///
 /// Where nothing stays, the canvas may hold anything before. Where the canvas holds the image of the previous link,

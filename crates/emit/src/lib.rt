@@ -1,5 +1,5 @@
 //! What a link puts out: the fields of its relocations, its image, and its texts. Takes the layout and values of a
-//! project, and perhaps an previous link; gives fields or their faults, the bytes drawn, the map and the fault lines.
+//! project, and perhaps a previous link; gives fields or their faults, the bytes drawn, the map and the fault lines.
 //!
 //! - `relocated` over `keys`: the fields of all relocations, or their faults; `law`;
 //! - `drawing` over `output`, `parts`, `pieces`, `data_runs`, `section_fields`, `symbols`: the image; `length`;

@@ -249,7 +249,7 @@ fn image_rows<'a, E: PreviousLinkInfo>(
     Ok(pieces)
 }
 
-/// The input sections of each output section, in their order; those that an previous link says have stayed stay, and
+/// The input sections of each output section, in their order; those that a previous link says have stayed stay, and
 /// are joined where no gap lies between.
 ///
 /// # Errors

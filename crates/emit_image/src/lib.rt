@@ -4,7 +4,7 @@
 //! - `headers`: ELF header and program headers; `tail` over `symbols`, `strings`, `sections`, `number`: the tail;
 //! - `section`: what is drawn; `row`: sections that stayed side by side as one; `write_span`, `add`, `add_section`: a
 //!   drawing as write spans, gaps and their fill among them;
-//! - `plan`, `commit` over `patched`, `redraw`, `draw`: over the image of an previous link, of which what stayed is
+//! - `plan`, `commit` over `patched`, `redraw`, `draw`: over the image of a previous link, of which what stayed is
 //!   kept, or anew; `law`.
 #![tactic(auto)]
 

@@ -222,7 +222,7 @@ module _ (p : Project) (l : KnownLink) (key : ObjectPlace) (o : NamedObject) (h 
     where
       both : option_map object_outline (slice_get p.objects i) ≡ Some (object_outline o)
       both =
-          sym (slice_get-map object_outline p.objects i) ∙ ap (λ os. slice_get os i) h.retouched.outlines
+          sym (slice_get-map object_outline p.objects i) ∙ ap (λ os. slice_get os i) h.rewritten.outlines
           ∙ slice_get-map object_outline q.objects i ∙ ap (option_map object_outline) h.object_is
 
       go : (m : Option NamedObject) → slice_get p.objects i ≡ m → Before
@@ -245,7 +245,7 @@ module _ (p : Project) (l : KnownLink) (key : ObjectPlace) (o : NamedObject) (h 
   names_before : EachLater (λ (x y : NamedObject). bytes_eq x.name y.name ≡ false) p.objects
   names_before =
       later_of_map object_outline (λ (x y : ObjectOutline). bytes_eq x.name y.name ≡ false) p.objects
-      (subst (EachLater (λ (x y : ObjectOutline). bytes_eq x.name y.name ≡ false)) (sym h.retouched.outlines)
+      (subst (EachLater (λ (x y : ObjectOutline). bytes_eq x.name y.name ≡ false)) (sym h.rewritten.outlines)
       (later_map object_outline (λ (x y : ObjectOutline). bytes_eq x.name y.name ≡ false) q.objects
       (names_later q.objects h.names)))
 
@@ -387,7 +387,7 @@ module _ (p : Project) (l : KnownLink) (key : ObjectPlace) (o : NamedObject) (h 
         ((bytes_eq-Decides y.piece.object o.name).0 both.0) inside.0 inside.1
 
     same_out : find covers_it (linked_pieces q s) ≡ None → byte_at p s at ≡ byte_at q s at
-    same_out e = byte_same p q s i o h.retouched h.frame h.spread h.named h.object_is at (λ z c own.
+    same_out e = byte_same p q s i o h.rewritten h.frame h.spread h.named h.object_is at (λ z c own.
         outside_of at z.range.offset z.range.length
         (sym (ap (λ t. t && covers z.range.offset z.range.length at) ((bytes_eq-Decides z.object o.name).1 own))
         ∙ none_found covers_it (linked_pieces q s) z e c))

@@ -24,7 +24,7 @@ pub record IsBare (section : LinkedSection) : Type 0 where
 
 -- the link comes of one of another project, at the same layout, by what the sections of the object of a key hold
 pub record IsInPlaceRewrite (old : Project) (link : KnownLink) (key : ObjectPlace) (object : NamedObject) : Type 0 where
-  pub retouched : DiffersInContents old link.project (link.number key.0)
+  pub rewritten : DiffersInContents old link.project (link.number key.0)
   pub frame : HasSameFrame old link.project link.layout
   pub object_is : named_object link key ≡ Some object
   pub names : AreNamesDistinct link.project.objects

@@ -1,4 +1,4 @@
-//! The image of a link in which one object differs from that of an previous link in what its sections hold alone, over
+//! The image of a link in which one object differs from that of a previous link in what its sections hold alone, over
 //! the previous image. Takes the object, the values of its symbols and where its sections stand; writes these sections.
 //!
 //! - `located_section`: where a section stands; `plan`: what is written of each, with its fields; `rewrite`: writing

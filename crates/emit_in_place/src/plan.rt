@@ -176,7 +176,7 @@ fn plan_section<'a>(
     // so that the range of the count is known
     let _fields = meter.fields();
     if !can_stand(object, limit, spot) {
-        // No link has such a spot. Nothing says so of any list of spots, so `retouch` refuses it
+        // No link has such a spot. Nothing says so of any list of spots, so `rewrite` refuses it
         return Err(impossible());
     }
     let kind = object.sections()[spot.index.0].kind;

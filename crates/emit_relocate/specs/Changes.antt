@@ -1,4 +1,4 @@
--- What comes of input sections beside an previous link: the fields of those that did not stay; and, of those that did,
+-- What comes of input sections beside a previous link: the fields of those that did not stay; and, of those that did,
 -- the fields of the sites whose symbol has another value, in their places in the file.
 use Rattle.std.specs.Prelude.{◌≡◌, ℕ, ◌+◌, List, [], ◌++◌, map, flat_map, filter, nat_le, if◌then◌else◌, Option, Some}
 use Rattle.std.specs.Prelude.{Contains, None, length}

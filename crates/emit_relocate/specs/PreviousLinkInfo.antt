@@ -1,4 +1,4 @@
--- What is known of an previous link beside a new one.
+-- What is known of a previous link beside a new one.
 use Rattle.std.specs.Prelude.{◌≡◌, Option, None, Some, Contains, IsSome, Bool, true, false, not, ◌==◌}
 use Rattle.ldmodel.specs.Relocations.{Site, site_value}
 use Rattle.ldmodel.specs.Stayed as model

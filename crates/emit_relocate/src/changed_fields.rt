@@ -1,4 +1,4 @@
-//! The fields of a link that an previous link did not have, in one flat list, those that change in sections that
+//! The fields of a link that a previous link did not have, in one flat list, those that change in sections that
 //! stayed, and the faults of relocations. Beside no previous link these are the fields of all objects.
 
 ghost use Rattle.std.specs.Prelude.{◌≡◌, IfOk, OnOk, Some, [], ◌∷◌};

@@ -1,4 +1,4 @@
-//! Laws of what is evaluated beside an previous link.
+//! Laws of what is evaluated beside a previous link.
 
 ghost use Rattle.std.specs.Prelude.{◌≡◌, ◌+◌, ◌++◌, All, None, Option, [], length};
 ghost use Rattle.std.specs.List.{filter_map};
@@ -22,7 +22,7 @@ use ldmodel_laws::stayed::{
     fields_in_image, sites_by_piece, stayed_by_part, stayed_in_both, unmoved_sites,
 };
 
-/// Where nothing is known to have stayed all is evaluated, as without an previous link.
+/// Where nothing is known to have stayed all is evaluated, as without a previous link.
 pub fn all_is_evaluated()
     ensures { (old : GoodLink) (link : KnownLink) (range : SectionKey → Option FileRange) (a b : Results)
         → AreChanged old link range (sections_in link.project.objects) a b → ((key : SectionKey) → range key ≡ None)

@@ -4,7 +4,7 @@
 //! - `link_info`, `previous_link_info`: what a linker says of its link and of an earlier one; `symbol`, `value`,
 //!   `target`: values;
 //! - `symbol_values`: the values of the symbols of all objects, which evaluation reads;
-//! - `site`, `fields`, `retargeted`, `input_section`, `changed_fields`: fields, all of them or those that an previous
+//! - `site`, `fields`, `retargeted`, `input_section`, `changed_fields`: fields, all of them or those that a previous
 //!   link did not have; `law`;
 //! - `index`, `bucket`, `sites_of_target`: from targets to relocations.
 #![tactic(auto)]

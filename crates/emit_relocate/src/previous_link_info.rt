@@ -1,4 +1,4 @@
-//! What a linker knows of an previous link when it evaluates relocations of a new one.
+//! What a linker knows of a previous link when it evaluates relocations of a new one.
 
 ghost use Rattle.std.specs.Prelude.{◌≡◌, Option, IfSome, None, false};
 ghost use Rattle.elfobj.specs.Symbols.{NamedSymbol};
@@ -26,7 +26,7 @@ pub struct FileRange {
     pub length: u64,
 }
 
-/// What a linker knows of an previous link beside a new one: which input sections of the new one stayed where they
+/// What a linker knows of a previous link beside a new one: which input sections of the new one stayed where they
 /// were, and what symbols were worth. The keys are keys of the new link. What is said of two links holds of each two
 /// links that these may be.
 pub trait PreviousLinkInfo {

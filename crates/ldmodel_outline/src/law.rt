@@ -17,7 +17,7 @@ ghost use Rattle.ldmodel.specs.Targets.{referenced_value};
 ghost use Rattle.ldmodel_laws.specs.Outline.{HasSameFrame, DiffersInContents};
 
 /// Names stand for the same, and have the same faults.
-pub fn retouched_names()
+pub fn rewritten_names()
     ensures decided { (project q : Project) (i : ℕ) → DiffersInContents project q i → (name : List ℕ)
         → decision project name ≡ decision q name }
     ensures provided { (project q : Project) (i : ℕ) → DiffersInContents project q i → provided project ≡ provided q }
@@ -26,14 +26,14 @@ pub fn retouched_names()
 {}
 
 /// The same input sections stand in the same rows, and as many are orphans.
-pub fn retouched_rows()
+pub fn rewritten_rows()
     ensures rows { (project q : Project) (i : ℕ) → DiffersInContents project q i → rows project ≡ rows q }
     ensures faults { (project q : Project) (i : ℕ) → DiffersInContents project q i → gathering_faults project
         ≡ gathering_faults q }
 {}
 
 /// Symbols are worth the same at a layout.
-pub fn retouched_values()
+pub fn rewritten_values()
     ensures names { (project q : Project) (i : ℕ) → DiffersInContents project q i → (layout : Layout) (name : List ℕ)
         → name_value project layout name ≡ name_value q layout name }
     ensures entry { (project q : Project) (i : ℕ) → DiffersInContents project q i → (layout : Layout)
@@ -46,7 +46,7 @@ pub fn retouched_values()
 {}
 
 /// The map is the same, and so are the headers and the tail of the image, and the assertions that fail.
-pub fn retouched_frame()
+pub fn rewritten_frame()
     ensures map { (project q : Project) (i : ℕ) → DiffersInContents project q i → (layout : Layout)
         → map_text project layout ≡ map_text q layout }
     ensures headers { (project q : Project) (i : ℕ) → DiffersInContents project q i → (layout : Layout)
@@ -62,12 +62,12 @@ pub fn retouched_frame()
 {}
 
 /// The layout is the same.
-pub fn retouched_layout()
+pub fn rewritten_layout()
     ensures { (project q : Project) (i : ℕ) → DiffersInContents project q i → layout project ≡ layout q }
 {}
 
 /// Where the first link has no faults, and no relocation of the second project is a fault, neither has the second link.
-pub fn retouched_link()
+pub fn rewritten_link()
     ensures { (project q : Project) (i : ℕ) → DiffersInContents project q i → (s : Layout) → layout project ≡ Ok s
         → (link project).status ≡ 0 → relocation_faults q s ≡ [] → link q ≡ good q s }
 {}

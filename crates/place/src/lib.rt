@@ -1,5 +1,5 @@
 //! Layout, a phase of a link: where everything stands in memory and in the file. Takes a project, its rows and names,
-//! the numbers of its input sections, and perhaps an previous layout; gives the layout or its faults, and where an
+//! the numbers of its input sections, and perhaps a previous layout; gives the layout or its faults, and where an
 //! input section stands, by its key.
 //!
 //! - `link_layout`: the phase, over `place_sections`;

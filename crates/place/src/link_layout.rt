@@ -114,7 +114,7 @@ impl LinkLayout {
     /// image isn't looked at: it is known only when the symbols have their values. The entries of the rows are counted
     /// as placed.
     ///
-    /// With `kept`, an previous placement of the script and the number of a row before which no row differs from the
+    /// With `kept`, a previous placement of the script and the number of a row before which no row differs from the
     /// earlier ones, the layout is the same, and the entries of the rows from that one on are counted.
     ///
     /// # Errors

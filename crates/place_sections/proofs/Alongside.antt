@@ -1,4 +1,4 @@
--- The body of an output section goes on alongside that of an previous layout.
+-- The body of an output section goes on alongside that of a previous layout.
 use Rattle.std.proofs.Common.{◌≡◌, ℕ, ◌+◌, ◌==◌, List, [], ◌∷◌, ◌++◌, Bool, true, false, Ok, refl, sym, ap, subst, ◌∙◌}
 use Rattle.std.proofs.Common.{append_assoc, drop, length, map, ◌<◌, suc, arith, cond, eq-eqb, get_or, Bor}
 use Rattle.std.proofs.Common.{Option, Some, None, IfSome, Result}

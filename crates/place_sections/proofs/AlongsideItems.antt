@@ -1,4 +1,4 @@
--- The statements of SECTIONS, and those of a script, go on alongside an previous layout.
+-- The statements of SECTIONS, and those of a script, go on alongside a previous layout.
 use Rattle.std.proofs.Common.{◌≡◌, ℕ, ◌+◌, ◌≤◌, ◌<◌, List, [], ◌∷◌, ◌++◌, Ok, refl, sym, ap, subst, ◌∙◌, arith}
 use Rattle.std.proofs.Common.{false, get_or, length, map}
 use Rattle.std.proofs.Math.ListN.{get_or-map}
@@ -195,7 +195,7 @@ items_alongside n i script script' s t statements items law same_script same_ite
           (statements_on a.rows a.provided after k.value a.leads.layout k.second) k.first a.leads refl;
     }))
 
--- where the next statement is an output section, an previous layout goes on with it
+-- where the next statement is an output section, a previous layout goes on with it
 pub next_alongside : (n : Naming) (i : Input) (script : List Statement) (s : Layout) (x : Item) (xs : List Item)
     (sections : List KeyedSection) → s.sections ≡ map (section_of n) sections
     → (i.kept.same_provided ≡ false → 0 < i.kept.first → length sections ≤ i.kept.first

@@ -1,4 +1,4 @@
--- The layout of a script from those of its parts, and what an previous layout of the script tells of its SECTIONS.
+-- The layout of a script from those of its parts, and what a previous layout of the script tells of its SECTIONS.
 use Rattle.std.proofs.Common.{◌≡◌, ℕ, List, Result, Ok, Err, ◌⊎◌, inl, inr, refl, sym, ap, subst, ◌∙◌}
 use Rattle.ldscript.specs.statements.declared.statement.Item.{Item}
 use Rattle.ldscript.specs.statements.declared.statement.Statement.{Statement}

@@ -29,7 +29,7 @@ whole_run : (rows : List (List Piece)) (provided : List (List ℕ)) (script : Li
 unfolding placement
 whole_run rows provided script = refl
 
--- with a placement that is kept there is an previous layout, with the PROVIDEs that were in force
+-- with a placement that is kept there is a previous layout, with the PROVIDEs that were in force
 module _ (n : Naming) (i : Input) (script : List Statement) (p : Places) (first : ℕ) (numbers : List DirectiveIndex)
     (k : IsKept script (rows_of n i) p first) (a : Keeps p first numbers i.kept) where
   same_rows : Same i.kept.first k.earlier (rows_of n i)

@@ -1,4 +1,4 @@
--- An previous layout alongside the present one, whose rows are the same before a number. Other PROVIDEs may have been
+-- A previous layout alongside the present one, whose rows are the same before a number. Other PROVIDEs may have been
 -- in force in it: so it differs in symbols alone.
 use Rattle.std.specs.Prelude.{◌≡◌, ℕ, ◌+◌, ◌<◌, ◌≤◌, List, [], ◌∷◌, ◌++◌, ⊤, true, false, ◌==◌, drop, length, map, Ok}
 use Rattle.std.specs.Prelude.{IfSome, slice_index_or}
@@ -59,7 +59,7 @@ pub record BodyAlongside (starts : List ℕ) (b : Body) (xs : List BodyStatement
   pub comes : run (body_step provided) body xs ≡ Ok last
   pub starts_are : map (λ (placed : PlacedPiece). placed.start) last.pieces ≡ starts
 
--- an previous layout, which differs in symbols alone, goes on with this output section, whose input sections have these
+-- a previous layout, which differs in symbols alone, goes on with this output section, whose input sections have these
 -- starts
 pub record SectionAlongside (row : List Piece) (layout : Layout) (line : ℕ) (o : OutputSection) (starts : List ℕ)
     : Type 0 where
@@ -73,7 +73,7 @@ pub record SectionAlongside (row : List Piece) (layout : Layout) (line : ℕ) (o
   pub added : after.sections ≡ state.sections ++ section ∷ []
   pub starts_are : starts_of section ≡ starts
 
--- where an output section is the next statement, and its row is as it was, an previous layout goes on with it
+-- where an output section is the next statement, and its row is as it was, a previous layout goes on with it
 abbrev pub IsAlongside : Naming → Input → Layout → List KeyedSection → ℕ → ItemCommand → Type 0
 IsAlongside n i layout sections line (item.Section o) =
     (starts : List ℕ) → i.kept.same_provided ≡ false → length sections < i.kept.first
@@ -83,7 +83,7 @@ IsAlongside n i layout sections line (item.Dot c) = ⊤
 IsAlongside n i layout sections line (item.Directive c) = ⊤
 IsAlongside n i layout sections line (item.Discard inputs) = ⊤
 
--- an previous layout, which differs in symbols alone, goes on with these statements of SECTIONS to one with which the
+-- a previous layout, which differs in symbols alone, goes on with these statements of SECTIONS to one with which the
 -- kept one begins
 pub record ItemsAlongside (n : Naming) (i : Input) (script : List Statement) (layout : Layout) (xs : List Item)
     : Type 0 where

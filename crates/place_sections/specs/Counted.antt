@@ -63,7 +63,7 @@ Resumes i old new before after = new.anew + left_after i after ≤ old.anew + le
 abbrev pub placed_from : ℕ → List ℕ → ℕ
 placed_from k counts = sum_by (λ (n : ℕ). n) (drop k counts)
 
--- the number of the first output section that is not taken over from an previous layout
+-- the number of the first output section that is not taken over from a previous layout
 abbrev pub first_of : {K : Type 0} → Option (K × ℕ) → ℕ
 first_of kept = option_map_or (λ k. k.1) kept 0
 

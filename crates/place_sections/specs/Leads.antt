@@ -1,4 +1,4 @@
--- What is to come, told by an previous layout.
+-- What is to come, told by a previous layout.
 use Rattle.std.specs.Prelude.{◌≡◌, ℕ, List, ◌++◌, length, map, flat_map, Result, Ok, true}
 use Rattle.ldscript.specs.statements.declared.statement.Statement.{Statement}
 use Rattle.ldmodel.specs.Fault.{Fault}

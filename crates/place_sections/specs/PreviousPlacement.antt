@@ -1,4 +1,4 @@
--- What an previous layout tells of the present one, whose rows are the same before a number.
+-- What a previous layout tells of the present one, whose rows are the same before a number.
 use Rattle.std.specs.Prelude.{◌≡◌, ℕ, ◌<◌, List, [], slice_index_or}
 use Rattle.ldscript.specs.statements.declared.statement.Item.{Item}
 use Rattle.ldscript.specs.statements.declared.statement.Statement.{Statement}

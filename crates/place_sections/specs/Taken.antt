@@ -1,4 +1,4 @@
--- An output section that is taken over from an previous layout.
+-- An output section that is taken over from a previous layout.
 use Rattle.std.specs.Prelude.{◌≡◌, ℕ, ◌+◌, List, [], ◌∷◌, ◌++◌, length, map, Some, slice_get, slice_index_or}
 use Rattle.ldscript.specs.statements.declared.section.OutputSection.{OutputSection}
 use Rattle.ldscript.specs.statements.declared.statement.Item.{Item}

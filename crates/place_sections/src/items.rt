@@ -89,7 +89,7 @@ impl<'a> LayoutCursor<'a> {
 }
 
 impl<'i, 'a> Input<'i, 'a> {
-    /// Where the input sections of the next output section start, if its row is as it was in an previous layout.
+    /// Where the input sections of the next output section start, if its row is as it was in a previous layout.
     fn kept_starts(&self, done: &PlacedOutputs<'a>) -> Result<Option<&'a [u64]>, LayoutStop<'a>>
         ensures first { IfOk result (λ o. IfSome o (λ _. length done.now.sections.list < self.now.kept.first)) }
         ensures past { IfOk result (λ o. IfNone o (self.now.kept.first ≤ length done.now.sections.list)) }

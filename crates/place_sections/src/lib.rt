@@ -1,10 +1,10 @@
 //! Layout: where the output sections of a script, their input sections and its symbols stand. Takes the script, the
-//! rows, the PROVIDEs in force and perhaps an previous placement; gives a `Placement`, or its first fault, or all that
+//! rows, the PROVIDEs in force and perhaps a previous placement; gives a `Placement`, or its first fault, or all that
 //! meet.
 //!
 //! - `place`, `placement`; `script` over `parts`: the statements before SECTIONS, in it and after it;
 //! - `items`, `assign`, `memory`, `section`, `head` (address, load address), `body` (`.`), `end` (size, regions);
-//! - `boundary`, `reusable_placement`, `reuse`: what an previous placement gives; `ready`, `state`, `stop`, `fault`,
+//! - `boundary`, `reusable_placement`, `reuse`: what a previous placement gives; `ready`, `state`, `stop`, `fault`,
 //!   `whole`;
 //! - `overlaps` over `firsts`, `hull`, `extent`: output sections that meet, in memory or where they are loaded; `law`.
 #![tactic(auto)]

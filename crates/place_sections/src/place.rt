@@ -122,7 +122,7 @@ fn lay_out(
 /// Lays a script out: one pass over its statements, in which the rows' entries take their places.
 ///
 /// `rows` has one row for each output section, in the order of the script, `provided` the PROVIDEs that are in force.
-/// With `kept`, an previous placement of the script and the number of the first row that differs from the earlier ones,
+/// With `kept`, a previous placement of the script and the number of the first row that differs from the earlier ones,
 /// the input sections of the rows before it stay where they were, and the layout is the same with and without `kept`.
 /// Where the same PROVIDEs were in force, the pass goes on right before the output section of that row: those before it
 /// and all statements of SECTIONS up to it are taken over, and none of them is evaluated. Memory regions end where the

@@ -1,4 +1,4 @@
-//! What is kept of an previous layout.
+//! What is kept of a previous layout.
 
 ghost use Rattle.std.specs.Prelude.{◌≡◌, ◌≤◌, ◌<◌, length, true, IfSome, IfNone};
 ghost use Rattle.place_sections.specs.Leads.{Keeps};
@@ -8,7 +8,7 @@ use crate::placement::Placement;
 use ldmodel::script_symbol::{DirectiveIndex, ScriptSymbol};
 use place_terms::previous_layout::PreviousLayout;
 
-/// What is kept of an previous layout, and how far it holds.
+/// What is kept of a previous layout, and how far it holds.
 #[derive(Clone, Copy)]
 pub(crate) struct ReusablePlacement<'k> {
     /// The output sections.
@@ -26,7 +26,7 @@ pub(crate) struct ReusablePlacement<'k> {
 }
 
 impl<'k> ReusablePlacement<'k> {
-    /// All of an previous placement, before the row of this number, where these PROVIDEs are in force; or nothing.
+    /// All of a previous placement, before the row of this number, where these PROVIDEs are in force; or nothing.
     pub fn new(
         kept: Option<(&'k Placement, usize)>,
         provided: &[DirectiveIndex],

@@ -1,4 +1,4 @@
-//! Output sections that are taken over from an previous layout.
+//! Output sections that are taken over from a previous layout.
 
 ghost use Rattle.std.specs.Prelude.{◌≡◌, ◌≤◌, ◌<◌, [], length, take, IfOk, IfSome, IfErr, OnOk, Ok, false, true};
 ghost use Rattle.ldmodel.specs.Chain.{run};
@@ -36,7 +36,7 @@ pub(crate) struct Resumed {
 }
 
 impl<'a> LayoutCursor<'a> {
-    /// Goes on to where an previous layout had come to. Fails where memory runs out.
+    /// Goes on to where a previous layout had come to. Fails where memory runs out.
     fn go_on(&mut self, kept: ReusablePlacement<'_>, to: Boundary) -> Result<(), LayoutStop<'a>>
         requires found { AreFound self.now.symbols.script kept.symbols.now }
         requires rises { Rises kept.symbols.now }

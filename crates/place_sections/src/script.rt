@@ -33,7 +33,7 @@ pub(crate) struct Input<'i, 'a> {
     pub provided: &'i Provided<'a>,
     /// The rows of the output sections.
     pub rows: &'a [Vec<Piece>],
-    /// What is kept of an previous layout.
+    /// What is kept of a previous layout.
     pub kept: ReusablePlacement<'a>,
 }
 

@@ -43,7 +43,7 @@ pub(crate) struct CurrentOutput<'d, 'a> {
     pub provided: &'d Provided<'a>,
     /// The row.
     pub row: &'a [Piece],
-    /// Where the entries of the row start, if they stay where they were in an previous layout.
+    /// Where the entries of the row start, if they stay where they were in a previous layout.
     pub starts: Option<&'a [u64]>,
     /// Where the output section starts.
     pub start: u64,

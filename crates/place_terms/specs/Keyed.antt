@@ -26,7 +26,7 @@ pub record KeyedSection : Type 0 where
 abbrev pub piece_at : Naming → KeyedPiece → PlacedPiece
 piece_at n x = record { start = x.start; piece = piece_named n x.piece }
 
--- a data command of an previous layout
+-- a data command of a previous layout
 abbrev pub data_at_of : code.PlacedData → DataAt
 data_at_of d = record { start = d.start; width = d.width; value = d.value }
 

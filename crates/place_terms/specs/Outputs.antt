@@ -6,7 +6,7 @@ use Rattle.ldscript.specs.statements.declared.statement.Statement.{Statement}
 use Rattle.place_terms.specs.PreviousLayout.{PreviousOutputs}
 use Rattle.place_terms.specs.Keyed.{KeyedSection}
 
--- output sections in their places, of a script, and those of an previous layout
+-- output sections in their places, of a script, and those of a previous layout
 pub record Outputs : Type 0 where
   pub script : List Statement
   pub earlier : PreviousOutputs

@@ -1,4 +1,4 @@
--- Output sections that are taken over from an previous layout.
+-- Output sections that are taken over from a previous layout.
 use Rattle.std.specs.Prelude.{◌≡◌, ℕ, ◌+◌, ◌^◌, ◌<◌, ◌≤◌, List, [], ◌∷◌, ◌++◌, length, map, take, drop, Some, slice_get}
 use Rattle.ldscript.specs.statements.declared.section.OutputSection.{OutputSection}
 use Rattle.ldmodel.specs.declared.placed.Placed.{Placed}
@@ -10,7 +10,7 @@ use Rattle.place_terms.specs.Wholes.{all_data_in, counts_in, placed_in, starts_i
 use Rattle.place_terms.specs.declared.previous_layout.PreviousLayout.{PreviousLayout}
 use Rattle.place_terms.specs.declared.previous_layout.ReusedOutput.{ReusedOutput}
 
--- what an previous layout had of its output sections
+-- what a previous layout had of its output sections
 pub record PreviousOutputs : Type 0 where
   pub sections : List Placed
   pub counts : List ℕ

@@ -1,4 +1,4 @@
-//! The output sections of an previous layout.
+//! The output sections of a previous layout.
 
 ghost use Rattle.std.specs.Prelude.{◌≡◌, ◌+◌, ◌-◌, length, take, IfSome};
 ghost use Rattle.place_terms.specs.PreviousLayout.{part_of, AreStartsOf, IsSectionOf};
@@ -7,7 +7,7 @@ use ldmodel::placed::{Placed, PlacedData};
 use ldmodel::rows::Piece;
 use ldscript::tree::OutputSection;
 
-/// What an previous layout had of its output sections, in the order of the script.
+/// What a previous layout had of its output sections, in the order of the script.
 #[derive(Clone, Copy)]
 pub struct PreviousLayout<'a> {
     /// The numbers of the output sections.
@@ -20,7 +20,7 @@ pub struct PreviousLayout<'a> {
     pub data_commands: &'a [PlacedData],
 }
 
-/// An output section that is taken over from an previous layout. Its input sections are the first entries of its row.
+/// An output section that is taken over from a previous layout. Its input sections are the first entries of its row.
 #[derive(Clone, Copy)]
 pub struct ReusedOutput<'a> {
     /// What the script says of it.

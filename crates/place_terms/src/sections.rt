@@ -97,7 +97,7 @@ impl<'a> Model for Sections<'a> {
         s.data_count × AreTaken (earlier_of s.earlier) s.taken.items s.taken_count };
 }
 
-/// Output sections in their places: those that are taken over from an previous layout, and then those that were placed.
+/// Output sections in their places: those that are taken over from a previous layout, and then those that were placed.
 #[derive(Clone, Copy)]
 pub struct SectionParts<'s, 'a> {
     /// The numbers of the output sections that are taken over.
@@ -178,7 +178,7 @@ fn sum(count: usize, more: usize) -> Result<usize, AllocError>
 
 impl<'a> Sections<'a> {
     /// No output section of this script yet. `count` says about how many there will be, and `taken` how many of them
-    /// will be taken over from an previous layout.
+    /// will be taken over from a previous layout.
     pub fn new(
         alloc: Global,
         script: &'a Script,

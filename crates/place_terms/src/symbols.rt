@@ -149,7 +149,7 @@ impl<'a> AssignedSymbols<'a> {
         ensures taken { OnOk result (self.new.list ≡ take count symbols.now) }
     {
         let Some(first) = symbols.get(..count) else {
-            // An previous layout has no fewer
+            // A previous layout has no fewer
             return Err(impossible());
         };
         self.list.clear();

@@ -34,7 +34,7 @@ pub record CanUpdate (state : ProjectState) (s : Staged) (tables : LinkTables) (
   pub one : EditsOne s
   -- what is kept is of the project
   pub kept : IsKept (listing_of state) tables.symbol_table tables.matches.items
-  -- what is lent is of an previous link without faults, whose image these bytes are
+  -- what is lent is of a previous link without faults, whose image these bytes are
   pub previous : IfSome lent (HasPreviousImage (project_of (next_listing state s)) bytes)
 
 -- what holds after an edit has been followed

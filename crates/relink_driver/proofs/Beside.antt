@@ -62,7 +62,7 @@ candidate : (p : Project) (any : GoodLink) (previous : Option PreviousView)
 candidate p any None h = record { old = any; is = tt; good = inr refl }
 candidate p any (Some x) h = record { old = h.old; is = h.is; good = inl h.is.table.good }
 
--- what is evaluated beside an previous link, if there is one
+-- what is evaluated beside a previous link, if there is one
 pub record IsKnownBeside (p : Project) (s : Layout) (a : SymbolTableState) (y : StayedSections) (r : Relocated)
     (before after : Counts) : Type 0 where
   pub fields : AreRunsUnless (known_link p s a) (λ k. is_some (range_of y k)) r.patches.items r.ends.items

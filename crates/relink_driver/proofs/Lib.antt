@@ -12,7 +12,7 @@ mod Outlined
 mod Outlines
 mod TouchedSites
 mod Spotted
-mod Retouching
+mod Rewriting
 mod Touching
 pub mod Beside
 pub mod Placing

@@ -70,9 +70,9 @@ use Rattle.relink_driver.specs.Worked.{HasWorked, IsLinkWork, IsWorkBeside}
 use Rattle.relink_driver.specs.declared.incremental.RelinkOutcome.{RelinkOutcome}
 use Rattle.relink_driver.specs.declared.incremental.RelinkOutcome.TheVariants as ended
 use Rattle.relink_driver.proofs.Outlined.{names_of}
-use Rattle.relink_driver.proofs.Retouching.{beside_own, came_before, came_is, is_retouched, same_arranged}
-use Rattle.relink_driver.proofs.Retouching.{same_name_there}
-use Rattle.relink_driver.proofs.Retouching.{same_symbols, table_of, was}
+use Rattle.relink_driver.proofs.Rewriting.{beside_own, came_before, came_is, is_rewritten, same_arranged}
+use Rattle.relink_driver.proofs.Rewriting.{same_name_there}
+use Rattle.relink_driver.proofs.Rewriting.{same_symbols, table_of, was}
 use Rattle.relink_driver.proofs.Spotted.{has_spots, spots_bytes}
 use Rattle.relink_driver.proofs.TouchedSites.{touched_bytes, touched_sites}
 
@@ -227,17 +227,17 @@ module _ (p : Project) (x : PreviousState) (r : ReplacedObjectState) (f : IsNext
     abbrev s : Layout
     s = old.layout
 
-    retouched : DiffersInContents old.project p place
-    retouched = is_retouched old p x r is f
+    rewritten : DiffersInContents old.project p place
+    rewritten = is_rewritten old p x r is f
 
     kept : IsKeptLink old.project p s
-    kept = keeps old retouched
+    kept = keeps old rewritten
 
     pub laid : model.layout p ≡ Ok s
     laid = sym kept.layout ∙ is.table.layout
 
     pub indexed_layout : IsIndexedLayout p s x.good.indexed_layout
-    indexed_layout = same_arranged old.project p place retouched s kept x.good.indexed_layout is.table.indexed_layout
+    indexed_layout = same_arranged old.project p place rewritten s kept x.good.indexed_layout is.table.indexed_layout
 
     pub short : image_length p s ≤ max_image_length
     short = short_layout p s indexed_layout.link_layout.layout laid
@@ -249,11 +249,11 @@ module _ (p : Project) (x : PreviousState) (r : ReplacedObjectState) (f : IsNext
         → row ≡ row_at x.good.symbols place count → IsRow (link_at s) f.after row
     values count row many row_is =
         row_values (link_at s) x.good.symbols place f.after count row
-        (same_symbols old.project p place retouched s kept x.good.symbols is.table.symbols) f.at many row_is
+        (same_symbols old.project p place rewritten s kept x.good.symbols is.table.symbols) f.at many row_is
 
-    pub retouch_of : All IsBare r.object.sections → IsInPlaceRewrite old.project (link_at s) r.new f.after
-    retouch_of bare = record {
-      retouched = retouched;
+    pub rewriting_of : All IsBare r.object.sections → IsInPlaceRewrite old.project (link_at s) r.new f.after
+    rewriting_of bare = record {
+      rewritten = rewritten;
       frame = kept.frame;
       object_is = f.at;
       names = names;
@@ -282,10 +282,10 @@ module _ (p : Project) (x : PreviousState) (r : ReplacedObjectState) (f : IsNext
         same
 
   -- the previous link is right, with another image
-  pub retouched_end : (old : GoodLink) (is : IsPreviousOf old p x) (bytes : List ℕ) → relocation_faults p old.layout
+  pub rewritten_end : (old : GoodLink) (is : IsPreviousOf old p x) (bytes : List ℕ) → relocation_faults p old.layout
       ≡ []
       → IsGood (new_link p old.layout) → bytes ≡ image p old.layout → IsInPlaceOutcome p (Some x) bytes
-  retouched_end old is bytes none good drawn =
+  rewritten_end old is bytes none good drawn =
       let k = kept old is in
       let link = k.link is.table.layout (ap (λ (l : Link). l.status) is.table.link) none in
       record {
@@ -293,11 +293,11 @@ module _ (p : Project) (x : PreviousState) (r : ReplacedObjectState) (f : IsNext
         was = refl;
         current = f.current;
         place = place;
-        retouched = λ o h. retouched o h;
+        rewritten = λ o h. rewritten o h;
         layout = old.layout;
         link = link;
-        table = table_of old.project p place (retouched old is) old.layout k x.good is.table names good link;
-        names = λ o h. sym (names_of o.project p place (retouched o h));
+        table = table_of old.project p place (rewritten old is) old.layout k x.good is.table names good link;
+        names = λ o h. sym (names_of o.project p place (rewritten o h));
         map = λ o h. (
             let same = same_layout_as old is o.layout (laid o h) in
             ap (map_text p) (sym same) ∙ sym (kept o h).map);
@@ -326,7 +326,7 @@ module _ (p : Project) (x : PreviousState) (r : ReplacedObjectState) (f : IsNext
   touched_count old is numbers none most piece permuted order all offset_is before after counted =
       let s : Layout = old.layout in
       let k = kept old is in
-      let ret = retouched old is in
+      let ret = rewritten old is in
       let b : NamedObject = f.after in
       let once : IsPlacedOnce p s = record {
         placed = (indexed_layout old is).link_layout.placed;
@@ -391,7 +391,7 @@ module _ (p : Project) (x : PreviousState) (r : ReplacedObjectState) (f : IsNext
               written = bytes_of_object (new_link p t) place;
               bytes = ap (λ (m : Counts). m.bytes) w.counted;
               few = w.few;
-              exactly = inr (record { place = place; retouched = retouched old is; is = refl });
+              exactly = inr (record { place = place; rewritten = rewritten old is; is = refl });
             };
           }
 

@@ -1,4 +1,4 @@
--- Objects whose symbols have the values that they had in an previous link.
+-- Objects whose symbols have the values that they had in a previous link.
 use Rattle.std.proofs.Common.{◌≡◌, ◌∙◌, ◌<◌, ◌≤◌, ◌⊎◌, inl, inr, ◌+◌, ℕ, zero, suc, Bool, true, false, List, [], ◌∷◌}
 use Rattle.std.proofs.Common.{◌++◌}
 use Rattle.std.proofs.Common.{Option, Some, None, drop, length, ap, arith, refl, subst, sym}

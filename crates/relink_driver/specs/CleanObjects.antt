@@ -1,4 +1,4 @@
--- An object whose symbols have the values that they had in an previous link.
+-- An object whose symbols have the values that they had in a previous link.
 use Rattle.std.specs.Prelude.{◌≡◌, ◌<◌, ℕ, Option, Some, None}
 use Rattle.relink_driver.specs.StayedSections.{PreviousState, last_place}
 use Rattle.emit.specs.relocate.SymbolValues.{value_at}

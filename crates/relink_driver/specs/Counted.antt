@@ -42,7 +42,7 @@ pub record CountsFields (old new : GoodLink) (r : Relocated) (before after : Cou
   pub counted : after ≡ raised before Fields (length (sites_outside old new) + length (retargeted old new))
   pub few : patch_bytes r.retargeted.items ≤ retargeted_bytes old new
 
--- only fields are counted, and beside an previous link these
+-- only fields are counted, and beside a previous link these
 pub record AreEvaluated (project : Project) (layout : Layout) (stayed : StayedSections) (r : Relocated)
     (before after : Counts) : Type 0 where
   pub fields : (n : ℕ) × (after ≡ raised before Fields n)
@@ -62,7 +62,7 @@ abbrev pub bytes_spent : GoodLink → GoodLink → Relocated → ℕ
 bytes_spent old new r =
     patch_bytes r.retargeted.items + (image_length new.project new.layout - bytes_stayed old new)
 
--- only bytes of the image are counted, and beside an previous link these
+-- only bytes of the image are counted, and beside a previous link these
 pub record IsWritten (project : Project) (layout : Layout) (stayed : StayedSections) (r : Relocated)
     (before after : Counts) : Type 0 where
   pub bytes : (n : ℕ) × (after ≡ raised before Bytes n)
@@ -86,7 +86,7 @@ pub record IsDrawnCount (old new : GoodLink) (written : ℕ) : Type 0 where
 -- sections
 pub record IsInPlaceCount (old new : GoodLink) (written : ℕ) : Type 0 where
   pub place : ℕ
-  pub retouched : DiffersInContents old.project new.project place
+  pub rewritten : DiffersInContents old.project new.project place
   pub is : written ≡ bytes_of_object new place
 
 -- the fields of sites outside of what stayed, and of those in it whose symbol has another value; and the bytes of the

@@ -1,4 +1,4 @@
--- Which objects of a link name a symbol that was worth something else in an previous link.
+-- Which objects of a link name a symbol that was worth something else in a previous link.
 use Rattle.std.specs.Prelude.{◌≡◌, ℕ, Bool, true, false, List, Some, slice_get, slice_index_or}
 use Rattle.ldmodel.specs.Layout.{Layout}
 use Rattle.ldmodel.specs.Project.{Project}

@@ -59,7 +59,7 @@ pub record IsInPlaceOutcome (project : Project) (previous : Option PreviousState
   pub was : previous ≡ Some before
   pub current : before.is_current ≡ true
   pub place : ℕ
-  pub retouched : (old : GoodLink) → IsPreviousOf old project before → DiffersInContents old.project project place
+  pub rewritten : (old : GoodLink) → IsPreviousOf old project before → DiffersInContents old.project project place
   pub layout : Layout
   pub link : model.link project ≡ model.good project layout
   pub table : IsLinkSnapshot (record { project = project; layout = layout }) before.good

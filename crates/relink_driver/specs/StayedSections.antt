@@ -1,4 +1,4 @@
--- Which input sections of a link stayed where an previous link has them.
+-- Which input sections of a link stayed where a previous link has them.
 use Rattle.std.specs.Prelude.{◌≡◌, ◌≤◌, ℕ, Bool, true, List, Option, Some, None, IfSome, option_and_then}
 use Rattle.std.specs.Prelude.{if◌then◌else◌, length, slice_get, slice_index_or}
 use Rattle.std.specs.Option.{option_map}
@@ -40,7 +40,7 @@ pub record ReplacedObjectState : Type 0 where
 abbrev pub replaced_state : ReplacedObject → ReplacedObjectState
 replaced_state x = record { old = x.old; object = x.object.now; new = x.new }
 
--- an previous link without faults, how many objects it has, which of them are still there, which one was replaced, and
+-- a previous link without faults, how many objects it has, which of them are still there, which one was replaced, and
 -- whether it is the one that is answered
 pub record PreviousState : Type 0 where
   pub good : LinkSnapshot

@@ -1,4 +1,4 @@
--- What writing the sections of one object over an previous image comes to.
+-- What writing the sections of one object over a previous image comes to.
 use Rattle.std.specs.Prelude.{◌≡◌, ◌≤◌, ◌⊎◌, ℕ, Bool, true, false, List, [], Ok, Option}
 use Rattle.elfobj.specs.Counts.{Counts}
 use Rattle.elfobj.specs.Raised.{raised}

@@ -1,4 +1,4 @@
-//! Which objects of a link name a symbol that was worth something else in an previous link.
+//! Which objects of a link name a symbol that was worth something else in a previous link.
 
 ghost use Rattle.std.specs.Prelude.{◌≡◌, ℕ, IfOk, IfSome, false, slice_index_or, true};
 ghost use Rattle.relink_driver.specs.DirtyObjects.{AreDirtyObjects};

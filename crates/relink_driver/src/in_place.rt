@@ -26,8 +26,8 @@ use ldmodel::names::ObjectPlace;
 use ldmodel_laws::segments::{files_in_order, sections_in_file};
 use ldmodel_laws::stayed::{stayed_by_part, stayed_in_image};
 use ldmodel_outline::law::{
-    retouched_frame, retouched_layout, retouched_link, retouched_names, retouched_rows,
-    retouched_values,
+    rewritten_frame, rewritten_layout, rewritten_link, rewritten_names, rewritten_rows,
+    rewritten_values,
 };
 use ldmodel_project::view::ProjectView;
 use place::numbered::are_numbered;
@@ -81,12 +81,12 @@ fn outlines_decide()
     ensures { (old : GoodLink) (project : Project) (i : ℕ) → DiffersInContents old.project project i
         → IsKeptLink old.project project old.layout }
 {
-    retouched_names();
-    retouched_rows();
-    retouched_values();
-    retouched_frame();
-    retouched_layout();
-    retouched_link();
+    rewritten_names();
+    rewritten_rows();
+    rewritten_values();
+    rewritten_frame();
+    rewritten_layout();
+    rewritten_link();
 }
 
 /// Writes the input sections of an object over those of the one in whose place it came. Answers whether it did: not

@@ -1,4 +1,4 @@
-//! A link over what is kept: names that are decided, matches that are found, and an previous link, if there is one.
+//! A link over what is kept: names that are decided, matches that are found, and a previous link, if there is one.
 
 ghost use Rattle.std.specs.Prelude.{◌≡◌, IfErr, IfOk, IfSome, OnErr, OnOk, map};
 ghost use Rattle.gather.specs.ProjectMatches.{AreMatched};
@@ -170,7 +170,7 @@ fn run_passes(
     ))
 }
 
-/// Links a project over names that are decided, matches that are found, and an previous link, if there is one, whose
+/// Links a project over names that are decided, matches that are found, and a previous link, if there is one, whose
 /// image the canvas holds. Where the project has no faults, the canvas then holds its image: of what stayed, only the
 /// fields are written whose symbols have other values. Where it has faults, the canvas is as it was.
 ///

@@ -1,4 +1,4 @@
-//! Which input sections of a link stayed where an previous link has them.
+//! Which input sections of a link stayed where a previous link has them.
 
 ghost use Rattle.std.specs.Prelude.{◌≡◌, IsSome, None, Option, slice_index_or, true};
 ghost use Rattle.emit.specs.Kept.{IsSound};
@@ -30,7 +30,7 @@ pub struct ReplacedObject<'a> {
     pub new: ObjectPlace,
 }
 
-/// An previous link without faults, and at which place of it each object of the new one stood, by the new places; none
+/// A previous link without faults, and at which place of it each object of the new one stood, by the new places; none
 /// where the object was not there, or was another.
 #[derive(Clone, Copy)]
 pub struct PreviousView<'a> {
@@ -100,7 +100,7 @@ impl<'a> StayedSections<'a> {
         self.dirty.get(object.0).copied().unwrap_or(true)
     }
 
-    /// Each input section that stayed is known to have stayed, where there is an previous link; each that is known to
+    /// Each input section that stayed is known to have stayed, where there is a previous link; each that is known to
     /// have stayed has. The call does nothing.
     pub fn is_complete(&self)
         ensures complete { (old : GoodLink) (link : KnownLink) → AreStayedSections self.now old link

@@ -48,7 +48,7 @@ pub returns-in-Some-clause-faultless : goal.returns-in-Some-clause-faultless
 returns-in-Some-clause-faultless c = λ done old l o h same row has none.
     let all = (rw c.in-Some.is at c.in_ok-plan.ensures.planned) l o
     (record { named = h.object_is; same = same; row = row }) in
-    still_none old l.project l.layout (l.number c.args.key.0) o h.retouched h.frame h.object_is none
+    still_none old l.project l.layout (l.number c.args.key.0) o h.rewritten h.frame h.object_is none
     (no_fault l o c.args.located.now (written_all c.in-Some.plan.items) all.0 has)
 
 pub returns-in-Some-clause-counted : goal.returns-in-Some-clause-counted

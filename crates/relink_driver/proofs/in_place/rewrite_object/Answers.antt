@@ -54,14 +54,14 @@ returns-clause-link c =
     subst (HasLocatedSections p s f.after) (sym (c.deref.ensures.value ∙ c.in_ok-located.ensures
     ∙ ap (λ (d : ObjectData). spots_below x.good.indexed_layout r.new (map section_of d.sections) (length d.sections))
     (sym object))) (touching.locate_sections p x r f names keeps old is order all offset_is) in
-    let retouch = touching.retouch_of p x r f names keeps old is c.nobits_are_bare.ensures in
+    let rewrite = touching.rewriting_of p x r f names keeps old is c.nobits_are_bare.ensures in
     touching.if_both _ _ _ c.rewrite_in_place.result (λ done image faultless yes.
-    let none = faultless yes old.project l f.after retouch object row located
+    let none = faultless yes old.project l f.after rewrite object row located
     (touching.before_faultless p x r f names keeps old is) in
-    touching.retouched_end p x r f names keeps old is c.rewrite_in_place.new.canvas.bytes none
+    touching.rewritten_end p x r f names keeps old is c.rewrite_in_place.new.canvas.bytes none
     (c.is_good.ensures s (touching.indexed_layout p x r f names keeps old is).link_layout
     (touching.short p x r f names keeps old is) none)
-    (image yes old.project l f.after retouch object row located c.requires.previous.image))
+    (image yes old.project l f.after rewrite object row located c.requires.previous.image))
     c.rewrite_in_place.ensures.image c.rewrite_in_place.ensures.faultless
 
 pub returns-clause-counted : goal.returns-clause-counted
@@ -92,8 +92,8 @@ returns-clause-counted c =
     let located : HasLocatedSections p s f.after c.deref.result.now =
     subst (HasLocatedSections p s f.after) (sym spots_are)
     (touching.locate_sections p x r f names keeps old is order all offset_is) in
-    let retouch = touching.retouch_of p x r f names keeps old is c.nobits_are_bare.ensures in
-    let none = faultless yes old.project l f.after retouch object row located
+    let rewrite = touching.rewriting_of p x r f names keeps old is c.nobits_are_bare.ensures in
+    let none = faultless yes old.project l f.after rewrite object row located
     (touching.before_faultless p x r f names keeps old is) in
     let good = c.is_good.ensures s (touching.indexed_layout p x r f names keeps old is).link_layout
     (touching.short p x r f names keeps old is) none in

@@ -1,5 +1,5 @@
 use Rattle.ldmodel_outline.proofs.SameFrame as same
-use Rattle.ldmodel_outline.proofs.law.retouched_frame.Goals as goal
+use Rattle.ldmodel_outline.proofs.law.rewritten_frame.Goals as goal
 
 pub returns-clause-map : goal.returns-clause-map
 returns-clause-map c p q place h s = same.same_map h s

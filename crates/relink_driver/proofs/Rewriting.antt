@@ -127,8 +127,8 @@ module _ (old : GoodLink) (p : Project) (x : PreviousState) (r : ReplacedObjectS
           ∙ sym (ap (option_map object_targets) f.at) ∙ ap (targets_in p.objects) (sym here)
       go false e = ap (option_map object_targets) (others j (eqb-false j r.new.0 e))
 
-  pub is_retouched : DiffersInContents old.project p r.new.0
-  is_retouched = record {
+  pub is_rewritten : DiffersInContents old.project p r.new.0
+  is_rewritten = record {
     script = is.script f.script;
     options = is.options;
     references = λ on.

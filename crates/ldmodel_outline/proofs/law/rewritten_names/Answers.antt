@@ -1,5 +1,5 @@
 use Rattle.ldmodel_outline.proofs.SameNames as same
-use Rattle.ldmodel_outline.proofs.law.retouched_names.Goals as goal
+use Rattle.ldmodel_outline.proofs.law.rewritten_names.Goals as goal
 
 pub returns-clause-decided : goal.returns-clause-decided
 returns-clause-decided c p q place h name = λ i. same.same_decision h i name

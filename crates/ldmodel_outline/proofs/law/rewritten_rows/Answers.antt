@@ -1,5 +1,5 @@
 use Rattle.ldmodel_outline.proofs.SameRows as same
-use Rattle.ldmodel_outline.proofs.law.retouched_rows.Goals as goal
+use Rattle.ldmodel_outline.proofs.law.rewritten_rows.Goals as goal
 
 pub returns-clause-rows : goal.returns-clause-rows
 returns-clause-rows c p q place h = same.same_rows h

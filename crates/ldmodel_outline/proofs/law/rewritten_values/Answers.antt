@@ -1,5 +1,5 @@
 use Rattle.ldmodel_outline.proofs.SameValues as same
-use Rattle.ldmodel_outline.proofs.law.retouched_values.Goals as goal
+use Rattle.ldmodel_outline.proofs.law.rewritten_values.Goals as goal
 
 pub returns-clause-names : goal.returns-clause-names
 returns-clause-names c p q place h s name = λ i. same.same_name_value h s i name
