@@ -1,8 +1,8 @@
-//! Links, from scratch or over an earlier one. Takes a project; gives image, map, fault lines and status, or out of
+//! Links, from scratch or over a previous one. Takes a project; gives image, map, fault lines and status, or out of
 //! memory; and keeps of a link without faults what the next one asks.
 //!
-//! - `incremental` over `passes`, `context`, `pass_error`: the engine: a link over names and matches that are given,
-//!   and an earlier link;
+//! - `incremental` over `passes`, `context`, `pass_error`: the driver: all passes of a link over names and matches that
+//!   are given, and a previous link;
 //! - `link_snapshot`: what is kept of a link; `stayed_sections`: which input sections stayed where it has them, as
 //!   `emit_relocate` asks it; `resume` over `row_changes` and `section_names`: the first row that differs; `dirty`:
 //!   objects with a symbol of another value;
