@@ -1,7 +1,6 @@
 """Places in a linker script: the text of a line, where names are assigned, and what the script writes of regions.
 
-It cuts the text into tokens as docs/scripts.md says and looks for names among them. It takes any text: what it does not
-understand is left out.
+It looks for names among the tokens of the text. It takes any text: what it does not understand is left out.
 """
 from __future__ import annotations
 
@@ -12,31 +11,14 @@ from functools import cached_property
 from typing import NamedTuple
 
 from client.elf_object import plain
+from client.script_lexer import PROFILE_NAME, PROFILE_SPACE, ProfileToken, profile_tokens
 
 LONGEST_TEXT = 160
 """A longer line is cut."""
 
-SPACE = re.compile(rb"(?:[ \t\r\n]|/\*.*?\*/)+", re.DOTALL)
-EXPRESSION = re.compile(
-    rb'[A-Za-z_.](?:(?<!\.)|(?!-))[A-Za-z0-9_.$-]*|[0-9][0-9A-Za-z]*|"[ !#-~]*"|/DISCARD/'
-    rb"|<<|<=|>>|>=|==|!=|&&|\|\||\+=|[^ \t\r\n]"
-)
-PATTERN = re.compile(rb"(?:[A-Za-z0-9_.$/*?\[\]-]|\\[!-~])+|\+=|[^ \t\r\n]")
-NAME = re.compile(rb"[A-Za-z_.]")
 NO_SYMBOLS = frozenset({b"ADDR", b"LOADADDR", b"SIZEOF", b"ORIGIN", b"LENGTH"})
 """What takes the name of a section or region."""
 OTHER_NAMES = frozenset({b".", b"ALIGN"})
-STRETCHES = frozenset({b"BYTE", b"SHORT", b"LONG", b"QUAD", b"PROVIDE", b"ASSERT"})
-
-
-class Token(NamedTuple):
-    """A token, and where it stands."""
-
-    text: bytes
-    start: int
-    end: int
-    depth: int
-    """The braces around it."""
 
 
 class Region(NamedTuple):
@@ -116,11 +98,11 @@ class ScriptText:
         names: dict[str, None] = {}
         for at in range(first, end):
             is_argument = self._word(at - 1) == b"(" and self._word(at - 2) in NO_SYMBOLS
-            if NAME.match(self._word(at)) and self._word(at) not in NO_SYMBOLS | OTHER_NAMES and not is_argument:
+            if PROFILE_NAME.match(self._word(at)) and self._word(at) not in NO_SYMBOLS | OTHER_NAMES and not is_argument:
                 names[plain(self._word(at))] = None
         return list(names)
 
-    def line_of(self, token: Token) -> int:
+    def line_of(self, token: ProfileToken) -> int:
         """The line of a token."""
         return bisect_right(self._line_starts, token.start)
 
@@ -137,7 +119,7 @@ class ScriptText:
         """The line of the first assignment of each symbol."""
         found: dict[str, int] = {}
         for at, token in enumerate(self._tokens):
-            if NAME.match(token.text) and self._word(at + 1) == b"=" and self._word(at - 1) in (b";", b"{", b"}", b")"):
+            if PROFILE_NAME.match(token.text) and self._word(at + 1) == b"=" and self._word(at - 1) in (b";", b"{", b"}", b")"):
                 found.setdefault(plain(token.text), self.line_of(token))
             elif at == 0 and self._word(1) == b"=":
                 found.setdefault(plain(token.text), self.line_of(token))
@@ -187,7 +169,7 @@ class ScriptText:
         while begin > 0 and self._tokens[begin - 1].depth == 1 and self._word(begin - 1) not in (b";", b"}"):
             begin -= 1
         begin = self._after_tail(begin)
-        return begin if begin < brace and NAME.match(self._word(begin)) else None
+        return begin if begin < brace and PROFILE_NAME.match(self._word(begin)) else None
 
     def _after_tail(self, at: int) -> int:
         """The first token past the tail of an output section, if one stands there, and past commands without `;`."""
@@ -242,7 +224,7 @@ class ScriptText:
         if not first < end <= len(self._tokens):
             return ""
         text = self.data[self._tokens[first].start : self._tokens[end - 1].end]
-        return plain(b" ".join(SPACE.sub(b" ", text).split()))
+        return plain(b" ".join(PROFILE_SPACE.sub(b" ", text).split()))
 
     def _word(self, at: int) -> bytes:
         return self._tokens[at].text if 0 <= at < len(self._tokens) else b""
@@ -254,42 +236,5 @@ class ScriptText:
         return bisect_right(starts, self._line_starts[line - 1] - 1)
 
     @cached_property
-    def _tokens(self) -> list[Token]:
-        return cut(self.data)
-
-
-def cut(data: bytes) -> list[Token]:
-    """The tokens of a script, in the modes of docs/scripts.md; any byte that begins none is one by itself."""
-    tokens: list[Token] = []
-    depth = at = 0
-    stretch: int | None = None
-    """The parentheses that are open in a stretch of expression mode, or -1 up to the next `;`."""
-    while at < len(data):
-        space = SPACE.match(data, at)
-        at = space.end() if space else at
-        mode = PATTERN if depth == 2 and stretch is None else EXPRESSION
-        found = mode.match(data, at)
-        if found is None:
-            break
-        word, at = found.group(), found.end()
-        depth = max(depth - (word == b"}"), 0)
-        tokens.append(Token(word, found.start(), at, depth))
-        depth += word == b"{"
-        stretch = _next_stretch(tokens, stretch, mode is PATTERN)
-    return tokens
-
-
-def _next_stretch(tokens: list[Token], stretch: int | None, is_pattern: bool) -> int | None:
-    """What stretch of expression mode holds after the last token."""
-    word = tokens[-1].text
-    if is_pattern:
-        if word in (b"=", b"+="):
-            return -1
-        opens = word == b"(" and len(tokens) > 1 and tokens[-2].text in STRETCHES
-        return 1 if opens else None
-    if stretch == -1:
-        return None if word == b";" else -1
-    if stretch is not None:
-        stretch += {b"(": 1, b")": -1}.get(word, 0)
-        return stretch or None
-    return None
+    def _tokens(self) -> list[ProfileToken]:
+        return list(profile_tokens(self.data))

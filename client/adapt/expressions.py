@@ -3,7 +3,7 @@ from __future__ import annotations
 
 import re
 
-from client.adapt.lexer import EXPRESSION, SCRIPT, Lexer, number_of
+from client.script_lexer import EXPRESSION, SCRIPT, Lexer, number_of
 from client.adapt.notes import Left
 from client.adapt.tree import Expr
 

@@ -2,7 +2,7 @@
 from __future__ import annotations
 
 from client.adapt import expressions
-from client.adapt.lexer import EXPRESSION, FILES, SCRIPT, WILD, Lexer, Token
+from client.script_lexer import EXPRESSION, FILES, SCRIPT, WILD, Lexer, Token
 from client.adapt.source import Source
 from client.adapt.tree import (Assert, Assign, Block, Command, Data, Expr, Input, Node, Part, Pattern, Region,
                                Section)

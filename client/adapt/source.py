@@ -5,7 +5,8 @@ import os
 import re
 from bisect import bisect_right
 
-_WORDS = re.compile(r'/\*.*?\*/|"[^"]*"|[^\s;{}()"/]+|/(?!\*)|[;{}()]', re.DOTALL)
+from client.script_lexer import WORD_OR_MARK
+
 _FILE = re.compile(r'(?:\s|/\*.*?\*/)*(?:"([^"]+)"|([^\s;{}()"]+))', re.DOTALL)
 _DEPTH = 10
 
@@ -87,7 +88,7 @@ def _includes(text: str) -> list[tuple[int, int, str]]:
     """The INCLUDE statements of a text: from, to, the file's name."""
     result: list[tuple[int, int, str]] = []
     before, after = ";", 0
-    for match in _WORDS.finditer(text):
+    for match in WORD_OR_MARK.finditer(text):
         word = match.group()
         if word.startswith("/*") or match.start() < after:
             continue

@@ -7,7 +7,7 @@ from __future__ import annotations
 from collections.abc import Iterator
 from dataclasses import dataclass, field
 
-from client.watch.quick import Token, tokens
+from client.script_lexer import ProfileToken, profile_tokens
 
 
 @dataclass(frozen=True)
@@ -31,7 +31,7 @@ class Outline:
 
 def outline(script: bytes) -> Outline:
     """The parts of a script; of a text that is none, those before it stops being one."""
-    found, result, block = list(tokens(script)), Outline(), b""
+    found, result, block = list(profile_tokens(script)), Outline(), b""
     for token, following in zip(found, found[1:]):
         if token.depth == 0 and token.text in (b"SECTIONS", b"MEMORY"):
             block = token.text
@@ -45,14 +45,14 @@ def outline(script: bytes) -> Outline:
     return result
 
 
-def _sections(found: list[Token]) -> Iterator[Head]:
+def _sections(found: list[ProfileToken]) -> Iterator[Head]:
     """The output sections of a script."""
     begins = (index for index, token in enumerate(found) if token.text == b"SECTIONS" and token.depth == 0)
     at = next(begins, len(found)) + 2
     while at < len(found) and found[at].depth >= 1:
         if found[at].text in (b";", b"}"):
             at += 1
-        elif found[at + 1].text == b"=" or (found[at + 1].text, found[at + 2].text) == (b"+", b"="):
+        elif found[at + 1].text in (b"=", b"+="):
             at = next(index for index in range(at, len(found)) if found[index].text == b";") + 1
         elif found[at].text in (b"PROVIDE", b"ASSERT"):
             at = _closing(found, at + 1) + 1
@@ -61,7 +61,7 @@ def _sections(found: list[Token]) -> Iterator[Head]:
             yield head
 
 
-def _closing(found: list[Token], at: int) -> int:
+def _closing(found: list[ProfileToken], at: int) -> int:
     """The parenthesis that closes the one at `at`."""
     level = 0
     while True:
@@ -71,13 +71,13 @@ def _closing(found: list[Token], at: int) -> int:
         at += 1
 
 
-def _head(found: list[Token], begin: int) -> tuple[Head, int]:
+def _head(found: list[ProfileToken], begin: int) -> tuple[Head, int]:
     """The output section whose name is the token `begin`, and the token after its tail."""
     at = begin
     while found[at].text != b"{":
         at = _closing(found, at) if found[at].text == b"(" else at
         at += 1
-    while found[at].text != b"}" or found[at].depth != 2:
+    while found[at].text != b"}" or found[at].depth != 1:
         at += 1
     at += 1
     region = load_region = b""

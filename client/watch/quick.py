@@ -6,9 +6,7 @@ symbol goes into the script that is sent.
 """
 from __future__ import annotations
 
-import re
-from collections.abc import Iterator
-from dataclasses import dataclass
+from client.script_lexer import PROFILE_NAME, profile_tokens
 
 SCRIPT_WITHOUT_LINK = b"ENTRY(a_name_that_nothing_defines)"
 """The script under which a link ends after its names."""
@@ -25,56 +23,11 @@ RESERVED = frozenset(
     b"SORT SORT_BY_ALIGNMENT SORT_BY_NAME SQUAD".split()
 )
 
-SPACE = re.compile(rb"(?:[ \t\r\n]+|/\*.*?\*/)+", re.DOTALL)
-NAME = re.compile(rb"[A-Za-z_][A-Za-z0-9_.$-]*|\.(?!-)[A-Za-z0-9_.$-]*")
-EXPRESSION = re.compile(NAME.pattern + rb'|[0-9][A-Za-z0-9_.$]*|"[ !#-~]*"|/DISCARD/|.', re.DOTALL)
-PATTERN = re.compile(rb"(?:[A-Za-z0-9_.$/*?\[\]-]|\\[!-~])+|\+=|.", re.DOTALL)
-STRETCHED = frozenset((b"BYTE", b"SHORT", b"LONG", b"QUAD", b"PROVIDE", b"ASSERT"))
-
-
-@dataclass(frozen=True)
-class Token:
-    """A token of a script, and how many braces are open before it."""
-
-    text: bytes
-    start: int
-    depth: int
-
-
-def tokens(script: bytes) -> Iterator[Token]:
-    """The tokens of a script in the two modes of docs/scripts.md; a byte that begins none is one by itself."""
-    at, depth, parentheses = 0, 0, 0
-    until_semicolon = until_closed = False
-    before = b""
-    while True:
-        if space := SPACE.match(script, at):
-            at = space.end()
-        if at >= len(script):
-            return
-        pattern_mode = depth == 2 and not until_semicolon and not until_closed
-        if pattern_mode and before in STRETCHED and script[at : at + 1] == b"(":
-            until_closed, parentheses = True, 0
-        text = (PATTERN if pattern_mode else EXPRESSION).match(script, at).group()  # type: ignore[union-attr]
-        yield Token(text, at, depth)
-        if text == b"{":
-            depth += 1
-        elif text == b"}":
-            depth = max(depth - 1, 0)
-        if until_closed:
-            parentheses += (text == b"(") - (text == b")")
-            until_closed = parentheses > 0
-        elif until_semicolon:
-            until_semicolon = text != b";"
-        elif pattern_mode and text in (b"=", b"+="):
-            until_semicolon = True
-        before = text if pattern_mode else b""
-        at += len(text)
-
 
 def is_script_name(symbol: bytes) -> bool:
     """Whether ENTRY can name this symbol."""
     return (
-        NAME.fullmatch(symbol) is not None
+        PROFILE_NAME.fullmatch(symbol) is not None
         and len(symbol) <= GREATEST_NAME
         and symbol != b"."
         and symbol not in RESERVED
@@ -88,7 +41,7 @@ def with_entry(script: bytes, symbol: bytes) -> bytes | None:
     """
     if not is_script_name(symbol):
         return None
-    found = iter(tokens(script))
+    found = profile_tokens(script)
     for token in found:
         if token.depth == 0 and token.text == b"ENTRY":
             opening, name, closing = next(found, None), next(found, None), next(found, None)

@@ -1,9 +1,16 @@
-"""Tokens of GNU ld's scripts. What a token is depends on where the parser stands: three modes."""
+"""Tokens of linker scripts, for all that reads one: scripts of GNU ld's language, and those of the profile.
+
+What a token of GNU ld's is depends on where the parser stands: `Lexer` reads one after the other in the mode that its
+caller names. What a token of the profile is depends on what stands before it: `profile_tokens` goes through a text.
+"""
 from __future__ import annotations
 
 import re
+from collections.abc import Iterator
+from typing import TYPE_CHECKING, NamedTuple
 
-from client.adapt.source import Source
+if TYPE_CHECKING:
+    from client.adapt.source import Source
 
 SCRIPT, EXPRESSION, WILD, FILES = range(4)
 
@@ -33,6 +40,8 @@ _MODES = (
         |(?P<mark>[(),])
         |(?P<name>(?:=?[_a-zA-Z/.\\$~]|-l)[_a-zA-Z0-9/.\\$~\-+:\[\]=*?]*|[_a-zA-Z0-9/.\-+:=*?]+)""", re.VERBOSE),
 )
+WORD_OR_MARK = re.compile(r'/\*.*?\*/|"[^"]*"|[^\s;{}()"/]+|/(?!\*)|[;{}()]', re.DOTALL)
+"""Comments, strings, and other words of a text of whatever mode, as far as INCLUDE is looked for."""
 _BASES = {"h": 16, "x": 16, "o": 8, "b": 2, "d": 10}
 
 
@@ -147,3 +156,55 @@ def number_of(text: str) -> int:
             break
         value = value * base + code
     return value * scale & (1 << 64) - 1
+
+
+PROFILE_SPACE = re.compile(rb"(?:[ \t\r\n]+|/\*.*?\*/)+", re.DOTALL)
+PROFILE_NAME = re.compile(rb"[A-Za-z_][A-Za-z0-9_.$-]*|\.(?!-)[A-Za-z0-9_.$-]*")
+_PROFILE_EXPRESSION = re.compile(
+    PROFILE_NAME.pattern + rb'|[0-9][A-Za-z0-9_.$]*|"[ !#-~]*"|/DISCARD/'
+    rb"|<<|<=|>>|>=|==|!=|&&|\|\||\+=|.", re.DOTALL
+)
+_PROFILE_PATTERN = re.compile(rb"(?:[A-Za-z0-9_.$/*?\[\]-]|\\[!-~])+|\+=|.", re.DOTALL)
+_STRETCHES = frozenset({b"BYTE", b"SHORT", b"LONG", b"QUAD", b"PROVIDE", b"ASSERT"})
+"""What has an expression in its parentheses, between the braces of an output section."""
+
+
+class ProfileToken(NamedTuple):
+    """A token of the profile, and where it stands."""
+
+    text: bytes
+    start: int
+    end: int
+    depth: int
+    """The braces around it; those that it is itself do not count."""
+    is_pattern: bool
+    """Whether it was read in pattern mode."""
+
+
+def profile_tokens(script: bytes) -> Iterator[ProfileToken]:
+    """The tokens of a script in the modes of docs/scripts.md; any byte that begins none is one by itself."""
+    at, depth, parentheses = 0, 0, 0
+    until_semicolon = False
+    before = b""
+    """The last token, if it was read in pattern mode."""
+    while True:
+        if space := PROFILE_SPACE.match(script, at):
+            at = space.end()
+        if at >= len(script):
+            return
+        is_pattern = depth == 2 and not until_semicolon and not parentheses
+        if is_pattern and before in _STRETCHES and script[at : at + 1] == b"(":
+            is_pattern = False
+        mode = _PROFILE_PATTERN if is_pattern else _PROFILE_EXPRESSION
+        text = mode.match(script, at).group()  # type: ignore[union-attr]
+        depth = max(depth - (text == b"}"), 0)
+        yield ProfileToken(text, at, at + len(text), depth, is_pattern)
+        depth += text == b"{"
+        if parentheses or before in _STRETCHES and text == b"(" and not is_pattern:
+            parentheses += (text == b"(") - (text == b")")
+        elif until_semicolon:
+            until_semicolon = text != b";"
+        elif is_pattern and text in (b"=", b"+="):
+            until_semicolon = True
+        before = text if is_pattern else b""
+        at += len(text)
