@@ -14,6 +14,8 @@ LONG = 56
 MOST = 62
 """An expression of more signs than LONG is shortened, one of more than MOST left; the profile's limit is 64 in a run."""
 _SIGNS = re.compile(r"<<|>>|<=|>=|==|!=|&&|\|\||(?<![A-Za-z0-9_.$])-|[(!~*/%+<>&|?]")
+ALIGNS = frozenset(("ALIGN", "BLOCK", "NEXT"))
+"""What gives the next multiple of its one argument, from `.` on."""
 _ONE = frozenset(("ABSOLUTE", "ALIGN", "BLOCK", "NEXT", "DATA_SEGMENT_END", "LOG2CEIL"))
 _TWO = frozenset(("ALIGN", "MAX", "MIN", "DATA_SEGMENT_ALIGN", "DATA_SEGMENT_RELRO_END"))
 _NAMED = frozenset(("SIZEOF", "ALIGNOF", "ADDR", "LOADADDR", "ORIGIN", "LENGTH", "CONSTANT", "DEFINED"))
@@ -222,7 +224,7 @@ def walk(e: Expr):
 
 def uses_dot(e: Expr) -> bool:
     """Whether `.` or an ALIGN of one expression is in it."""
-    return any(x.kind == "name" and x.word == "." or x.kind == "call" and x.word == "ALIGN" and len(x.args) == 1
+    return any(x.kind == "name" and x.word == "." or x.kind == "call" and x.word in ALIGNS and len(x.args) == 1
                for x in walk(e))
 
 
@@ -231,7 +233,7 @@ def replace_dot(e: Expr, place: Expr) -> Expr:
     if e.kind == "name":
         return place if e.word == "." else e
     args = tuple(replace_dot(arg, place) for arg in e.args)
-    if e.kind == "call" and e.word == "ALIGN" and len(args) == 1:
+    if e.kind == "call" and e.word in ALIGNS and len(args) == 1:
         return Expr("call", "ALIGN", (place, args[0]))
     if all(new is old for new, old in zip(args, e.args)):
         return e

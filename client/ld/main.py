@@ -5,12 +5,13 @@ import os
 import signal
 import subprocess
 import sys
+from collections.abc import Mapping
 from types import FrameType
 
 from client.adapt.objects import Objects as Known
 from client.adapt.segments import about_segments
 from client.ld.command import Command, read_command
-from client.ld.fallback import hand_over
+from client.ld.fallback import Reasons, hand_over
 from client.ld.flat import NoFlatImage, flat_binary
 from client.ld.help import HELP
 from client.ld.inputs import BadInput, CannotLink, Loader, MissingInput, Object
@@ -112,10 +113,11 @@ def wanted_names(command: Command, source: Source) -> list[str]:
 class Link:
     """One link, from the command to the files."""
 
-    def __init__(self, command: Command, words: list[str]) -> None:
+    def __init__(self, command: Command, words: list[str], environment: Mapping[str, str]) -> None:
         self.command = command
         self.words = words
-        self.source = find_script(command)
+        self.environment = environment
+        self.source = find_script(command, environment)
         self.objects: list[Object] = []
         self.opened: Opened | None = None
         self.valued: Valued | None = None
@@ -219,13 +221,17 @@ class Link:
 
     def _refused(self, objects: list[tuple[Object, Refused]]) -> int:
         """Objects that are refused go to the other linker, but not for memory."""
-        for item, refused in objects[:GREATEST_LIST]:
-            print_refusal(item.name.decode(), refused, item.data, (), 3)
+        def say_more() -> None:
+            for item, refused in objects[:GREATEST_LIST]:
+                print_refusal(item.name.decode(), refused, item.data, (), 3)
+
         if any(refused.number == 7 for _, refused in objects):
+            say_more()
             return MEMORY
         first = objects[0][0].name.decode()
-        others = f" and {len(objects) - 1} others" if len(objects) > 1 else ""
-        return hand_over([f"{first}{others}: outside the profile of ldi"], self.words)
+        more = f" and {len(objects) - 1} others" if len(objects) > 1 else ""
+        reasons = Reasons([f"{first}{more}: outside the profile of ldi"], "outside the profile of ldi", say_more)
+        return hand_over(reasons, self.words, self.environment, self.command.verbose)
 
     def _script_refused(self, refused: Refused, script: Script) -> int:
         print_refusal(script.path, refused, script.text, script.lines, GREATEST_LIST)
@@ -283,24 +289,27 @@ class Link:
             print(memory_usage(session, script.text, read_map(result.map), result.image), end="")
 
 
-def run(words: list[str]) -> int:
+def run(words: list[str], environment: Mapping[str, str]) -> int:
     """Does what the words ask for; gives the exit status."""
     try:
         command = read_command(expand(words))
     except WordsRefused as fault:
-        return hand_over([str(fault)], words)
+        return hand_over(Reasons([str(fault)]), words, environment, "--verbose" in words)
     if not command.inputs_named():
         if command.asks or command.verbose:
-            print_asked(command, find_script(command))
+            print_asked(command, find_script(command, environment))
             return GOOD
         say("no input files")
         return REFUSED
     if "help" in command.asks:
         print_asked(command, None)
         return GOOD
-    if command.cannot:
-        return hand_over(command.cannot, words)
-    return Link(command, words).run()
+    try:
+        if command.cannot:
+            raise CannotLink(*command.cannot)
+        return Link(command, words, environment).run()
+    except CannotLink as fault:
+        return hand_over(Reasons(fault.args), words, environment, command.verbose)
 
 
 def _stop(number: int, _frame: FrameType | None) -> None:
@@ -312,9 +321,7 @@ def main(words: list[str]) -> int:
     for number in (signal.SIGTERM, signal.SIGHUP, signal.SIGINT):
         signal.signal(number, _stop)
     try:
-        return run(words)
-    except CannotLink as fault:
-        return hand_over([str(fault)], words)
+        return run(words, os.environ)
     except BadInput as fault:
         say(str(fault))
         return DEVICE if isinstance(fault, MissingInput) else REFUSED

@@ -7,6 +7,9 @@ import tempfile
 
 PROGRAM, TEXT = 0o755, 0o644
 
+GREATEST_FRONT = 200
+"""The bytes of a file's name that are in the name of the file beside it."""
+
 
 def _umask() -> int:
     """The mask of this process for the modes of new files."""
@@ -35,7 +38,8 @@ def _write(path: str, data: bytes, mode: int) -> None:
         _write_in_place(path, data)
         return
     folder, name = os.path.split(path)
-    handle, beside = tempfile.mkstemp(prefix=f".{name[:200]}.", dir=folder)
+    front = os.fsdecode(os.fsencode(name)[:GREATEST_FRONT])  # a name has 255 bytes at most
+    handle, beside = tempfile.mkstemp(prefix=f".{front}.", dir=folder)
     try:
         with os.fdopen(handle, "wb") as file:
             file.write(data)

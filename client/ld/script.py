@@ -3,7 +3,6 @@ from __future__ import annotations
 
 import os
 import re
-import shutil
 import subprocess
 from collections.abc import Mapping
 from dataclasses import dataclass
@@ -15,9 +14,13 @@ from client.adapt.segments import Segments
 from client.ld.command import Command, number
 from client.ld.default_script import DEFAULT
 from client.ld.inputs import BadInput, MissingInput
+from client.ld.programs import WITHIN, others
 from client.ld.script_commands import Commands, read_commands
 from client.ld.script_text import outline
 from client.watch.quick import with_entry
+
+OWN_VERSION = "GNU ld (ldi "
+"""How the version of `ld.ldi` itself begins."""
 
 NUMBER_ENTRY = b"ld.ldi.entry"
 """The name that has the value of `-e NUMBER`."""
@@ -40,10 +43,10 @@ class Source:
         return read_commands(self.text)
 
 
-def find_script(command: Command) -> Source:
+def find_script(command: Command, environment: Mapping[str, str]) -> Source:
     """The script of `-T`, as it stands or in a folder of `-L`; else the default one."""
     if not command.scripts:
-        return default_script(command.omagic)
+        return default_script(command.omagic, environment)
     if len(command.scripts) > 1:
         raise BadInput(f"-T {command.scripts[1]}: a second script after {command.scripts[0]}; a link has one")
     name = command.scripts[0]
@@ -59,14 +62,14 @@ def find_script(command: Command) -> Source:
         raise MissingInput(f"cannot open linker script file {name}: {fault.strerror}") from fault
 
 
-def default_script(omagic: bool) -> Source:
+def default_script(omagic: bool, environment: Mapping[str, str]) -> Source:
     """GNU ld's default script where GNU ld is there, else one of the same sections; `omagic` is `-N`."""
-    program = shutil.which("ld.bfd")
-    if program:
+    for program in others("ld.bfd", environment) if WITHIN not in environment else ():
         words = [program, "-m", "elf_x86_64", "-static", *(["-N"] if omagic else []), "--verbose"]
-        done = subprocess.run(words, capture_output=True, text=True, check=False)
+        done = subprocess.run(words, capture_output=True, text=True, check=False, stdin=subprocess.DEVNULL,
+                              env={**environment, WITHIN: "1"})
         parts = done.stdout.split("=" * 50 + "\n")
-        if done.returncode == 0 and len(parts) == 3:
+        if done.returncode == 0 and len(parts) == 3 and not done.stdout.startswith(OWN_VERSION):
             return Source("ld.bfd's default script", parts[1], own=False)
     text = DEFAULT
     if omagic:
