@@ -5,6 +5,7 @@ import os
 import re
 from bisect import bisect_right
 
+from client import files
 from client.script_lexer import WORD_OR_MARK
 
 _FILE = re.compile(r'(?:\s|/\*.*?\*/)*(?:"([^"]+)"|([^\s;{}()"]+))', re.DOTALL)
@@ -78,9 +79,8 @@ class Source:
         """The file that an INCLUDE names: here, in the folders of the include path, beside the script."""
         for folder in ("", *self.include_path, os.path.dirname(path)):
             candidate = os.path.join(folder, name)
-            if os.path.isfile(candidate):
-                with open(candidate, "rb") as file:
-                    return candidate, file.read()
+            if files.is_file(candidate):
+                return candidate, files.read(candidate)
         raise NoParse(path, line, f"INCLUDE {name}: no such file here or in the folders of -L")
 
 

@@ -5,6 +5,8 @@ import os
 from collections.abc import Iterator
 from dataclasses import dataclass, field
 
+from client import files
+
 PLAIN = b"!<arch>\n"
 THIN = b"!<thin>\n"
 HEADER = 60
@@ -40,8 +42,7 @@ class Member:
         """The member's bytes; OSError where the file of a thin archive's member cannot be read."""
         if not self.archive.thin:
             return self.archive.data[self.start : self.start + self.size]
-        with open(self.path, "rb") as file:
-            return file.read()
+        return files.read(self.path)
 
 
 @dataclass

@@ -6,6 +6,7 @@ import re
 from collections.abc import Iterable, Sequence
 from dataclasses import dataclass
 
+from client import files
 from client.ld.archive import Archive, BadArchive, Member, is_archive, read_archive
 from client.ld.binary_object import binary_object
 from client.ld.command import Command, Flags, Input
@@ -67,8 +68,7 @@ def session_name(name: str, used: set[bytes]) -> bytes:
 def read_file(path: str) -> bytes:
     """The bytes of an input."""
     try:
-        with open(path, "rb") as file:
-            return file.read()
+        return files.read(path)
     except OSError as fault:
         raise MissingInput(f"cannot find {path}: {fault.strerror}") from fault
 
@@ -152,7 +152,7 @@ class Loader:
         """The path of a file that a script names: as it stands, or in the folders of libraries."""
         name = self._at_sysroot(name)
         for path in (name, *(os.path.join(folder, name) for folder in self.folders)):
-            if os.path.exists(path):
+            if files.exists(path):
                 return path
         return name
 
@@ -164,7 +164,7 @@ class Loader:
         for folder in self.folders:
             for file in names:
                 path = os.path.join(folder, file)
-                if os.path.isfile(path):
+                if files.is_file(path):
                     return path
         raise MissingInput(f"cannot find -l{name}: No such file or directory")
 

@@ -8,6 +8,7 @@ import sys
 from collections.abc import Mapping
 from types import FrameType
 
+import client.files
 from client.adapt.objects import Objects as Known
 from client.adapt.segments import about_segments
 from client.ld.command import Command, read_command
@@ -129,7 +130,7 @@ class Link:
         loader = Loader(command, self.source.commands, self.source.own, wanted_names(command, self.source))
         self.objects = loader.load()
         self._check_required(loader)
-        self._check_outputs([*loader.files, *command.scripts])
+        self._check_outputs()
         if self.source.commands.binary and self.source.own and command.output_format is None:
             command.output_format = "binary"
         try:
@@ -197,14 +198,16 @@ class Link:
             if loader.names.state.get(os.fsencode(name), 0) <= loader.names.UNDEFINED_WEAK:
                 raise BadInput(f"required symbol `{name}' not defined")
 
-    def _check_outputs(self, inputs: list[str]) -> None:
+    def _check_outputs(self) -> None:
         """No file that was read is written."""
+        read = client.files.CURRENT.numbers()
         for path in (self.command.output, self._map_path(), self.command.dependency_file):
             if path is None or not os.path.isfile(path):
                 continue
-            for name in inputs:
-                if os.path.exists(name) and os.path.samefile(name, path):
-                    raise BadInput(f"input file '{name}' is the same as output file")
+            status = os.stat(path)
+            name = read.get((status.st_dev, status.st_ino))
+            if name is not None:
+                raise BadInput(f"input file '{name}' is the same as output file")
 
     def _finish(self, session: Session, script: Script, result: Result, files: list[str]) -> int:
         """Says what came of the link, and writes the files of a good one."""

@@ -8,6 +8,7 @@ from collections.abc import Mapping
 from dataclasses import dataclass
 from functools import cached_property
 
+from client import files
 from client.adapt.adapt import CHANGED, LEFT, Adapted, NoParse, Note, adapt
 from client.adapt.objects import Objects as Known
 from client.adapt.segments import Segments
@@ -51,13 +52,12 @@ def find_script(command: Command, environment: Mapping[str, str]) -> Source:
         raise BadInput(f"-T {command.scripts[1]}: a second script after {command.scripts[0]}; a link has one")
     name = command.scripts[0]
     for path in (name, *(os.path.join(folder, name) for folder in command.folders)):
-        if os.path.isfile(path):
+        if files.is_file(path):
             break
     else:
         path = name
     try:
-        with open(path, encoding="utf-8", errors="surrogateescape") as file:
-            return Source(path, file.read(), own=True)
+        return Source(path, files.read_text(path), own=True)
     except OSError as fault:
         raise MissingInput(f"cannot open linker script file {name}: {fault.strerror}") from fault
 

@@ -1,0 +1,182 @@
+"""The files that a link looks at. What is read is noted, so that a later link can tell whether it is still the same.
+
+The rule is that of `ldi-watch` (docs/watch.md): a file is what was read of it where its device, inode, size and times
+are those that it had then; where it had changed shortly before it was read, its bytes are compared.
+"""
+from __future__ import annotations
+
+import os
+import stat
+import time
+
+Stamp = tuple[int, int, int, int, int]
+"""Device, inode, size, and the times of modification and change in nanoseconds."""
+
+TICK = 20_000_000
+"""Nanoseconds: a file's times go by ticks of the system, so that two changes within one may leave the same stamp."""
+
+SECOND = 1_000_000_000
+COARSE_TICK = 2 * SECOND + TICK
+"""The same where a time is one of whole seconds, as some file systems have them, and even seconds."""
+
+
+def stamp_of(status: os.stat_result) -> Stamp:
+    """The stamp of a file, by what the system says of it."""
+    return status.st_dev, status.st_ino, status.st_size, status.st_mtime_ns, status.st_ctime_ns
+
+
+def is_settled(stamp: Stamp, now: int) -> bool:
+    """Whether a change from `now` on is certain to give another stamp."""
+    return all(when + (TICK if when % SECOND else COARSE_TICK) < now for when in stamp[3:])
+
+
+class Seen:
+    """A file as it was read: its bytes, none where it could not be read, and its stamp, none where that is no proof."""
+
+    __slots__ = ("data", "stamp", "settled")
+
+    def __init__(self, data: bytes | None, stamp: Stamp | None, settled: bool) -> None:
+        self.data, self.stamp, self.settled = data, stamp, settled
+
+
+def read_seen(path: str) -> Seen:
+    """Reads a file; OSError where that cannot be done. What is no regular file, or changes meanwhile, has no stamp."""
+    begun = time.time_ns()
+    descriptor = os.open(path, os.O_RDONLY | os.O_CLOEXEC)
+    try:
+        status = os.fstat(descriptor)
+        if stat.S_ISDIR(status.st_mode):
+            raise IsADirectoryError(21, os.strerror(21), path)
+        parts = []
+        while part := os.read(descriptor, max(status.st_size + 1, 1 << 16)):
+            parts.append(part)
+            if len(part) == status.st_size and stat.S_ISREG(status.st_mode):
+                break
+        stamp = stamp_of(status)
+        is_whole = stat.S_ISREG(status.st_mode) and stamp == stamp_of(os.fstat(descriptor))
+    finally:
+        os.close(descriptor)
+    data = parts[0] if len(parts) == 1 else b"".join(parts)
+    if not is_whole:
+        return Seen(data, None, False)
+    return Seen(data, stamp, is_settled(stamp, begun))
+
+
+class Files:
+    """What was looked at for a link; `before` is what was for an earlier one, which is not read again where it stands.
+
+    The keys of `probes` are the question, `exists` or `is_file`, and the path.
+    """
+
+    def __init__(self, before: Files | None = None) -> None:
+        self.seen: dict[str, Seen] = {}
+        self.probes: dict[tuple[str, str], bool] = {}
+        self._before = before.seen if before is not None else {}
+
+    def read(self, path: str) -> bytes:
+        """The bytes of a file; OSError where it cannot be read."""
+        old = self.seen.get(path) or self._before.get(path)
+        try:
+            found = old if old is not None and is_same(path, old) else again(path, old)
+        except OSError:
+            self.seen[path] = Seen(None, None, False)
+            raise
+        self.seen[path] = found
+        assert found.data is not None
+        return found.data
+
+    def exists(self, path: str) -> bool:
+        """Whether there is something of this name."""
+        return self._probed("exists", path)
+
+    def is_file(self, path: str) -> bool:
+        """Whether there is a regular file of this name."""
+        return self._probed("is_file", path)
+
+    def _probed(self, question: str, path: str) -> bool:
+        answer = self.probes[question, path] = PROBES[question](path)
+        return answer
+
+    def is_provable(self) -> bool:
+        """Whether a later look can tell of each file whether it is the same."""
+        return all(one.data is None or one.stamp is not None for one in self.seen.values())
+
+    def changed(self) -> list[str] | None:
+        """The files that are not what was read; None where a question has another answer, or a file came."""
+        found, look = [], os.stat
+        for path, one in self.seen.items():
+            try:
+                status = look(path)
+            except OSError:
+                if one.data is not None:
+                    found.append(path)
+                continue
+            if one.data is None:
+                return None
+            stamp = (status.st_dev, status.st_ino, status.st_size, status.st_mtime_ns, status.st_ctime_ns)
+            if stamp != one.stamp or not (one.settled or is_same(path, one)):
+                found.append(path)
+        for (question, path), answer in self.probes.items():
+            if PROBES[question](path) != answer:
+                return None
+        return found
+
+    def numbers(self) -> dict[tuple[int, int], str]:
+        """The names of the files that were read, by their devices and inodes."""
+        return {one.stamp[:2]: path for path, one in self.seen.items() if one.stamp is not None}
+
+
+PROBES = {"exists": os.path.exists, "is_file": os.path.isfile}
+
+
+def is_same(path: str, one: Seen) -> bool:
+    """Whether a file is still what was read of it; where only its bytes say so, they are read once more."""
+    try:
+        if one.stamp is None or stamp_of(os.stat(path)) != one.stamp:
+            return False
+        if not one.settled:
+            found = read_seen(path)
+            if found.data != one.data or found.stamp != one.stamp:
+                return False
+            one.settled = found.settled
+    except OSError:
+        return False
+    return True
+
+
+def again(path: str, old: Seen | None) -> Seen:
+    """Reads a file; where it has the bytes that it had, they are the same object."""
+    found = read_seen(path)
+    if old is not None and found.data == old.data:
+        found.data = old.data
+    return found
+
+
+CURRENT = Files()
+"""What the link of this process looked at."""
+
+
+def begin(files: Files) -> None:
+    """From now on looks are noted there."""
+    global CURRENT
+    CURRENT = files
+
+
+def read(path: str) -> bytes:
+    """The bytes of a file; OSError where it cannot be read."""
+    return CURRENT.read(path)
+
+
+def exists(path: str) -> bool:
+    """Whether there is something of this name."""
+    return CURRENT.exists(path)
+
+
+def is_file(path: str) -> bool:
+    """Whether there is a regular file of this name."""
+    return CURRENT.is_file(path)
+
+
+def read_text(path: str) -> str:
+    """The text of a file, its lines ended by a line feed each; OSError where it cannot be read."""
+    return read(path).decode(errors="surrogateescape").replace("\r\n", "\n").replace("\r", "\n")
