@@ -8,7 +8,7 @@ from dataclasses import dataclass
 from client.ld.command import Command
 from client.ld.inputs import Object
 from client.ld.script import Script
-from client.protocol import GREATEST_PAYLOAD, Answer, Linked, Options, Refused, Session, SessionEnded
+from client.protocol import GREATEST_PAYLOAD, Answer, Options, Refused, Session, SessionEnded
 from client.watch.quick import SCRIPT_WITHOUT_LINK
 
 PIECE = 1 << 22
@@ -74,27 +74,25 @@ class Opened:
         self._thread.join()
         return [(item, answer) for item, answer in reversed(answers) if isinstance(answer, Refused)]
 
+    def link(self, script: bytes, with_map: bool, with_image: bool = True) -> Result:
+        """Links the objects under the script; the result has the image and the map where they are asked for."""
+        answer: Answer = too_large(script) or self.session.script(script)
+        if isinstance(answer, Refused):
+            return Result(script_refused=answer)
+        return result_of(self.session, answer.status, with_map, with_image)
+
     def end(self) -> None:
         """Ends the session."""
         self.session.kill()
         self._thread.join()
 
 
-def link(session: Session, script: bytes, with_map: bool) -> Result:
-    """Links the objects of a session under the script; the result has the map `with_map`."""
-    result = Result()
-    answer: Answer = too_large(script) or session.script(script)
-    if isinstance(answer, Refused):
-        result.script_refused = answer
-        return result
-    assert isinstance(answer, Linked)
-    result.status = answer.status
-    if answer.status == 0:
-        result.image = session.image()
-        result.map = session.map() if with_map else b""
-    else:
-        result.faults = session.faults()
-    return result
+def result_of(session: Session, status: int, with_map: bool, with_image: bool = True) -> Result:
+    """What the session's last link, which has this status, came to."""
+    if status:
+        return Result(status, faults=session.faults())
+    image = session.image() if with_image else b""
+    return Result(0, image, session.map() if with_map else b"")
 
 
 def options_of(command: Command, entry: str | None = None) -> Options:

@@ -9,21 +9,21 @@ from collections.abc import Mapping
 from types import FrameType
 
 import client.files
-from client.adapt.objects import Objects as Known
 from client.adapt.segments import about_segments
 from client.ld.command import Command, read_command
 from client.ld.fallback import Reasons, hand_over
 from client.ld.flat import NoFlatImage, flat_binary
 from client.ld.help import HELP
+from client.ld.host import Host
 from client.ld.inputs import BadInput, CannotLink, Loader, MissingInput, Object
-from client.ld.link import Opened, Result, link, options_of
+from client.ld.link import Opened, Result, options_of
 from client.ld.options import WordsRefused
-from client.ld.output import PROGRAM, TEXT, write_file
+from client.ld.output import PROGRAM, TEXT
 from client.ld.page_size import PAGE, TooFar, with_pages
 from client.ld.phdrs import NotWritten, with_program_headers
 from client.ld.reports import memory_usage, removed_sections
-from client.ld.script import Script, Source, find_script, write_script
-from client.ld.valued import Valued
+from client.ld.script import Script, Source, find_script
+from client.ld.valued import Valued, opened_beforehand
 from client.ld.words import expand
 from client.link_map import read_map
 from client.inputs import Inputs
@@ -114,13 +114,18 @@ def wanted_names(command: Command, source: Source) -> list[str]:
 class Link:
     """One link, from the command to the files."""
 
-    def __init__(self, command: Command, words: list[str], environment: Mapping[str, str]) -> None:
+    def __init__(
+        self, command: Command, words: list[str], environment: Mapping[str, str], host: Host | None = None
+    ) -> None:
         self.command = command
         self.words = words
         self.environment = environment
+        self.host = host or Host()
         self.source = find_script(command, environment)
         self.objects: list[Object] = []
+        self.files: list[str] = []
         self.opened: Opened | None = None
+        self.script: Script | None = None
         self.valued: Valued | None = None
 
     def run(self) -> int:
@@ -128,63 +133,85 @@ class Link:
         command = self.command
         print_asked(command, self.source)
         loader = Loader(command, self.source.commands, self.source.own, wanted_names(command, self.source))
-        self.objects = loader.load()
+        self.objects, self.files = loader.load(), loader.files
         self._check_required(loader)
         self._check_outputs()
         if self.source.commands.binary and self.source.own and command.output_format is None:
             command.output_format = "binary"
         try:
-            return self._link(loader.files)
+            return self._link()
         finally:
-            for session in (self.opened, self.valued):
-                if session is not None:
-                    session.end()
+            if self.opened is not None:
+                self.host.end(self.opened)
 
     def _open(self, entry: str | None = None) -> Opened:
         """Has the objects sent to a session; `entry` is the entry symbol where the script cannot name it."""
         if self.opened is not None:
             self.opened.end()
-        self.opened = Opened(options_of(self.command, entry), self.objects)
+        self.opened = self.host.opened(options_of(self.command, entry), self.objects)
         return self.opened
 
-    def _link(self, files: list[str]) -> int:
+    def _written(self, values: dict[str, int] | None) -> Script:
+        """The script for the session, with these values of objects' symbols."""
+        return self.host.script(self.source, self.command, self.objects, values)
+
+    def _link(self) -> int:
         """Writes the script while the objects are sent, and links."""
-        command, opened = self.command, self._open()
-        script = self._script()
-        if script.left and script.valued and (refused := opened.refused()):
-            return self._refused(refused)
-        report_script(script, command.verbose)
-        if script.left:
-            say(f"{self.source.path}: {len(script.left)} places cannot be linked by ldi; they are named above")
+        opened, script = self._open(), self._written({})
+        if script.valued:
+            return self._link_valued(opened, script)
+        if self._report(script):
             return REFUSED
-        for note in command.notes:
-            say(note)
         if script.entry is not None:
             opened = self._open(script.entry)
         if refused := opened.refused():
             return self._refused(refused)
-        result = link(opened.session, script.text, self._wants_map())
-        if result.status and self.valued is not None:
-            settled = self.valued.settled()
-            if settled is not None and settled.text != script.text:
-                script, result = settled, link(opened.session, settled.text, self._wants_map())
-        return self._finish(opened.session, script, result, files)
+        return self._finish(opened, script, opened.link(script.text, self._wants_map()))
 
-    def _script(self) -> Script:
-        """The script for the session, with the values of objects' symbols that it names."""
-        known = Known({item.name.decode(): item.data for item in self.objects})
-        script = write_script(self.source, self.command, known, {})
-        if not script.valued:
-            return script
-        self.valued = Valued(self.source, self.command, self.objects, known, script)
-        guessed = self.valued.guess()
-        if guessed is not None:
-            return guessed
-        script = write_script(self.source, self.command, known)
-        for name in sorted(self.valued.without_value) if script.left else ():
-            say(f"{self.source.path}: the section of {name} is not in the image, so that its value cannot be written: "
-                "take it in, under KEEP where --gc-sections leaves it out")
-        return script
+    def _link_valued(self, opened: Opened, script: Script) -> int:
+        """Links under a script that names objects' symbols."""
+        if script.entry is not None:
+            opened = self._open(script.entry)
+        if refused := opened.refused():
+            return self._refused(refused)
+        self.valued = Valued(self._written, script)
+        linked = self.valued.link(opened, self._wants_map())
+        if linked is not None:
+            self._report(linked[0])
+            return self._finish(opened, *linked)
+        beforehand = opened_beforehand(self.command, script, self.objects)
+        try:
+            return self._link_beforehand(opened, None if beforehand.refused() else beforehand)
+        finally:
+            beforehand.end()
+
+    def _link_beforehand(self, opened: Opened, beforehand: Opened | None) -> int:
+        """The same with values of a session of its own."""
+        assert self.valued is not None
+        script = self.valued.guess(beforehand) if beforehand else None
+        if script is None or beforehand is None:
+            script = self._written(None)
+            for name in sorted(self.valued.without_value) if script.left else ():
+                say(f"{self.source.path}: the section of {name} is not in the image, so that its value cannot be "
+                    "written: take it in, under KEEP where --gc-sections leaves it out")
+            beforehand = None
+        if self._report(script):
+            return REFUSED
+        result = opened.link(script.text, self._wants_map())
+        settled = self.valued.settled(beforehand) if result.status and beforehand else None
+        if settled is not None and settled.text != script.text:
+            script, result = settled, opened.link(settled.text, self._wants_map())
+        return self._finish(opened, script, result)
+
+    def _report(self, script: Script) -> bool:
+        """Says what was done to the script, and what has no effect; says whether a part of the script is left."""
+        report_script(script, self.command.verbose)
+        if script.left:
+            say(f"{self.source.path}: {len(script.left)} places cannot be linked by ldi; they are named above")
+            return True
+        for note in self.command.notes:
+            say(note)
+        return False
 
     def _wants_map(self) -> bool:
         """Whether the map is written, or something is printed from it."""
@@ -209,8 +236,9 @@ class Link:
             if name is not None:
                 raise BadInput(f"input file '{name}' is the same as output file")
 
-    def _finish(self, session: Session, script: Script, result: Result, files: list[str]) -> int:
+    def _finish(self, opened: Opened, script: Script, result: Result) -> int:
         """Says what came of the link, and writes the files of a good one."""
+        self.script = script
         data = {item.name.decode(): item.data for item in self.objects}
         inputs = Inputs(script.path, script.text, data, script.lines, self.command.entry)
         if result.script_refused:
@@ -218,8 +246,8 @@ class Link:
         if result.status:
             print_faults(result.faults, inputs)
             return FAULTS
-        self._write(script, result, files)
-        self._report(session, script, result)
+        self._write(script, result)
+        self._tables(opened.session, script, result)
         return GOOD
 
     def _refused(self, objects: list[tuple[Object, Refused]]) -> int:
@@ -234,7 +262,7 @@ class Link:
         first = objects[0][0].name.decode()
         more = f" and {len(objects) - 1} others" if len(objects) > 1 else ""
         reasons = Reasons([f"{first}{more}: outside the profile of ldi"], "outside the profile of ldi", say_more)
-        return hand_over(reasons, self.words, self.environment, self.command.verbose)
+        return self.host.hand_over(reasons, self.words, self.environment, self.command.verbose)
 
     def _script_refused(self, refused: Refused, script: Script) -> int:
         print_refusal(script.path, refused, script.text, script.lines, GREATEST_LIST)
@@ -265,7 +293,7 @@ class Link:
                 say(f"{script.path}: PHDRS: {fault}: segments follow addresses, sizes and flags of the output sections")
         return with_pages(image, page, in_file_order=script.segments is not None)
 
-    def _write(self, script: Script, result: Result, files: list[str]) -> None:
+    def _write(self, script: Script, result: Result) -> None:
         """Writes the map, then the image."""
         command = self.command
         path = self._map_path()
@@ -273,16 +301,16 @@ class Link:
             sys.stdout.write(result.map.decode(errors="surrogateescape"))
             sys.stdout.flush()
         if path is not None and path != "-":
-            write_file(path, result.map, TEXT)
+            self.host.write(path, result.map, TEXT)
         image = self._image(script, result.image)
-        write_file(command.output, image, PROGRAM)
+        self.host.write(command.output, image, PROGRAM)
         if command.dependency_file is not None:
-            names = [*files, *command.scripts]
+            names = [*self.files, *command.scripts]
             lines = f"{command.output}: \\\n" + " \\\n".join(f"  {name}" for name in names) + "\n"
             lines += "".join(f"\n{name}:\n" for name in names)
-            write_file(command.dependency_file, lines.encode(errors="surrogateescape"), TEXT)
+            self.host.write(command.dependency_file, lines.encode(errors="surrogateescape"), TEXT)
 
-    def _report(self, session: Session, script: Script, result: Result) -> None:
+    def _tables(self, session: Session, script: Script, result: Result) -> None:
         """Prints the tables and lists that were asked for."""
         command = self.command
         if command.gc_sections and command.print_gc_sections:

@@ -1,30 +1,32 @@
 """Values of objects' symbols in a script's expressions, as `jiffies = jiffies_64;` of a kernel.
 
-In the profile an expression is evaluated before objects' symbols have values. So the objects are linked beforehand
-without their relocations, which do not change the layout, with 0 for each such symbol; the map has its value, which is
-written into the script. An ASSERT for each has the link itself prove its value. Where one fails, as in a layout that
-depends on the values, the objects are linked beforehand again until the values stay.
+In the profile an expression is evaluated before objects' symbols have values. So the objects are linked with 0 for each
+such symbol; the map has its value, which is written into the script. An ASSERT for each has the link itself prove its
+value. Where one fails, as in a layout that depends on the values, the objects are linked again until the values stay.
+
+The links for values are edits of the session of the link. Where one of these has faults, as of a relocation that 0 does
+not fit, the objects are linked without their relocations, which do not change the layout, by a session of its own.
 """
 from __future__ import annotations
 
 from collections.abc import Callable, Sequence
 from dataclasses import replace
-from functools import partial
 
-from client.adapt.objects import Objects as Known
 from client.ld.command import Command
 from client.ld.inputs import Object
-from client.ld.link import Opened, options_of
-from client.ld.script import Script, Source, write_script
+from client.ld.link import Opened, Result, options_of
+from client.ld.script import Script
 from client.link_map import symbol_values
 from client.object_file import HEADER, PROGBITS, RELA, NotElf, ObjectFile
-from client.protocol import Linked
+from client.script_lexer import profile_tokens
 
 ROUNDS = 8
 """Links after which values that still change are given up."""
 
 KIND_AT = 4
 """Where the kind of a section stands in its header."""
+
+Values = dict[str, int]
 
 
 def without_relocations(data: bytes) -> bytes:
@@ -41,13 +43,13 @@ def without_relocations(data: bytes) -> bytes:
     return bytes(changed)
 
 
-def values_in(map_text: bytes, names: frozenset[str]) -> dict[str, int]:
+def values_in(map_text: bytes, names: frozenset[str]) -> Values:
     """The values that a map has of these symbols."""
     found = symbol_values(map_text, {name.encode("latin-1", "replace") for name in names})
     return {name.decode("latin-1"): value for name, value in found.items()}
 
 
-def asserted(script: Script, values: dict[str, int]) -> Script:
+def asserted(script: Script, values: Values) -> Script:
     """The script with an ASSERT for each of the values."""
     lines = [f'ASSERT({name} == {value:#x}, "{name} moved");' for name, value in sorted(values.items())]
     places = (*script.lines, *[(script.path, 1)] * (len(lines) + 1))
@@ -55,57 +57,109 @@ def asserted(script: Script, values: dict[str, int]) -> Script:
 
 
 class Valued:
-    """A script that names objects' symbols, and the session that links the objects for their values."""
+    """A script that names objects' symbols."""
 
-    def __init__(self, source: Source, command: Command, objects: Sequence[Object], known: Known,
-                 script: Script) -> None:
-        """`script` has 0 for each of the symbols; `known` is what the adapter knows of the objects."""
-        self._write: Callable[[dict[str, int]], Script] = partial(write_script, source, command, known)
+    def __init__(self, write: Callable[[Values], Script], script: Script) -> None:
+        """`write` writes the script with values; `script` has 0 for each of the symbols."""
+        self._write = write
         self._script = script
-        self._values: dict[str, int] = {}
+        self.values: Values = {}
+        """The values of the last link."""
         self.without_value: frozenset[str] = frozenset()
         """The symbols that a link gave no value, as their sections are not in the image."""
-        self._opened = Opened(options_of(command, script.entry), _linked_beforehand(command, objects))
 
-    def guess(self) -> Script | None:
-        """The script with the values of a first link, which are right where the layout does not depend on them."""
-        found = None if self._opened.refused() else self._linked()
+    def link(self, opened: Opened, with_map: bool) -> tuple[Script, Result] | None:
+        """Links with values that the link leaves as they are; None where the links for them have faults."""
+        script, found = self._script, self._found(opened, self._script)
+        for _ in range(ROUNDS):
+            if found is None:
+                return None
+            self.values, plain = found, self._write(found)
+            if plain.left:
+                return None
+            script = asserted(plain, found)
+            result = opened.link(script.text, with_map)
+            if not result.status:
+                break
+            found = self._found(opened, plain)
+        return script, result
+
+    def guess(self, beforehand: Opened) -> Script | None:
+        """The script with the values of a first link of a session of its own."""
+        found = self._found(beforehand, self._script)
         if found is None:
             return None
-        self._take(found)
-        return None if self._script.left else asserted(self._script, found)
+        self.values, plain = found, self._write(found)
+        return None if plain.left else asserted(plain, found)
 
-    def settled(self) -> Script | None:
-        """The script with values that a link leaves as they are; None where there are none."""
+    def settled(self, beforehand: Opened) -> Script | None:
+        """The script with values that such a link leaves as they are; None where there are none."""
         for _ in range(ROUNDS):
-            found = self._linked()
-            if found is None or found == self._values:
-                return None if found is None else asserted(self._script, found)
-            self._take(found)
+            plain = self._write(self.values)
+            found = self._found(beforehand, plain)
+            if found is None or found == self.values:
+                return None if found is None else asserted(plain, found)
+            self.values = found
         return None
 
-    def end(self) -> None:
-        """Ends the session."""
-        self._opened.end()
-
-    def _take(self, values: dict[str, int]) -> None:
-        self._values, self._script = values, self._write(values)
-
-    def _linked(self) -> dict[str, int] | None:
+    def _found(self, opened: Opened, script: Script) -> Values | None:
         """The values that a link under the script gives; None where it gives no image, or not each of them a value."""
-        if self._script.left:
+        if script.left:
             return None
-        session = self._opened.session
-        answer = session.script(self._script.text)
-        if not isinstance(answer, Linked) or answer.status:
+        result = opened.link(script.text, with_map=True, with_image=False)
+        if result.status or result.script_refused:
             return None
-        found = values_in(session.map(), self._script.valued)
-        self.without_value = self._script.valued - found.keys()
+        found = values_in(result.map, script.valued)
+        self.without_value = script.valued - found.keys()
         return None if self.without_value else found
 
 
-def _linked_beforehand(command: Command, objects: Sequence[Object]) -> list[Object]:
-    """The objects without relocations; with them where these say which sections stay."""
-    if command.gc_sections:
-        return list(objects)
-    return [replace(item, data=without_relocations(item.data)) for item in objects]
+def opened_beforehand(command: Command, script: Script, objects: Sequence[Object]) -> Opened:
+    """A session of its own for the values: the objects without relocations, or with them where these say what stays."""
+    if not command.gc_sections:
+        objects = [replace(item, data=without_relocations(item.data)) for item in objects]
+    return Opened(options_of(command, script.entry), objects)
+
+
+def is_free_of(zeros: bytes, valued: bytes) -> bool:
+    """Whether the layout of a script is the same for all values, by what it is with 0 for each and with others.
+
+    So it is where the values stand in assignments to symbols alone, and those symbols in ENTRY, ASSERT and such
+    assignments alone. Then no value has an influence on another.
+    """
+    one, other = _statements(zeros), _statements(valued)
+    if len(one) != len(other):
+        return False
+    tainted: set[bytes] = set()
+    count = -1
+    while count != len(tainted):
+        count = len(tainted)
+        for mine, theirs in zip(one, other):
+            if mine == theirs and tainted.isdisjoint(mine):
+                continue
+            if mine[0] in (b"ASSERT", b"ENTRY"):
+                continue
+            name = mine[2] if mine[0] in (b"PROVIDE", b"PROVIDE_HIDDEN") else mine[0]
+            is_plain = mine[1:2] == [b"="] or mine[0] != name and mine[1:2] == [b"("] and mine[3:4] == [b"="]
+            if not is_plain or name == b".":
+                return False
+            tainted.add(name)
+    return True
+
+
+def _statements(script: bytes) -> list[list[bytes]]:
+    """The tokens of a script in pieces that end with `;`, `{` or `}`; ASSERT and ENTRY without `;` end with `)`."""
+    result: list[list[bytes]] = []
+    piece: list[bytes] = []
+    level = 0
+    for token in profile_tokens(script):
+        level += (token.text == b"(") - (token.text == b")")
+        if token.text not in (b";", b"{", b"}"):
+            piece.append(token.text)
+            closes = token.text == b")" and level == 0
+            if not (closes and piece[0] in (b"ASSERT", b"ENTRY", b"PROVIDE", b"PROVIDE_HIDDEN")):
+                continue
+        if piece:
+            result.append(piece)
+        piece = []
+    return [*result, piece] if piece else result

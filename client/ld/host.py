@@ -1,0 +1,47 @@
+"""What a link uses of the process that makes it: a session, the script's adapting, files to write, another linker.
+
+The one here is that of a process that makes one link and ends. Behind `ld.ldi`'s server it is another
+(`client/server/host.py`), which keeps the session and what was adapted for the next link.
+"""
+from __future__ import annotations
+
+from collections.abc import Mapping, Sequence
+
+from client.adapt.objects import Objects as Known
+from client.ld.command import Command
+from client.ld.fallback import Reasons, hand_over
+from client.ld.inputs import Object
+from client.ld.link import Opened
+from client.ld.output import write_file
+from client.ld.script import Script, Source, write_script
+from client.protocol import Options
+
+
+class Host:
+    """The process of one link."""
+
+    def __init__(self) -> None:
+        self._known: Known | None = None
+
+    def opened(self, options: Options, objects: Sequence[Object]) -> Opened:
+        """A session with these objects, or to which they are being sent."""
+        return Opened(options, objects)
+
+    def script(self, source: Source, command: Command, objects: Sequence[Object],
+               values: Mapping[str, int] | None) -> Script:
+        """The script as `write_script` has it; what the adapter wants of the objects is read once."""
+        if self._known is None:
+            self._known = Known({item.name.decode(): item.data for item in objects})
+        return write_script(source, command, self._known, values)
+
+    def write(self, path: str, data: bytes, mode: int) -> None:
+        """Writes a file of the link."""
+        write_file(path, data, mode)
+
+    def hand_over(self, reasons: Reasons, words: Sequence[str], environment: Mapping[str, str], verbose: bool) -> int:
+        """Has another linker link in place of `ldi`; gives the status."""
+        return hand_over(reasons, words, environment, verbose)
+
+    def end(self, opened: Opened) -> None:
+        """The link is done, and with it its session."""
+        opened.end()
