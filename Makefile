@@ -31,7 +31,6 @@ dist-test: ## tries the packages in a minimal Debian, as root
 
 install: ## puts what `make ldi` built and the client's programs into PREFIX; PREFIX is /usr/local by default
 	@tools/install "$(DESTDIR)$(PREFIX)"
-	@env -u PYTHONDONTWRITEBYTECODE /usr/bin/python3 -m compileall -q "$(DESTDIR)$(PREFIX)/lib/ldi" || true
 
 check: ## proves every crate, over what earlier runs have proved
 	rt all check
