@@ -2,7 +2,8 @@
 from __future__ import annotations
 
 import os
-from collections.abc import Iterable, Mapping, Sequence
+import re
+from collections.abc import Callable, Iterable, Mapping, Sequence
 
 from client.adapt.inputs import inputs
 from client.adapt.limits import parted
@@ -20,7 +21,8 @@ from client.adapt.symbols import Symbols, unused
 from client.adapt.taking import all_sections, row, taking
 from client.adapt.tree import Input, Node
 
-__all__ = ["Adapted", "NoParse", "Note", "adapt", "CHANGED", "DROPPED", "LEFT", "REWRITTEN"]
+__all__ = ["Adapted", "NoParse", "Note", "Reading", "adapt", "adapt_reading", "read_script", "CHANGED", "DROPPED",
+           "LEFT", "REWRITTEN"]
 
 
 class Adapted:
@@ -69,14 +71,70 @@ def adapt(script: os.PathLike[str] | str | bytes, defsyms: Sequence[tuple[str, s
         with open(path, "rb") as file:
             script = file.read()
     data = script.encode() if isinstance(script, str) else script
+    reading = read_script(data, defsyms, later, path, include_path, addresses)
+    return adapt_reading(reading, objects, orphans, values, undefined)
+
+
+class Reading:
+    """A script that is read: its text with what it includes, its statements, and what --defsym put into it."""
+
+    __slots__ = ("source", "defsyms", "nodes", "hashes")
+
+    def __init__(self, source: Source, defsyms: Sequence[tuple[str, str]]) -> None:
+        self.source, self.defsyms = source, defsyms
+        self.nodes, self.hashes = parse(source)
+
+    def again(self) -> "Reading":
+        """The same script read anew: adapting changes statements."""
+        return Reading(self.source, self.defsyms)
+
+
+def read_script(data: bytes, defsyms: Sequence[tuple[str, str]] = (), later: Sequence[tuple[str, str]] = (),
+                path: str = "script", include_path: Sequence[str] = (),
+                addresses: Mapping[str, int] | None = None,
+                change: Callable[[str], str] | None = None) -> Reading:
+    """Reads a script, with the words of `adapt`; `change` makes another text of as many lines of what was read."""
     try:
         source = _source(data, defsyms, later, path, include_path)
+        if change:
+            source.set_text(change(source.text))
         if addresses:
             source.set_text(_placed(source.text, parse(source)[0], addresses))
-        return _adapted(source, [*defsyms, *later], objects, orphans, values, undefined)
+        return Reading(source, [*defsyms, *later])
     except RecursionError:
-        reason = "an expression of the script has hundreds of signs: use symbols for its parts"
-        raise NoParse(path, 1, reason) from None
+        raise _too_deep(path) from None
+
+
+def with_files(reading: Reading, names: Mapping[str, str]) -> Reading:
+    """The script with other names of files in its input statements, by the names that stand there."""
+    text = reading.source.text
+    nodes = [node for section in all_sections(reading.nodes) for node in section.body if isinstance(node, Input)]
+    for node in reversed(nodes):
+        name = names.get(node.file.word)
+        if name is not None:
+            at = text.rindex(node.file.word, node.file.start, node.file.end)
+            name = name if node.file.quoted or re.fullmatch(r"[_a-zA-Z0-9/.$~-]+", name) else f'"{name}"'
+            text = text[:at] + name + text[at + len(node.file.word):]
+    reading.source.set_text(text)
+    return reading.again()
+
+
+def adapt_reading(reading: Reading, objects: Objects | Mapping[str, bytes] | Iterable[str] | None = None,
+                  orphans: bool = True, values: Mapping[str, int] | None = None, undefined: Iterable[str] = (),
+                  followed: bool = False) -> Adapted:
+    """Rewrites a script that was read, with the words of `adapt`; a reading is good for one call.
+
+    `followed` says that the caller links the files that the script names, in GNU ld's order, and keeps what EXTERN
+    names.
+    """
+    try:
+        return _adapted(reading, objects, orphans, values, undefined, followed)
+    except RecursionError:
+        raise _too_deep(reading.source.path) from None
+
+
+def _too_deep(path: str) -> NoParse:
+    return NoParse(path, 1, "an expression of the script has hundreds of signs: use symbols for its parts")
 
 
 def _source(data: bytes, defsyms: Sequence[tuple[str, str]], later: Sequence[tuple[str, str]], path: str,
@@ -101,14 +159,14 @@ def _placed(text: str, nodes: list[Node], addresses: Mapping[str, int]) -> str:
     return text
 
 
-def _adapted(source: Source, defsyms: Sequence[tuple[str, str]],
-             objects: Objects | Mapping[str, bytes] | Iterable[str] | None, orphans: bool,
-             values: Mapping[str, int] | None, undefined: Iterable[str]) -> Adapted:
+def _adapted(reading: Reading, objects: Objects | Mapping[str, bytes] | Iterable[str] | None, orphans: bool,
+             values: Mapping[str, int] | None, undefined: Iterable[str], followed: bool) -> Adapted:
     """The same, of a text."""
+    source, defsyms, hashes = reading.source, reading.defsyms, reading.hashes
     if objects is not None and not isinstance(objects, Objects):
         objects = Objects(objects)
-    nodes, hashes = parse(source)
-    model = Model(source, nodes, objects)
+    model = Model(source, reading.nodes, objects)
+    model.followed = followed
     model.values = values
     model.externs.update(undefined)
     for start, end in hashes:
@@ -160,7 +218,8 @@ def _rules(model: Model) -> None:
         if id(section) not in model.dropped:
             inputs(model, section)
     unused(model)
-    _order_of_files(model)
+    if not model.followed:
+        _order_of_files(model)
     _starts_and_stops(model)
     _linkonce(model)
     _entry(model)

@@ -3,8 +3,8 @@ from __future__ import annotations
 
 from client.adapt.model import Model
 from client.adapt.notes import CHANGED, DROPPED, LEFT, REWRITTEN
-from client.adapt.patterns import is_word, word_of
-from client.adapt.taking import file_names, is_outside, literal, may_take, takes, taking
+from client.adapt.patterns import has_wildcard, is_word, word_of
+from client.adapt.taking import file_matches, file_names, is_outside, literal, may_take, takes, taking
 from client.adapt.tree import Assert, Assign, Command, Data, Input, Node, Pattern, Section
 
 _SORTS = {"SORT": "SORT_BY_NAME", "SORT_BY_NAME": "SORT_BY_NAME", "SORT_BY_ALIGNMENT": "SORT_BY_ALIGNMENT",
@@ -45,6 +45,8 @@ class Rewriter:
             return False
         if any(not is_word(word) for p in patterns for word in p.exclude):
             return False
+        if self._excludes_members():
+            return False
         if self._members(node.file.word) is not None:
             return False
         sorted_ones = [p for p in patterns if p.sorts]
@@ -52,6 +54,12 @@ class Rewriter:
             return True
         return len(patterns) == 1 and len(patterns[0].sorts) == 1 and not patterns[0].exclude \
             and patterns[0].sorts[0] in ("SORT", "SORT_BY_NAME", "SORT_BY_ALIGNMENT")
+
+    def _excludes_members(self) -> bool:
+        """Whether an EXCLUDE_FILE is written otherwise, as a name in it may be that of a member or of an archive."""
+        objects = self.model.objects
+        excludes = any(p.exclude for p in self.node.patterns or [])
+        return excludes and objects is not None and any(file_names(name)[0] for name in objects.names)
 
     def _statements(self) -> list[str]:
         """The statements in its place."""
@@ -103,7 +111,8 @@ class Rewriter:
         members = [name for name in objects.names if file_names(name)[0]]
         if not members:
             return None
-        from client.adapt.taking import file_matches
+        if not has_wildcard(word) and ":" not in word:
+            return None
         if ":" in word:
             archive, name = word.split(":", 1)
             if not archive:
@@ -176,6 +185,11 @@ class Rewriter:
 
     def _exclude(self, name: str) -> str:
         """The patterns of a file that is left out."""
+        objects = self.model.objects
+        has_members = objects is not None and any(file_names(one)[0] for one in objects.names)
+        if has_members and ":" not in name:
+            word = self._word(name)
+            return f"{word} *\\({word}\\) {word}\\(*\\)"
         known = self._members(name)
         return " ".join(known) if known is not None else self._word(name.split(":", 1)[-1] if ":" in name else name)
 

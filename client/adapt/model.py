@@ -86,6 +86,8 @@ class Model:
         self.folded: dict[int, Expr] = {}
         """By `id` of an expression of a head or a region: the same with DEFINED decided."""
         self.externs: set[str] = set()
+        self.followed = False
+        """Whether the caller links the files that the script names, in GNU ld's order, and keeps what EXTERN names."""
         self.own: set[int] | None = None
         """`id`s of the sections that take one of GNU ld's own (taking.py)."""
         self.taken: object = None

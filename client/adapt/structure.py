@@ -104,6 +104,9 @@ class Structure:
 
     def _objects(self, node: Command, text: str) -> None:
         model = self.model
+        if model.followed:
+            self._drop(node, DROPPED, f"{text}: its files are linked")
+            return
         known = model.objects.names if model.objects else []
         first = known[:1]
         missing = [name for name in node.args if name not in known]
@@ -115,6 +118,9 @@ class Structure:
 
     def _extern(self, node: Command, text: str) -> None:
         self.model.externs |= set(node.args)
+        if self.model.followed:
+            self._drop(node, DROPPED, f"{text}: these names are wanted of archives, and kept by --gc-sections")
+            return
         self._drop(node, CHANGED, f"{text}: takes no member out of an archive and is no root of --gc-sections: name "
                    "the object, and KEEP the section")
 

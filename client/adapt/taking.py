@@ -30,8 +30,10 @@ def file_names(name: str) -> tuple[str, str]:
 
 
 def file_matches(pattern: str, name: str) -> bool:
-    """Whether GNU ld takes the object for the pattern."""
+    """Whether GNU ld takes the object for the pattern; without a wildcard it is a file, and no member of an archive."""
     archive, member = file_names(name)
+    if not has_wildcard(pattern) and ":" not in pattern:
+        return not archive and pattern == name
     if ":" in pattern:
         left, right = pattern.split(":", 1)
         if not left:
@@ -41,15 +43,24 @@ def file_matches(pattern: str, name: str) -> bool:
     return bool(matcher(pattern).fullmatch(member))
 
 
+def file_excluded(pattern: str, name: str) -> bool:
+    """Whether EXCLUDE_FILE with the pattern leaves the object out: a member by its own name, or by its archive's."""
+    archive, member = file_names(name)
+    if ":" in pattern:
+        return file_matches(pattern, name)
+    found = matcher(pattern)
+    return bool(found.fullmatch(member)) or bool(archive) and bool(found.fullmatch(archive))
+
+
 def takes(node: Input, section: InputSection) -> Pattern | None:
     """The pattern of a statement that takes a section."""
     if node.file.word != "*" and not file_matches(node.file.word, section.object):
         return None
-    if any(file_matches(word, section.object) for word in node.file.exclude):
+    if any(file_excluded(word, section.object) for word in node.file.exclude):
         return None
     for pattern in node.patterns or [Pattern("*", [], [], 0, 0, False)]:
         if matcher(pattern.word).fullmatch(section.name) \
-                and not any(file_matches(word, section.object) for word in pattern.exclude):
+                and not any(file_excluded(word, section.object) for word in pattern.exclude):
             return pattern
     return None
 

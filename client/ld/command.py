@@ -29,7 +29,7 @@ class Flags:
 
 @dataclass(frozen=True)
 class Input:
-    """A file, a library to be looked for, the script with its INPUTs, or the beginning or end of a group."""
+    """A file, a library to be looked for, a script with its INPUTs, or the beginning or end of a group."""
 
     kind: str
     """`file`, `library`, `script`, `start-group` or `end-group`."""
@@ -42,7 +42,12 @@ class Command:
     """What the words of a command line come to."""
 
     output: str = "a.out"
+    has_output: bool = False
+    """Whether -o names the image: it goes before OUTPUT of a script."""
     scripts: list[str] = field(default_factory=list)
+    """Those of -T, in their order."""
+    default_script: str | None = None
+    """That of -dT, which is read after all words, and not where there is a -T."""
     entry: str | None = None
     map_file: str | None = None
     print_map: bool = False
@@ -50,12 +55,15 @@ class Command:
     print_gc_sections: bool = False
     print_memory_usage: bool = False
     orphan_handling: str | None = None
-    defsyms: list[str] = field(default_factory=list)
-    later_defsyms: list[str] = field(default_factory=list)
-    """Those after `-T`, but not `-dT`: their assignments stand after the script's."""
+    all_defsyms: list[tuple[int, str]] = field(default_factory=list)
+    """Each --defsym with the number of the scripts of -T before it, after which its assignment stands."""
     undefined: list[str] = field(default_factory=list)
     required: list[str] = field(default_factory=list)
     folders: list[str] = field(default_factory=list)
+    folders_before_script: int | None = None
+    """How many of these stand before the first -T: SEARCH_DIR of a script goes after them."""
+    last_flags: Flags = Flags()
+    """The flags after all words: those of a file that only a script names."""
     sysroot: str = ""
     nostdlib: bool = False
     omagic: bool = False
@@ -73,6 +81,10 @@ class Command:
     """Options without effect here, and what that means; each once."""
     cannot: list[str] = field(default_factory=list)
     """What only another linker can do."""
+
+    def defsyms(self, scripts: int) -> list[str]:
+        """The --defsyms that stand after so many scripts of -T."""
+        return [text for before, text in self.all_defsyms if before == scripts]
 
     def note(self, text: str) -> None:
         """Keeps a note, once."""
@@ -112,8 +124,6 @@ class Reader:
         self.groups = 0
         self.word = ""
         """The word that is read."""
-        self.has_script = False
-        """Whether there was a `-T`; a script of `-dT` is read after all words."""
 
     def read(self, words: list[str]) -> Command:
         """The command of these words."""
@@ -134,6 +144,9 @@ class Reader:
                 self.apply(option, value)
         if self.groups:
             raise WordsRefused("--start-group without --end-group")
+        self.command.last_flags = self.flags
+        if not self.command.scripts and self.command.default_script is not None:
+            self.command.inputs.append(Input("script", self.command.default_script, self.flags))
         return self.command
 
     def apply(self, option: Option, value: str | None) -> None:
@@ -168,21 +181,30 @@ class Reader:
             "verbose": ("verbose", True),
             "t": ("trace", True),
         }
-        lists = {
-            "T": command.scripts,
-            "L": command.folders,
-            "u": command.undefined,
-            "require-defined": command.required,
-            "defsym": command.later_defsyms if self.has_script else command.defsyms,
-        }
+        lists = {"L": command.folders, "u": command.undefined, "require-defined": command.required}
         if name in values:
             setattr(command, *values[name])
+            command.has_output |= name == "o"
         elif name in lists:
             lists[name].append(value)
-            if name == "T":
-                command.inputs.append(Input("script", value, self.flags))
-                self.has_script |= not self.word.lstrip("-").startswith("d")
-        return name in values or name in lists
+        elif name == "defsym":
+            command.all_defsyms.append((len(command.scripts), value))
+        elif name == "T":
+            self.script(value)
+        else:
+            return False
+        return True
+
+    def script(self, value: str) -> None:
+        """A script of -T, or of -dT."""
+        command = self.command
+        if self.word.lstrip("-").startswith("d"):
+            command.default_script = value
+            return
+        if not command.scripts:
+            command.folders_before_script = len(command.folders)
+        command.scripts.append(value)
+        command.inputs.append(Input("script", value, self.flags))
 
     def input_flag(self, name: str, value: str) -> bool:
         """The options that name an input, or hold for those after them; says whether it was one."""

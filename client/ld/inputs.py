@@ -76,39 +76,57 @@ def read_file(path: str) -> bytes:
 class Loader:
     """Takes the inputs in their order; `objects` is what the link is made of."""
 
-    def __init__(self, command: Command, script: Commands | None, own_script: bool, wanted: Iterable[str] = ()) -> None:
-        """`script` has the commands of the link's script, which is the user's if `own_script`."""
+    def __init__(self, command: Command, scripts: Sequence[Commands], own_script: bool,
+                 wanted: Iterable[str] = ()) -> None:
+        """`scripts` have the commands of the link's scripts, which are the user's if `own_script`."""
         self.command = command
-        self.script = script or Commands()
         self.objects: list[Object] = []
         self.files: list[str] = []
         self.names = Names()
+        self.renamed: dict[str, str] = {}
+        """The files that statements of a script name and that are in another folder: their paths."""
+        self._scripts = scripts
         self._entered = 0
         self._used: set[bytes] = set()
         self._archives: dict[str, Archive] = {}
         self._taken: dict[str, set[int]] = {}
-        standard = () if own_script or command.nostdlib else STANDARD_FOLDERS
-        self.folders = [
-            *command.folders,
-            *(self._at_sysroot(folder) for folder in self.script.folders),
-            *(command.sysroot + folder for folder in standard),
-        ]
-        for name in (*wanted, *command.undefined, *command.required, *self.script.undefined):
+        self._done: set[str] = set()
+        """The words of files that are taken already, as a script names them before the command line does."""
+        self.folders = self._folders(own_script)
+        for name in (*wanted, *command.undefined, *command.required):
             self.names.want(os.fsencode(name))
-        for defsym in (*command.defsyms, *command.later_defsyms):
-            self.names.define(os.fsencode(defsym.partition("=")[0]))
+        for part in scripts:
+            for name in part.undefined:
+                self.names.want(os.fsencode(name))
+            if part.target:
+                raise CannotLink(f"TARGET({part.target}): another format")
+        for _, defsym in command.all_defsyms:
+            self.names.define(os.fsencode(defsym.partition("=")[0].strip()))
+
+    def _folders(self, own_script: bool) -> list[str]:
+        """Where files are looked for: SEARCH_DIR stands where its -T does, and is without effect with -nostdlib."""
+        command = self.command
+        at = len(command.folders) if command.folders_before_script is None else command.folders_before_script
+        of_scripts = [self._at_sysroot(folder) for part in self._scripts for folder in part.folders]
+        standard = () if own_script else STANDARD_FOLDERS
+        if command.nostdlib:
+            of_scripts, standard = [], ()
+        return [*command.folders[:at], *of_scripts, *command.folders[at:],
+                *(command.sysroot + folder for folder in standard)]
 
     def load(self) -> list[Object]:
         """Takes all inputs; BadInput or CannotLink where one is no input of a static link."""
-        for name in self.script.startup:
-            self._file(name, Flags(), searched=True)
-        inputs, at = self.command.inputs, 0
+        for name in (name for part in self._scripts for name in part.startup[:1]):
+            self._file(self._searched(name), Flags())
+        inputs, at, scripts = self.command.inputs, 0, iter(self._scripts)
         while at < len(inputs):
             if inputs[at].kind == "start-group":
                 end = next(index for index in range(at, len(inputs)) if inputs[index].kind == "end-group")
                 self._group(inputs[at + 1 : end])
                 at = end
-            else:
+            elif inputs[at].kind == "script":
+                self._commands(next(scripts), inputs[at].flags)
+            elif inputs[at].kind == "library" or inputs[at].name not in self._done:
                 self._input(inputs[at])
             at += 1
         self._enter()
@@ -118,8 +136,6 @@ class Loader:
         """Takes one input; gives the archives among it, which a group goes through again."""
         if item.kind == "library":
             return self._file(self._library(item.name, item.flags), item.flags)
-        if item.kind == "script":
-            return self._commands(self.script, item.flags)
         return self._file(item.name, item.flags)
 
     def _group(self, items: Sequence[Input]) -> None:
@@ -128,30 +144,48 @@ class Loader:
         while any([self._scan(archive) for archive in archives]):
             pass
 
-    def _commands(self, commands: Commands, flags: Flags) -> list[Archive]:
-        """Takes the inputs that a script names."""
+    def _commands(self, commands: Commands, flags: Flags, beside: str | None = None) -> list[Archive]:
+        """Takes the inputs that a script names; `beside` is the folder of one that stands in the place of an object."""
         archives: list[Archive] = []
         for command, words in commands.inputs:
-            items = [self._named(word, flags) for word in words]
+            if command == "FILE":
+                self._file_of_statement(words[0])
+                continue
+            items = [self._named(word, flags, beside) for word in words]
             if command == "GROUP":
                 self._group(items)
             else:
                 archives += [archive for item in items for archive in self._input(item)]
         return archives
 
-    def _named(self, word: str, flags: Flags) -> Input:
+    def _file_of_statement(self, name: str) -> None:
+        """Takes a file that a statement of an output section names: one of the command line goes before its turn."""
+        if name in self._done:
+            return
+        self._done.add(name)
+        given = next((item for item in self.command.inputs if item.kind == "file" and item.name == name), None)
+        if given is not None:
+            self._file(name, given.flags)
+            return
+        path = self._searched(name)
+        if path != name:
+            self.renamed[name] = path
+        self._file(path, Flags(self.command.last_flags.whole_archive))
+
+    def _named(self, word: str, flags: Flags, beside: str | None) -> Input:
         """The input that a word of INPUT or GROUP names."""
         if word.startswith("-l"):
             return Input("library", word[2:], flags)
-        return Input("file", self._searched(word), flags)
+        return Input("file", self._searched(word, beside), flags)
 
     def _at_sysroot(self, path: str) -> str:
         return re.sub(r"^(=|\$SYSROOT)", self.command.sysroot, path)
 
-    def _searched(self, name: str) -> str:
-        """The path of a file that a script names: as it stands, or in the folders of libraries."""
+    def _searched(self, name: str, beside: str | None = None) -> str:
+        """The path of a file that a script names: beside it, as it stands, or in the folders of libraries."""
         name = self._at_sysroot(name)
-        for path in (name, *(os.path.join(folder, name) for folder in self.folders)):
+        first = [os.path.join(beside, name)] if beside is not None else []
+        for path in (*first, name, *(os.path.join(folder, name) for folder in self.folders)):
             if files.exists(path):
                 return path
         return name
@@ -168,9 +202,8 @@ class Loader:
                     return path
         raise MissingInput(f"cannot find -l{name}: No such file or directory")
 
-    def _file(self, path: str, flags: Flags, searched: bool = False) -> list[Archive]:
+    def _file(self, path: str, flags: Flags) -> list[Archive]:
         """Takes a file by what it is."""
-        path = self._searched(path) if searched else path
         if path in self._archives:
             return self._archive(self._archives[path], flags)
         data = read_file(path)
@@ -193,12 +226,14 @@ class Loader:
 
     def _text(self, path: str, data: bytes, flags: Flags) -> list[Archive]:
         """Takes the inputs that a text names, which is then a script of INPUT and GROUP alone."""
-        if b"\0" in data:
-            raise BadInput(f"{path}: file format not recognized")
-        commands = read_commands(data.decode(errors="surrogateescape"))
-        if commands.other is not None or not commands.inputs:
-            raise BadInput(f"{path}: no object, no archive, no script of INPUT and GROUP alone; a script is -T's")
-        return self._commands(commands, flags)
+        commands = None if b"\0" in data else read_commands(data, path)
+        if commands is None:
+            raise BadInput(f"{path}: no object, no archive, and no script")
+        if commands.other is not None:
+            raise CannotLink(f"{path}: a script in the place of an object that has {commands.other}, and not INPUT and "
+                             "GROUP alone (a script is -T's)")
+        self.folders += [] if self.command.nostdlib else [self._at_sysroot(folder) for folder in commands.folders]
+        return self._commands(commands, flags, os.path.dirname(path) or ".")
 
     def _archive(self, archive: Archive, flags: Flags) -> list[Archive]:
         """Takes what is needed of an archive, or all of it."""

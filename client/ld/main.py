@@ -107,7 +107,7 @@ def report_script(script: Script, verbose: bool) -> None:
 
 def wanted_names(command: Command, source: Source) -> list[str]:
     """The names that are undefined before the first object: the entry symbol."""
-    entry = command.entry or source.commands.entry
+    entry = command.entry or source.entry
     return [entry] if entry and not entry[0].isdigit() else []
 
 
@@ -132,11 +132,14 @@ class Link:
         """Links, and gives the exit status."""
         command = self.command
         print_asked(command, self.source)
-        loader = Loader(command, self.source.commands, self.source.own, wanted_names(command, self.source))
+        loader = Loader(command, self.source.parts, self.source.own, wanted_names(command, self.source))
         self.objects, self.files = loader.load(), loader.files
+        self.source.rename_files(loader.renamed)
+        if self.source.output is not None and not command.has_output:
+            command.output = self.source.output
         self._check_required(loader)
         self._check_outputs()
-        if self.source.commands.binary and self.source.own and command.output_format is None:
+        if self.source.binary and self.source.own and command.output_format is None:
             command.output_format = "binary"
         try:
             return self._link()
@@ -305,7 +308,7 @@ class Link:
         image = self._image(script, result.image)
         self.host.write(command.output, image, PROGRAM)
         if command.dependency_file is not None:
-            names = [*self.files, *command.scripts]
+            names = list(dict.fromkeys([*self.source.files, *self.files]))
             lines = f"{command.output}: \\\n" + " \\\n".join(f"  {name}" for name in names) + "\n"
             lines += "".join(f"\n{name}:\n" for name in names)
             self.host.write(command.dependency_file, lines.encode(errors="surrogateescape"), TEXT)

@@ -4,19 +4,28 @@ from __future__ import annotations
 import os
 import re
 import subprocess
-from collections.abc import Mapping
+from collections.abc import Mapping, Sequence
 from dataclasses import dataclass
-from functools import cached_property
 
 from client import files
-from client.adapt.adapt import CHANGED, LEFT, Adapted, NoParse, Note, adapt
+from client.adapt.adapt import (
+    CHANGED,
+    LEFT,
+    Adapted,
+    NoParse,
+    Note,
+    Reading,
+    adapt_reading,
+    read_script,
+    with_files,
+)
 from client.adapt.objects import Objects as Known
 from client.adapt.segments import Segments
 from client.ld.command import Command, number
 from client.ld.default_script import DEFAULT
 from client.ld.inputs import BadInput, MissingInput
 from client.ld.programs import WITHIN, others
-from client.ld.script_commands import Commands, read_commands
+from client.ld.script_commands import Commands, commands_of
 from client.ld.script_text import outline
 from client.watch.quick import with_entry
 
@@ -30,51 +39,132 @@ MAX_PAGE_SIZE = re.compile(r"\bCONSTANT\s*\(\s*MAXPAGESIZE\s*\)")
 """What `-z max-page-size=` sets in a script."""
 
 
-@dataclass(frozen=True)
 class Source:
-    """A script as it is found: its name, its text, and whether it is the user's."""
+    """The scripts of a link as they are found: those of -T in their order, or the default one."""
 
-    path: str
-    text: str
-    own: bool
+    def __init__(self, path: str, text: str, own: bool, reading: Reading, parts: Sequence[Commands]) -> None:
+        self.path = path
+        """The name of the first one."""
+        self.text = text
+        self.own = own
+        """Whether they are the user's."""
+        self.parts = parts
+        """What each says of files and names."""
+        self.files = [path] if own else []
+        """The files that were read for them, with what they include."""
+        self.files += [found for _, _, found in reading.source.included]
+        self._reading: Reading | None = reading
+        self._last = reading
 
-    @cached_property
-    def commands(self) -> Commands:
-        """What it says of files and names."""
-        return read_commands(self.text)
+    def take(self) -> Reading:
+        """The statements, good for one adapting."""
+        reading, self._reading = self._reading, None
+        if reading is None:
+            reading = self._last.again()
+        self._last = reading
+        return reading
+
+    def rename_files(self, names: Mapping[str, str]) -> None:
+        """Gives files that statements name the names that their objects have, as they were found in another folder."""
+        if names:
+            self._reading = self._last = with_files(self._last, names)
+
+    @property
+    def entry(self) -> str | None:
+        """The symbol of ENTRY; the last one counts."""
+        return next((part.entry for part in reversed(self.parts) if part.entry), None)
+
+    @property
+    def output(self) -> str | None:
+        """The name of OUTPUT; the first one counts."""
+        return next((part.output for part in self.parts if part.output), None)
+
+    @property
+    def binary(self) -> bool:
+        """Whether OUTPUT_FORMAT(binary) is there."""
+        return any(part.binary for part in self.parts)
 
 
 def find_script(command: Command, environment: Mapping[str, str]) -> Source:
-    """The script of `-T`, as it stands or in a folder of `-L`; else the default one."""
-    if not command.scripts:
-        return default_script(command.omagic, environment)
-    if len(command.scripts) > 1:
-        raise BadInput(f"-T {command.scripts[1]}: a second script after {command.scripts[0]}; a link has one")
-    name = command.scripts[0]
+    """The scripts of `-T`, as they stand or in a folder of `-L`, else that of `-dT`; else the default one."""
+    names = command.scripts or ([command.default_script] if command.default_script is not None else [])
+    for name in names:
+        if names.count(name) > 1:
+            raise BadInput(f"linker script file '{name}' appears multiple times")
+    if not names:
+        return default_script(command, environment)
+    found = [_found(name, command) for name in names]
+    try:
+        return _read(command, found)
+    except NoParse as fault:
+        raise BadInput(str(fault)) from fault
+    except OSError as fault:
+        raise MissingInput(f"{fault.filename}: {fault.strerror}") from fault
+
+
+def _found(name: str, command: Command) -> tuple[str, str]:
+    """The path and the text of a script."""
     for path in (name, *(os.path.join(folder, name) for folder in command.folders)):
         if files.is_file(path):
             break
     else:
         path = name
     try:
-        return Source(path, files.read_text(path), own=True)
+        return path, files.read_text(path)
     except OSError as fault:
         raise MissingInput(f"cannot open linker script file {name}: {fault.strerror}") from fault
 
 
-def default_script(omagic: bool, environment: Mapping[str, str]) -> Source:
-    """GNU ld's default script where GNU ld is there, else one of the same sections; `omagic` is `-N`."""
+def _read(command: Command, found: Sequence[tuple[str, str]]) -> Source:
+    """The scripts as one: several follow one another, with what --defsym puts between them."""
+    path, text = found[0]
+    if len(found) == 1:
+        reading = read_text(command, path, text, 1)
+        return Source(path, text, True, reading, [commands_of(reading.nodes)])
+    parts = []
+    lines = []
+    for number, (one, its_text) in enumerate(found):
+        parts.append(commands_of(read_text(Command(folders=command.folders), one, its_text, 1).nodes))
+        between = "".join(f" {name} = {value};" for name, value in assignments(command.defsyms(number) if number else []))
+        lines.append(f'{between} INCLUDE "{one}"')
+    reading = read_text(command, path, "\n".join(lines), len(found))
+    source = Source(path, "\n".join(its_text for _, its_text in found), True, reading, parts)
+    source.files.pop(0)
+    return source
+
+
+def read_text(command: Command, path: str, text: str, scripts: int) -> Reading:
+    """A script that is read, with what the command line sets in it; it is made of so many of -T."""
+    def change(text: str) -> str:
+        if command.page_size is None:
+            return text
+        return MAX_PAGE_SIZE.sub(lambda found: f"{command.page_size:#x}" + "\n" * found.group().count("\n"), text)
+
+    return read_script(text.encode(errors="surrogateescape"), assignments(command.defsyms(0)),
+                       assignments(command.defsyms(scripts)), path, command.folders, command.section_starts, change)
+
+
+def default_script(command: Command, environment: Mapping[str, str]) -> Source:
+    """GNU ld's default script where GNU ld is there, else one of the same sections."""
     for program in others("ld.bfd", environment) if WITHIN not in environment else ():
-        words = [program, "-m", "elf_x86_64", "-static", *(["-N"] if omagic else []), "--verbose"]
+        words = [program, "-m", "elf_x86_64", "-static", *(["-N"] if command.omagic else []), "--verbose"]
         done = subprocess.run(words, capture_output=True, text=True, check=False, stdin=subprocess.DEVNULL,
                               env={**environment, WITHIN: "1"})
         parts = done.stdout.split("=" * 50 + "\n")
         if done.returncode == 0 and len(parts) == 3 and not done.stdout.startswith(OWN_VERSION):
-            return Source("ld.bfd's default script", parts[1], own=False)
+            return _default(command, "ld.bfd's default script", parts[1])
     text = DEFAULT
-    if omagic:
+    if command.omagic:
         text = re.sub(r"(?m)^  \. = ALIGN\(4096\).*$", "", text)
-    return Source("default.ld", text, own=False)
+    return _default(command, "default.ld", text)
+
+
+def _default(command: Command, path: str, text: str) -> Source:
+    try:
+        reading = read_text(command, path, text, 1)
+    except NoParse as fault:
+        raise BadInput(str(fault)) from fault
+    return Source(path, text, False, reading, [commands_of(reading.nodes)])
 
 
 @dataclass(frozen=True)
@@ -107,21 +197,14 @@ def adapt_source(
     source: Source, command: Command, known: Known, values: Mapping[str, int] | None = None
 ) -> Adapted:
     """The script as `ldi-adapt` writes it; BadInput where it is no script."""
-    text = source.text
-    if command.page_size is not None:
-        text = MAX_PAGE_SIZE.sub(f"0x{command.page_size:x}", text)
-    data = text.encode(errors="surrogateescape")
+    wanted = [*command.undefined, *command.required]
     try:
-        return adapt(data, _assignments(command.defsyms), known, command.folders, source.path, orphans=False,
-                     values=values, later=_assignments(command.later_defsyms), undefined=command.undefined,
-                     addresses=command.section_starts)
+        return adapt_reading(source.take(), known, orphans=False, values=values, undefined=wanted, followed=True)
     except NoParse as fault:
         raise BadInput(str(fault)) from fault
-    except OSError as fault:
-        raise MissingInput(f"{source.path}: {fault.filename}: {fault.strerror}") from fault
 
 
-def _assignments(defsyms: list[str]) -> list[tuple[str, str]]:
+def assignments(defsyms: Sequence[str]) -> list[tuple[str, str]]:
     """The symbols of --defsym and their expressions."""
     result = []
     for defsym in defsyms:

@@ -104,7 +104,7 @@ class SelectionTest(LinkTest):
     def loaded(self, *words: str) -> list[str]:
         """The names of the objects that the words lead to, those of archives by their member's alone."""
         command = read_command([self._at(word) for word in words])
-        loader = Loader(command, None, own_script=True)
+        loader = Loader(command, [], own_script=True)
         names = [item.name.decode() for item in loader.load()]
         return [re.sub(r".*\((.*)\)", r"\1", name).rsplit("/", 1)[-1] for name in names]
 
@@ -221,9 +221,9 @@ class SelectionTest(LinkTest):
             self.compile(f"{name}.s", f".globl {name}\n{name}: nop\n")
         self.run_tool("ar", "rcs", "libc1.a", "c.o")
         text = f"STARTUP(a.o) SEARCH_DIR({self.folder}) INPUT(-lc1, b.o) EXTERN(c) SECTIONS {{ .x : {{ *(.x) }} }}"
-        commands = read_commands(text)
-        self.assertEqual(commands.other, "SECTIONS")
-        loader = Loader(read_command(["-T", "x.ld"]), commands, own_script=True)
+        commands = read_commands(text.encode(), "x.ld")
+        assert commands is not None
+        loader = Loader(read_command(["-T", "x.ld"]), [commands], own_script=True)
         names = [item.name.decode().rsplit("/", 1)[-1] for item in loader.load()]
         self.assertEqual(names, ["a.o", "libc1.a(c.o)", "b.o"])
 

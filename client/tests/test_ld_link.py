@@ -243,7 +243,7 @@ class RefusedTest(LinkTest):
             (["-T", "none.ld", "a.o"], 3, "cannot open linker script file none.ld"),
             (["-T", "t.ld", "a.o", "-lnone"], 3, "cannot find -lnone"),
             (["-T", "t.ld"], 2, "no input files"),
-            (["-T", "t.ld", "-T", "t.ld", "a.o"], 2, "a second script"),
+            (["-T", "t.ld", "-T", "t.ld", "a.o"], 2, "appears multiple times"),
             (["-T", "bad.ld", "a.o"], 2, "bad.ld"),
             (["-T", "t.ld", "t.ld", "a.o"], 2, "a script is -T's"),
             (["-T", "t.ld", "a.o", "-o", "none/out"], 3, "none/out: No such file or directory"),

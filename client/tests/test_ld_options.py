@@ -102,8 +102,9 @@ class WordsTest(unittest.TestCase):
             self.assertEqual(self.read(*words).map_file, "m", words)
         for words in (["-emain"], ["-e", "main"], ["--entry=main"], ["-entry=main"], ["--ent=main"]):
             self.assertEqual(self.read(*words).entry, "main", words)
-        for words in (["-Ta.ld"], ["-T", "a.ld"], ["--script=a.ld"], ["-script", "a.ld"], ["-dT", "a.ld"]):
+        for words in (["-Ta.ld"], ["-T", "a.ld"], ["--script=a.ld"], ["-script", "a.ld"]):
             self.assertEqual(self.read(*words).scripts, ["a.ld"], words)
+        self.assertEqual(self.read("-dT", "a.ld").default_script, "a.ld")
         for words in (["-oformat"], ["-o", "format"], ["--output=format"]):
             self.assertEqual(self.read(*words).output, "format", words)
         starts = self.read("-Ttext=0x7c00", "-Tdata", "8000").section_starts
