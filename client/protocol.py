@@ -5,13 +5,17 @@ it. Handles allow the linker no waiting and no processes; that is why the progra
 """
 from __future__ import annotations
 
+import errno
 import fcntl
+import io
 import os
 import select
 import subprocess
 import sys
 from dataclasses import dataclass
 from typing import IO, cast
+
+from client.atomic_file import write_all
 
 GREATEST_PAYLOAD = 1 << 26
 """The bytes that an object or a script has at most."""
@@ -110,7 +114,9 @@ class Session:
             start_new_session=True,
         )
         self._to = cast(IO[bytes], self.process.stdin)
-        self._from = cast(IO[bytes], self.process.stdout)
+        self._from = cast(io.BufferedReader, self.process.stdout)
+        self._unwritten = 0
+        """The bytes that were read of an answer, and could not be written."""
         for pipe in (self._to, self._from):
             try:
                 fcntl.fcntl(pipe, fcntl.F_SETPIPE_SZ, PIPE_BYTES)
@@ -144,6 +150,48 @@ class Session:
     def image(self) -> bytes:
         """The image of the last link; empty where that has faults."""
         return self._query(b"image")
+
+    def ask_image(self) -> int:
+        """Asks for the image of the last link; gives its length, so many bytes follow that `take_to` takes."""
+        return self._length(self._send(b"image"))
+
+    def take_to(self, descriptor: int, length: int) -> None:
+        """Writes what was asked for to a file, without a copy here.
+
+        OSError where the file cannot be written; the session goes on then.
+        """
+        first = self._from.read1(min(length, io.DEFAULT_BUFFER_SIZE)) if length else b""  # what a line's read left
+        left = length - len(first)
+        try:
+            write_all(descriptor, first)
+            while left > 0 and (count := self._move(descriptor, left)):
+                left -= count
+        except OSError:
+            self._pass_over(left)
+            raise
+        if left > 0:
+            raise SessionEnded("the session ended in an answer")
+
+    def _move(self, descriptor: int, most: int) -> int:
+        """Moves some bytes from the pipe to a file; gives how many, and 0 at the pipe's end."""
+        try:
+            count = os.splice(self._from.fileno(), descriptor, min(most, PIPE_BYTES))  # type: ignore[attr-defined]
+            return int(count)
+        except OSError as fault:
+            if fault.errno != errno.EINVAL:  # as of a file system that has no splice
+                raise
+        data = os.read(self._from.fileno(), min(most, PIPE_BYTES))
+        self._unwritten = len(data)
+        write_all(descriptor, data)
+        self._unwritten = 0
+        return len(data)
+
+    def _pass_over(self, left: int) -> None:
+        """Reads what is left of an answer, so that the next one is the next to be read."""
+        left -= self._unwritten
+        self._unwritten = 0
+        while left > 0 and (data := self._from.read(min(left, PIPE_BYTES))):
+            left -= len(data)
 
     def map(self) -> bytes:
         """The map of the last link; empty where that has faults."""
@@ -217,10 +265,7 @@ class Session:
         raise SessionEnded(f"not an answer to an edit: {b' '.join(words)!r}")
 
     def _query(self, line: bytes) -> bytes:
-        words = self._send(line)
-        if len(words) != 2 or words[0] != b"bytes":
-            raise SessionEnded(f"not an answer to a query: {b' '.join(words)!r}")
-        length = int(words[1])
+        length = self._length(self._send(line))
         try:
             data = self._from.read(length)
         except (OSError, ValueError) as fault:
@@ -228,3 +273,10 @@ class Session:
         if len(data) != length:
             raise SessionEnded("the session ended in an answer")
         return data
+
+    @staticmethod
+    def _length(words: list[bytes]) -> int:
+        """How many bytes follow an answer to a query."""
+        if len(words) != 2 or words[0] != b"bytes" or not words[1].isdigit():
+            raise SessionEnded(f"not an answer to a query: {b' '.join(words)!r}")
+        return int(words[1])

@@ -11,6 +11,8 @@ import sys
 from collections.abc import Iterator
 from dataclasses import dataclass
 
+from client.writers import has_writer
+
 try:
     from watchdog.observers.inotify_c import InotifyConstants, inotify_add_watch, inotify_init, inotify_rm_watch
 except ModuleNotFoundError:
@@ -112,10 +114,12 @@ class Watcher:
 
     def _kind(self, path: str, mask: int, pair: int) -> Kind:
         """What an event says of a file; one that is renamed while it is being written is being written still."""
+        if mask & InotifyConstants.IN_MODIFY and path in self._written:
+            return Kind.WRITING  # its end comes with the writer's close
         kind = kind_of(path, mask)
         if mask & InotifyConstants.IN_MOVED_TO and pair in self._moving:
             self._moving.remove(pair)
-            kind = Kind.WRITING
+            kind = Kind.WHOLE if kind is Kind.WHOLE and has_writer(path) is False else Kind.WRITING
         if kind is Kind.WRITING:
             self._written.add(path)
         elif kind is not Kind.TOUCHED and path in self._written:
@@ -188,21 +192,26 @@ def identity(folder: str) -> tuple[int, int] | None:
 
 def kind_of(path: str, mask: int) -> Kind:
     """What an event's mask says of a file."""
-    if mask & PLACED:
+    if mask & InotifyConstants.IN_CLOSE_WRITE:
         return Kind.WHOLE
-    if mask & InotifyConstants.IN_CREATE:
+    if mask & InotifyConstants.IN_MOVED_TO:
         return Kind.WRITING if has_writer(path) else Kind.WHOLE
-    if mask & InotifyConstants.IN_MODIFY:
-        return Kind.WRITING
+    if mask & InotifyConstants.IN_CREATE:
+        return Kind.WRITING if is_written(path) else Kind.WHOLE
+    if mask & InotifyConstants.IN_MODIFY:  # one who truncates it by its name has no file to close
+        return Kind.WHOLE if has_writer(path) is False else Kind.WRITING
     return Kind.GONE if mask & GONE else Kind.TOUCHED
 
 
-def has_writer(path: str) -> bool:
-    """Whether a name that came by no rename is that of a new file: a link has no writer who would close it.
+def is_written(path: str) -> bool:
+    """Whether a name that came by no rename is that of a file with a writer, who will close it.
 
-    A link's file has another name still, or was last written before it got this one. What has been written to a new
-    file has events that follow.
+    Where that cannot be asked: a link's file has another name still, or was last written before it got this one. What
+    has been written to a new file has events that follow.
     """
+    asked = has_writer(path)
+    if asked is not None:
+        return asked
     try:
         status = os.lstat(path)
     except OSError:

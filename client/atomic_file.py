@@ -1,0 +1,232 @@
+"""Files that are replaced whole: written beside their place, and then put there in one step.
+
+The step is an exchange of the two names where the system has it and a file is there, else a rename. ext4 writes a new
+file out to the disk when it is renamed over another (a rename of 12 MB takes some 20 ms), but not when it is exchanged.
+The old file then has the name beside, and is removed; `remove_left` removes those of processes that were killed.
+"""
+from __future__ import annotations
+
+import ctypes
+import errno
+import fcntl
+import os
+import re
+import stat
+
+PROGRAM, TEXT = 0o755, 0o644
+"""The modes of a new image and of a new text, less the umask."""
+
+MOST_NAMES = 100
+"""The names that are tried for a file beside another."""
+
+AT_FDCWD, RENAME_EXCHANGE = -100, 2
+
+BESIDE = re.compile(rb"\.(\d+)\.\d+\.new$")
+"""How the name of a file beside another ends: with the number of the process that writes it."""
+
+_libc = ctypes.CDLL(None, use_errno=True)
+_renameat2 = getattr(_libc, "renameat2", None)
+
+
+class NewFile:
+    """What a file is to become. `open` makes the file beside, `commit` puts it in place, `drop` removes it.
+
+    A symbolic link stays one, and the file that it names is replaced. What is no regular file, as /dev/null or a pipe,
+    is written in place: `open` says so.
+    """
+
+    def __init__(self, path: str, mode: int, keeps_mode: bool = True) -> None:
+        """`mode` is that of a file that is not there yet, or always without `keeps_mode`."""
+        self.path = path
+        self.target = path
+        """The file that is replaced: `path`, or what it leads to as a symbolic link."""
+        self._mode = mode
+        self._keeps_mode = keeps_mode
+        self._beside: str | None = None
+        self._descriptor = -1
+
+    def open(self) -> int | None:
+        """Makes the new file; gives its descriptor, or None where the place is that of no regular file.
+
+        OSError where that cannot be done, and then nothing is left of it.
+        """
+        self.drop()
+        if self.path.endswith("/"):
+            raise IsADirectoryError(errno.EISDIR, os.strerror(errno.EISDIR))
+        self.target = os.path.realpath(self.path)
+        mode = self._mode_of_target()
+        if mode is None:
+            return None
+        try:
+            self._make()
+            os.fchmod(self._descriptor, mode)
+        except BaseException:
+            self.drop()
+            raise
+        return self._descriptor
+
+    def _mode_of_target(self) -> int | None:
+        try:
+            found = os.stat(self.target).st_mode
+        except FileNotFoundError:
+            return self._mode & ~umask()
+        if not stat.S_ISREG(found):
+            return None
+        return stat.S_IMODE(found) if self._keeps_mode else self._mode & ~umask()
+
+    def _make(self) -> None:
+        for number in range(MOST_NAMES):
+            self._beside = beside(self.target, number)
+            try:
+                self._descriptor = os.open(self._beside, os.O_RDWR | os.O_CREAT | os.O_EXCL | os.O_CLOEXEC, 0o600)
+                break
+            except FileExistsError:  # of another output, or left by a process that was killed
+                self._beside = None
+        else:
+            raise FileExistsError(errno.EEXIST, "there are too many files beside it that were left half written")
+        try:
+            fcntl.flock(self._descriptor, fcntl.LOCK_SH | fcntl.LOCK_NB)  # tells `remove_left` that it is in use
+        except OSError:
+            pass
+
+    def is_open(self) -> bool:
+        """Whether there is a new file."""
+        return self._beside is not None
+
+    def commit(self) -> str | None:
+        """Puts the new file in place; gives the name of the old one, where it is left for the caller to remove."""
+        assert self._beside is not None
+        name, old = self._beside, None
+        if exchange(name, self.target):
+            old = name
+        else:
+            os.rename(name, self.target)
+        self._beside = None
+        self._close()
+        return old
+
+    def drop(self) -> None:
+        """Removes the new file."""
+        name, self._beside = self._beside, None
+        self._close()
+        if name is not None:
+            remove(name)
+
+    def _close(self) -> None:
+        descriptor, self._descriptor = self._descriptor, -1
+        if descriptor >= 0:
+            os.close(descriptor)
+
+
+def exchange(name: str, target: str) -> bool:
+    """Exchanges two names where the system can, and a regular file is there; says whether it did."""
+    if _renameat2 is None:
+        return False
+    try:
+        if not stat.S_ISREG(os.lstat(target).st_mode):
+            return False
+    except OSError:
+        return False
+    return bool(_renameat2(AT_FDCWD, os.fsencode(name), AT_FDCWD, os.fsencode(target), RENAME_EXCHANGE) == 0)
+
+
+def write_file(path: str, data: bytes, mode: int, keeps_mode: bool = False) -> None:
+    """Writes a file whole; OSError with its name where that fails, and then the old file stands as it was."""
+    new = NewFile(path, mode, keeps_mode)
+    try:
+        descriptor = new.open()
+        if descriptor is None:
+            write_in_place(new.target, data)
+            return
+        write_all(descriptor, data)
+        old = new.commit()
+    except OSError as fault:
+        raise OSError(fault.errno, fault.strerror, path) from fault
+    finally:
+        new.drop()
+    if old is not None:
+        remove(old)
+
+
+def write_in_place(path: str, data: bytes) -> None:
+    """Writes to something that is no regular file; OSError where it is a pipe that nobody reads."""
+    descriptor = os.open(path, os.O_WRONLY | os.O_CLOEXEC | os.O_NONBLOCK)
+    try:
+        os.set_blocking(descriptor, True)
+        write_all(descriptor, data)
+    finally:
+        os.close(descriptor)
+
+
+def write_all(descriptor: int, data: bytes) -> None:
+    """Writes all bytes."""
+    rest = memoryview(data)
+    while rest:
+        rest = rest[os.write(descriptor, rest) :]
+
+
+def beside(path: str, number: int) -> str:
+    """The name of a file beside this one that is of this process, and not too long."""
+    folder, name = os.path.split(os.fsencode(path))
+    return os.fsdecode(os.path.join(folder, b".%s.%d.%d.new" % (name[:100], os.getpid(), number)))
+
+
+def is_beside(path: str) -> bool:
+    """Whether this is the name of such a file of this process."""
+    found = BESIDE.search(os.fsencode(path))
+    return found is not None and int(found[1]) == os.getpid()
+
+
+def remove(path: str) -> None:
+    """Removes a file, if it is there and can be."""
+    try:
+        os.unlink(path)
+    except OSError:
+        pass
+
+
+def remove_left(path: str) -> None:
+    """Removes the files beside this one that processes left which were killed."""
+    folder, name = os.path.split(os.fsencode(os.path.realpath(path)))
+    begin = b".%s." % name[:100]
+    try:
+        names = [found for found in os.listdir(folder or b".") if found.startswith(begin)]
+    except OSError:
+        return
+    for found in names:
+        number = BESIDE.fullmatch(found, len(begin) - 1)
+        if number is not None and not is_running(int(number[1])):
+            _remove_unused(os.path.join(folder, found))
+
+
+def is_running(number: int) -> bool:
+    """Whether there is a process of this number."""
+    try:
+        os.kill(number, 0)
+    except ProcessLookupError:
+        return False
+    except OSError:
+        return True  # of another user
+    return True
+
+
+def _remove_unused(path: bytes) -> None:
+    """Removes a file that no process holds, as one in another container may: its number is not known here."""
+    try:
+        descriptor = os.open(path, os.O_RDONLY | os.O_NOFOLLOW | os.O_NONBLOCK | os.O_CLOEXEC)
+    except OSError:
+        return
+    try:
+        fcntl.flock(descriptor, fcntl.LOCK_EX | fcntl.LOCK_NB)
+        os.unlink(path)
+    except OSError:
+        pass
+    finally:
+        os.close(descriptor)
+
+
+def umask() -> int:
+    """The mask of modes of this process."""
+    mask = os.umask(0o077)
+    os.umask(mask)
+    return mask

@@ -1,0 +1,288 @@
+"""The files that a link is made of: what was last read of each, and whether the file is still that.
+
+`Looks` looks at all of them at once, by descriptors of their folders and `statx` through ctypes, which writes what it
+finds to one buffer: 2,000 files in 100 folders take 1.6 ms so, and 7 ms by `os.stat` and a comparison of each.
+"""
+from __future__ import annotations
+
+import ctypes
+import os
+import stat
+import struct
+import time
+from collections.abc import Iterable, Sequence
+from dataclasses import dataclass
+from typing import NamedTuple
+
+from client.protocol import GREATEST_PAYLOAD
+from client.writers import has_writer_of
+
+TICK = 20_000_000
+"""Nanoseconds: a file's times go by ticks of the system, so that two changes within one may leave the same stamp."""
+
+SECOND = 1_000_000_000
+COARSE_TICK = 2 * SECOND + TICK
+"""The same where a time is one of whole seconds, as some file systems have them, and even seconds."""
+
+GREATEST_READ = GREATEST_PAYLOAD + 1
+"""No more bytes of a file are read: so many are refused already."""
+
+
+class Stamp(NamedTuple):
+    """What tells one state of a file from another without reading it."""
+
+    device: int
+    inode: int
+    size: int
+    modified: int
+    changed: int
+
+
+def stamp_of(status: os.stat_result) -> Stamp:
+    """The stamp of a file, by what the system says of it."""
+    return Stamp(status.st_dev, status.st_ino, status.st_size, status.st_mtime_ns, status.st_ctime_ns)
+
+
+def is_settled(stamp: Stamp, now: int) -> bool:
+    """Whether a change from `now` on is certain to give another stamp."""
+    return all(
+        when + (TICK if when % SECOND else COARSE_TICK) < now for when in (stamp.modified, stamp.changed)
+    )
+
+
+class Changing(Exception):
+    """The file changed while it was read."""
+
+
+class Written(Exception):
+    """The file is open for writing: what was read of it may be half of it."""
+
+
+class NotRegular(OSError):
+    """The name is not that of a regular file."""
+
+
+@dataclass(eq=False)
+class Input:
+    """A file of the link. It is `dirty` where it is to be read."""
+
+    path: str
+    data: bytes | None = None
+    """What was last read of it."""
+    stamp: Stamp | None = None
+    """The stamp of the file when `data` was read."""
+    settled: bool = False
+    """Whether any change since gives another stamp."""
+    dirty: bool = True
+    failure: str | None = None
+    """Why it could not be read, if so."""
+    missing: bool = False
+    writing: float | None = None
+    """When its writer, who has not closed it yet, was last heard of."""
+    asked: tuple[int, int] | None = None
+    """The device and inode of the file of which it was asked whether somebody writes it."""
+
+    def read(self) -> bool:
+        """Reads the file; says whether its bytes are others than before.
+
+        Raises Written where it is read for the first time, and somebody has opened it to write it, perhaps long ago.
+        """
+        self.dirty = False
+        self.missing = False
+        begun = time.time_ns()
+        try:
+            data, stamp = read_whole(self.path, self.asked)
+        except Changing:
+            self.failure = "it changes while it is read"
+            return False
+        except OSError as fault:
+            self.missing = isinstance(fault, FileNotFoundError)
+            self.failure = "it is not there" if self.missing else f"it cannot be read: {fault.strerror or fault}"
+            return False
+        self.failure = None
+        self.asked = (stamp.device, stamp.inode)
+        self.settled = is_settled(stamp, begun)
+        self.stamp = stamp
+        if data == self.data:
+            return False
+        self.data = data
+        return True
+
+    def is_same(self) -> bool:
+        """Whether the file is still what was last read of it."""
+        try:
+            found = os.stat(self.path)
+            if (found.st_dev, found.st_ino, found.st_size, found.st_mtime_ns, found.st_ctime_ns) != self.stamp:
+                return False
+            return self.settled or self._is_same_again()
+        except (OSError, Changing):
+            return False
+
+    def _is_same_again(self) -> bool:
+        begun = time.time_ns()
+        data, stamp = read_whole(self.path, self.asked)
+        if data != self.data or stamp != self.stamp:
+            return False
+        self.settled = is_settled(stamp, begun)
+        return True
+
+
+def read_whole(path: str, asked: tuple[int, int] | None = (0, 0)) -> tuple[bytes, Stamp]:
+    """The bytes of a file, as far as they are ever read, and the stamp that it had before and after.
+
+    Raises Written where somebody writes it, unless its device and inode are `asked`; by default that is not asked.
+    """
+    descriptor = os.open(path, os.O_RDONLY | os.O_NONBLOCK | os.O_CLOEXEC)
+    try:
+        status = os.fstat(descriptor)
+        if not stat.S_ISREG(status.st_mode):
+            raise NotRegular("it is no regular file")
+        before = stamp_of(status)
+        if asked != (0, 0) and asked != before[:2] and has_writer_of(descriptor, before.device):
+            raise Written(path)
+        parts = []
+        left = GREATEST_READ
+        while left > 0 and (part := os.read(descriptor, min(left, before.size + 1))):
+            parts.append(part)
+            left -= len(part)
+        after = stamp_of(os.fstat(descriptor))
+    finally:
+        os.close(descriptor)
+    if before != after or stamp_of(os.stat(path)) != after:
+        raise Changing(path)
+    return parts[0] if len(parts) == 1 else b"".join(parts), after
+
+
+MOST_FOLDERS = 256
+"""The folders that are kept open; the files of others are looked at by their whole paths."""
+
+AT_FDCWD = -100
+STATX_BASIC = 0x7FF
+STATX_BYTES = 256
+FOUND = struct.Struct("<32xQQ48xqI4xqI12xII")
+"""What statx(2) writes: inode, size, changed and modified in seconds and nanoseconds, the device's numbers."""
+
+_libc = ctypes.CDLL(None)
+_statx = getattr(_libc, "statx", None)
+
+
+class Folder:
+    """The files of one folder, by their names in it."""
+
+    def __init__(self, path: str, keeps_open: bool) -> None:
+        self.path = path
+        self.inputs: list[Input] = []
+        self._keeps_open = keeps_open
+        self._descriptor = -1
+        self._identity: tuple[int, int] | None = None
+        self._calls: list[tuple[object, ...]] = []
+        self._length = 0
+        self._found = ctypes.create_string_buffer(0)
+        self._same = b""
+        """What was found when all files were as they had been read, and their stamps then."""
+        self._stamps: list[Stamp | None] = []
+
+    def changed(self) -> list[Input]:
+        """The inputs that are not what was last read of them."""
+        if _statx is None or not self._is_open():
+            return [one for one in self.inputs if not one.is_same()]
+        if len(self._calls) != len(self.inputs):
+            self._prepare()
+        failed = any([_statx(*call) for call in self._calls])
+        stamps = [one.stamp for one in self.inputs]
+        if failed or self._found.raw != self._same or stamps != self._stamps:
+            return self._compared(failed, stamps)
+        return [one for one in self.inputs if not one.settled and not one.is_same()]
+
+    def _compared(self, failed: bool, stamps: list[Stamp | None]) -> list[Input]:
+        """The same, file by file."""
+        found = [failed or not is_found(self._found, STATX_BYTES * at, stamp) for at, stamp in enumerate(stamps)]
+        changed = [one for one, is_other in zip(self.inputs, found) if (is_other or not one.settled) and not one.is_same()]
+        if not changed and not failed:
+            self._same, self._stamps = self._found.raw, stamps
+        return changed
+
+    def _is_open(self) -> bool:
+        """Opens the folder, again where its path leads to another one now; says whether it is there."""
+        try:
+            status = os.stat(self.path or ".")
+            if (status.st_dev, status.st_ino) != self._identity:
+                self.close()
+                if self._keeps_open:
+                    self._descriptor = os.open(self.path or ".", os.O_PATH | os.O_DIRECTORY | os.O_CLOEXEC)
+                    status = os.fstat(self._descriptor)
+                self._identity = status.st_dev, status.st_ino
+        except OSError:
+            self.close()
+            return False
+        return True
+
+    def _prepare(self) -> None:
+        self._found = ctypes.create_string_buffer(STATX_BYTES * len(self.inputs))
+        begin = ctypes.addressof(self._found)
+        folder = ctypes.c_int(self._descriptor if self._descriptor >= 0 else AT_FDCWD)
+        names = [os.path.basename(one.path) if self._descriptor >= 0 else one.path for one in self.inputs]
+        self._calls = [
+            (folder, ctypes.c_char_p(os.fsencode(name)), ctypes.c_int(0), ctypes.c_uint(STATX_BASIC),
+             ctypes.c_void_p(begin + STATX_BYTES * at))
+            for at, name in enumerate(names)
+        ]
+        self._same = b""
+
+    def close(self) -> None:
+        """Forgets what it knows of the folder."""
+        descriptor, self._descriptor = self._descriptor, -1
+        if descriptor >= 0:
+            os.close(descriptor)
+        self._identity = None
+        self._calls = []
+
+
+def is_found(found: ctypes.Array[ctypes.c_char], at: int, stamp: Stamp | None) -> bool:
+    """Whether what statx wrote there is this stamp."""
+    inode, size, changed, changed_ns, modified, modified_ns, major, minor = FOUND.unpack_from(found, at)
+    times = SECOND * modified + modified_ns, SECOND * changed + changed_ns
+    return (os.makedev(major, minor), inode, size, *times) == stamp
+
+
+class Looks:
+    """Looks at many files at once. Paths are as they were given: those that are relative go by the working folder."""
+
+    def __init__(self) -> None:
+        self._inputs: Sequence[Input] = ()
+        self._folders: list[Folder] = []
+
+    def changed(self, inputs: Sequence[Input]) -> list[Input]:
+        """The inputs whose files are not what was last read of them. It is quicker for those of the call before."""
+        if inputs is not self._inputs:
+            self._sort(inputs)
+        found: list[Input] = []
+        for folder in self._folders:
+            found += folder.changed()
+        return found
+
+    def close(self) -> None:
+        """Closes the folders."""
+        for folder in self._folders:
+            folder.close()
+        self._inputs, self._folders = (), []
+
+    def _sort(self, inputs: Sequence[Input]) -> None:
+        self.close()
+        self._inputs = inputs
+        folders: dict[str, Folder] = {}
+        for one in inputs:
+            path = os.path.dirname(one.path)
+            if path not in folders:
+                folders[path] = Folder(path, len(folders) < MOST_FOLDERS)
+            folders[path].inputs.append(one)
+        self._folders = list(folders.values())
+
+
+def changed_among(inputs: Iterable[Input]) -> list[Input]:
+    """The inputs whose files are not what was last read of them, looked at once."""
+    looks = Looks()
+    try:
+        return looks.changed(list(inputs))
+    finally:
+        looks.close()
