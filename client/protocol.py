@@ -152,8 +152,18 @@ class Session:
         return self._query(b"image")
 
     def ask_image(self) -> int:
-        """Asks for the image of the last link; gives its length, so many bytes follow that `take_to` takes."""
+        """Asks for the image of the last link; gives its length: so many bytes follow, for `take` or `take_to`."""
         return self._length(self._send(b"image"))
+
+    def take(self, length: int) -> bytes:
+        """Takes the bytes of an answer."""
+        try:
+            data = self._from.read(length)
+        except (OSError, ValueError) as fault:
+            raise SessionEnded(str(fault)) from fault
+        if len(data) != length:
+            raise SessionEnded("the session ended in an answer")
+        return data
 
     def take_to(self, descriptor: int, length: int) -> None:
         """Writes what was asked for to a file, without a copy here.
@@ -265,14 +275,7 @@ class Session:
         raise SessionEnded(f"not an answer to an edit: {b' '.join(words)!r}")
 
     def _query(self, line: bytes) -> bytes:
-        length = self._length(self._send(line))
-        try:
-            data = self._from.read(length)
-        except (OSError, ValueError) as fault:
-            raise SessionEnded(str(fault)) from fault
-        if len(data) != length:
-            raise SessionEnded("the session ended in an answer")
-        return data
+        return self.take(self._length(self._send(line)))
 
     @staticmethod
     def _length(words: list[bytes]) -> int:

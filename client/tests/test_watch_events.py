@@ -9,10 +9,10 @@ import time
 from pathlib import Path
 from unittest import mock
 
+from client.inputs_state import Input
 from client.tests.test_watch_commands import MAKE, FolderTest
 from client.tests.watching import Watching, numbered, wait_until
 from client.watch.events import Watcher
-from client.watch.inputs import Input
 from client.watch.loop import Watch
 from client.watch.says import Teller
 from client.watch.words import read_words
@@ -56,8 +56,8 @@ class EventsTest(FolderTest):
         watch = Watch(read_words(["-T", "t.ld", "-o", "image"]), mock.Mock(), Teller(True, "image", io.StringIO()))
         self.addCleanup(watch.end)
         for last, due in ((100.0, 100.015), (100.1, 100.115), (100.19, 100.2), (107.0, 100.2)):
-            watch.first_event, watch.last_event = 100.0, last
-            self.assertAlmostEqual(watch._due(), due)
+            watch.gathering.first, watch.gathering.last = 100.0, last
+            self.assertAlmostEqual(watch.gathering.due(), due)
 
     def test_event_without_a_change(self) -> None:
         """An event always leads to a reading, though the file's times are what they were."""
@@ -65,10 +65,10 @@ class EventsTest(FolderTest):
         self.addCleanup(watch.end)
         one = Input(str(self.folder / "o1.o"))
         one.read()
-        watch.places.put(one)
+        watch.inputs.places.put(one)
         with open(one.path, "r+b"):
             pass
-        watch._drain()
+        watch.drain()
         self.assertTrue(one.dirty)
         self.assertTrue(one.is_same())
 

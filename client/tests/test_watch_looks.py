@@ -11,11 +11,12 @@ from contextlib import nullcontext
 from typing import Any
 from unittest import mock
 
+from client import atomic_file, inputs_state
+from client.inputs_state import Changing, Input, Stamp, changed_among
 from client.protocol import Session
 from client.tests.test_watch_commands import FolderTest
 from client.tests.watching import SCRIPT, numbered
-from client.watch import inputs
-from client.watch.inputs import Changing, Input, Stamp, changed_among
+from client.watch.inputs import Inputs
 from client.watch.loop import Watch
 from client.watch.says import Teller
 from client.watch.words import read_words
@@ -45,14 +46,14 @@ class WatchTest(FolderTest):
     def change(self, name: str, data: bytes) -> None:
         """Writes a file so that no event tells of it."""
         (self.folder / "other" / name).write_bytes(data)
-        self.one._drain()
-        self.assertEqual([one for one in self.one._inputs() if one.dirty], [])
+        self.one.drain()
+        self.assertEqual([one for one in self.one.inputs.all() if one.dirty], [])
 
     def step(self) -> None:
         """Takes the events that are there, and makes a step."""
-        self.one._drain()
-        self.one.first_event = None
-        self.one._step()
+        self.one.drain()
+        self.one.gathering.first = None
+        self.one.step()
 
     def said(self) -> list[dict[str, Any]]:
         """What was said since the last call."""
@@ -64,13 +65,13 @@ class WatchTest(FolderTest):
     def assert_anew(self) -> None:
         """Nothing was said, and it begins anew."""
         self.assertEqual(self.said(), [])
-        self.assertIsNotNone(self.one.first_event)
+        self.assertIsNotNone(self.one.gathering.first)
 
     def assert_linked(self) -> None:
         """A step puts the image of the files in place, says so, and leaves nothing to do."""
         self.step()
         self.assertEqual([(said["event"], said["written"]) for said in self.said()], [("linked", True)])
-        self.assertIsNone(self.one.first_event)
+        self.assertIsNone(self.one.gathering.first)
         self.assertEqual(self.folder.image(), self.linked())
 
     def linked(self) -> bytes:
@@ -105,8 +106,8 @@ class LooksTest(WatchTest):
     def test_before_the_image(self) -> None:
         """A file that changed after it was read: the image is not asked for."""
         for name, data in self.changes():
-            with self.subTest(name), mock.patch.object(Session, "image") as asked:
-                with mock.patch.object(self.one, "_read", self.then(self.one._read, name, data)):
+            with self.subTest(name), mock.patch.object(Session, "ask_image") as asked:
+                with mock.patch.object(self.one.inputs, "search", self.then(self.one.inputs.search, name, data)):
                     self.step()
                 asked.assert_not_called()
                 self.assert_anew()
@@ -120,7 +121,7 @@ class LooksTest(WatchTest):
                 self.folder.put("o0.o", b"no object")
                 self.step()
                 self.folder.put("o0.o", numbered(0, 1, 3))
-                with mock.patch.object(self.one, "_read", self.then(self.one._read, name, data)):
+                with mock.patch.object(self.one.inputs, "search", self.then(self.one.inputs.search, name, data)):
                     self.step()
                 self.assert_anew()
                 self.assert_linked()
@@ -130,8 +131,8 @@ class LooksTest(WatchTest):
         for name, data in self.changes():
             with self.subTest(name):
                 before = self.folder.image() if (self.folder / "image").exists() else b""
-                with mock.patch.object(Session, "image", self.then(Session.image, name, data)):
-                    self.one.is_current = False
+                with mock.patch.object(Session, "ask_image", self.then(Session.ask_image, name, data)):
+                    self.one.image.is_old()
                     self.step()
                 self.assert_anew()
                 self.assertEqual(self.folder.image() if before else b"", before)
@@ -142,15 +143,16 @@ class LooksTest(WatchTest):
         """An event that comes after the second look: the image is not put in place."""
         looks = 0
 
-        def look(files: Iterable[Input]) -> list[Input]:
+        def look(files: Inputs) -> list[Input]:
             nonlocal looks
             looks += 1
-            found = changed_among(files)
+            found = really(files)
             if looks == 2:
                 self.folder.renew(1, 2)
             return found
 
-        with mock.patch("client.watch.loop.changed_among", look):
+        really = Inputs.changed
+        with mock.patch.object(Inputs, "changed", look):
             self.step()
         self.assertEqual(looks, 2)
         self.assert_anew()
@@ -160,12 +162,12 @@ class LooksTest(WatchTest):
     def test_after_the_looks(self) -> None:
         """A file that changed after the second look: the image is that of the files at that look; then the next is."""
         expected = self.linked()
-        with mock.patch.object(self.one, "_commit", self.then(self.one._commit, "o1.o", numbered(1, 2, 3))):
+        with mock.patch.object(self.one.image, "commit", self.then(self.one.image.commit, "o1.o", numbered(1, 2, 3))):
             self.step()
         self.assertEqual(self.folder.image(), expected)
         self.assertEqual([said["event"] for said in self.said()], ["linked"])
-        self.one._look_at_all(time.monotonic())
-        self.assertIsNotNone(self.one.first_event)
+        self.one.look_at_all(time.monotonic())
+        self.assertIsNotNone(self.one.gathering.first)
         self.assert_linked()
 
 
@@ -176,27 +178,27 @@ class PutTest(WatchTest):
         """The file that is renamed has all bytes and the image's mode by then."""
         renamed = []
 
-        def rename(source: str, target: str) -> None:
+        def exchange(source: str, target: str) -> bool:
             with open(source, "rb") as file:
                 renamed.append((target, file.read(), os.stat(source).st_mode & 0o777))
-            really(source, target)
+            return really(source, target)
 
-        really = os.rename
+        really = atomic_file.exchange
         (self.folder / "image").write_bytes(b"old")
         os.chmod(self.folder / "image", 0o711)
-        with mock.patch("os.rename", rename):
+        with mock.patch.object(atomic_file, "exchange", exchange):
             self.step()
         self.assertEqual(renamed, [(os.path.realpath(self.path("image")), self.linked(), 0o711)])
 
     def test_changed_while_it_was_read(self) -> None:
         """An object that changed while it was read is not said at once, and is tried again at the next event."""
-        with mock.patch.object(inputs, "read_whole", side_effect=Changing):
+        with mock.patch.object(inputs_state, "read_whole", side_effect=Changing):
             self.step()
-        self.one._say_in_time(time.monotonic())
+        self.one.standing.say_in_time(time.monotonic())
         self.assertEqual(self.said(), [])
-        self.one._say_in_time(time.monotonic() + 1)
+        self.one.standing.say_in_time(time.monotonic() + 1)
         self.assertIn("it changes while it is read", [one["why"] for one in self.said()[0]["reasons"]])
-        for one in self.one._inputs():
+        for one in self.one.inputs.all():
             os.utime(one.path)
         self.assert_linked()
 

@@ -6,7 +6,8 @@ from unittest import mock
 from client.protocol import Answer, Options, Refused, Session
 from client.tests.watching import SCRIPT, Folder, numbered
 from client.watch import kept
-from client.watch.kept import Kept, Project, longest_increasing
+from client.watch.kept import Kept, longest_increasing
+from client.watch.project import Project
 from client.watch.quick import SCRIPT_WITHOUT_LINK, with_entry
 
 COUNT = 12

@@ -10,7 +10,7 @@ from unittest import mock
 
 from client.messages import Message
 from client.tests.watching import PROGRAM, Folder
-from client.watch.inputs import Input, Stamp, changed_among, is_settled
+from client.inputs_state import Input, Stamp, changed_among, is_settled
 from client.watch.says import Faulty, Good, RefusedInputs, Teller, Waiting
 from client.watch.words import ListFile, WordsRefused, read_words
 

@@ -5,6 +5,9 @@ import os
 import signal
 import subprocess
 import sys
+import time
+
+from client.watch.jobserver import Jobserver
 
 GRACE = 2.0
 """Seconds that a command has to end after SIGTERM."""
@@ -13,19 +16,25 @@ GRACE = 2.0
 class Command:
     """A command of the shell in a process group of its own. Its standard output may be sent to standard error."""
 
-    def __init__(self, text: str, to_errors: bool) -> None:
+    def __init__(self, text: str, to_errors: bool, jobserver: Jobserver | None = None) -> None:
         self.text = text
+        self.started = 0.0
+        """When it was started last."""
         self._to_errors = to_errors
+        self._jobserver = jobserver or Jobserver({})
         self._process: subprocess.Popen[bytes] | None = None
 
     def start(self) -> None:
         """Starts it."""
         sys.stdout.flush()
+        self.started = time.monotonic()
         self._process = subprocess.Popen(
             ["/bin/sh", "-c", self.text],
             stdin=subprocess.DEVNULL,
             stdout=sys.stderr.fileno() if self._to_errors else None,
             process_group=0,
+            env=self._jobserver.environment(os.environ),
+            pass_fds=self._jobserver.descriptors,
         )
 
     def is_running(self) -> bool:

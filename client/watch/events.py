@@ -85,6 +85,10 @@ class Watcher:
         if is_new or identity(folder) != self._folders[folder]:
             self.is_disturbed = (self._try(folder) and not is_new) or self.is_disturbed
 
+    def watch_beside(self, path: str) -> None:
+        """Watches the folder of a file too."""
+        self.watch(os.path.dirname(path))
+
     def look(self) -> bool:
         """Watches folders that came since, or that others stand in place of; says whether there are such."""
         renewed = False

@@ -4,9 +4,9 @@ from __future__ import annotations
 from bisect import bisect_left
 from collections.abc import Callable, Sequence
 from contextlib import AbstractContextManager, nullcontext
-from dataclasses import dataclass, field
 
 from client.protocol import GREATEST_PAYLOAD, Answer, Linked, Options, Refused, Session, find_program
+from client.watch.project import Project
 from client.watch.quick import SCRIPT_WITHOUT_LINK, with_entry
 
 HANDFUL = 3
@@ -23,14 +23,6 @@ TOO_LONG = Refused(6, 0)
 
 SCRIPT = ""
 """The script among the names of inputs: no object has this one."""
-
-
-@dataclass(frozen=True)
-class Project:
-    """What a link is made of: the script, and the objects in their order under their names."""
-
-    script: bytes
-    objects: dict[str, bytes] = field(default_factory=dict)
 
 
 class Kept:
@@ -62,7 +54,7 @@ class Kept:
 
     def bring(self, project: Project) -> None:
         """Sends what the session does not hold yet. Afterwards `refused` and `status` say what it said to it."""
-        script, options = self._script_to_send(project.script)
+        script, options = self._script_to_send(project.script, project.options or self._options)
         if self.session is not None and options != self._started_with:
             self.end()
         if self.session is None:
@@ -110,15 +102,15 @@ class Kept:
         self._forget()
         return session.kill() if session else 0
 
-    def _script_to_send(self, script: bytes) -> tuple[bytes, Options]:
+    @staticmethod
+    def _script_to_send(script: bytes, options: Options) -> tuple[bytes, Options]:
         """The script with the entry symbol of the options in it, and the options that are left to the session."""
-        entry = self._options.entry
-        if entry is None:
-            return script, self._options
-        named = with_entry(script, entry.encode())
+        if options.entry is None:
+            return script, options
+        named = with_entry(script, options.entry.encode())
         if named is None:
-            return script, self._options
-        return named, Options(self._options.gc_sections, None, self._options.orphan_handling)
+            return script, options
+        return named, Options(options.gc_sections, None, options.orphan_handling)
 
     def _count_of_order(self, project: Project) -> int:
         """How many objects are to be removed or moved."""

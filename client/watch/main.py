@@ -2,10 +2,12 @@
 from __future__ import annotations
 
 import io
+import os
 import sys
 
-from client.watch.inputs import Changing, read_whole
+from client.inputs_state import Changing, read_whole
 from client.watch.listing import NamesRefused, check_names, check_outputs, object_names
+from client.watch.jobserver import Jobserver
 from client.watch.loop import STATUS_DEVICE, STATUS_MEMORY, STATUS_REFUSED, Watch
 from client.watch.says import Teller
 from client.watch.stops import Stopped, Stops
@@ -14,6 +16,8 @@ from client.watch.words import USAGE, ListFile, Words, WordsRefused, read_words
 
 def main(words: list[str]) -> int:
     """Runs the program with these words; gives the exit status."""
+    jobserver = Jobserver(os.environ)
+    open_standard_streams()
     for stream in (sys.stdout, sys.stderr):
         if isinstance(stream, io.TextIOWrapper):
             stream.reconfigure(errors="backslashreplace")  # what the locale has no character for
@@ -30,7 +34,7 @@ def main(words: list[str]) -> int:
         print(f"ldi-watch: {refused}", file=sys.stderr)
         return STATUS_REFUSED
     stops = Stops()
-    watch = Watch(asked, stops, Teller(asked.json, asked.image))
+    watch = Watch(asked, stops, Teller(asked.json, asked.image), jobserver)
     try:
         return watch.run()
     except Stopped as stopped:
@@ -43,6 +47,15 @@ def main(words: list[str]) -> int:
         return STATUS_MEMORY
     finally:
         watch.end()
+
+
+def open_standard_streams() -> None:
+    """Opens /dev/null in place of standard streams that are closed, so that no file gets their numbers."""
+    while (descriptor := os.open(os.devnull, os.O_RDWR)) <= 2:
+        os.set_inheritable(descriptor, True)
+    os.close(descriptor)
+    sys.stdout = sys.stdout or open(1, "w", encoding="utf-8", closefd=False)
+    sys.stderr = sys.stderr or open(2, "w", encoding="utf-8", closefd=False)
 
 
 def check_files(words: Words) -> None:

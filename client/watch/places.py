@@ -4,8 +4,9 @@ from __future__ import annotations
 import os
 from collections.abc import Iterable
 
+from client.inputs_state import Input
 from client.watch.events import Watcher
-from client.watch.inputs import Input
+from client.watch.here import real
 
 
 class Places:
@@ -24,10 +25,10 @@ class Places:
         """Watches for events of this input."""
         folder, name = os.path.split(one.path)
         if folder not in self._folders:
-            self._folders[folder] = os.path.realpath(folder or ".")
+            self._folders[folder] = real(folder or ".")
         paths = {os.path.join(self._folders[folder], name)}
         if os.path.islink(one.path):
-            paths.add(os.path.realpath(one.path))
+            paths.add(real(one.path))
         for path in paths:
             known = self._inputs.setdefault(path, [])
             if one not in known:
@@ -43,7 +44,7 @@ class Places:
     def look(self) -> None:
         """Looks where the folders are now."""
         for folder, known in list(self._folders.items()):
-            if os.path.realpath(folder or ".") != known:
+            if real(folder or ".") != known:
                 self._folders.clear()
                 for one in {id(one): one for inputs in self._inputs.values() for one in inputs}.values():
                     self.put(one)
