@@ -44,6 +44,8 @@ class NewFile:
         self._keeps_mode = keeps_mode
         self._beside: str | None = None
         self._descriptor = -1
+        self.reader = -1
+        """A descriptor to read the new file. It has a lock that tells `remove_left` that the file is in use."""
 
     def open(self) -> int | None:
         """Makes the new file; gives its descriptor, or None where the place is that of no regular file.
@@ -78,16 +80,17 @@ class NewFile:
         for number in range(MOST_NAMES):
             self._beside = beside(self.target, number)
             try:
-                self._descriptor = os.open(self._beside, os.O_RDWR | os.O_CREAT | os.O_EXCL | os.O_CLOEXEC, 0o600)
+                self._descriptor = os.open(self._beside, os.O_WRONLY | os.O_CREAT | os.O_EXCL | os.O_CLOEXEC, 0o600)
                 break
             except FileExistsError:  # of another output, or left by a process that was killed
                 self._beside = None
         else:
             raise FileExistsError(errno.EEXIST, "there are too many files beside it that were left half written")
+        self.reader = os.open(self._beside, os.O_RDONLY | os.O_CLOEXEC)
         try:
-            fcntl.flock(self._descriptor, fcntl.LOCK_SH | fcntl.LOCK_NB)  # tells `remove_left` that it is in use
+            fcntl.flock(self.reader, fcntl.LOCK_SH | fcntl.LOCK_NB)
         except OSError:
-            pass
+            pass  # of a file system without locks
 
     def is_open(self) -> bool:
         """Whether there is a new file."""
@@ -96,26 +99,29 @@ class NewFile:
     def commit(self) -> str | None:
         """Puts the new file in place; gives the name of the old one, where it is left for the caller to remove."""
         assert self._beside is not None
+        self._descriptor = closed(self._descriptor)  # before it is in place: who starts it finds no writer
         name, old = self._beside, None
         if exchange(name, self.target):
             old = name
         else:
             os.rename(name, self.target)
         self._beside = None
-        self._close()
+        self.reader = closed(self.reader)
         return old
 
     def drop(self) -> None:
         """Removes the new file."""
         name, self._beside = self._beside, None
-        self._close()
+        self._descriptor, self.reader = closed(self._descriptor), closed(self.reader)
         if name is not None:
             remove(name)
 
-    def _close(self) -> None:
-        descriptor, self._descriptor = self._descriptor, -1
-        if descriptor >= 0:
-            os.close(descriptor)
+
+def closed(descriptor: int) -> int:
+    """Closes a descriptor, if it is one; gives -1."""
+    if descriptor >= 0:
+        os.close(descriptor)
+    return -1
 
 
 def exchange(name: str, target: str) -> bool:

@@ -42,7 +42,6 @@ class Output:
         self.path = path
         self._new = NewFile(path, mode)
         self._data = b""
-        self._descriptor: int | None = None
         self._placed: Stamp | None = None
 
     def prepare(self, data: bytes) -> None:
@@ -76,8 +75,7 @@ class Output:
     def _fill(self, write: Callable[[int | None], None]) -> None:
         self.drop()
         try:
-            self._descriptor = self._new.open()
-            write(self._descriptor)
+            write(self._new.open())
         except OSError as fault:
             self.drop()
             raise NotWritten(self.path, fault) from fault
@@ -127,11 +125,11 @@ class Output:
     def holds(self) -> bool:
         """Whether the file has the bytes that were prepared; takes it then for what was put in place."""
         try:
-            if not stat.S_ISREG(os.stat(self.path).st_mode) or self._descriptor is None:
+            if not stat.S_ISREG(os.stat(self.path).st_mode) or self.is_in_place():
                 return False
             stamp = self._stamp()
             with open(self.path, "rb") as file:
-                same = self._is_prepared(file.fileno(), self._descriptor)
+                same = self._is_prepared(file.fileno(), self._new.reader)
         except OSError:
             return False
         if same:

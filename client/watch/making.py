@@ -30,6 +30,8 @@ class Making:
         """Whether it is to be run."""
         self.due = 0.0
         """From when on it may be run for what changed within a run."""
+        self.paused_for: list[str] = []
+        """The files for which there is a pause before the next run."""
         self.running = False
         """Whether it runs, or its end was not dealt with yet."""
         self.failed: int | None = None
@@ -69,7 +71,7 @@ class Making:
         self._known[path] = digest
         self._times.pop(path, None)
         self._own.discard(path)
-        self.wanted, self.due = True, 0.0
+        self.wanted, self.due, self.paused_for = True, 0.0, []
         return True
 
     def look(self) -> bool:
@@ -85,23 +87,19 @@ class Making:
         self._differed.clear()
         self.command.start()
 
-    def finish(self, status: int) -> list[str]:
-        """The command has ended; decides whether what changed meanwhile wants another run.
-
-        Gives the files, if they are those alone, for which there is a pause before that run.
-        """
+    def finish(self, status: int) -> None:
+        """The command has ended; decides whether what changed meanwhile wants another run."""
         self.running = False
         self.failed = status or None
         changed = [path for path in sorted(self._in_run) if self._changed_in_run(path)]
         self._times = {path: self._times.get(path, QUICK if path in self._own else 0) + 1 for path in changed}
         if not changed:
-            return []
-        self.wanted, self.due = True, 0.0
+            return
+        self.wanted, self.due, self.paused_for = True, 0.0, []
         least = min(self._times.values())
-        if least <= QUICK:
-            return []
-        self.due = time.monotonic() + min(PAUSE * 2 ** min(least - QUICK - 1, 10), LONGEST_PAUSE)
-        return changed
+        if least > QUICK:
+            self.due = time.monotonic() + min(PAUSE * 2 ** min(least - QUICK - 1, 10), LONGEST_PAUSE)
+            self.paused_for = changed
 
     def _changed_in_run(self, path: str) -> bool:
         """Whether a file's bytes are not those that the command began with, as far as it knew the file."""

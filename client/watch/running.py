@@ -62,14 +62,15 @@ class Commands:
         if self.making is None or status is None:
             return False
         drain()
-        for path in self.making.finish(status):
-            self._say_pause(self.making, path)
+        self.making.finish(status)
         return True
 
-    def _say_pause(self, making: Making, path: str) -> None:
-        name, seconds = making.sources.name(path), making.due - time.monotonic()
-        self._teller.note(name, f"it changes in each run of `{making.command.text}`, which follows once more in "
-                                f"{seconds:.0f} s; --sources '!{name}' leaves it out, if the command writes it")
+    def _say_why(self, making: Making) -> None:
+        """Says why the command is run though nothing seems to have changed."""
+        for path in making.paused_for:
+            name = making.sources.name(path)
+            self._teller.note(name, f"it has changed in each of the last runs of `{making.command.text}`, which is run "
+                                    f"once more; --sources '!{name}' leaves it out, if the command writes it")
 
     def times(self) -> list[float]:
         """When there is something to do, though nothing happens."""
@@ -90,6 +91,7 @@ class Commands:
         if making is None:
             return None
         if making.wanted and not making.running and not making.pauses():
+            self._say_why(making)
             with self._shield():
                 making.start()
         name = f"`{making.command.text}`"
