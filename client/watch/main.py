@@ -40,7 +40,8 @@ def main(words: list[str]) -> int:
     except Stopped as stopped:
         return 128 + stopped.number if asked.once else 0
     except OSError as fault:
-        print(f"ldi-watch: {fault}", file=sys.stderr)
+        text = f"{fault.filename}: {fault.strerror}" if fault.filename and fault.strerror else str(fault)
+        print(f"ldi-watch: {text}", file=sys.stderr)
         return STATUS_DEVICE
     except MemoryError:
         print("ldi-watch: out of memory", file=sys.stderr)

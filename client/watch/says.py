@@ -62,7 +62,7 @@ class Teller:
         self._as_json = as_json
         self._image = image
         self._to = to or sys.stdout
-        self._coloured = self._to.isatty() and not os.environ.get("NO_COLOR") and not as_json
+        self._coloured = has_colours(self._to) and not as_json
         self._standing: dict[tuple[str, ...], int] = {}
         self._number = 0
         self._said: object = None
@@ -131,16 +131,16 @@ class Teller:
 
     def _messages(self, messages: Sequence[Message]) -> None:
         for message in messages[:MOST_LINES]:
-            print(message, file=self._to)
+            self._print(str(message))
         if len(messages) > MOST_LINES:
-            print(f"and {len(messages) - MOST_LINES} more", file=self._to)
+            self._print(f"and {len(messages) - MOST_LINES} more")
 
     def _old_image(self) -> str:
         return "the old image stays" if os.path.exists(self._image) else "there is no image yet"
 
     def _line(self, colour: str, head: str, rest: str, between: str = ": ") -> None:
         shown = f"\x1b[{colour}m{head}\x1b[0m" if self._coloured else head
-        print(f"{shown}{between}{rest}", file=self._to, flush=True)
+        self._print(f"{shown}{between}{rest}")
 
     def _print_json(self, state: State) -> None:
         match state:
@@ -157,7 +157,19 @@ class Teller:
 
     def _object(self, event: str, **values: object) -> None:
         record = {"event": event, "time": round(time.time(), 3), "image": self._image, **values}
-        print(json.dumps(record), file=self._to, flush=True)
+        self._print(json.dumps(record))
+
+    def _print(self, line: str) -> None:
+        """Prints a line; OSError that names standard output where that cannot be done."""
+        try:
+            print(line, file=self._to, flush=True)
+        except OSError as fault:
+            raise OSError(fault.errno, fault.strerror, "standard output") from fault
+
+
+def has_colours(to: IO[str]) -> bool:
+    """Whether this is a terminal that has colours, and they are wanted."""
+    return to.isatty() and not os.environ.get("NO_COLOR") and os.environ.get("TERM") != "dumb"
 
 
 def kind_of(line: str) -> tuple[str, ...]:

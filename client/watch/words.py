@@ -15,7 +15,8 @@ Keeps IMAGE up to date while the script and the objects change. The words of `ld
   @LIST                a file with an object's name a line, read again when it changes
   --make COMMAND       is run at the start and when a source changes; no image while it runs, or after it has failed
   --sources PATTERN..  the sources: words up to the next option, or several in one word; without it
-                       *.c *.h *.s *.S *.cc *.rs *.ld Makefile, below this folder
+                       *.c *.h *.s *.S *.cc *.cpp *.cxx *.hpp *.inc *.rs *.ld Makefile, below this folder;
+                       a pattern that begins with ! names files that are none
   --run COMMAND        is run after each new image; what ran before is ended first
   --gdb FILE           a script for gdb that goes with each new image, as of ldi-gdb
   --json               one object a line on standard output in place of the lines for people
@@ -24,7 +25,7 @@ Keeps IMAGE up to date while the script and the objects change. The words of `ld
   -h, --help           prints this
 """
 
-DEFAULT_SOURCES = ("*.c", "*.h", "*.s", "*.S", "*.cc", "*.rs", "*.ld", "Makefile")
+DEFAULT_SOURCES = tuple("*.c *.h *.s *.S *.cc *.cpp *.cxx *.hpp *.inc *.rs *.ld Makefile".split())
 
 SHORT = ("-T", "-o", "-e")
 LONG = ("--Map", "--orphan-handling", "--make", "--run", "--gdb")
@@ -132,6 +133,11 @@ def _options(reader: _Reader) -> Options:
     return Options("--gc-sections" in reader.flags, reader.values.get("-e"), handling)
 
 
+def sources_of(patterns: list[str]) -> tuple[str, ...]:
+    """The patterns of sources; where all of these name files that are none, the default ones with them."""
+    return (*(() if any(not word.startswith("!") for word in patterns) else DEFAULT_SOURCES), *patterns)
+
+
 def read_words(words: list[str]) -> Words:
     """Reads the words of the command line, without the program's name."""
     for word in words:
@@ -153,7 +159,7 @@ def read_words(words: list[str]) -> Words:
         map=reader.values.get("--Map"),
         options=_options(reader),
         make=reader.values.get("--make"),
-        sources=tuple(reader.sources or DEFAULT_SOURCES),
+        sources=sources_of(reader.sources or []),
         run=reader.values.get("--run"),
         gdb=reader.values.get("--gdb"),
         json="--json" in reader.flags,
