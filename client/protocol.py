@@ -102,8 +102,10 @@ class Session:
     """
 
     def __init__(
-        self, options: Options = Options(), program: str | None = None, timeout: float | None = None
+        self, options: Options = Options(), program: str | None = None, timeout: float | None = None,
+        errors: int | None = None,
     ) -> None:
+        """`errors` is the standard error of its process, in place of that of this one."""
         self.timeout = timeout
         self._is_closed = False
         """Whether the session has closed a pipe, as it does when it ends."""
@@ -111,6 +113,7 @@ class Session:
             [program or find_program(), "session", *options.words()],
             stdin=subprocess.PIPE,
             stdout=subprocess.PIPE,
+            stderr=errors,
             start_new_session=True,
         )
         self._to = cast(IO[bytes], self.process.stdin)
@@ -126,6 +129,10 @@ class Session:
     def fileno(self) -> int:
         """A descriptor that has something to read, between two commands, only where the session has ended."""
         return self._from.fileno()
+
+    def filenos(self) -> tuple[int, int]:
+        """The descriptors of both pipes."""
+        return self._to.fileno(), self._from.fileno()
 
     def add(self, name: bytes, position: int, data: bytes) -> Answer:
         """Adds an object before `position`, counted from 0."""

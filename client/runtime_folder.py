@@ -3,7 +3,10 @@ from __future__ import annotations
 
 import os
 import stat
-from collections.abc import Mapping
+
+TYPE_CHECKING = False
+if TYPE_CHECKING:
+    from collections.abc import Mapping  # takes time to import, where each millisecond counts
 
 
 def runtime_folder(environment: Mapping[str, str]) -> str | None:

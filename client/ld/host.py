@@ -6,6 +6,7 @@ The one here is that of a process that makes one link and ends. Behind `ld.ldi`'
 from __future__ import annotations
 
 from collections.abc import Mapping, Sequence
+from typing import TYPE_CHECKING
 
 from client.adapt.objects import Objects as Known
 from client.ld.command import Command
@@ -15,6 +16,9 @@ from client.ld.link import Opened
 from client.ld.output import write_file
 from client.ld.script import Script, Source, write_script
 from client.protocol import Options
+
+if TYPE_CHECKING:
+    from client.ld.main import Link
 
 
 class Host:
@@ -41,6 +45,9 @@ class Host:
     def hand_over(self, reasons: Reasons, words: Sequence[str], environment: Mapping[str, str], verbose: bool) -> int:
         """Has another linker link in place of `ldi`; gives the status."""
         return hand_over(reasons, words, environment, verbose)
+
+    def good(self, link: Link) -> None:
+        """The link has an image, and its files are written."""
 
     def end(self, opened: Opened) -> None:
         """The link is done, and with it its session."""

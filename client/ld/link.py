@@ -54,9 +54,11 @@ class Opened:
     They are sent under a script with which that costs no link.
     """
 
-    def __init__(self, options: Options, objects: Sequence[Object]) -> None:
+    def __init__(self, options: Options, objects: Sequence[Object], errors: int | None = None) -> None:
+        """`errors` is the session's standard error, in place of that of this process."""
+        self.options = options
         self.objects = objects
-        self.session = Session(options)
+        self.session = Session(options, errors=errors)
         self._thread = threading.Thread(target=self._write, daemon=True)
         self._thread.start()
 

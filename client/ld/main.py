@@ -27,7 +27,7 @@ from client.ld.valued import Valued, opened_beforehand
 from client.ld.words import expand
 from client.link_map import read_map
 from client.inputs import Inputs
-from client.protocol import Refused, Session, SessionEnded, find_program
+from client.protocol import Refused, SessionEnded, find_program
 
 GOOD, FAULTS, REFUSED, DEVICE, MEMORY = range(5)
 """The statuses of `ldi link`."""
@@ -239,6 +239,28 @@ class Link:
             if name is not None:
                 raise BadInput(f"input file '{name}' is the same as output file")
 
+    def again(self, objects: list[Object]) -> int:
+        """The link once more with other bytes of objects, where the script stays as it was written.
+
+        That is so where the adapter and the choice of members find the same in them; the server knows.
+        """
+        self.objects = objects
+        print_asked(self.command, self.source)
+        self._check_outputs()
+        opened, script = self._open(), self.script
+        assert script is not None
+        if self.valued is not None and not self.valued.is_free:
+            return self._link_valued(opened, self._written({}))
+        if script.entry is not None:
+            opened = self._open(script.entry)
+        if refused := opened.refused():
+            return self._refused(refused)
+        result = opened.link(script.text, self._wants_map())
+        if self.valued is not None and (result.status or result.script_refused):
+            return self._link_valued(opened, self._written({}))
+        self._report(script)
+        return self._finish(opened, script, result)
+
     def _finish(self, opened: Opened, script: Script, result: Result) -> int:
         """Says what came of the link, and writes the files of a good one."""
         self.script = script
@@ -250,7 +272,8 @@ class Link:
             print_faults(result.faults, inputs)
             return FAULTS
         self._write(script, result)
-        self._tables(opened.session, script, result)
+        self._tables(opened, script, result)
+        self.host.good(self)
         return GOOD
 
     def _refused(self, objects: list[tuple[Object, Refused]]) -> int:
@@ -313,18 +336,19 @@ class Link:
             lines += "".join(f"\n{name}:\n" for name in names)
             self.host.write(command.dependency_file, lines.encode(errors="surrogateescape"), TEXT)
 
-    def _tables(self, session: Session, script: Script, result: Result) -> None:
+    def _tables(self, opened: Opened, script: Script, result: Result) -> None:
         """Prints the tables and lists that were asked for."""
         command = self.command
         if command.gc_sections and command.print_gc_sections:
             for line in removed_sections(self.objects, read_map(result.map)):
                 say(line)
         if command.print_memory_usage:
-            print(memory_usage(session, script.text, read_map(result.map), result.image), end="")
+            print(memory_usage(opened.session, script.text, read_map(result.map), result.image), end="")
 
 
-def run(words: list[str], environment: Mapping[str, str]) -> int:
+def run(words: list[str], environment: Mapping[str, str], host: Host | None = None) -> int:
     """Does what the words ask for; gives the exit status."""
+    client.files.begin(client.files.Files())
     try:
         command = read_command(expand(words))
     except WordsRefused as fault:
@@ -341,7 +365,7 @@ def run(words: list[str], environment: Mapping[str, str]) -> int:
     try:
         if command.cannot:
             raise CannotLink(*command.cannot)
-        return Link(command, words, environment).run()
+        return Link(command, words, environment, host).run()
     except CannotLink as fault:
         return hand_over(Reasons(fault.args), words, environment, command.verbose)
 
@@ -350,12 +374,12 @@ def _stop(number: int, _frame: FrameType | None) -> None:
     raise Stopped(number)
 
 
-def main(words: list[str]) -> int:
-    """Runs the program with these words; gives its exit status."""
+def main(words: list[str], host: Host | None = None) -> int:
+    """Runs the program with these words; gives its exit status. `host` is the process of its link."""
     for number in (signal.SIGTERM, signal.SIGHUP, signal.SIGINT):
         signal.signal(number, _stop)
     try:
-        return run(words, os.environ)
+        return run(words, os.environ, host)
     except BadInput as fault:
         say(str(fault))
         return DEVICE if isinstance(fault, MissingInput) else REFUSED

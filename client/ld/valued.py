@@ -65,6 +65,8 @@ class Valued:
         self._script = script
         self.values: Values = {}
         """The values of the last link."""
+        self.is_free = False
+        """Whether the layout is the same for all values, so that values which an ASSERT proves are the only ones."""
         self.without_value: frozenset[str] = frozenset()
         """The symbols that a link gave no value, as their sections are not in the image."""
 
@@ -80,6 +82,7 @@ class Valued:
             script = asserted(plain, found)
             result = opened.link(script.text, with_map)
             if not result.status:
+                self.is_free = is_free_of(self._script.text, plain.text)
                 break
             found = self._found(opened, plain)
         return script, result
