@@ -4,13 +4,16 @@ from __future__ import annotations
 import gc
 import os
 import sys
-from collections.abc import Sequence
+from collections.abc import Mapping, Sequence
 
+from client.ld.command import Command
 from client.ld.host import Host
 from client.ld.inputs import Object
 from client.ld.link import Opened
 from client.ld.main import Link, main, say
+from client.ld.script import Script, Source
 from client.protocol import Options
+from client.server.adapted import Adapted
 from client.server.quick import Attempt
 
 
@@ -21,11 +24,17 @@ class FirstHost(Host):
         super().__init__()
         self.link: Link | None = None
         """The link, where it was good."""
+        self.adapted = Adapted()
         self._errors = os.memfd_create("ldi")
 
     def opened(self, options: Options, objects: Sequence[Object]) -> Opened:
         """A session that does not hold this process's standard error, which may be a pipe of the build."""
         return Opened(options, objects, self._errors)
+
+    def script(self, source: Source, command: Command, objects: Sequence[Object],
+               values: Mapping[str, int] | None) -> Script:
+        """The script as `write_script` has it; what it was written from is kept."""
+        return self.adapted.script(source, command, objects, values, is_same_text=True)
 
     def good(self, link: Link) -> None:
         """Keeps the link for the calls that follow."""
@@ -61,7 +70,7 @@ def link_by_itself(attempt: Attempt) -> int:
     if status == 0 and host.link is not None:
         from client.server.start import go_on
 
-        go_on(attempt, host.link)
+        go_on(attempt, host.link, words, host.adapted)
     return status
 
 

@@ -8,13 +8,14 @@ import sys
 
 import client.files
 from client.ld.main import Link
+from client.server.adapted import Adapted
 from client.server.quick import Attempt, Declined, connect, output_of
 
 LENGTH = 16
 """The calls that may wait to be taken."""
 
 
-def go_on(attempt: Attempt, link: Link) -> None:
+def go_on(attempt: Attempt, link: Link, words: list[str], adapted: Adapted) -> None:
     """Returns where there is to be no server, and never in the server."""
     if not _is_kept(attempt, link):
         _end(link)
@@ -33,9 +34,14 @@ def go_on(attempt: Attempt, link: Link) -> None:
     if os.fork():
         os._exit(0)
     _detach({listener.fileno(), handle, *link.opened.session.filenos()})
+    from client.server.calls import Calls
+    from client.server.host import ServerHost
+    from client.server.kept import KeptSession
     from client.server.serve import Server
 
-    Server(attempt, link, listener, handle).run()
+    kept = KeptSession(link.opened, handle)
+    kept.script = link.script.text if link.script is not None and not link.command.print_memory_usage else None
+    Server(attempt, listener, Calls(link, words, ServerHost(kept, adapted))).run()
     os._exit(0)
 
 

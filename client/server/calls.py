@@ -1,0 +1,186 @@
+"""The links of a server: what is still as it was read is not read again, and the session gets what is not.
+
+A call looks at all inputs. Where only objects are other, which say the same to the adapter and to the choice of archive
+members, the link before is made once more with them; else it is made from the words on. What is written for it is given
+to the call only where, after that, all inputs are still what was read.
+"""
+from __future__ import annotations
+
+import contextlib
+import io
+import os
+import sys
+from dataclasses import replace
+
+import client.files
+from client.files import Files, Seen
+from client.ld.archive import BadArchive, is_archive, read_archive
+from client.ld.command import read_command
+from client.ld.inputs import ELF, SHARED, SLIM, Object
+from client.ld.linkage import read_linkage
+from client.ld.main import Link
+from client.ld.options import WordsRefused
+from client.ld.programs import others
+from client.ld.words import expand
+from client.protocol import SessionEnded
+from client.server.host import ByItself, ServerHost
+
+TRIES = 4
+"""How often a call begins anew as inputs change meanwhile."""
+
+Outcome = tuple[int, list[tuple[str, str]], list[tuple[int, bytes]]]
+"""The exit status, the new files with their places, and what is to be printed on which stream."""
+
+
+class Said(io.TextIOBase):
+    """A stream of a link, whose texts are kept in the order of both streams."""
+
+    def __init__(self, number: int, texts: list[tuple[int, bytes]]) -> None:
+        stream = sys.__stderr__ if number == 2 else sys.__stdout__
+        self._number, self._texts = number, texts
+        self._how = stream.encoding, stream.errors or "strict"
+
+    def write(self, text: str) -> int:
+        """Keeps a text."""
+        self._texts.append((self._number, text.encode(*self._how)))
+        return len(text)
+
+
+class Calls:
+    """The link of an output, as it was made last."""
+
+    def __init__(self, link: Link, words: list[str], host: ServerHost) -> None:
+        self.link: Link | None = link
+        self.words = words
+        self.host = host
+        self.files = client.files.CURRENT
+        self.count = 0
+        self._objects: dict[int, list[int]] = {}
+        self._note_objects()
+        self._default = self._default_script()
+
+    def make(self, words: list[str], mask: int) -> Outcome:
+        """Makes a link; ByItself where that is the call's to do. The new files are the host's to drop."""
+        os.umask(mask)
+        self.count += 1
+        for _ in range(TRIES):
+            texts: list[tuple[int, bytes]] = []
+            with contextlib.redirect_stdout(Said(1, texts)), contextlib.redirect_stderr(Said(2, texts)):
+                status = self._guarded(words)
+            if status not in (0, 1):
+                raise ByItself(f"status {status}")
+            if self.files.is_provable() and self.files.changed() == []:
+                return status, self.host.places, texts
+            self.host.drop()
+        raise ByItself("inputs change all the time")
+
+    def _guarded(self, words: list[str]) -> int:
+        """One link; a session that has ended is started again once."""
+        try:
+            return self._once(words)
+        except SessionEnded:
+            self.host.drop()
+            self.host.kept.end()
+            return self._once(words)
+
+    def _once(self, words: list[str]) -> int:
+        objects = self._objects_now() if words == self.words and self.link is not None else None
+        if objects is not None and self.link is not None:
+            return self.link.again(objects)
+        return self._anew(words)
+
+    # the link before, once more
+
+    def _objects_now(self) -> list[Object] | None:
+        """The objects of the link before, as they are now; None where the link is to be made from the words on."""
+        link, changed = self.link, self.files.changed()
+        self.host.is_same_text = False
+        if link is None or changed is None or link.command.trace or self._default != self._default_script():
+            return None
+        objects, is_alike = list(link.objects), True
+        for path in changed:
+            before = self.files.seen[path]
+            try:
+                after = client.files.again(path, before)
+            except OSError:
+                return None
+            places = self._objects.get(id(before.data), [])
+            if after.data is not before.data and not self._is_alike(objects, places, before, after):
+                if not places and not is_archive(before.data or b""):
+                    return None
+                is_alike = False
+                continue
+            self.files.seen[path] = after
+            for place in places:
+                assert after.data is not None
+                objects[place] = replace(objects[place], data=after.data)
+            if places and after.data is not before.data:
+                self._objects[id(after.data)] = self._objects.pop(id(before.data))
+        self.host.is_same_text = True
+        return objects if is_alike else None
+
+    def _is_alike(self, objects: list[Object], places: list[int], before: Seen, after: Seen) -> bool:
+        """Whether a file says the same to the adapter and to the choice of members as before."""
+        old, new = before.data, after.data
+        if old is None or new is None:
+            return False
+        if not places:
+            return is_archive(old) and is_archive(new) and have_same_members(old, new)
+        return is_plain_object(new) and all(self._is_object_alike(objects[place].name, old, new) for place in places)
+
+    def _is_object_alike(self, name: bytes, old: bytes, new: bytes) -> bool:
+        return read_linkage(old) == read_linkage(new) and self.host.adapted.is_alike(name, old, new)
+
+    def _note_objects(self) -> None:
+        """Notes which objects are whole files, by their bytes."""
+        self._objects = {}
+        whole = {id(one.data) for one in self.files.seen.values()}
+        for place, item in enumerate(self.link.objects if self.link is not None else ()):
+            if id(item.data) in whole:
+                self._objects.setdefault(id(item.data), []).append(place)
+
+    def _default_script(self) -> object:
+        """What the default script is made of, where it is that of the link."""
+        if self.link is None or self.link.source.own:
+            return None
+        path = next(others("ld.bfd", os.environ), None)
+        return path and (path, client.files.stamp_of(os.stat(path)))
+
+    # the link from the words on
+
+    def _anew(self, words: list[str]) -> int:
+        self.link = None
+        self.host.is_same_text = self.host.is_same_text and words == self.words
+        files = Files(self.files)
+        client.files.begin(files)
+        try:
+            command = read_command(expand(words))
+        except WordsRefused as fault:
+            raise ByItself(str(fault)) from None
+        if command.cannot or not command.inputs_named() or command.asks:
+            raise ByItself("another linker, or no link")
+        link = Link(command, words, os.environ, self.host)
+        status = link.run()
+        self.files, self.words = files, words
+        if status in (0, 1) and link.script is not None:
+            self.link = link
+            self._note_objects()
+            self._default = self._default_script()
+        return status
+
+
+def is_plain_object(data: bytes) -> bool:
+    """Whether a file is an object, as far as that is looked at before it is linked."""
+    return data.startswith(ELF) and data[16:18] != SHARED and SLIM not in data
+
+
+def have_same_members(old: bytes, new: bytes) -> bool:
+    """Whether two thin archives name the same files, with the same symbol tables."""
+    try:
+        one, other = read_archive("", old), read_archive("", new)
+    except BadArchive:
+        return False
+    if not (one.thin and other.thin and one.has_index == other.has_index):
+        return False
+    return ([(member.name, member.offset) for member in one.members]
+            == [(member.name, member.offset) for member in other.members]) and one.symbols == other.symbols
