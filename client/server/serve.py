@@ -11,7 +11,6 @@ import marshal
 import os
 import select
 import signal
-import sys
 import threading
 import time
 
@@ -35,6 +34,11 @@ LONGEST_PLACING = 10.0
 """Seconds that a call has to put its files in place."""
 
 PAGE = os.sysconf("SC_PAGESIZE")
+
+CLIENT = os.path.dirname(os.path.dirname(os.path.abspath(__file__)))
+SOURCES = sorted(os.path.join(folder, name) for folder, folders, names in os.walk(CLIENT)
+                 if "tests" not in folder.split(os.sep) for name in names if name.endswith(".py"))
+"""The client's own files."""
 
 
 class Job:
@@ -209,15 +213,13 @@ class Server:
         return found.st_dev, found.st_ino
 
     def _versions(self) -> list[object]:
-        """The marks of `ldi` and of the client's files that run here."""
-        files = [module.__file__ for name, module in list(sys.modules.items())
-                 if name.split(".", 1)[0] == "client" and getattr(module, "__file__", None)]
+        """The marks of `ldi` and of the client's files, also of those that are not imported yet."""
         marks: list[object] = []
-        for path in [found_program(self.program), *sorted({file for file in files if file})]:
+        for path in (found_program(self.program), *SOURCES):
             try:
-                marks.append((path, stamp_of(os.stat(path))[:4]))
+                marks.append(stamp_of(os.stat(path))[:4])
             except OSError:
-                marks.append((path, None))
+                marks.append(None)
         return marks
 
     def _status(self) -> dict[str, object]:
