@@ -1,7 +1,7 @@
 """What the rules need to know of the objects of a link: sections, and names that are not local."""
 from __future__ import annotations
 
-from collections.abc import Iterable, Iterator, Mapping
+from collections.abc import Iterable, Iterator, Mapping, Sequence
 
 from client.object_file import (
     ABSOLUTE,
@@ -17,6 +17,9 @@ from client.object_file import (
     NotElf,
     ObjectFile,
 )
+
+
+COMMON_BYTES = COMMON.to_bytes(2, "little")
 
 
 class InputSection:
@@ -42,7 +45,10 @@ class Definition:
 class Objects:
     """The objects of a link, in their order. Files that are no objects of ELF-64 are passed over."""
 
-    def __init__(self, objects: Mapping[str, bytes] | Iterable[str]) -> None:
+    def __init__(self, objects: Mapping[str, bytes] | Iterable[str],
+                 linkages: Sequence[Mapping[bytes, int]] | None = None) -> None:
+        """`linkages` has the names of each object, where they have been read already: 2 and more where it defines one."""
+        self._linkages = linkages
         if isinstance(objects, Mapping):
             self._files = dict(objects)
         else:
@@ -85,11 +91,25 @@ class Objects:
 
     def definition(self, name: str) -> Definition | None:
         """The first strong definition of a name, else the first one."""
-        self._symbols()
+        if self._linkages is None:
+            self._symbols()
+        elif name not in self._definitions:
+            self._find(name, self._linkages)
         return self._definitions.get(name)
+
+    def _find(self, name: str, linkages: Sequence[Mapping[bytes, int]]) -> None:
+        """Looks a name up in the objects that define it."""
+        key = name.encode("latin-1", "replace")
+        for number, linkage in enumerate(linkages):
+            if linkage.get(key, 0) > 1:
+                tables = self._read_tables()[number]
+                self._enter(tables, [entry for entry in tables.symbols() if entry[0] == name])
 
     def refers(self, name: str) -> bool:
         """Whether an object has the name undefined."""
+        if self._linkages is not None:
+            key = name.encode("latin-1", "replace")
+            return any(linkage.get(key, 2) < 2 for linkage in self._linkages)
         self._symbols()
         return name in self._undefined
 
@@ -102,15 +122,19 @@ class Objects:
         if self._read:
             return
         self._read = True
-        definitions = self._definitions
         for tables in self._read_tables():
-            for symbol, shndx, value, weak in tables.symbols():
-                if shndx == UNDEFINED:
-                    self._undefined.add(symbol)
-                    continue
-                old = definitions.get(symbol)
-                if old is None or old.weak and not weak or old.section == "COMMON" and shndx != COMMON:
-                    definitions[symbol] = Definition(tables.name, tables.section_name(shndx), value, weak)
+            self._enter(tables, tables.symbols())
+
+    def _enter(self, tables: _Tables, entries: Iterable[tuple[str, int, int, bool]]) -> None:
+        """Takes entries of an object's symbol table."""
+        definitions = self._definitions
+        for symbol, shndx, value, weak in entries:
+            if shndx == UNDEFINED:
+                self._undefined.add(symbol)
+                continue
+            old = definitions.get(symbol)
+            if old is None or old.weak and not weak or old.section == "COMMON" and shndx != COMMON:
+                definitions[symbol] = Definition(tables.name, tables.section_name(shndx), value, weak)
 
 
 class _Tables:
@@ -159,6 +183,8 @@ class _Tables:
 
     def commons(self) -> list[InputSection]:
         """The common blocks as sections."""
+        if COMMON_BYTES not in self._table:
+            return []
         return [InputSection(self.name, "COMMON", NOBITS, ALLOC | WRITABLE, size, max(value, 1))
                 for _, _, _, shndx, value, size in SYMBOL.iter_unpack(self._table) if shndx == COMMON]
 

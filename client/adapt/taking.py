@@ -79,19 +79,32 @@ class Taking:
         self.orphans: list[InputSection] = []
         if model.objects is None:
             return
-        names: dict[str, list[tuple[Section, Input]]] = {}
-        statements = [(section, node) for section in sections for node in section.body if isinstance(node, Input)]
-        index = _Index([node for _, node in statements])
+        names: dict[str, list[_Taker]] = {}
+        takers = [_Taker(node, self.rows[id(section)], self.by_input.setdefault(id(node), []))
+                  for section in sections for node in section.body if isinstance(node, Input)]
+        index = _Index([taker.node for taker in takers])
         for item in model.objects.sections():
-            if item.name not in names:
-                names[item.name] = [statements[number] for number in index.of(item.name)]
-            for section, node in names[item.name]:
-                if takes(node, item):
-                    self.rows[id(section)].append(item)
-                    self.by_input.setdefault(id(node), []).append(item)
+            found = names.get(item.name)
+            if found is None:
+                found = names[item.name] = [takers[number] for number in index.of(item.name)]
+            for taker in found:
+                if taker.takes_all or takes(taker.node, item):
+                    taker.row.append(item)
+                    taker.items.append(item)
                     break
             else:
                 self.orphans.append(item)
+
+
+class _Taker:
+    """A statement, what it and its section take, and whether it takes each section whose name it has a pattern for."""
+
+    __slots__ = ("node", "row", "items", "takes_all")
+
+    def __init__(self, node: Input, row: list[InputSection], items: list[InputSection]) -> None:
+        self.node, self.row, self.items = node, row, items
+        self.takes_all = node.file.word == "*" and not node.file.exclude \
+            and not any(pattern.exclude for pattern in node.patterns or ())
 
 
 class _Index:

@@ -5,12 +5,13 @@ import os
 import re
 from collections.abc import Iterable, Sequence
 from dataclasses import dataclass
+from functools import cached_property
 
 from client import files
 from client.ld.archive import Archive, BadArchive, Member, is_archive, read_archive
 from client.ld.binary_object import binary_object
 from client.ld.command import Command, Flags, Input
-from client.ld.linkage import Names, read_linkage
+from client.ld.linkage import IS_COMMON, IS_DEFINED, IS_WEAK, Linkage, Names, read_linkage
 from client.ld.script_commands import Commands, read_commands
 from client.protocol import GREATEST_NAME
 
@@ -51,6 +52,11 @@ class Object:
     name: bytes
     data: bytes
     path: str
+
+    @cached_property
+    def linkage(self) -> Linkage:
+        """The names that are not local, read once."""
+        return read_linkage(self.data)
 
 
 def session_name(name: str, used: set[bytes]) -> bytes:
@@ -271,11 +277,11 @@ class Loader:
         if not self.names.has_common(name):
             return False
         member = archive.member_at(offset)
-        return member is not None and name in read_linkage(self._bytes(member)).defined
+        return member is not None and read_linkage(self._bytes(member)).get(name) == IS_DEFINED
 
     def _defines(self, member: Member) -> list[bytes]:
         linkage = read_linkage(self._bytes(member))
-        return [*linkage.defined, *linkage.weak, *linkage.common]
+        return [name for wanted in (IS_DEFINED, IS_WEAK, IS_COMMON) for name, kind in linkage.items() if kind == wanted]
 
     def _bytes(self, member: Member) -> bytes:
         try:
@@ -305,5 +311,5 @@ class Loader:
     def _enter(self) -> None:
         """Goes through the names of the objects taken since the last time."""
         for entered in self.objects[self._entered :]:
-            self.names.add(read_linkage(entered.data))
+            self.names.add(entered.linkage)
         self._entered = len(self.objects)

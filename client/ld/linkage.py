@@ -1,36 +1,39 @@
 """The names of an object that are not local: what decides which members of archives a link needs."""
 from __future__ import annotations
 
-from dataclasses import dataclass, field
+from collections.abc import Mapping
 
 from client.object_file import COMMON, UNDEFINED, WEAK, NotElf, ObjectFile
 
+ABSENT, IS_UNDEFINED, IS_UNDEFINED_WEAK, IS_COMMON, IS_WEAK, IS_DEFINED = range(-1, 5)
+"""What an object has of a name, and what is known of it at a point of the command line."""
 
-@dataclass(frozen=True)
-class Linkage:
-    """The names by what the object has of them."""
-
-    defined: list[bytes] = field(default_factory=list)
-    weak: list[bytes] = field(default_factory=list)
-    common: list[bytes] = field(default_factory=list)
-    undefined: list[bytes] = field(default_factory=list)
-    undefined_weak: list[bytes] = field(default_factory=list)
+Linkage = Mapping[bytes, int]
+"""By name: what an object has of it."""
 
 
 def read_linkage(data: bytes) -> Linkage:
     """The names of an object; none where it is not an object of this machine, which the linker will say."""
-    linkage = Linkage()
+    kinds: dict[bytes, int] = {}
     try:
         for name, binding, section in ObjectFile(data).globals():
             if section == UNDEFINED:
-                (linkage.undefined_weak if binding == WEAK else linkage.undefined).append(name)
+                kind = IS_UNDEFINED_WEAK if binding == WEAK else IS_UNDEFINED
             elif section == COMMON:
-                linkage.common.append(name)
+                kind = IS_COMMON
             else:
-                (linkage.weak if binding == WEAK else linkage.defined).append(name)
+                kind = IS_WEAK if binding == WEAK else IS_DEFINED
+            if name in kinds:  # of a symbol table that has a name twice
+                kind = max(kind, kinds[name]) if max(kind, kinds[name]) > IS_UNDEFINED_WEAK else IS_UNDEFINED
+            kinds[name] = kind
     except NotElf:
-        return Linkage()
-    return linkage
+        return {}
+    return kinds
+
+
+def defines(kind: int) -> bool:
+    """Whether a name is defined, or a common block."""
+    return kind > IS_UNDEFINED_WEAK
 
 
 class Names:
@@ -53,18 +56,20 @@ class Names:
     def add(self, linkage: Linkage) -> None:
         """An object is taken."""
         state = self.state
-        for name in linkage.undefined:
-            self.want(name)
-        for name in linkage.undefined_weak:
-            state.setdefault(name, self.UNDEFINED_WEAK)
-        for name in linkage.common:
-            if state.get(name, self.WEAK) != self.DEFINED:
-                state[name] = self.COMMON
-        for name in linkage.weak:
-            if state.get(name, self.UNDEFINED) <= self.UNDEFINED_WEAK:
-                state[name] = self.WEAK
-        for name in linkage.defined:
-            state[name] = self.DEFINED
+        known = state.get
+        for name, kind in linkage.items():
+            if kind == IS_DEFINED:
+                state[name] = IS_DEFINED
+                continue
+            old = known(name, ABSENT)
+            if kind == IS_UNDEFINED:
+                if old == ABSENT or old == IS_UNDEFINED_WEAK:
+                    state[name] = IS_UNDEFINED
+            elif kind == IS_UNDEFINED_WEAK:
+                if old == ABSENT:
+                    state[name] = IS_UNDEFINED_WEAK
+            elif kind == IS_COMMON and old != IS_DEFINED or kind == IS_WEAK and old <= IS_UNDEFINED_WEAK:
+                state[name] = kind
 
     def wants(self, name: bytes) -> bool:
         """Whether the name is undefined, and not only by weak references."""

@@ -17,8 +17,8 @@ from client.ld.script import Script, Source, write_script
 class Asked(Known):
     """What the adapter knows of the objects, and which names it asked for."""
 
-    def __init__(self, objects: Mapping[str, bytes]) -> None:
-        super().__init__(objects)
+    def __init__(self, objects: Mapping[str, bytes], linkages: Sequence[Mapping[bytes, int]]) -> None:
+        super().__init__(objects, linkages)
         self.asked: set[str] = set()
         self.asked_all = False
         """Whether it asked for all names at once."""
@@ -66,7 +66,7 @@ class Adapted:
                is_same_text: bool) -> Script:
         """The script as `write_script` has it; it is not written again `is_same_text`, where the objects are alike."""
         if self._asked is None or not (is_same_text and self._are_alike(objects)):
-            self._asked = Asked({item.name.decode(): item.data for item in objects})
+            self._asked = Asked({item.name.decode(): item.data for item in objects}, [item.linkage for item in objects])
             self._objects = {item.name: item.data for item in objects}
             self._scripts.clear()
             self._facts.clear()

@@ -10,7 +10,7 @@ from client.ld.archive import BadArchive, read_archive
 from client.ld.binary_object import binary_object
 from client.ld.command import read_command
 from client.ld.inputs import BadInput, CannotLink, Loader, session_name
-from client.ld.linkage import read_linkage
+from client.ld.linkage import IS_COMMON, IS_DEFINED, IS_UNDEFINED, IS_UNDEFINED_WEAK, read_linkage
 from client.ld.script_commands import read_commands
 from client.protocol import GREATEST_NAME
 from client.tests.linking import LinkTest, needs
@@ -90,8 +90,7 @@ class ArchiveTest(LinkTest):
         self.compile("a.s", ".globl f, g\nf: call g\n.comm c, 4\n.weak w\n.quad w\n")
         whole = (self.folder / "a.o").read_bytes()
         names = read_linkage(whole)
-        self.assertEqual((names.defined, names.common), ([b"f"], [b"c"]))
-        self.assertEqual((names.undefined, names.undefined_weak), ([b"g"], [b"w"]))
+        self.assertEqual(names, {b"f": IS_DEFINED, b"c": IS_COMMON, b"g": IS_UNDEFINED, b"w": IS_UNDEFINED_WEAK})
         for at in range(len(whole)):
             read_linkage(whole[:at])
             for byte in (0, 0x7F, 0xFF):

@@ -6,7 +6,7 @@ import unittest
 
 from client.adapt.objects import Objects
 from client.elf_object import ElfObject
-from client.ld.linkage import Linkage, read_linkage
+from client.ld.linkage import IS_DEFINED, IS_UNDEFINED_WEAK, read_linkage
 from client.object_file import FUNCTION, GLOBAL, LOCAL, SECTION, NotElf, ObjectFile
 
 NAMES = b"\0.text\0.symtab\0.strtab\0.shstrtab\0"
@@ -71,7 +71,7 @@ class HeadersTest(unittest.TestCase):
         self.assertEqual((section.binding, section.kind, section.section), (LOCAL, SECTION, 1))
         self.assertEqual((main.binding, main.kind, main.value, main.size), (GLOBAL, FUNCTION, 2, 1))
         self.assertEqual((other.binding, other.kind, other.other), (2, 0, 2))
-        self.assertEqual(read_linkage(file.data), Linkage(defined=[b"main"], undefined_weak=[b"other"]))
+        self.assertEqual(read_linkage(file.data), {b"main": IS_DEFINED, b"other": IS_UNDEFINED_WEAK})
 
     def test_names_for_messages(self) -> None:
         """What messages take of the same headers and symbols."""
@@ -104,7 +104,7 @@ class NoObjectTest(unittest.TestCase):
         self.assertEqual(str(caught.exception), reason)
         self.without_names(data)
         self.without_rules(data)
-        self.assertEqual(read_linkage(data), Linkage())
+        self.assertEqual(read_linkage(data), {})
 
     def without_names(self, data: bytes) -> None:
         """Bytes of which messages have no names."""
