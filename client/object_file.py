@@ -139,19 +139,16 @@ class ObjectFile:
         index = self.symbol_table()
         return 0 if index is None else self._header(index).info
 
-    def globals(self) -> Iterator[tuple[bytes, int, int]]:
-        """The symbols that are not local: the name, the binding and the section of each."""
+    def global_table(self) -> tuple[bytes, bytes]:
+        """The entries of the symbol table that are not local, whole ones alone, and the table of their names."""
         index = self.symbol_table()
         if index is None:
-            return
+            return b"", b""
         header = self._header(index)
-        names, table = self.content(header.link), self.content(index)[ENTRY_SIZE * header.info :]
-        find = names.find
-        for name, info, section in NAMED.iter_unpack(table[: len(table) - len(table) % ENTRY_SIZE]):
-            stop = find(b"\0", name)
-            if stop < 0:
-                raise NotElf("the name of a symbol is past its table")
-            yield names[name:stop], info >> 4, section
+        size = header.size - header.size % ENTRY_SIZE
+        begin = min(ENTRY_SIZE * header.info, size)
+        table = self.data[header.offset + begin : header.offset + size]
+        return table[: len(table) - len(table) % ENTRY_SIZE], self.content(header.link)
 
     def _header(self, index: int) -> Header:
         if index >= self.count:

@@ -4,6 +4,7 @@ from __future__ import annotations
 import os
 from collections.abc import Iterator
 from dataclasses import dataclass, field
+from functools import cached_property
 
 from client import files
 
@@ -26,7 +27,7 @@ class Member:
     start: int
     size: int
 
-    @property
+    @cached_property
     def path(self) -> str:
         """The file of a member of a thin archive, or the archive."""
         if not self.archive.thin:

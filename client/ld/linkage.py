@@ -3,7 +3,7 @@ from __future__ import annotations
 
 from collections.abc import Mapping
 
-from client.object_file import COMMON, UNDEFINED, WEAK, NotElf, ObjectFile
+from client.object_file import COMMON, NAMED, UNDEFINED, WEAK, NotElf, ObjectFile
 
 ABSENT, IS_UNDEFINED, IS_UNDEFINED_WEAK, IS_COMMON, IS_WEAK, IS_DEFINED = range(-1, 5)
 """What an object has of a name, and what is known of it at a point of the command line."""
@@ -16,24 +16,25 @@ def read_linkage(data: bytes) -> Linkage:
     """The names of an object; none where it is not an object of this machine, which the linker will say."""
     kinds: dict[bytes, int] = {}
     try:
-        for name, binding, section in ObjectFile(data).globals():
+        table, names = ObjectFile(data).global_table()
+        find = names.find
+        for begin, info, section in NAMED.iter_unpack(table):  # a kernel has 100,000 of them: no call for each
+            stop = find(b"\0", begin)
+            if stop < 0:
+                return {}
+            name = names[begin:stop]
             if section == UNDEFINED:
-                kind = IS_UNDEFINED_WEAK if binding == WEAK else IS_UNDEFINED
+                kind = IS_UNDEFINED_WEAK if info >> 4 == WEAK else IS_UNDEFINED
             elif section == COMMON:
                 kind = IS_COMMON
             else:
-                kind = IS_WEAK if binding == WEAK else IS_DEFINED
+                kind = IS_WEAK if info >> 4 == WEAK else IS_DEFINED
             if name in kinds:  # of a symbol table that has a name twice
                 kind = max(kind, kinds[name]) if max(kind, kinds[name]) > IS_UNDEFINED_WEAK else IS_UNDEFINED
             kinds[name] = kind
     except NotElf:
         return {}
     return kinds
-
-
-def defines(kind: int) -> bool:
-    """Whether a name is defined, or a common block."""
-    return kind > IS_UNDEFINED_WEAK
 
 
 class Names:
