@@ -13,7 +13,6 @@ from client.adapt.segments import about_segments
 from client.ld.command import Command, read_command
 from client.ld.fallback import Reasons, hand_over
 from client.ld.flat import NoFlatImage, flat_binary
-from client.ld.help import HELP
 from client.ld.host import Host
 from client.ld.inputs import BadInput, CannotLink, Loader, MissingInput, Object
 from client.ld.link import Opened, Result, options_of
@@ -85,6 +84,8 @@ def print_asked(command: Command, source: Source | None) -> None:
         if ask == "V":
             print("  Supported emulations:\n   elf_x86_64")
         if ask == "help":
+            from client.ld.help import HELP
+
             print(HELP, end="")
         if ask == "print-output-format":
             print("elf64-x86-64")

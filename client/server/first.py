@@ -6,6 +6,7 @@ import os
 import sys
 from collections.abc import Mapping, Sequence
 
+import client.server.later  # noqa: F401  # before what imports dataclasses
 from client.ld.command import Command
 from client.ld.host import Host
 from client.ld.inputs import Object

@@ -340,13 +340,14 @@ class DiskTest(ServerTest):
         words = ("-T", "t.ld", "-o", "room/image", *WORDS[4:])
         self.start(*words)
         before = self.image("room/image")
-        with open(room / "filler", "wb") as file:
-            try:
-                while True:
-                    file.write(bytes(1024))
-                    file.flush()
-            except OSError:
+        filler = os.open(room / "filler", os.O_WRONLY | os.O_CREAT)
+        try:
+            while os.write(filler, bytes(1024)):
                 pass
+        except OSError:
+            pass
+        finally:
+            os.close(filler)
         self.compile("b.c", "int other = 5; int b(int x) { return x + 33; }")
         done = self.call(*words)
         self.assertEqual(done.returncode, 3, done.stderr)
