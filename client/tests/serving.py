@@ -97,15 +97,7 @@ class ServerTest(LinkTest):
 
     def session(self) -> int:
         """The process of the session of the one server."""
-        pipes = {os.readlink(f"/proc/{self.server()}/fd/{name}") for name in os.listdir(f"/proc/{self.server()}/fd")}
-        program = os.path.realpath(os.environ["LDI"])
-        for name in filter(str.isdigit, os.listdir("/proc")):
-            try:
-                if os.readlink(f"/proc/{name}/exe") == program and os.readlink(f"/proc/{name}/fd/0") in pipes:
-                    return int(name)
-            except OSError:
-                pass
-        raise AssertionError("there is no session")
+        return session_of(self.server())
 
     def wait(self, holds: Callable[[], bool], what: str, limit: float = 20.0) -> None:
         """Waits until something holds."""
@@ -152,6 +144,18 @@ class ServerTest(LinkTest):
     def beside(self) -> list[str]:
         """The files that were left beside the image."""
         return [path.name for path in self.folder.iterdir() if path.name.startswith(".")]
+
+
+def session_of(server: int) -> int:
+    """The process of a server's session: the one that reads from a pipe of it."""
+    pipes = {os.readlink(f"/proc/{server}/fd/{name}") for name in os.listdir(f"/proc/{server}/fd")} - {"/dev/null"}
+    for name in filter(str.isdigit, os.listdir("/proc")):
+        try:
+            if int(name) != server and os.readlink(f"/proc/{name}/fd/0") in pipes:
+                return int(name)
+        except OSError:
+            pass
+    raise AssertionError("there is no session")
 
 
 def signal_to(pid: int, number: signal.Signals) -> None:

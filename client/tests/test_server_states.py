@@ -13,7 +13,7 @@ import unittest
 from pathlib import Path
 
 from client.tests.linking import LD_LDI, LIMIT
-from client.tests.serving import WORDS, ServerTest, is_running, signal_to
+from client.tests.serving import WORDS, ServerTest, is_running, session_of, signal_to
 
 MAKEFILE = """OUTPUTS := one two three four five
 all: $(OUTPUTS)
@@ -50,24 +50,13 @@ class KilledTest(ServerTest):
         call = self.begin()
         time.sleep(0.3)
         self.assertIsNone(call.poll())
-        session = self.session_of(pid)
+        session = session_of(pid)
         signal_to(pid, signal.SIGKILL)
         signal_to(session, signal.SIGKILL)
         self.ends(call)
         self.assertEqual(self.image(), self.expected())
         self.started.add(self.server())
         self.wait(lambda: not self.beside(), "something is left beside the image")
-
-    def session_of(self, pid: int) -> int:
-        """The session of a server that is busy."""
-        pipes = {os.readlink(f"/proc/{pid}/fd/{name}") for name in os.listdir(f"/proc/{pid}/fd")}
-        for name in filter(str.isdigit, os.listdir("/proc")):
-            try:
-                if os.readlink(f"/proc/{name}/fd/0") in pipes and int(name) != pid:
-                    return int(name)
-            except OSError:
-                pass
-        raise AssertionError("there is no session")
 
     def test_session(self) -> None:
         """A session that was killed is started again, between calls and in a call."""
