@@ -51,10 +51,12 @@ class Calls:
 
     def __init__(self, link: Link, words: list[str], host: ServerHost) -> None:
         self.link: Link | None = link
+        link.host = host
         self.words = words
         self.host = host
         self.files = client.files.CURRENT
         self.count = 0
+        """The links that were made."""
         self._objects: dict[int, list[int]] = {}
         self._note_objects()
         self._default = self._default_script()
@@ -62,7 +64,6 @@ class Calls:
     def make(self, words: list[str], mask: int) -> Outcome:
         """Makes a link; ByItself where that is the call's to do. The new files are the host's to drop."""
         os.umask(mask)
-        self.count += 1
         for _ in range(TRIES):
             texts: list[tuple[int, bytes]] = []
             with contextlib.redirect_stdout(Said(1, texts)), contextlib.redirect_stderr(Said(2, texts)):
@@ -70,6 +71,7 @@ class Calls:
             if status not in (0, 1):
                 raise ByItself(f"status {status}")
             if self.files.is_provable() and self.files.changed() == []:
+                self.count += 1
                 return status, self.host.places, texts
             self.host.drop()
         raise ByItself("inputs change all the time")
