@@ -51,7 +51,7 @@ class Calls:
 
     def __init__(self, link: Link, words: list[str], host: ServerHost) -> None:
         self.link: Link | None = link
-        link.host = host
+        link.host, link.opened = host, None  # the session is the host's from now on
         self.words = words
         self.host = host
         self.files = client.files.CURRENT
