@@ -206,14 +206,15 @@ def remove_left(path: str) -> None:
 
 
 def is_running(number: int) -> bool:
-    """Whether there is a process of this number."""
+    """Whether there is a process of this number, and not one that has ended and was not waited for."""
     try:
         os.kill(number, 0)
-    except ProcessLookupError:
+        with open(f"/proc/{number}/stat", "rb") as file:
+            return file.read().rpartition(b")")[2].split()[:1] != [b"Z"]
+    except (ProcessLookupError, FileNotFoundError):
         return False
     except OSError:
         return True  # of another user
-    return True
 
 
 def _remove_unused(path: bytes) -> None:
