@@ -52,6 +52,11 @@ class Command:
     map_file: str | None = None
     print_map: bool = False
     gc_sections: bool = False
+    gc_keep_exported: bool = False
+    start_stop_gc: bool = False
+    init: str = "_init"
+    fini: str = "_fini"
+    """The symbols of -init and -fini, which --gc-sections keeps."""
     print_gc_sections: bool = False
     print_memory_usage: bool = False
     orphan_handling: str | None = None
@@ -172,6 +177,9 @@ class Reader:
             "M": ("print_map", True),
             "gc-sections": ("gc_sections", True),
             "no-gc-sections": ("gc_sections", False),
+            "gc-keep-exported": ("gc_keep_exported", True),
+            "init": ("init", value),
+            "fini": ("fini", value),
             "print-gc-sections": ("print_gc_sections", True),
             "no-print-gc-sections": ("print_gc_sections", False),
             "print-memory-usage": ("print_memory_usage", True),
@@ -270,6 +278,8 @@ class Reader:
         name, _, value = text.partition("=")
         if name in KEYWORDS_SAID:
             self.command.note(f"-z {name}: {KEYWORDS_SAID[name]}")
+        elif name in ("start-stop-gc", "nostart-stop-gc"):
+            self.command.start_stop_gc = name == "start-stop-gc"
         elif name == "max-page-size":
             self.command.page_size = number(value, "-z max-page-size")
             if self.command.page_size > GREATEST_PAGE or self.command.page_size.bit_count() != 1:

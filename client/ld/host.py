@@ -36,7 +36,7 @@ class Host:
         """The script as `write_script` has it; what the adapter wants of the objects is read once."""
         if self._known is None:
             self._known = Known({item.name.decode(): item.data for item in objects}, [item.linkage for item in objects])
-        return write_script(source, command, self._known, values)
+        return write_script(source, command, self._known, values, objects)
 
     def write(self, path: str, data: bytes, mode: int) -> None:
         """Writes a file of the link."""

@@ -3,6 +3,7 @@ from __future__ import annotations
 
 import os
 import re
+import struct
 from collections.abc import Iterable, Sequence
 from dataclasses import dataclass
 from functools import cached_property
@@ -13,6 +14,7 @@ from client.ld.binary_object import binary_object
 from client.ld.command import Command, Flags, Input
 from client.ld.linkage import IS_COMMON, IS_DEFINED, IS_WEAK, Linkage, Names, read_linkage
 from client.ld.script_commands import Commands, read_commands
+from client.object_file import ELF_HEADER, HEADER, NotElf, ObjectFile
 from client.protocol import GREATEST_NAME
 
 STANDARD_FOLDERS = (
@@ -31,6 +33,14 @@ STANDARD_FOLDERS = (
 ELF, SHARED = b"\x7fELF", b"\3\0"
 BITCODE = b"BC\xc0\xde"
 SLIM = b"__gnu_lto_slim\0"
+
+RETAIN = 0x200000
+GNU_SYSTEMS = (3, 9)
+"""EI_OSABI of files whose flag GNU_RETAIN counts: GNU and FreeBSD."""
+FLAGS_AT = 8
+"""Where the flags of a section stand in its header."""
+BINARY_SECTIONS = (1,)
+"""The sections of a file of -b binary."""
 
 
 class CannotLink(Exception):
@@ -52,6 +62,25 @@ class Object:
     name: bytes
     data: bytes
     path: str
+    kept: tuple[int, ...] = ()
+    """The numbers of sections that --gc-sections keeps whatever names them."""
+
+
+def without_retain(data: bytes) -> tuple[bytes, tuple[int, ...]]:
+    """An object without the flag GNU_RETAIN, which has no effect but for --gc-sections, and the sections that had it."""
+    if data[7] not in GNU_SYSTEMS:
+        return data, ()
+    try:
+        file = ObjectFile(data)
+        retained = tuple(index for index, header in enumerate(file.headers) if header.flags & RETAIN)
+    except NotElf:
+        return data, ()
+    changed = bytearray(data)
+    for index in retained:
+        at = file.headers_at + HEADER.size * index + FLAGS_AT
+        (flags,) = struct.unpack_from("<Q", data, at)
+        struct.pack_into("<Q", changed, at, flags & ~RETAIN)
+    return (bytes(changed), retained) if retained else (data, ())
 
     @cached_property
     def linkage(self) -> Linkage:
@@ -215,7 +244,7 @@ class Loader:
         data = read_file(path)
         self.files.append(path)
         if flags.format == "binary":
-            self._object(path, binary_object(path, data), path)
+            self._object(path, binary_object(path, data), path, BINARY_SECTIONS)
         elif is_archive(data):
             try:
                 self._archives[path] = read_archive(path, data)
@@ -298,7 +327,7 @@ class Loader:
         else:
             self._object(member.full_name, data, member.path)
 
-    def _object(self, name: str, data: bytes, path: str) -> None:
+    def _object(self, name: str, data: bytes, path: str, kept: tuple[int, ...] = ()) -> None:
         """Takes an object."""
         if data.startswith(ELF) and data[16:18] == SHARED:
             raise CannotLink(f"{name}: a shared library")
@@ -306,7 +335,10 @@ class Loader:
             raise CannotLink(f"{name}: an object of slim LTO, which has no code (-ffat-lto-objects gives it code)")
         if self.command.trace:
             print(name, flush=True)
-        self.objects.append(Object(session_name(name, self._used), data, path))
+        if data.startswith(ELF) and len(data) >= ELF_HEADER:
+            data, retained = without_retain(data)
+            kept += retained
+        self.objects.append(Object(session_name(name, self._used), data, path, kept))
 
     def _enter(self) -> None:
         """Goes through the names of the objects taken since the last time."""

@@ -74,6 +74,9 @@ require-defined|needed
 defsym|needed
 gc-sections|none
 no-gc-sections|none
+gc-keep-exported|none
+init|needed
+fini|needed
 print-gc-sections|none
 no-print-gc-sections|none
 print-memory-usage|none
@@ -173,10 +176,7 @@ export-dynamic-symbol|needed
 export-dynamic-symbol-list|needed
 fatal-warnings|none
 no-fatal-warnings|none
-fini|needed
-init|needed
 force-exe-suffix|none
-gc-keep-exported|none
 hash-size|needed
 hash-style|needed
 ld-generated-unwind-info|none
@@ -270,7 +270,7 @@ KEYWORDS_IGNORED = frozenset(
     " ibtplt indirect-extern-access initfirst interpose keep-text-section-prefix lam-report lam-u48 lam-u48-report"
     " lam-u57 lam-u57-report lazy loadfltr nocombreloc nocommon nocopyreloc nodefaultlib nodelete nodlopen"
     " nodump nodynamic-undefined-weak noexecstack noextern-protected-data noindirect-extern-access norelro"
-    " noseparate-code nostart-stop-gc notext nounique nounique-symbol now origin relro report-relative-reloc"
+    " noseparate-code notext nounique nounique-symbol now origin relro report-relative-reloc"
     " nopack-relative-relocs pack-relative-relocs sectionheader separate-code shstk stack-size start-stop-visibility"
     " text textoff unique unique-symbol x86-64-baseline x86-64-v2 x86-64-v3 x86-64-v4".split()
 )
@@ -280,7 +280,6 @@ KEYWORDS_SAID = {
     "muldefs": "two strong definitions of a name are an error",
     "undefs": "an undefined name that is used is an error",
     "noreloc-overflow": "a value that does not fit its field is an error",
-    "start-stop-gc": "no names __start_S and __stop_S are made; the script has to assign them",
     "nosectionheader": "the image has section headers",
 }
 """The words of `-z` that have no effect here, and what that means."""

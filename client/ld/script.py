@@ -21,9 +21,10 @@ from client.adapt.adapt import (
 )
 from client.adapt.objects import Objects as Known
 from client.adapt.segments import Segments
+from client.adapt.tree import Node
 from client.ld.command import Command, number
 from client.ld.default_script import DEFAULT
-from client.ld.inputs import BadInput, MissingInput
+from client.ld.inputs import BadInput, MissingInput, Object
 from client.ld.programs import WITHIN, others
 from client.ld.script_commands import Commands, commands_of
 from client.ld.script_text import outline
@@ -63,6 +64,10 @@ class Source:
             reading = self._last.again()
         self._last = reading
         return reading
+
+    def nodes(self) -> list[Node]:
+        """The statements, as they were read."""
+        return self._last.again().nodes
 
     def rename_files(self, names: Mapping[str, str]) -> None:
         """Gives files that statements name the names that their objects have, as they were found in another folder."""
@@ -216,15 +221,19 @@ def assignments(defsyms: Sequence[str]) -> list[tuple[str, str]]:
 
 
 def write_script(
-    source: Source, command: Command, known: Known, values: Mapping[str, int] | None = None
+    source: Source, command: Command, known: Known, values: Mapping[str, int] | None = None,
+    objects: Sequence[Object] = ()
 ) -> Script:
     """The script for the session, with the entry and the addresses that the command line gives.
 
     `known` is what the adapter knows of the objects, read once for all scripts of a link; `values` are the addresses
-    of objects' symbols for expressions of the script (`client/ld/valued.py`).
+    of objects' symbols for expressions of the script (`client/ld/valued.py`). `objects` are looked at for
+    --gc-sections.
     """
     adapted = adapt_source(source, command, known, values)
     text = adapted.text
+    if command.gc_sections and objects:
+        text = _kept(source, command, objects, adapted)
     for section in sorted(command.section_starts.keys() - {os.fsdecode(head.name) for head in outline(text).sections}):
         command.note(f"the address of {section}: the script has no such section")
     if command.entry is None:
@@ -242,15 +251,25 @@ def write_script(
                   adapted.segments)
 
 
+def _kept(source: Source, command: Command, objects: Sequence[Object], adapted: Adapted) -> bytes:
+    """The script with KEEP for what GNU ld's --gc-sections keeps beside; the report says what of that is not."""
+    from client.ld.collecting import with_keeps
+
+    entry = command.entry or source.entry
+    names = [name for part in source.parts for name in part.undefined] + ([] if entry else ["start"])
+    text, notes = with_keeps(adapted.text, source.nodes(), command, objects, entry, names)
+    adapted.report += [Note(kind, source.path, adapted.lines[-1][1], note) for kind, note in notes]
+    return text
+
+
 def _default_entry(text: bytes, command: Command, known: Known) -> tuple[bytes, bytes | None]:
     """Where neither ENTRY nor -e says it: the symbol `start` of an object, else the start of .text, as for GNU ld."""
     found = outline(text)
     if found.has_entry:
         return text, None
-    if not command.gc_sections:
-        if known.definition("start") is not None:
-            return text, b"start"
-        if any(head.name == b".text" for head in found.sections):
-            return text + b" %s = ADDR(.text);" % NUMBER_ENTRY, NUMBER_ENTRY
+    if known.definition("start") is not None:
+        return text, b"start"
+    if any(head.name == b".text" for head in found.sections):
+        return text + b" %s = ADDR(.text);" % NUMBER_ENTRY, NUMBER_ENTRY
     command.note("no entry symbol: the image's e_entry is 0")
     return text, None

@@ -75,6 +75,26 @@ class LinkTest(unittest.TestCase):
         return done
 
 
+class BesideGnu(LinkTest):
+    """Links that are made by GNU ld too."""
+
+    def both(self, *words: str) -> None:
+        """Links by both, with the same outcome: the symbols and the bytes of the images are the same."""
+        own = self.ld(*words, "-o", "own")
+        gnu = self.run_program("ld.bfd", "--no-warn-rwx-segments", *words, "-o", "gnu")
+        self.assertEqual(own.returncode == 0, gnu.returncode == 0, own.stderr + gnu.stderr)
+        if own.returncode == 0:
+            self.assertEqual(self.looks("own"), self.looks("gnu"), words)
+
+    def looks(self, image: str) -> tuple[list[str], bytes]:
+        """The symbols of an image that are not local, but for those of the adapter, and its bytes."""
+        lines = [line.split() for line in self.run_tool("nm", image).splitlines()]
+        symbols = sorted(f"{line[0]} {line[2]}" for line in lines
+                         if len(line) == 3 and line[1].isupper() and not line[2].startswith(("ldi.", "ld.ldi.")))
+        self.run_tool("objcopy", "-O", "binary", image, image + ".bin")
+        return symbols, (self.folder / f"{image}.bin").read_bytes()
+
+
 def needs(*programs: str) -> unittest.case._SkipTest | object:
     """Skips a test where one of the programs is not there."""
     missing = [program for program in programs if shutil.which(program) is None]

@@ -3,14 +3,14 @@ from __future__ import annotations
 
 import subprocess
 
-from client.tests.linking import LinkTest, needs
+from client.tests.linking import BesideGnu, needs
 
 BODY = ".all : { *(.text .data .bss COMMON) } /DISCARD/ : { *(.note*) }"
 START = ".globl _start\n_start: nop\n.data\n.long 1\n"
 
 
 @needs("ld.bfd")
-class BesideGnuTest(LinkTest):
+class FilesTest(BesideGnu):
     """Each link is made by both; the symbols are the same, and the bytes of all sections."""
 
     def setUp(self) -> None:
@@ -27,22 +27,6 @@ class BesideGnuTest(LinkTest):
         """A script with a statement before all others."""
         text = f"{' '.join(before)} SECTIONS {{ . = 0x1000; .a : {{ {statement} }} {body} }}"
         self.write("t.ld", f"ENTRY(_start) {text}")
-
-    def both(self, *words: str) -> None:
-        """Links by both, with the same outcome."""
-        own = self.ld(*words, "-o", "own")
-        gnu = self.run_program("ld.bfd", "--no-warn-rwx-segments", *words, "-o", "gnu")
-        self.assertEqual(own.returncode == 0, gnu.returncode == 0, own.stderr + gnu.stderr)
-        if own.returncode == 0:
-            self.assertEqual(self.looks("own"), self.looks("gnu"), words)
-
-    def looks(self, image: str) -> tuple[list[str], bytes]:
-        """The symbols of an image, without those of the adapter, and its bytes."""
-        lines = [line.split() for line in self.run_tool("nm", image).splitlines()]
-        symbols = sorted(f"{line[0]} {line[2]}" for line in lines
-                         if len(line) == 3 and not line[2].startswith(("ldi.", "ld.ldi.")))
-        self.run_tool("objcopy", "-O", "binary", image, image + ".bin")
-        return symbols, (self.folder / f"{image}.bin").read_bytes()
 
     def test_file_of_a_statement(self) -> None:
         """A file that a statement names is linked, before the objects where -T stands before them."""

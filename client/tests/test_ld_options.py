@@ -22,7 +22,7 @@ from client.ld.options import (
 from client.ld.words import expand, split_words
 from client.tests.linking import ROOT, needs
 
-TAKEN_KEYWORDS = {"max-page-size"}
+TAKEN_KEYWORDS = {"max-page-size", "start-stop-gc", "nostart-stop-gc"}
 
 
 def help_of_gnu_ld() -> str:
