@@ -35,7 +35,7 @@ BITCODE = b"BC\xc0\xde"
 SLIM = b"__gnu_lto_slim\0"
 
 RETAIN = 0x200000
-GNU_SYSTEMS = (3, 9)
+GNU_SYSTEMS = (b"\3", b"\t")
 """EI_OSABI of files whose flag GNU_RETAIN counts: GNU and FreeBSD."""
 FLAGS_AT = 8
 """Where the flags of a section stand in its header."""
@@ -65,10 +65,20 @@ class Object:
     kept: tuple[int, ...] = ()
     """The numbers of sections that --gc-sections keeps whatever names them."""
 
+    @cached_property
+    def linkage(self) -> Linkage:
+        """The names that are not local, read once."""
+        return read_linkage(self.data)
+
+
+def may_retain(data: bytes) -> bool:
+    """Whether an object's sections may have the flag GNU_RETAIN."""
+    return data[7:8] in GNU_SYSTEMS
+
 
 def without_retain(data: bytes) -> tuple[bytes, tuple[int, ...]]:
     """An object without the flag GNU_RETAIN, which has no effect but for --gc-sections, and the sections that had it."""
-    if data[7] not in GNU_SYSTEMS:
+    if not may_retain(data):
         return data, ()
     try:
         file = ObjectFile(data)
@@ -81,11 +91,6 @@ def without_retain(data: bytes) -> tuple[bytes, tuple[int, ...]]:
         (flags,) = struct.unpack_from("<Q", data, at)
         struct.pack_into("<Q", changed, at, flags & ~RETAIN)
     return (bytes(changed), retained) if retained else (data, ())
-
-    @cached_property
-    def linkage(self) -> Linkage:
-        """The names that are not local, read once."""
-        return read_linkage(self.data)
 
 
 def session_name(name: str, used: set[bytes]) -> bytes:

@@ -65,7 +65,8 @@ class Adapted:
     def script(self, source: Source, command: Command, objects: Sequence[Object], values: Mapping[str, int] | None,
                is_same_text: bool) -> Script:
         """The script as `write_script` has it; it is not written again `is_same_text`, where the objects are alike."""
-        if self._asked is None or not (is_same_text and self._are_alike(objects)):
+        are_alike = self._are_same if command.gc_sections else self._are_alike
+        if self._asked is None or not (is_same_text and are_alike(objects)):
             self._asked = Asked({item.name.decode(): item.data for item in objects}, [item.linkage for item in objects])
             self._objects = {item.name: item.data for item in objects}
             self._scripts.clear()
@@ -74,13 +75,17 @@ class Adapted:
         found = self._scripts.get(key)
         if found is None:
             before = list(command.notes)
-            script = write_script(source, command, self._asked, values)
+            script = write_script(source, command, self._asked, values, objects)
             if len(self._scripts) > 2:
                 self._scripts.popitem()
             found = self._scripts[key] = script, [note for note in command.notes if note not in before]
         for note in found[1]:
             command.note(note)
         return found[0]
+
+    def _are_same(self, objects: Sequence[Object]) -> bool:
+        """Whether all is as it was: for --gc-sections their relocations are looked at too."""
+        return {item.name: item.data for item in objects} == self._objects
 
     def _are_alike(self, objects: Sequence[Object]) -> bool:
         if [item.name for item in objects] != list(self._objects):

@@ -16,7 +16,7 @@ import client.files
 from client.files import Files, Seen
 from client.ld.archive import BadArchive, is_archive, read_archive
 from client.ld.command import read_command
-from client.ld.inputs import ELF, SHARED, SLIM, Object
+from client.ld.inputs import ELF, SHARED, SLIM, Object, may_retain
 from client.ld.linkage import read_linkage
 from client.ld.main import Link
 from client.ld.options import WordsRefused
@@ -173,7 +173,7 @@ class Calls:
 
 def is_plain_object(data: bytes) -> bool:
     """Whether a file is an object, as far as that is looked at before it is linked."""
-    return data.startswith(ELF) and data[16:18] != SHARED and SLIM not in data
+    return data.startswith(ELF) and data[16:18] != SHARED and SLIM not in data and not may_retain(data)
 
 
 def have_same_members(old: bytes, new: bytes) -> bool:
