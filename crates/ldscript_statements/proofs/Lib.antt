@@ -4,3 +4,4 @@ pub mod Derived
 pub mod Clashing
 pub mod Scanning
 pub mod NameTables
+pub mod KindsNoted

@@ -6,6 +6,7 @@ pub mod Widths
 pub mod Numbering
 pub mod Numbered
 pub mod Given
+pub mod NameKinds
 pub mod NumberTables
 pub mod Tables
 pub mod Listed

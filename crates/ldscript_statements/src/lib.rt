@@ -5,7 +5,8 @@
 //!   down;
 //! - `mention`, `mentions`: what is given twice or named too early; `dots`: where `.` may be used; `symbols`: what an
 //!   expression names;
-//! - `numbering`, `place`, `given`, `tables`, `number_table`: statements under numbers, names in tables.
+//! - `numbering`, `place`, `given`, `tables`, `number_table` over `name_kinds`: statements under numbers, names
+//!   in tables.
 #![tactic(auto)]
 
 pub mod directive;
@@ -17,6 +18,7 @@ pub mod held;
 pub mod input;
 mod mention;
 pub mod mentions;
+pub mod name_kinds;
 pub mod number_table;
 pub mod numbering;
 pub mod place;

@@ -1,8 +1,13 @@
 //! Tables from names to numbers. Comparisons of names order them, so that no choice of names makes one slow.
 
-ghost use Rattle.std.specs.Prelude.{◌≡◌, ℕ, List, None, Some, OnOk, bytes_eq, if◌then◌else◌};
-ghost use Rattle.ldscript_statements.specs.NumberTables.{number_at};
+ghost use Rattle.std.specs.Prelude.{◌≡◌, ℕ, List, None, Some, OnOk, bytes_eq, if◌then◌else◌, is_some};
+ghost use Rattle.std.specs.Ordering.{nat_cmp};
+ghost use Rattle.std.specs.Cmp.Lexicographic.{slice_cmp};
+ghost use Rattle.std.specs.BTreeMap.{get_by};
+ghost use Rattle.std.specs.Vec.{vec_items};
+ghost use Rattle.ldscript_statements.specs.NameKinds.{AreKindsOf};
 
+use crate::name_kinds::NameKinds;
 use std::alloc::{AllocError, Global};
 use std::collections::BTreeMap;
 
@@ -10,15 +15,21 @@ use std::collections::BTreeMap;
 #[derive(Drop)]
 pub struct NumberTable {
     numbers: BTreeMap<Vec<u8>, usize>,
+    /// Of its names: most that are looked for are of none of these.
+    kinds: NameKinds,
+    ghost known: { AreKindsOf kinds (λ name. is_some (get_by (λ k. slice_cmp nat_cmp name (vec_items k)) numbers)) },
 }
 
 impl NumberTable {
+    ghost use Rattle.ldscript_statements.specs.NumberTables.{number_at};
+
     /// The table of no name.
     pub(crate) fn new(alloc: Global) -> NumberTable
         ensures { (name : List ℕ) → number_at result name ≡ None }
     {
         NumberTable {
             numbers: BTreeMap::new(alloc),
+            kinds: NameKinds::none(),
         }
     }
 
@@ -33,14 +44,19 @@ impl NumberTable {
             → number_at self.new q ≡ (if bytes_eq q name.now then Some number else number_at self.old q)) }
     {
         let key = Vec::from_slice(alloc, name)?;
+        self.kinds.note(name);
         self.numbers.insert(key, number)?;
         Ok(())
     }
 
-    /// The number under a name, in time logarithmic in the names of the table.
+    /// The number under a name, in time logarithmic in the names of the table, and constant where none of them has the
+    /// name's kind.
     pub fn number(&self, name: &[u8]) -> Option<usize>
         ensures { result ≡ number_at self.now name.now }
     {
+        if !self.kinds.has_kind_of(name) {
+            return None;
+        }
         self.numbers.get(name).copied()
     }
 }

@@ -1,7 +1,7 @@
 -- Bytes at the front of a word that spell themselves and meet those of a name, and a `*` at the end of a word.
-use Rattle.std.proofs.Common.{◌≡◌, ℕ, ◌+◌, ◌<◌, true, List, [], ◌∷◌, length, drop, get_or, refl, sym, ◌∙◌, ap}
+use Rattle.std.proofs.Common.{◌≡◌, ◌≢◌, ℕ, ◌+◌, ◌<◌, true, List, [], ◌∷◌, length, drop, get_or, refl, sym, ◌∙◌, ap}
 use Rattle.std.proofs.Common.{subst, append-nil, arith}
-use Rattle.std.proofs.lemmas.List.{drop_more}
+use Rattle.std.proofs.lemmas.List.{drop_more, length-drop}
 use Rattle.ldscript_terms.specs.Parts.{Part, AnyRun, Byte}
 use Rattle.ldscript_terms.specs.Spelling.{SpellsPattern, is_plain}
 use Rattle.ldscript_terms.specs.Matching.{Matches, nothing, part}
@@ -10,7 +10,7 @@ use Rattle.ldscript_terms.specs.Trying.{BeginsWith, Passed}
 use Rattle.ldscript_terms.specs.declared.part.CodePart.TheVariants as code
 use Rattle.ldscript_terms.proofs.Fronts.{front_of_plain}
 use Rattle.ldscript_terms.proofs.Reading.{begins_with, none_left}
-use Rattle.ldscript_terms.proofs.Stars.{Searches, passed_more, passed_none}
+use Rattle.ldscript_terms.proofs.Stars.{Searches, missed_byte, missed_empty, passed_more, passed_none}
 
 -- parts that stand at these places of a word and of a name, past those that took a byte each
 abbrev pub IsPast : List ℕ → List ℕ → ℕ → Type 0
@@ -38,6 +38,25 @@ past_more word name k b l m e f p h ps s =
       passed_more word (code.Byte b) ps q.0 o.0 name (drop k name) b (drop (k + 1) name) q.2 o.1 tt
           (drop_more name k 0 m ∙ ap (λ x. x ∷ drop (k + 1) name) f) refl,
     )
+
+-- a byte that comes next, and what is left of a name has another one first, or none
+differs : (ps qs rs : List Part) (name left : List ℕ) (b : ℕ) → Passed ps qs name left → qs ≡ Byte b ∷ rs
+    → ((c : ℕ) (more : List ℕ) → left ≡ c ∷ more → b ≢ c) → Matches ps name → ⊥
+differs ps qs rs name [] b passed e apart = missed_empty [] (code.Byte b) ps qs rs name [] passed e tt refl
+differs ps qs rs name (c ∷ more) b passed e apart =
+    missed_byte [] (code.Byte b) ps qs rs name (c ∷ more) c more passed e tt refl
+    (λ met. apart c more refl (sym (ap (λ v. get_or v 0 0) met)))
+
+-- the same at a place of a word
+pub front_differs : (word name : List ℕ) (k : ℕ) (ps : List Part) → k < length word
+    → is_plain (get_or word k 0) ≡ true → (k < length name → get_or word k 0 ≢ get_or name k 0)
+    → (qs : List Part) × SpellsPattern qs (drop k word) × Passed ps qs name (drop k name) → Matches ps name → ⊥
+front_differs word name k ps l p apart h =
+    let o = (plain_first word k (get_or word k 0) l refl p).only h.0 h.1 in
+    differs ps h.0 o.0 name (drop k name) (get_or word k 0) h.2 o.1
+    (λ c more e be.
+    let low : k < length name = omega (arith, ap length e, length-drop k name) in
+    apart low (be ∙ sym (ap (λ v. get_or v 0 0) (sym (drop_more name k 0 low) ∙ e))))
 
 -- a word that has ended behind a star
 pub star_at_end : {A : Type 0} (word left : List ℕ) → word ≡ [] → Searches A word left → A

@@ -1,9 +1,10 @@
 //! Matching of a name.
 
-ghost use Rattle.std.specs.Prelude.{◌≡◌, ◌↔◌, ◌≤◌, ◌∷◌, [], IsTrue, List, MatchOption, drop, length};
+ghost use Rattle.std.specs.Prelude.{◌≡◌, ◌≢◌, ◌↔◌, ◌≤◌, ◌<◌, ◌∷◌, [], IsTrue, List, MatchOption, drop, length, true};
+ghost use Rattle.std.specs.Prelude.{slice_index};
 ghost use Rattle.ldscript_terms.specs.Parts.{AnyRun, Part};
 ghost use Rattle.ldscript_terms.specs.Matching.{Matches};
-ghost use Rattle.ldscript_terms.specs.Spelling.{SpellsPattern};
+ghost use Rattle.ldscript_terms.specs.Spelling.{SpellsPattern, is_plain};
 ghost use Rattle.ldscript_terms.specs.Trying.{IsWithin, Passed, TriedAs};
 
 use crate::bytes::is_plain;
@@ -34,6 +35,9 @@ fn plain_run(word: &[u8], name: &[u8]) -> usize
     ensures name { result ≤ length name.now }
     ensures passed { (ps : List Part) → SpellsPattern ps word.now → (qs : List Part) × SpellsPattern qs (drop result word.now)
         × Passed ps qs name.now (drop result name.now) }
+    ensures apart { result < length word.now → result < length name.now
+        → is_plain (slice_index word.now result) ≡ true
+        → slice_index word.now result ≢ slice_index name.now result }
 {
     let mut count = 0;
     while count < word.len() && count < name.len() {
@@ -52,6 +56,10 @@ fn try_front<'w, 'n>(word: &'w [u8], name: &'n [u8]) -> Tried<'w, 'n>
     ensures within { IsWithin (length word.now) (length name.now) result }
 {
     let count = plain_run(word, name);
+    // most words that do not match end here, so that none of their parts is made
+    if count < word.len() && is_plain(word[count]) {
+        return Tried::Missed;
+    }
     let mut rest = &word[count..];
     let mut left = &name[count..];
     while let Some((part, more)) = first_part(rest) {

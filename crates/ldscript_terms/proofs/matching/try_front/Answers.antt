@@ -1,7 +1,15 @@
-use Rattle.std.proofs.Common.{refl, ap, length, arith}
+use Rattle.std.proofs.Common.{refl, sym, ◌∙◌, ap, length, arith}
 use Rattle.std.proofs.lemmas.Bool.{false≢true}
 use Rattle.ldscript_terms.proofs.Stars.{passed_more, missed_empty, missed_byte, whole_at_end, missed_at_end}
+use Rattle.ldscript_terms.proofs.PlainRuns.{front_differs}
 use Rattle.ldscript_terms.proofs.matching.try_front.Goals as goal
+
+pub returns-then-is_plain-clause-value : goal.returns-then-is_plain-clause-value
+returns-then-is_plain-clause-value c = λ ps s.
+    let run = c.plain_run-count in
+    let plain = sym c.is_plain.ensures ∙ c.if-is_plain.true in
+    front_differs c.args.word.now c.args.name.now run.result ps c.if-count-word.true plain
+    (λ low. run.ensures.apart c.if-count-word.true low plain) (run.ensures.passed ps s)
 
 pub returns-in_default-split-clause-value : goal.returns-in_default-split-clause-value
 returns-in_default-split-clause-value c = λ ps s.

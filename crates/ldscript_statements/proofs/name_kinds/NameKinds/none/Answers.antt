@@ -1,0 +1,8 @@
+use Rattle.std.proofs.Common.{◌==◌, ap}
+use Rattle.std.proofs.lemmas.Nat.Bits.{bit_at-zero}
+use Rattle.ldscript_statements.specs.NameKinds.{has_kind, kind_of}
+use Rattle.ldscript_statements.proofs.name_kinds.NameKinds.none.Goals as goal
+
+pub returns : goal.returns
+unfolding has_kind
+returns c = λ q. ap (λ n. n == 1) (bit_at-zero (kind_of q))

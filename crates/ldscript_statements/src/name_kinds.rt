@@ -1,0 +1,43 @@
+//! Kinds of names: a look at a name that tells of most names that a table has not that it has them not.
+
+ghost use Rattle.std.specs.Prelude.{◌≡◌, ◌≢◌, ℕ, List, false};
+ghost use Rattle.ldscript_statements.specs.NameKinds.{has_kind, kind_of};
+
+/// A name is of one of 64 kinds, by its length and its second byte: the first one is mostly the same.
+fn kind_of(name: &[u8]) -> u32
+    ensures { result ≡ kind_of name.now }
+{
+    let second = name.get(1).copied().unwrap_or(0);
+    ((name.len() % 64) as u32 * 31 + u32::from(second)) % 64
+}
+
+/// Of which kinds a table has names.
+#[derive(Clone, Copy)]
+pub struct NameKinds {
+    /// The bit under the number of a kind is set if it has a name of it.
+    bits: u64,
+}
+
+impl NameKinds {
+    /// Of none.
+    pub fn none() -> NameKinds
+        ensures { (q : List ℕ) → has_kind result q ≡ false }
+    {
+        NameKinds { bits: 0 }
+    }
+
+    /// Notes that a table has a name.
+    pub fn note(&mut self, name: &[u8])
+        ensures name { (q : List ℕ) → has_kind self.new q ≡ false → q ≢ name.now }
+        ensures others { (q : List ℕ) → has_kind self.new q ≡ false → has_kind self.old q ≡ false }
+    {
+        self.bits |= 1 << kind_of(name);
+    }
+
+    /// Whether a table has a name of this one's kind.
+    pub fn has_kind_of(&self, name: &[u8]) -> bool
+        ensures { result ≡ has_kind self.now name.now }
+    {
+        self.bits >> kind_of(name) & 1 == 1
+    }
+}
