@@ -288,7 +288,7 @@ pub fn remove_all(table: &mut Vec<Vec<Declared>>, key: usize, symbols: &[Numbere
 }
 
 /// For how many entries a row has room once it has more than one.
-const SEVERAL: usize = 8;
+const SEVERAL: usize = 2;
 
 /// Makes room for one more entry of a name. The first has room for itself alone, as many names have no other; from then
 /// on a row that is full has room for `SEVERAL` entries, and then for twice as many each time.
