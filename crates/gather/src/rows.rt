@@ -1,6 +1,6 @@
 //! The rows of the output sections.
 
-ghost use Rattle.std.specs.Prelude.{◌≡◌, ◌++◌, ◌∷◌, [], ℕ, IfOk, List, OnOk, if◌then◌else◌};
+ghost use Rattle.std.specs.Prelude.{◌≡◌, ◌++◌, ◌∷◌, [], ℕ, IfOk, List, OnOk, if◌then◌else◌, length};
 ghost use Rattle.std.specs.List.{filter_map};
 ghost use Rattle.gather.specs.GatheredSections.{AreGathered, own_piece, taken_in};
 ghost use Rattle.gather.specs.LiveMarks.{marked};
@@ -17,11 +17,12 @@ use crate::sorting::order;
 use ldmodel::memory::NoMemory;
 use ldmodel::rows::Piece;
 use ldmodel_project::view::ProjectView;
-use ldscript::tree::{InputPlace, Sort};
+use ldscript::tree::{InputPlace, InputStatementAt, Sort};
 use std::alloc::Global;
+use std::mem;
 
-/// As many lists of nothing.
-fn empty_lists(alloc: Global, count: usize) -> Result<Vec<Vec<Piece>>, NoMemory>
+/// As many rows of nothing.
+fn empty_rows(alloc: Global, count: usize) -> Result<Vec<Vec<Piece>>, NoMemory>
     ensures { IfOk result (λ lists. AreEmpty count lists.items) }
 {
     let mut lists: Vec<Vec<Piece>> = Vec::with_capacity(alloc, count)?;
@@ -29,6 +30,85 @@ fn empty_lists(alloc: Global, count: usize) -> Result<Vec<Vec<Piece>>, NoMemory>
         lists.push(Vec::new(alloc))?;
     }
     Ok(lists)
+}
+
+/// Counts a section for the statement that takes it, if it is live and one does.
+fn count_taken(counts: &mut Vec<usize>, section: &GatheredSection, is_live: bool) {
+    if let Some(statement) = section.statement {
+        let number = statement.0 as usize;
+        if is_live && number < counts.len() {
+            counts[number] = counts[number].saturating_add(1);
+        }
+    }
+}
+
+/// How many live sections each statement takes.
+fn counts(
+    alloc: Global,
+    sections: &[GatheredSection],
+    marks: &[bool],
+    statements: usize,
+) -> Result<Vec<usize>, NoMemory> {
+    let mut counts = vec![in alloc; 0_usize; statements]?;
+    for (place, section) in sections.iter().enumerate() {
+        count_taken(&mut counts, section, is_marked(marks, place));
+    }
+    Ok(counts)
+}
+
+/// Adds to the length of a statement's row.
+fn add_length(lengths: &mut Vec<usize>, place: InputPlace, count: usize) {
+    if let InputPlace::InSection(row) = place {
+        if row < lengths.len() {
+            lengths[row] = lengths[row].saturating_add(count);
+        }
+    }
+}
+
+/// How long each row becomes, where its statements take these many sections.
+fn row_lengths(
+    alloc: Global,
+    statements: &[InputStatementAt<'_>],
+    counts: &[usize],
+    rows: usize,
+) -> Result<Vec<usize>, NoMemory> {
+    let mut lengths = vec![in alloc; 0_usize; rows]?;
+    for (statement, count) in statements.iter().zip(counts) {
+        add_length(&mut lengths, statement.place, *count);
+    }
+    Ok(lengths)
+}
+
+/// How many pieces the bucket of a statement is made for: those of its whole row where it is the first one that takes
+/// any, since its bucket becomes the row. From then on the row has no length left.
+fn room(lengths: &mut Vec<usize>, place: InputPlace, count: usize) -> usize {
+    match place {
+        InputPlace::InSection(row) if count > 0 && row < lengths.len() => {
+            let room = count.max(lengths[row]);
+            lengths[row] = 0;
+            room
+        }
+        _ => count,
+    }
+}
+
+/// An empty bucket for each statement, which has room for the pieces that come into it. `lengths` are those of the
+/// rows.
+fn empty_buckets(
+    alloc: Global,
+    statements: &[InputStatementAt<'_>],
+    counts: &[usize],
+    lengths: &mut Vec<usize>,
+) -> Result<Vec<Vec<Piece>>, NoMemory>
+    ensures { IfOk result (λ lists. AreEmpty (length statements.now) lists.items) }
+{
+    let mut buckets: Vec<Vec<Piece>> = Vec::with_capacity(alloc, statements.len())?;
+    for (number, statement) in statements.iter().enumerate() {
+        let count = counts.get(number).copied().unwrap_or(0);
+        let room = room(lengths, statement.place, count);
+        buckets.push(Vec::with_capacity(alloc, room)?)?;
+    }
+    Ok(buckets)
 }
 
 /// Adds a piece to those of its statement.
@@ -59,20 +139,36 @@ fn add_taken(
     }
 }
 
-/// The live sections that each statement takes, in their order. `marks` says of each section whether it is live.
+/// The live sections that each statement takes, in their order. `marks` says of each section whether it is live. They
+/// are counted first, so that no bucket grows.
 fn buckets(
     alloc: Global,
     sections: &[GatheredSection],
     marks: &[bool],
-    statements: usize,
+    statements: &[InputStatementAt<'_>],
+    rows: usize,
 ) -> Result<Vec<Vec<Piece>>, NoMemory>
-    ensures { IfOk result (λ buckets. AreBuckets (taken_in marks.now sections.now) statements buckets.items) }
+    ensures { IfOk result (λ buckets.
+        AreBuckets (taken_in marks.now sections.now) (length statements.now) buckets.items) }
 {
-    let mut buckets = empty_lists(alloc, statements)?;
+    let counts = counts(alloc, sections, marks, statements.len())?;
+    let mut lengths = row_lengths(alloc, statements, &counts, rows)?;
+    let mut buckets = empty_buckets(alloc, statements, &counts, &mut lengths)?;
     for (place, section) in sections.iter().enumerate() {
         add_taken(&mut buckets, section, is_marked(marks, place))?;
     }
     Ok(buckets)
+}
+
+/// Adds pieces to the end of a row. An empty row takes the list as it is, with no copy.
+fn add_pieces(row: &mut Vec<Piece>, pieces: &mut Vec<Piece>) -> Result<(), NoMemory>
+    ensures { OnOk result (row.new.items ≡ row.old.items ++ pieces.old.items) }
+{
+    if row.is_empty() {
+        mem::swap(row, pieces);
+        return Ok(());
+    }
+    row.append(pieces)
 }
 
 /// Adds the pieces that a statement takes, in the order of its sort, to the row of its output section.
@@ -90,7 +186,7 @@ fn add_statement(
         InputPlace::InSection(number) => {
             order(alloc, project, pieces, sort)?;
             if number < rows.len() {
-                rows[number].append(pieces)?;
+                add_pieces(&mut rows[number], pieces)?;
             }
             Ok(())
         }
@@ -117,8 +213,9 @@ pub fn rows(
 {
     let script = project.script();
     let statements = script.input_statements(alloc)?;
-    let mut buckets = buckets(alloc, sections, marks, statements.len())?;
-    let mut found = empty_lists(alloc, script.output_sections(alloc)?.len())?;
+    let outputs = script.output_sections(alloc)?.len();
+    let mut buckets = buckets(alloc, sections, marks, &statements, outputs)?;
+    let mut found = empty_rows(alloc, outputs)?;
     for (number, statement) in statements.iter().enumerate() {
         let place = statement.place;
         let sort = statement.input.sort;

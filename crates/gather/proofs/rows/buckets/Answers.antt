@@ -1,5 +1,5 @@
 -- Section by section.
-use Rattle.std.proofs.Common.{[], arith, refl, subst}
+use Rattle.std.proofs.Common.{[], arith, length, refl, subst}
 use Rattle.gather.specs.GatheredSections.{own_piece}
 use Rattle.gather.specs.RowPieces.{AreBuckets}
 use Rattle.gather.proofs.GatheredLists.{found_all, found_step}
@@ -15,7 +15,7 @@ loop-place-preserved c =
     let h = c.loop-place.invariant in
     record {
       done = _;
-      are = c.in_ok-add_taken.ensures h.done c.args.statements h.are;
+      are = c.in_ok-add_taken.ensures h.done (length c.args.statements.now) h.are;
       rest = found_step own_piece h.done _ _ c.args.marks.now c.args.sections.now c.loop-place.place _
           c.is_marked.result c.loop-place-test.true c.is_marked.ensures refl h.rest;
     }
@@ -23,6 +23,6 @@ loop-place-preserved c =
 pub returns : goal.returns
 returns c =
     let h = c.loop-place.invariant in
-    subst (λ xs. AreBuckets xs c.args.statements c.loop-place.buckets.items)
+    subst (λ xs. AreBuckets xs (length c.args.statements.now) c.loop-place.buckets.items)
     (found_all own_piece h.done _ c.args.marks.now c.args.sections.now c.loop-place.place
     (omega (arith, c.loop-place-test.false)) h.rest) h.are
