@@ -1,21 +1,20 @@
-use Rattle.ldi.proofs.Sent.{answered, left}
+use Rattle.ldi.proofs.Sent.{answered}
 use Rattle.ldi.proofs.session_command.answer.Goals as goal
 
 pub returns-clause-answers : goal.returns-clause-answers
 returns-clause-answers g c =
     answered (g.L.Linker.project c.args.linker.now) (g.R.Read.remaining c.args.reader)
-    (g.W.Write.contents c.args.writer) c.run-outcome.new.sink.written (g.W.Write.contents c.into_writer-writer.result)
-    c.run-outcome.new.sink.held (g.L.Linker.project c.run-outcome.new.linker) c.run-outcome.result
+    (g.W.Write.contents c.args.writer) c.run-outcome.new.sink (g.L.Linker.project c.run-outcome.new.linker)
+    c.run-outcome.result
     (rw (c.in_ok-source.ensures, c.in_ok-sink.ensures) at c.run-outcome.ensures.answers)
     (rw c.in_ok-sink.ensures at c.run-outcome.ensures.flushed)
-    c.into_writer-writer.ensures
 
 pub returns-clause-ran : goal.returns-clause-ran
-returns-clause-ran g c =
-    left (g.L.Linker.project c.args.linker.now) (g.R.Read.remaining c.args.reader)
-    (g.W.Write.contents c.args.writer) c.run-outcome.new.source.rest c.run-outcome.new.sink.written
-    (g.W.Write.contents c.into_writer-writer.result)
-    c.run-outcome.new.sink.held (g.L.Linker.project c.run-outcome.new.linker) c.run-outcome.result
-    (rw (c.in_ok-source.ensures, c.in_ok-sink.ensures) at c.run-outcome.ensures.ran)
-    (rw c.in_ok-sink.ensures at c.run-outcome.ensures.flushed)
-    c.into_writer-writer.ensures
+returns-clause-ran g c = record {
+  last = g.L.Linker.project c.run-outcome.new.linker;
+  ran = rw (c.in_ok-source.ensures, c.in_ok-sink.ensures) at c.run-outcome.ensures.ran;
+  sent = rw c.in_ok-sink.ensures at c.run-outcome.ensures.flushed;
+}
+
+pub returns-clause-counted : goal.returns-clause-counted
+returns-clause-counted g c = rw (c.in_ok-source.ensures, c.in_ok-sink.ensures) at c.run-outcome.ensures.counted
