@@ -15,6 +15,3 @@ returns-clause-ran g c = record {
   ran = rw (c.in_ok-source.ensures, c.in_ok-sink.ensures) at c.run-outcome.ensures.ran;
   sent = rw c.in_ok-sink.ensures at c.run-outcome.ensures.flushed;
 }
-
-pub returns-clause-counted : goal.returns-clause-counted
-returns-clause-counted g c = rw (c.in_ok-source.ensures, c.in_ok-sink.ensures) at c.run-outcome.ensures.counted

@@ -5,6 +5,3 @@ returns-clause-answers g c = rw c.in_ok-linker.ensures at c.answer.ensures.answe
 
 pub returns-clause-ran : goal.returns-clause-ran
 returns-clause-ran g c = rw c.in_ok-linker.ensures at c.answer.ensures.ran
-
-pub returns-clause-counted : goal.returns-clause-counted
-returns-clause-counted g c = c.answer.ensures.counted
