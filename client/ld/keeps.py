@@ -193,5 +193,5 @@ class Keeps:
             mine = [one.part for one in of_object if one.part not in kept]
             if doubled and mine and len(mine) < len(of_object):
                 kept.update(mine)
-                self.also += mine
+                self.also += [one.part for one in of_object if one.part in mine and (one.size or one.alignment > 1)]
         return kept
