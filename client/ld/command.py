@@ -224,7 +224,7 @@ class Reader:
             "b": {"format": value},
         }
         if name in changes:
-            self.flags = replace(self.flags, **changes[name])  # type: ignore[arg-type]
+            self.flags = replace(self.flags, **changes[name])
         elif name == "l":
             self.command.inputs.append(Input("library", value, self.flags))
         elif name in ("start-group", "end-group"):

@@ -77,7 +77,7 @@ def may_retain(data: bytes) -> bool:
 
 
 def without_retain(data: bytes) -> tuple[bytes, tuple[int, ...]]:
-    """An object without the flag GNU_RETAIN, which has no effect but for --gc-sections, and the sections that had it."""
+    """An object without the flag GNU_RETAIN, which counts for --gc-sections alone, and the sections that had it."""
     if not may_retain(data):
         return data, ()
     try:

@@ -72,7 +72,8 @@ class Tables:
         names = rows[int.from_bytes(data[62:64], "little")][4]
         for index, (word, kind, flags, _, offset, size, link, info, align, _) in enumerate(rows):
             if kind == SYMTAB:
-                self.symbols = list(SYMBOL.iter_unpack(data[offset : offset + size - size % SYMBOL.size]))
+                table = data[offset : offset + size - size % SYMBOL.size]
+                self.symbols.extend(SYMBOL.iter_unpack(table))  # type: ignore[arg-type]
                 self._names = rows[link][4]
             elif kind == RELA:
                 self._relocations[info] = (offset, size - size % RELOCATION.size)

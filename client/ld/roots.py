@@ -136,7 +136,9 @@ class Roots:
     def _has_more_references(self, unwinding: Sequence[Mapping[int, object]]) -> bool:
         """Whether there is a reference that `ldi` does not follow."""
         references = self.references
-        if any(unwinding) or any(tables.commons > 1 for tables in references.tables) or any(self._sections_of(name)[1] for name in references.undefined):
+        if any(unwinding) or any(tables.commons > 1 for tables in references.tables):
+            return True
+        if any(self._sections_of(name)[1] for name in references.undefined):
             return True
         return any(references.has_references(part) and self._out(part) for part in self.parts)
 

@@ -130,7 +130,8 @@ def _read(command: Command, found: Sequence[tuple[str, str]]) -> Source:
     lines = []
     for number, (one, its_text) in enumerate(found):
         parts.append(commands_of(read_text(Command(folders=command.folders), one, its_text, 1).nodes))
-        between = "".join(f" {name} = {value};" for name, value in assignments(command.defsyms(number) if number else []))
+        defsyms = command.defsyms(number) if number else []
+        between = "".join(f" {name} = {value};" for name, value in assignments(defsyms))
         lines.append(f'{between} INCLUDE "{one}"')
     reading = read_text(command, path, "\n".join(lines), len(found))
     source = Source(path, "\n".join(its_text for _, its_text in found), True, reading, parts)

@@ -1,4 +1,4 @@
-"""What a linker script says of files and names: INPUT, GROUP, STARTUP, SEARCH_DIR, EXTERN, ENTRY, and files in statements."""
+"""What a script says of files and names: INPUT, GROUP, STARTUP, SEARCH_DIR, EXTERN, ENTRY, and files in statements."""
 from __future__ import annotations
 
 from collections.abc import Iterator, Sequence

@@ -1,4 +1,4 @@
-"""`ld.ldi`: links that another linker makes, which is never `ld.ldi` itself, and ends at any time without a traceback."""
+"""`ld.ldi`: links that another linker makes, which is never `ld.ldi` itself; and no end with a traceback."""
 from __future__ import annotations
 
 import os
@@ -90,8 +90,8 @@ class EndsTest(LinkTest):
 
     def test_stopped_at_the_start(self) -> None:
         """^C while modules are loaded ends the program by the signal, and says nothing."""
-        done = subprocess.run(["/usr/bin/python3", "-c", STOPPED_AT_IMPORT, str(LD_LDI)], capture_output=True, text=True,
-                              check=False, timeout=LIMIT)
+        words = ["/usr/bin/python3", "-c", STOPPED_AT_IMPORT, str(LD_LDI)]
+        done = subprocess.run(words, capture_output=True, text=True, check=False, timeout=LIMIT)
         self.assertEqual((done.returncode, done.stderr), (-signal.SIGINT, ""))
 
     def test_next_in_assert(self) -> None:

@@ -1,8 +1,6 @@
 """`ld.ldi`: files that scripts name, several scripts, and the rule of make for what was read; beside GNU ld."""
 from __future__ import annotations
 
-import subprocess
-
 from client.tests.linking import BesideGnu, needs
 
 BODY = ".all : { *(.text .data .bss COMMON) } /DISCARD/ : { *(.note*) }"
@@ -97,7 +95,8 @@ class FilesTest(BesideGnu):
                    ".data : { *(.data .bss) } >ram /DISCARD/ : { *(.note*) } } INPUT(both.o)\n")
         for words in ("-T one.ld -T near/two.ld m.o vec.o", "-T one.ld vec.o --defsym mid=9 -T near/two.ld m.o",
                       "--defsym mid=1 -T one.ld m.o vec.o -T near/two.ld", "-Tnear/two.ld -Tone.ld m.o vec.o",
-                      "-L near -T one.ld vec.o -T two.ld --defsym late=two m.o", "-dT none.ld -T one.ld -T near/two.ld m.o",
+                      "-L near -T one.ld vec.o -T two.ld --defsym late=two m.o",
+                      "-dT none.ld -T one.ld -T near/two.ld m.o",
                       "-dT one.ld -dT t.ld m.o vec.o", "-T one.ld -T one.ld m.o"):
             with self.subTest(words=words):
                 self.both(*words.split())
@@ -128,7 +127,8 @@ class FilesTest(BesideGnu):
         own, gnu = (self.prerequisites(name) for name in ("own.d", "gnu.d"))
         theirs = [{"more.ld": "near/more.ld", "./libq.a": "./libq.a"}.get(name, name) for name in dict.fromkeys(gnu)]
         self.assertEqual(sorted(own), sorted(theirs))
-        self.assertEqual(subprocess.run(["make", "-f", "own.d", "-q", "own"], cwd=self.folder, check=False).returncode, 0)
+        done = self.run_program("make", "-f", "own.d", "-q", "own")
+        self.assertEqual(done.returncode, 0, done.stderr)
 
     def prerequisites(self, name: str) -> list[str]:
         """The files that a rule names."""

@@ -187,7 +187,7 @@ class CollectingTest(BesideGnu):
         self.write("t.ld", "ENTRY(_start) SECTIONS { . = 0x10000; .text : { *(.text*) } .eh_frame : "
                    "{ KEEP(*(.eh_frame)) } /DISCARD/ : { *(.note*) } }")
         done = self.links("--gc-sections", "-T", "t.ld", "cfi.o", "-o", "own")
-        self.assertIn("changed: --gc-sections: .eh_frame of cfi.o: under KEEP: all functions that it names", done.stderr)
+        self.assertIn("changed: --gc-sections: .eh_frame of cfi.o: under KEEP: all functions that it", done.stderr)
 
 
 class StatementsTest(BesideGnu):
