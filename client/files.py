@@ -8,6 +8,10 @@ from __future__ import annotations
 import os
 import stat
 import time
+from typing import TYPE_CHECKING
+
+if TYPE_CHECKING:
+    from client.inputs_state import Looks
 
 Stamp = tuple[int, int, int, int, int]
 """Device, inode, size, and the times of modification and change in nanoseconds."""
@@ -33,10 +37,28 @@ def is_settled(stamp: Stamp, now: int) -> bool:
 class Seen:
     """A file as it was read: its bytes, none where it could not be read, and its stamp, none where that is no proof."""
 
-    __slots__ = ("data", "stamp", "settled")
+    __slots__ = ("path", "data", "stamp", "settled")
 
-    def __init__(self, data: bytes | None, stamp: Stamp | None, settled: bool) -> None:
-        self.data, self.stamp, self.settled = data, stamp, settled
+    def __init__(self, path: str, data: bytes | None, stamp: Stamp | None, settled: bool) -> None:
+        self.path, self.data, self.stamp, self.settled = path, data, stamp, settled
+
+    def take(self, other: Seen) -> None:
+        """What was read later."""
+        self.data, self.stamp, self.settled = other.data, other.stamp, other.settled
+
+    def is_same(self) -> bool:
+        """Whether the file is still what was read of it; where only its bytes say so, they are read once more."""
+        try:
+            if self.stamp is None or stamp_of(os.stat(self.path)) != self.stamp:
+                return False
+            if not self.settled:
+                found = read_seen(self.path)
+                if found.data != self.data or found.stamp != self.stamp:
+                    return False
+                self.settled = found.settled
+        except OSError:
+            return False
+        return True
 
 
 def read_seen(path: str) -> Seen:
@@ -58,8 +80,8 @@ def read_seen(path: str) -> Seen:
         os.close(descriptor)
     data = parts[0] if len(parts) == 1 else b"".join(parts)
     if not is_whole:
-        return Seen(data, None, False)
-    return Seen(data, stamp, is_settled(stamp, begun))
+        return Seen(path, data, None, False)
+    return Seen(path, data, stamp, is_settled(stamp, begun))
 
 
 class Files:
@@ -72,18 +94,24 @@ class Files:
         self.seen: dict[str, Seen] = {}
         self.probes: dict[tuple[str, str], bool] = {}
         self._before = before.seen if before is not None else {}
+        self._looks: Looks | None = None
+        self._looked_at: list[Seen] | None = None
 
     def read(self, path: str) -> bytes:
         """The bytes of a file; OSError where it cannot be read."""
         old = self.seen.get(path) or self._before.get(path)
         try:
-            found = old if old is not None and is_same(path, old) else again(path, old)
+            found = old if old is not None and old.is_same() else again(path, old)
         except OSError:
-            self.seen[path] = Seen(None, None, False)
+            self._put(Seen(path, None, None, False))
             raise
-        self.seen[path] = found
+        self._put(found)
         assert found.data is not None
         return found.data
+
+    def _put(self, one: Seen) -> None:
+        self.seen[one.path] = one
+        self._looked_at = None
 
     def exists(self, path: str) -> bool:
         """Whether there is something of this name."""
@@ -103,23 +131,23 @@ class Files:
 
     def changed(self) -> list[str] | None:
         """The files that are not what was read; None where a question has another answer, or a file came."""
-        found, look = [], os.stat
-        for path, one in self.seen.items():
-            try:
-                status = look(path)
-            except OSError:
-                if one.data is not None:
-                    found.append(path)
-                continue
-            if one.data is None:
-                return None
-            stamp = (status.st_dev, status.st_ino, status.st_size, status.st_mtime_ns, status.st_ctime_ns)
-            if stamp != one.stamp or not (one.settled or is_same(path, one)):
-                found.append(path)
-        for (question, path), answer in self.probes.items():
-            if PROBES[question](path) != answer:
-                return None
+        from client.inputs_state import Looks  # takes time to import, and one link does not look twice
+
+        if self._looks is None:
+            self._looks = Looks()
+        if self._looked_at is None:
+            self._looked_at = [one for one in self.seen.values() if one.data is not None]
+        found = [one.path for one in self._looks.changed(self._looked_at)]
+        if any(one.data is None and os.path.exists(path) for path, one in self.seen.items()):
+            return None
+        if any(PROBES[question](path) != answer for (question, path), answer in self.probes.items()):
+            return None
         return found
+
+    def close(self) -> None:
+        """Closes what looks need."""
+        if self._looks is not None:
+            self._looks.close()
 
     def numbers(self) -> dict[tuple[int, int], str]:
         """The names of the files that were read, by their devices and inodes."""
@@ -127,21 +155,6 @@ class Files:
 
 
 PROBES = {"exists": os.path.exists, "is_file": os.path.isfile}
-
-
-def is_same(path: str, one: Seen) -> bool:
-    """Whether a file is still what was read of it; where only its bytes say so, they are read once more."""
-    try:
-        if one.stamp is None or stamp_of(os.stat(path)) != one.stamp:
-            return False
-        if not one.settled:
-            found = read_seen(path)
-            if found.data != one.data or found.stamp != one.stamp:
-                return False
-            one.settled = found.settled
-    except OSError:
-        return False
-    return True
 
 
 def again(path: str, old: Seen | None) -> Seen:

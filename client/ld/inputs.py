@@ -345,6 +345,10 @@ class Loader:
             kept += retained
         self.objects.append(Object(session_name(name, self._used), data, path, kept))
 
+    def archive_names(self) -> frozenset[bytes]:
+        """The names of the symbol tables of archives: what objects have of others takes no member."""
+        return frozenset(name for archive in self._archives.values() for name, _ in archive.symbols)
+
     def _enter(self) -> None:
         """Goes through the names of the objects taken since the last time."""
         for entered in self.objects[self._entered :]:

@@ -1,7 +1,9 @@
 """The names of an object that are not local: what decides which members of archives a link needs."""
 from __future__ import annotations
 
-from collections.abc import Mapping
+from collections.abc import Iterable, Iterator, Mapping
+from contextlib import contextmanager
+from typing import Protocol
 
 from client.object_file import COMMON, NAMED, UNDEFINED, WEAK, NotElf, ObjectFile
 
@@ -12,8 +14,37 @@ Linkage = Mapping[bytes, int]
 """By name: what an object has of it."""
 
 
+class Named(Protocol):
+    """An object whose names may have been read."""
+
+    @property
+    def data(self) -> bytes:
+        """Its bytes."""
+
+    @property
+    def linkage(self) -> Linkage:
+        """Its names."""
+
+
+_known: dict[int, tuple[bytes, Linkage]] = {}
+"""What is remembered, by the place in memory of the bytes."""
+
+
+@contextmanager
+def remembered(objects: Iterable[Named]) -> Iterator[None]:
+    """Within this, the names of these objects' bytes, the same in memory, are not read once more."""
+    _known.update((id(item.data), (item.data, item.linkage)) for item in objects)
+    try:
+        yield
+    finally:
+        _known.clear()
+
+
 def read_linkage(data: bytes) -> Linkage:
     """The names of an object; none where it is not an object of this machine, which the linker will say."""
+    known = _known.get(id(data))
+    if known is not None and known[0] is data:
+        return known[1]
     kinds: dict[bytes, int] = {}
     try:
         table, names = ObjectFile(data).global_table()

@@ -125,6 +125,7 @@ class Link:
         self.source = find_script(command, environment)
         self.objects: list[Object] = []
         self.files: list[str] = []
+        self.loader: Loader | None = None
         self.opened: Opened | None = None
         self.script: Script | None = None
         self.valued: Valued | None = None
@@ -134,7 +135,7 @@ class Link:
         command = self.command
         print_asked(command, self.source)
         loader = Loader(command, self.source.parts, self.source.own, wanted_names(command, self.source))
-        self.objects, self.files = loader.load(), loader.files
+        self.objects, self.files, self.loader = loader.load(), loader.files, loader
         self.source.rename_files(loader.renamed)
         if self.source.output is not None and not command.has_output:
             command.output = self.source.output
@@ -240,6 +241,11 @@ class Link:
             if name is not None:
                 raise BadInput(f"input file '{name}' is the same as output file")
 
+    def choosing_names(self) -> frozenset[bytes]:
+        """The names of which what objects have of them decides about members of archives, or about a refusal."""
+        required = [os.fsencode(name) for name in self.command.required]
+        return frozenset(required) | (self.loader.archive_names() if self.loader is not None else frozenset())
+
     def again(self, objects: list[Object]) -> int:
         """The link once more with other bytes of objects, where the script stays as it was written.
 
@@ -265,11 +271,11 @@ class Link:
     def _finish(self, opened: Opened, script: Script, result: Result) -> int:
         """Says what came of the link, and writes the files of a good one."""
         self.script = script
-        data = {item.name.decode(): item.data for item in self.objects}
-        inputs = Inputs(script.path, script.text, data, script.lines, self.command.entry)
         if result.script_refused:
             return self._script_refused(result.script_refused, script)
         if result.status:
+            data = {item.name.decode(): item.data for item in self.objects}
+            inputs = Inputs(script.path, script.text, data, script.lines, self.command.entry)
             print_faults(result.faults, inputs)
             return FAULTS
         self._write(script, result)

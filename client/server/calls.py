@@ -17,7 +17,7 @@ from client.files import Files, Seen
 from client.ld.archive import BadArchive, is_archive, read_archive
 from client.ld.command import read_command
 from client.ld.inputs import ELF, SHARED, SLIM, Object, may_retain
-from client.ld.linkage import read_linkage
+from client.ld.linkage import read_linkage, remembered
 from client.ld.main import Link
 from client.ld.options import WordsRefused
 from client.ld.programs import others
@@ -54,10 +54,13 @@ class Calls:
         link.host, link.opened = host, None  # the session is the host's from now on
         self.words = words
         self.host = host
+        self._last_objects = link.objects
         self.files = client.files.CURRENT
         self.count = 0
         """The links that were made."""
         self._objects: dict[int, list[int]] = {}
+        self._choosing: frozenset[bytes] | None = None
+        """The names that decide which members of archives are taken."""
         self._note_objects()
         self._default = self._default_script()
 
@@ -112,12 +115,13 @@ class Calls:
                     return None
                 is_alike = False
                 continue
-            self.files.seen[path] = after
+            before_data = before.data
+            before.take(after)
             for place in places:
                 assert after.data is not None
                 objects[place] = replace(objects[place], data=after.data)
-            if places and after.data is not before.data:
-                self._objects[id(after.data)] = self._objects.pop(id(before.data))
+            if places and after.data is not before_data:
+                self._objects[id(after.data)] = self._objects.pop(id(before_data))
         self.host.is_same_text = True
         return objects if is_alike else None
 
@@ -128,14 +132,26 @@ class Calls:
             return False
         if not places:
             return is_archive(old) and is_archive(new) and have_same_members(old, new)
-        return is_plain_object(new) and all(self._is_object_alike(objects[place].name, old, new) for place in places)
+        return is_plain_object(new) and all(self._is_object_alike(objects[place], new) for place in places)
 
-    def _is_object_alike(self, name: bytes, old: bytes, new: bytes) -> bool:
-        return read_linkage(old) == read_linkage(new) and self.host.adapted.is_alike(name, old, new)
+    def _is_object_alike(self, item: Object, new: bytes) -> bool:
+        assert self.link is not None
+        if self.link.command.gc_sections:  # the script says by the relocations what is kept
+            return False
+        return self._chooses_alike(item, new) and self.host.adapted.is_alike(item.name, item.data, new)
+
+    def _chooses_alike(self, item: Object, new: bytes) -> bool:
+        """Whether the same members of archives are taken: no name of a symbol table of theirs is another."""
+        old, names = item.linkage, read_linkage(new)
+        others = {name for name in old.keys() | names.keys() if old.get(name) != names.get(name)}
+        if others and self._choosing is None:
+            assert self.link is not None
+            self._choosing = self.link.choosing_names()
+        return not others or others.isdisjoint(self._choosing or ())
 
     def _note_objects(self) -> None:
         """Notes which objects are whole files, by their bytes."""
-        self._objects = {}
+        self._objects, self._choosing = {}, None
         whole = {id(one.data) for one in self.files.seen.values()}
         for place, item in enumerate(self.link.objects if self.link is not None else ()):
             if id(item.data) in whole:
@@ -151,6 +167,7 @@ class Calls:
     # the link from the words on
 
     def _anew(self, words: list[str]) -> int:
+        self._last_objects = self.link.objects if self.link is not None else self._last_objects
         self.link = None
         self.host.is_same_text = self.host.is_same_text and words == self.words
         files = Files(self.files)
@@ -162,7 +179,10 @@ class Calls:
         if command.cannot or not command.inputs_named() or command.asks:
             raise ByItself("another linker, or no link")
         link = Link(command, words, os.environ, self.host)
-        status = link.run()
+        with remembered(self._last_objects):
+            status = link.run()
+        self._last_objects = link.objects
+        self.files.close()
         self.files, self.words = files, words
         if status in (0, 1) and link.script is not None:
             self.link = link
