@@ -6,7 +6,7 @@ The segments' places in the file, and `p_align`, become what N asks for: p_offse
 from __future__ import annotations
 
 import struct
-from collections.abc import Mapping
+from collections.abc import Iterable, Mapping, Sequence
 from dataclasses import dataclass
 
 from client.object_file import ALLOC, Header, ObjectFile
@@ -83,26 +83,42 @@ def with_pages(image: bytes, page: int, in_file_order: bool) -> bytes:
         raise TooFar(f"with segments aligned to {page:#x} the image would have {end} bytes: -z max-page-size={PAGE:#x}")
     if in_file_order:
         segments.sort(key=lambda one: one.offset)
-    result = bytearray(image[:ELF_HEADER])
-    result += b"".join(one.packed(page) for one in segments)
-    result += bytes(end - len(result))
-    for one in segments:
-        result[one.place : one.place + one.file_size] = image[one.offset : one.offset + one.file_size]
+    loaded = [(one.place, one.offset, one.file_size) for one in segments]
     places = {index: moved(header, segments) for index, header in enumerate(ObjectFile(image).headers)}
-    return bytes(with_tail(image, result, places))
+    return with_moved(image, [one.packed(page) for one in segments], loaded, end, places)
 
 
-def with_tail(image: bytes, result: bytearray, places: Mapping[int, int | None]) -> bytearray:
-    """Adds what is not loaded, and the section headers; `places` has the new place of each section that is loaded."""
-    headers = []
+def with_moved(image: bytes, program_headers: list[bytes], loaded: Sequence[tuple[int, int, int]], end: int,
+               places: Mapping[int, int | None]) -> bytes:
+    """The image with these program headers, and what is loaded at other places up to `end`.
+
+    `loaded` has the new place, the old one and the length of each part; `places` has the new place of each section that
+    is loaded. What is not loaded follows, and then the section headers. No byte is copied more than once.
+    """
+    view, headers = memoryview(image), []
+    pieces: list[tuple[int, bytes | memoryview]] = [(place, view[old : old + size]) for place, old, size in loaded]
+    pieces.sort(key=lambda piece: piece[0])
     for index, header in enumerate(ObjectFile(image).headers):
         place = places.get(index)
         if place is None and header.size and not header.flags & ALLOC:
-            result += bytes(-len(result) % 8)
-            place = len(result)
-            result += image[header.offset : header.offset + header.size]
+            place = end + -end % 8
+            pieces.append((place, view[header.offset : header.offset + header.size]))
+            end = place + header.size
         headers.append(header._replace(offset=header.offset if place is None else place))
-    result += bytes(-len(result) % 8)
-    struct.pack_into("<Q", result, 40, len(result))
-    result += b"".join(struct.pack("<IIQQQQIIQQ", *header) for header in headers)
-    return result
+    end += -end % 8
+    pieces.append((end, b"".join(struct.pack("<IIQQQQIIQQ", *header) for header in headers)))
+    begin = bytearray(view[:ELF_HEADER])
+    struct.pack_into("<Q", begin, 40, end)
+    struct.pack_into("<H", begin, 56, len(program_headers))
+    return _joined([(0, begin + b"".join(program_headers)), *pieces])
+
+
+def _joined(pieces: Iterable[tuple[int, bytes | bytearray | memoryview]]) -> bytes:
+    """The pieces at their places, which ascend, with zeros between."""
+    parts: list[bytes | bytearray | memoryview] = []
+    at = 0
+    for place, piece in pieces:
+        if len(piece):
+            parts += [bytes(place - at), piece]
+            at = place + len(piece)
+    return b"".join(parts)

@@ -5,13 +5,12 @@ GNU ld's manual has the language ('PHDRS Command'). What is loaded, all addresse
 """
 from __future__ import annotations
 
-import struct
 from collections.abc import Sequence
 from dataclasses import dataclass
 from itertools import pairwise
 
 from client.adapt.segments import PT_LOAD, PT_PHDR, Segments, Wanted
-from client.ld.page_size import (ELF_HEADER, GREATEST, PAGE, PROGRAM_HEADER, Segment, segments_of, with_tail)
+from client.ld.page_size import (ELF_HEADER, GREATEST, PAGE, PROGRAM_HEADER, Segment, segments_of, with_moved)
 from client.object_file import ALLOC, EXECUTABLE, NOBITS, WRITABLE, Header, ObjectFile
 
 READ, WRITE, EXECUTE = 4, 2, 1
@@ -226,12 +225,6 @@ def _check_apart(entries: list[Entry]) -> None:
 
 def _image(image: bytes, parts: list[Part], entries: list[Entry], end: int) -> bytes:
     """The file: the headers, the sections at their places, and what is not loaded."""
-    result = bytearray(image[:ELF_HEADER])
-    struct.pack_into("<H", result, 56, len(entries))
-    result += b"".join(entry.written.packed(entry.alignment) for entry in entries)
-    result += bytes(end - len(result))
-    for part in parts:
-        if part.in_file:
-            header = part.header
-            result[part.place : part.place + header.size] = image[header.offset : header.offset + header.size]
-    return bytes(with_tail(image, result, {part.index: part.place for part in parts}))
+    loaded = [(part.place, part.header.offset, part.header.size) for part in parts if part.in_file]
+    program_headers = [entry.written.packed(entry.alignment) for entry in entries]
+    return with_moved(image, program_headers, loaded, end, {part.index: part.place for part in parts})
