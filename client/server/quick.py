@@ -21,10 +21,10 @@ if TYPE_CHECKING:
     from collections.abc import Mapping
 
 ANSWER_IN = 0.1
-"""Seconds in which a server has to answer at all."""
+"""Seconds in which a server has to answer at all; LDI_SERVER_ANSWER names others."""
 
-SILENCE = 0.5
-"""Seconds without a sign of a server that works, after which the call links by itself."""
+SILENCE = 5
+"""So many times as long without a sign of a server that works, and the call links by itself."""
 
 WORKING, REFUSED, DONE = b"W", b"N", b"D"
 """What a server sends: that it works, why it does not link, or what came of the link."""
@@ -92,13 +92,14 @@ class Attempt:
 
     def _ask(self, path: str) -> int:
         socket = _socket.socket(_socket.AF_UNIX, _socket.SOCK_STREAM | _socket.SOCK_CLOEXEC)
-        socket.settimeout(ANSWER_IN)
+        limit = seconds_of(self.environment.get("LDI_SERVER_ANSWER"), ANSWER_IN)
+        socket.settimeout(limit)
         try:
             connect(socket, path)
             mask = os.umask(0)
             os.umask(mask)
             send(socket, b"L", marshal.dumps((self.key, self.words, mask)))
-            status, places, texts = marshal.loads(answer(socket))
+            status, places, texts = marshal.loads(answer(socket, limit))
             for beside, target in places:
                 put(beside, target)
             socket.send(b"P")
@@ -166,11 +167,20 @@ def receive(socket: _socket.socket) -> tuple[bytes, bytes]:
     return head[:1], _bytes(socket, int.from_bytes(head[1:], "little"))
 
 
-def answer(socket: _socket.socket) -> bytes:
+def seconds_of(text: str | None, otherwise: float) -> float:
+    """The seconds that a variable names."""
+    try:
+        seconds = float(text or "")
+    except ValueError:
+        return otherwise
+    return seconds if 0 < seconds < 1e6 else otherwise
+
+
+def answer(socket: _socket.socket, limit: float) -> bytes:
     """What came of the link, when the server has it."""
     while True:
         kind, text = receive(socket)
-        socket.settimeout(SILENCE)
+        socket.settimeout(SILENCE * limit)
         if kind == DONE:
             return text
         if kind != WORKING:

@@ -19,7 +19,7 @@ from client.files import stamp_of
 from client.protocol import find_program
 from client.server.calls import Calls, Outcome
 from client.server.host import ByItself
-from client.server.quick import DONE, REFUSED, WORKING, Attempt, Declined, peer_of, receive, send
+from client.server.quick import DONE, REFUSED, WORKING, Attempt, Declined, peer_of, receive, seconds_of, send
 
 IDLE = 600.0
 """Seconds without a call, after which a server ends; LDI_SERVER_IDLE names others."""
@@ -63,7 +63,7 @@ class Server:
         self.folder = self._identity(os.path.dirname(self.output))
         self.program = find_program()
         self.versions = self._versions()
-        self.idle = float(attempt.environment.get("LDI_SERVER_IDLE", IDLE))
+        self.idle = seconds_of(attempt.environment.get("LDI_SERVER_IDLE"), IDLE)
         self.memory = memory_limit(attempt.environment.get("LDI_SERVER_MEMORY"))
         self.last_call = time.monotonic()
         self.ends = ""

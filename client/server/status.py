@@ -10,6 +10,8 @@ from client.runtime_folder import runtime_folder
 from client.server.quick import Attempt, Declined, answer, connect, output_of, send
 
 PREFIX = "ld."
+LIMIT = 5.0
+"""Seconds in which a server has to say how it is."""
 
 
 def run(words: list[str], attempt: Attempt) -> int:
@@ -47,11 +49,11 @@ def _line(said: dict[str, object], stops: bool) -> str:
 def _ask(path: str, kind: bytes) -> object:
     """What a server says of itself; why it does not."""
     socket = _socket.socket(_socket.AF_UNIX, _socket.SOCK_STREAM | _socket.SOCK_CLOEXEC)
-    socket.settimeout(1.0)
+    socket.settimeout(LIMIT)
     try:
         connect(socket, path)
         send(socket, kind)
-        return marshal.loads(answer(socket))
+        return marshal.loads(answer(socket, LIMIT))
     except (OSError, Declined, ValueError, EOFError, TypeError) as fault:
         return str(fault)
     finally:

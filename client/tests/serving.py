@@ -29,6 +29,8 @@ SOURCES = {
     "b.c": "int other = 5; int b(int x) { return x + 1; }",
     "c.c": "int unused; const char text[] = \"some text\";",
 }
+ANSWER = "5"
+"""The seconds that a call waits for an answer here, where the machine may be busy with other tests."""
 WORDS = ("-T", "t.ld", "-o", "image", "a.o", "b.o", "c.o")
 Done = subprocess.CompletedProcess[str]
 
@@ -56,7 +58,7 @@ class ServerTest(LinkTest):
 
     def env(self, **more: str) -> dict[str, str]:
         """The environment of a call with a server."""
-        return {"XDG_RUNTIME_DIR": str(self.run_folder), "LDI_SERVER": "1", **more}
+        return {"XDG_RUNTIME_DIR": str(self.run_folder), "LDI_SERVER": "1", "LDI_SERVER_ANSWER": ANSWER, **more}
 
     def call(self, *words: str, env: Mapping[str, str] | None = None) -> Done:
         """Runs `ld.ldi` with a server."""
@@ -105,6 +107,10 @@ class ServerTest(LinkTest):
         while not holds():
             self.assertLess(time.monotonic(), end, what)
             time.sleep(0.02)
+
+    def wait_for_link(self) -> None:
+        """Waits until the server is busy with a link."""
+        self.wait(lambda: ", busy" in self.status(), "the server is not busy")
 
     def begin(self, *words: str, env: Mapping[str, str] | None = None) -> subprocess.Popen[str]:
         """Starts a call, and does not wait for it."""
