@@ -54,9 +54,11 @@ class Statements:
                 self.model.edits.blank(node.start, node.end)
                 self.model.note(DROPPED, node.start, f"{self.model.text(node)} has no effect: no object uses it")
                 return
-            name = node.name if isinstance(node, Assign) and node.name != "." else "NAME"
-            text = str(left).replace("NAME", name)
-            self.model.note(LEFT, node.start, f"{self.model.text(node)} {text}")
+            self._note_left(node, str(left))
+
+    def _note_left(self, node: Node, why: str) -> None:
+        name = node.name if isinstance(node, Assign) and node.name != "." else "NAME"
+        self.model.note(LEFT, node.start, f"{self.model.text(node)} {why.replace('NAME', name)}")
 
     def _is_idle(self, step: Step) -> bool:
         """Whether a statement is a PROVIDE of a symbol that neither the script nor an object uses."""
@@ -94,11 +96,16 @@ class Statements:
         e = self._without_assert(step, place)
         if d.moved is not None and ex.uses_dot(e):
             place.dot = self._here(node)
+        place.left = []
         value = self.translator.value(e, place)
+        if place.left and self._is_idle(step):
+            raise Left(place.left[0])
         result = self.translator.in_section(value, place) if step.section else self.translator.address(value, place)
         if not is_name(node.name):
             raise Left(f"{node.name} is no name of the profile: letters, digits, `_`, `.`, `$` and `-`")
         self._put(step, d, result, place)
+        for why in dict.fromkeys(place.left):
+            self._note_left(node, why)
 
     def _is_used(self, d: Definition) -> bool:
         """Whether an expression means an earlier version of a symbol."""

@@ -40,7 +40,7 @@ class Value:
 class Place:
     """Where an expression is evaluated: its step, the section around it, where its text will stand."""
 
-    __slots__ = ("step", "section", "at", "is_assert", "own", "around", "notes", "dot", "worry")
+    __slots__ = ("step", "section", "at", "is_assert", "own", "around", "notes", "dot", "worry", "left")
 
     def __init__(self, step: float, section: Section | None, at: float | None = None, is_assert: bool = False,
                  own: Section | None = None) -> None:
@@ -56,6 +56,8 @@ class Place:
         """What is not the same."""
         self.dot: Expr = ex.DOT
         """What stands for `.`."""
+        self.left: list[str] | None = None
+        """Where the rest of an expression is written though a name in it is left: why those names are."""
 
 
 class Translator:
@@ -182,13 +184,20 @@ class Translator:
         if place.is_assert:
             return Value(RELATIVE, e, "object's " + e.word)
         if objects is not None and found is None:
-            raise Left(f"nothing defines {e.word}")
+            return self._left(e, place, f"nothing defines {e.word}")
         if found is not None:
             self.model.valued.add(e.word)
             if self.model.values is not None:
                 place.notes.append(f"{e.word} as the number that a link gives it")
                 return Value(ABSOLUTE, ex.number(self.model.values.get(e.word, 0)))
-        raise Left(self._advice(e.word, found))
+        return self._left(e, place, self._advice(e.word, found))
+
+    def _left(self, e: Expr, place: Place, why: str) -> Value:
+        """A name that is left: the statement with it, or where the place keeps the reasons this name alone."""
+        if place.left is None:
+            raise Left(why)
+        place.left.append(why)
+        return Value(ABSOLUTE, e)
 
     def _advice(self, name: str, found: Definition | None) -> str:
         """What to write for an object's symbol, whose address is known only after the layout."""

@@ -161,6 +161,14 @@ class ProgramTest(unittest.TestCase):
         self.assertEqual(self.run_program("--help")[0], 0)
         self.assertEqual(self.run_program("s.ld", "--defsym=x=1", "--defsym", "y=2")[1], "x = 1; y = 2; ")
 
+    def test_rest_of_a_statement(self) -> None:
+        """What is around a name that is left is in the profile's words; the statement is left all the same."""
+        status, out, report = self.run_program("s.ld", text="x = 1M; p = ABSOLUTE(start - x) + MAX(x, 3);")
+        self.assertEqual((status, out), (2, "x = 1M; p = start - x + (x > 3 ? x : 3);"))
+        self.assertIn("s.ld:1: left: p = ABSOLUTE(start - x)", report)
+        status, out, _ = self.run_program("s.ld", text="SECTIONS { .t : { x = ABSOLUTE(start); *(.t) } }")
+        self.assertEqual((status, out), (2, "SECTIONS { .t : { x = start; *(.t) } }"))
+
     def test_list_of_objects(self) -> None:
         """--objects @LIST."""
         with tempfile.TemporaryDirectory() as folder:
