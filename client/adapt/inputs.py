@@ -3,12 +3,24 @@ from __future__ import annotations
 
 from client.adapt.model import Model
 from client.adapt.notes import CHANGED, DROPPED, LEFT, REWRITTEN
-from client.adapt.patterns import has_wildcard, is_word, word_of
+from client.adapt.patterns import is_word, matcher, word_of
 from client.adapt.taking import file_matches, file_names, is_outside, literal, may_take, takes, taking
 from client.adapt.tree import Assert, Assign, Command, Data, Input, Node, Pattern, Section
 
 _SORTS = {"SORT": "SORT_BY_NAME", "SORT_BY_NAME": "SORT_BY_NAME", "SORT_BY_ALIGNMENT": "SORT_BY_ALIGNMENT",
           "SORT_BY_INIT_PRIORITY": "SORT_BY_NAME", "SORT_NONE": "", "REVERSE": ""}
+
+
+NO_OBJECT = "\\(none\\)"
+"""A pattern that matches the name of no object."""
+
+
+def _taken(patterns: list[str], names: list[str]) -> list[str]:
+    """The objects that patterns of the profile take, one after the other."""
+    found: dict[str, None] = {}
+    for pattern in patterns:
+        found.update((name, None) for name in names if matcher(pattern).fullmatch(name))
+    return list(found)
 
 
 class Rewriter:
@@ -104,25 +116,36 @@ class Rewriter:
         return [self._word(name if name.startswith("*") else "*" + name)]
 
     def _members(self, word: str) -> list[str] | None:
-        """The patterns of a file pattern where members of archives are named `lib.a(member.o)`."""
+        """The patterns of a file pattern, in their order, where members of archives are named `lib.a(member.o)`.
+
+        The profile matches whole names, GNU ld the name of a member or of its archive: what is written takes the same
+        of the objects that are known. None where the pattern does so as it stands.
+        """
         objects = self.model.objects
-        if objects is None or word == "*":
+        if objects is None or word == "*" or not any(file_names(name)[0] for name in objects.names):
             return None
-        members = [name for name in objects.names if file_names(name)[0]]
-        if not members:
-            return None
-        if not has_wildcard(word) and ":" not in word:
-            return None
-        if ":" in word:
-            archive, name = word.split(":", 1)
-            if not archive:
-                return None
-            self.notes.append((REWRITTEN, f"`{word}` by the names of the members"))
-            return [self._word(archive) + "\\(" + self._word(name or "*") + "\\)"]
-        if not any(file_matches(word, name) for name in members):
-            return None
-        self.notes.append((REWRITTEN, f"`{word}` is a member of an archive too"))
-        return [self._word(word), "*\\(" + self._word(word) + "\\)"]
+        wanted = [name for name in objects.names if file_matches(word, name)]
+        for patterns in self._spellings(word):
+            if _taken(patterns, objects.names) == wanted:
+                if patterns == [word]:
+                    return None
+                break
+        else:
+            patterns = [word_of(_escaped(name))[0] for name in wanted] or [NO_OBJECT]
+        self.notes.append((REWRITTEN, f"`{word}` by the names of the objects"))
+        if len(patterns) > 1 and any(p.sorts for p in self.node.patterns or []):
+            self.notes.append((CHANGED, f"`{word}` takes members of archives too: sorted within {len(patterns)} parts"))
+        return patterns
+
+    @staticmethod
+    def _spellings(word: str) -> list[list[str]]:
+        """What may be written for a file pattern."""
+        archive, colon, name = word.rpartition(":")
+        own = word_of(name or "*")[0]
+        if archive:
+            return [[f"{word_of(archive)[0]}\\({own}\\)"]]
+        member = f"*\\({own}\\)"
+        return [[own], [member], [own, member], [member, own]]
 
     def _file_sort(self) -> None:
         objects = self.model.objects

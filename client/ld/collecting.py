@@ -15,6 +15,19 @@ GREATEST_NAMES = 3
 """The sections that a line of the report names."""
 
 
+_last: tuple[list[bytes], References] | None = None
+"""What was read of the objects of the last link."""
+
+
+def references_of(objects: Sequence[Object]) -> References:
+    """What the objects refer to; read once for all scripts of a link."""
+    global _last
+    data = [item.data for item in objects]
+    if _last is None or len(_last[0]) != len(data) or any(old is not new for old, new in zip(_last[0], data)):
+        _last = data, References(objects)
+    return _last[1]
+
+
 def with_keeps(text: bytes, nodes: Sequence[Node], command: Command, objects: Sequence[Object], entry: str | None,
                names: Sequence[str]) -> tuple[bytes, list[tuple[str, str]]]:
     """The script with KEEP for what GNU ld keeps beside, and lines for the report, each with its kind.
@@ -22,7 +35,7 @@ def with_keeps(text: bytes, nodes: Sequence[Node], command: Command, objects: Se
     `nodes` are the statements of the script before it was adapted, and `names` the names that are wanted beside those
     of the words.
     """
-    references = References(objects)
+    references = references_of(objects)
     session_names = [item.name.decode() for item in objects]
     sections = [section for tables in references.tables for section in tables.sections.values()]
     keeps = Keeps(text, session_names, sections)

@@ -48,6 +48,14 @@ class FilesTest(BesideGnu):
                 with self.subTest(statement=statement, words=words):
                     self.both(*words.split())
 
+    def test_patterns_of_members(self) -> None:
+        """A pattern matches the name of a member, and not that of the object in the session; rows keep their order."""
+        for statement in ("lib*(.text)", "*mem*(.text)", "*o(.text)", "m*(.text)", "*(EXCLUDE_FILE(*libq.a) .text)",
+                          "*libq.a:m*(.text)", "EXCLUDE_FILE(*.a:mem.o) *(.text)", ":m*(.text)"):
+            self.script(statement)
+            with self.subTest(statement=statement):
+                self.both("-T", "t.ld", "libq.a", "-u", "in_sub_mem", "m.o", "vec.o")
+
     def test_inputs(self) -> None:
         """INPUT, GROUP, STARTUP and SEARCH_DIR of a -T, and of a script among the objects."""
         for commands in ("INPUT(vec.o)", "INPUT(far.o)", "SEARCH_DIR(near) INPUT(far.o)", "SEARCH_DIR(near) INPUT(-lq)",
