@@ -51,6 +51,10 @@ class BadInput(Exception):
     """What is no input; the text says why."""
 
 
+class NotScript(BadInput):
+    """A text that is no script of GNU ld; the text says where."""
+
+
 class MissingInput(BadInput):
     """An input that is not there or cannot be read; the text says which."""
 

@@ -132,8 +132,17 @@ class Link:
 
     def run(self) -> int:
         """Links, and gives the exit status."""
+        print_asked(self.command, self.source)
+        self.load()
+        try:
+            return self.link()
+        finally:
+            if self.opened is not None:
+                self.host.end(self.opened)
+
+    def load(self) -> None:
+        """Reads the objects."""
         command = self.command
-        print_asked(command, self.source)
         loader = Loader(command, self.source.parts, self.source.own, wanted_names(command, self.source))
         self.objects, self.files, self.loader = loader.load(), loader.files, loader
         self.source.rename_files(loader.renamed)
@@ -143,11 +152,6 @@ class Link:
         self._check_outputs()
         if self.source.binary and self.source.own and command.output_format is None:
             command.output_format = "binary"
-        try:
-            return self._link()
-        finally:
-            if self.opened is not None:
-                self.host.end(self.opened)
 
     def _open(self, entry: str | None = None) -> Opened:
         """Has the objects sent to a session; `entry` is the entry symbol where the script cannot name it."""
@@ -160,7 +164,7 @@ class Link:
         """The script for the session, with these values of objects' symbols."""
         return self.host.script(self.source, self.command, self.objects, values)
 
-    def _link(self) -> int:
+    def link(self) -> int:
         """Writes the script while the objects are sent, and links."""
         opened, script = self._open(), self._written({})
         if script.valued:

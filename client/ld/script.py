@@ -24,7 +24,7 @@ from client.adapt.segments import Segments
 from client.adapt.tree import Node
 from client.ld.command import Command, number
 from client.ld.default_script import DEFAULT
-from client.ld.inputs import BadInput, MissingInput, Object
+from client.ld.inputs import BadInput, MissingInput, NotScript, Object
 from client.ld.programs import WITHIN, others
 from client.ld.script_commands import Commands, commands_of
 from client.ld.script_text import outline
@@ -102,7 +102,7 @@ def find_script(command: Command, environment: Mapping[str, str]) -> Source:
     try:
         return _read(command, found)
     except NoParse as fault:
-        raise BadInput(str(fault)) from fault
+        raise NotScript(str(fault)) from fault
     except OSError as fault:
         raise MissingInput(f"{fault.filename}: {fault.strerror}") from fault
 
@@ -202,12 +202,12 @@ class Script:
 def adapt_source(
     source: Source, command: Command, known: Known, values: Mapping[str, int] | None = None
 ) -> Adapted:
-    """The script as `ldi-adapt` writes it; BadInput where it is no script."""
+    """The script as `ldi-adapt` writes it; NotScript where it is none."""
     wanted = [*command.undefined, *command.required]
     try:
         return adapt_reading(source.take(), known, orphans=False, values=values, undefined=wanted, followed=True)
     except NoParse as fault:
-        raise BadInput(str(fault)) from fault
+        raise NotScript(str(fault)) from fault
 
 
 def assignments(defsyms: Sequence[str]) -> list[tuple[str, str]]:

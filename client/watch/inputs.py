@@ -22,11 +22,16 @@ LONGEST_WRITING = 5.0
 class NotThere(Exception):
     """An input that is needed to find out more cannot be read now."""
 
+    def __init__(self, reason: tuple[str, str] | None = None) -> None:
+        """`reason` is a name, and why, where it is not the name of an input."""
+        super().__init__(reason)
+        self.reason = reason
+
 
 class Recipe(Protocol):
     """Finds what a link is made of."""
 
-    def find(self, inputs: Inputs, changed: list[Input] | None) -> Found:
+    def find(self, inputs: Inputs, changed: list[Input] | None, /) -> Found:
         """What the link is made of now.
 
         `changed` are the inputs whose bytes are others than at the last call; None where other things are.
@@ -50,6 +55,8 @@ class Inputs:
         self._asked: dict[str, Input] = {}
         self._absent: set[str] = set()
         self._absent_before: set[str] = set()
+        self._lacking: tuple[str, str] | None = None
+        """What else is not there, by its name, and why."""
         self._changed: list[Input] = []
         self._is_other = True
         """Whether there is more than bytes that may be other than at the last search."""
@@ -74,7 +81,7 @@ class Inputs:
         """The bytes of an input; NotThere where it has none now."""
         one = self.get(path)
         if one.data is None or one.failure is not None or one.writing is not None:
-            raise NotThere(path)
+            raise NotThere
         return one.data
 
     def exists(self, path: str) -> bool:
@@ -91,6 +98,10 @@ class Inputs:
             self._absent.add(path)
         return found
 
+    def asked(self) -> list[Input]:
+        """The inputs that were asked for so far in this search."""
+        return list(self._asked.values())
+
     def keep(self) -> None:
         """All that was asked for at the last search is asked for again."""
         self._asked, self._absent = self._files, self._absent_before
@@ -102,11 +113,12 @@ class Inputs:
         for one in [one for one in self._all if one.dirty]:
             self._read(one)
         self._asked, self._absent, self._absent_before = {}, set(), self._absent
+        self._lacking = None
         try:
             self.found = self._recipe.find(self, None if self._is_other else self._changed)
             self._changed, self._is_other = [], False
-        except NotThere:
-            self.found, self._is_other = None, True
+        except NotThere as fault:
+            self.found, self._is_other, self._lacking = None, True, fault.reason
             self._asked = {**self._files, **self._asked}
         if self._asked is not self._files:
             self._take_over()
@@ -137,7 +149,12 @@ class Inputs:
         """The inputs that are missing, cannot be read or are being written, and what there is to say of each."""
         reasons = [(one.path, "it is being written") for one in self.writers]
         failed = [one for one in self._all if one.failure is not None and one not in self.writers]
-        return reasons + [(one.path, one.failure or "") for one in failed]
+        reasons += [(one.path, one.failure or "") for one in failed]
+        return reasons or ([] if self._lacking is None else [self._lacking])
+
+    def search_anew(self) -> None:
+        """The next search begins from nothing."""
+        self._is_other = True
 
     def are_dirty(self) -> bool:
         """Whether there is something to search for."""

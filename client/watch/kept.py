@@ -52,6 +52,11 @@ class Kept:
         self._script: bytes | None = None
         self._started_with: Options | None = None
 
+    @property
+    def script(self) -> bytes | None:
+        """The script that the session has."""
+        return self._script
+
     def bring(self, project: Project) -> None:
         """Sends what the session does not hold yet. Afterwards `refused` and `status` say what it said to it."""
         script, options = self._script_to_send(project.script, project.options or self._options)

@@ -46,23 +46,18 @@ class Linking:
     def bring(self, found: Found) -> bool:
         """Brings the session in step; says whether it was sent anything."""
         edits = self.kept.edits
-        self._bring(found)
-        refused = self.kept.refused.get(SCRIPT)
-        if refused is not None and refused.number == NO_SCRIPT and found.otherwise is not None:
-            self._try(found.otherwise)
-        elif not self.kept.refused and self.kept.status != 0 and found.again is not None:
-            self._try(found.again)
+        self.found = found
+        if found.linked is not None:
+            self.found = found.linked(self.kept)
+        elif not found.refused:
+            self.kept.bring(found.project)
         return self.kept.edits != edits
 
-    def _try(self, other: Callable[[], Found | None]) -> None:
-        found = other()
-        if found is not None:
-            self._bring(found)
-
-    def _bring(self, found: Found) -> None:
-        self.found = found
-        if not found.refused:
-            self.kept.bring(found.project)
+    def is_no_script(self) -> bool:
+        """Whether the session refused the script, and another search finds another one."""
+        refused = self.kept.refused.get(SCRIPT)
+        is_asked = refused is not None and refused.number == NO_SCRIPT
+        return is_asked and self.found is not None and self.found.is_no_script is not None and self.found.is_no_script()
 
     def refusals(self) -> list[Named]:
         """The inputs that are refused, and what there is to say of each."""
@@ -96,10 +91,9 @@ class Linking:
         """Whether an input was refused for memory."""
         return any(refused.number == NO_MEMORY for refused in self.kept.refused.values())
 
-    def end(self) -> int:
-        """The session has ended, or ends now; gives its status."""
-        status = self.kept.end()
-        return status
+    def end(self) -> None:
+        """Ends the session."""
+        self.kept.end()
 
     def ended(self) -> int:
         """The session has ended by itself; gives its status."""

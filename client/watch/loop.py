@@ -195,6 +195,10 @@ class Watch:
             self._bring(self.inputs.found)
         finally:
             wait([look])
+        if self.linking.is_no_script():
+            self.inputs.search_anew()
+            self.gathering.note(time.monotonic())
+            return
         refused = self.linking.refusals()
         if refused:
             self.standing.set(RefusedInputs(tuple(refused)))

@@ -3,6 +3,7 @@ from __future__ import annotations
 
 from client.inputs import Message
 from client.inputs_state import Input
+from client.ld.archive import is_archive
 from client.watch.inputs import Inputs, NotThere
 from client.watch.listing import NamesRefused, check_outputs, object_names
 from client.watch.project import Found, Project
@@ -14,12 +15,14 @@ class Plain:
 
     def __init__(self, words: Words) -> None:
         self._words = words
+        self.script: bytes | None = None
         self._objects: dict[str, bytes] = {}
         self._is_found = False
 
     def find(self, inputs: Inputs, changed: list[Input] | None) -> Found:
         """What the link is made of now."""
         script = inputs.get(self._words.script)
+        self.script = script.data
         if changed is not None and self._is_found and all(one.path in self._objects for one in changed):
             inputs.keep()
             self._objects.update((one.path, one.data) for one in changed if one.data is not None)
@@ -38,6 +41,10 @@ class Plain:
             raise NotThere
         self._is_found = True
         return self._made(script)
+
+    def has_archives(self) -> bool:
+        """Whether a file is an archive, which is none for `ldi link`."""
+        return any(is_archive(data) for data in self._objects.values())
 
     def _made(self, script: Input) -> Found:
         assert script.data is not None

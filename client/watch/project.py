@@ -8,7 +8,8 @@ from typing import TYPE_CHECKING
 from client.protocol import Options
 
 if TYPE_CHECKING:
-    from client.messages import Message
+    from client.inputs import Message
+    from client.watch.kept import Kept
 
 
 @dataclass(frozen=True)
@@ -37,10 +38,10 @@ class Found:
     """Inputs with which there is no link, and why."""
     finish: Callable[[bytes], bytes] | None = None
     """What is made of an image that the session gives."""
-    again: Callable[[], Found | None] | None = None
-    """What to try where the link has faults: values in the script that have changed with the objects."""
-    otherwise: Callable[[], Found | None] | None = None
-    """What to try where the session refuses the script."""
+    linked: Callable[[Kept], Found] | None = None
+    """What makes the link over the kept session, where more than one edit after the other is to be sent."""
+    is_no_script: Callable[[], bool] | None = None
+    """What says, where the session refuses the script, whether another search finds another one."""
 
     def path_of(self, name: str) -> str:
         """The file of an object."""

@@ -66,6 +66,7 @@ class Teller:
         self._standing: dict[tuple[str, ...], int] = {}
         self._number = 0
         self._said: object = None
+        self._adapted: tuple[str, ...] | None = None
 
     def say(self, state: State) -> None:
         """Says this state, if it is not the one that was said last."""
@@ -88,6 +89,18 @@ class Teller:
             self._object("restarted", why=why)
         else:
             self._line(YELLOW, "session", f"{why}; started again")
+
+    def adapted(self, script: str, report: Sequence[str], notes: Sequence[str]) -> None:
+        """Says what was changed in a script of GNU ld, and which options have no effect, if that is new."""
+        said = (script, *report, *notes)
+        if said == self._adapted:
+            return
+        self._adapted = said
+        if self._as_json:
+            self._object("adapted", script=script, report=list(report), notes=list(notes))
+            return
+        for line in (*report, *notes):
+            self._print(line)
 
     def note(self, name: str, text: str) -> None:
         """Says something of an input that is no state."""

@@ -1,16 +1,18 @@
-"""The words of `ldi-watch`: those of `ldi link`, and its own."""
+"""The words of `ldi-watch`: those of `ldi link`, its own, and those of GNU ld that `ld.ldi` takes."""
 from __future__ import annotations
 
 from dataclasses import dataclass, field
 
+from client.ld import options as ld
 from client.protocol import Options
 
 USAGE = """\
 usage: ldi-watch -T SCRIPT -o IMAGE [--Map MAP] [--gc-sections] [-e SYMBOL] [--orphan-handling HANDLING]
                  [--make COMMAND [--sources PATTERN..]] [--run COMMAND] [--gdb FILE] [--json] [--once]
-                 OBJECT.. | @LIST
+                 [OPTION OF GNU LD..] OBJECT.. | ARCHIVE.. | -lNAME | @LIST
 
-Keeps IMAGE up to date while the script and the objects change. The words of `ldi link` mean what they mean there.
+Keeps IMAGE up to date while the script and the objects change. The words of `ldi link` mean what they mean there. With
+other options of GNU ld, archives, or a script that is not of the profile, the image is that of `ld.ldi`.
 
   @LIST                a file with an object's name a line, read again when it changes
   --make COMMAND       is run at the start and when a source changes; no image while it runs, or after it has failed
@@ -30,6 +32,17 @@ DEFAULT_SOURCES = tuple("*.c *.h *.s *.S *.cc *.cpp *.cxx *.hpp *.inc *.rs *.ld 
 SHORT = ("-T", "-o", "-e")
 LONG = ("--Map", "--orphan-handling", "--make", "--run", "--gdb")
 FLAGS = ("--gc-sections", "--json", "--once")
+OWN = ("--make", "--run", "--gdb", "--json", "--once")
+"""The options that no linker has."""
+
+AS_LD = {"T": "-T", "o": "-o", "e": "-e", "Map": "--Map", "orphan-handling": "--orphan-handling"}
+"""Options of GNU ld by their first names in its table, and what they are here."""
+
+NOTHING = frozenset(
+    "M t v V help verbose print-output-format print-sysroot print-memory-usage print-gc-sections"
+    " no-print-gc-sections dependency-file".split()
+)
+"""What `ld.ldi` prints or writes beside an image, and a watch does not."""
 
 
 class WordsRefused(Exception):
@@ -58,6 +71,12 @@ class Words:
     gdb: str | None = None
     json: bool = False
     once: bool = False
+    as_ld: tuple[str, ...] = ()
+    """The words for `ld.ldi`: all that is not of the watch alone; lists are words with `@`."""
+    is_ld: bool = False
+    """Whether there are options among them that `ldi link` has not."""
+    without_effect: tuple[str, ...] = ()
+    """The words that ask `ld.ldi` for what a watch does not print or write."""
 
 
 class _Reader:
@@ -70,6 +89,9 @@ class _Reader:
         self.flags: set[str] = set()
         self.sources: list[str] | None = None
         self.objects: list[str | ListFile] = []
+        self.as_ld: list[str] = []
+        self.is_ld = False
+        self.without_effect: list[str] = []
 
     def read(self) -> None:
         """Reads all words."""
@@ -78,6 +100,7 @@ class _Reader:
             self.at += 1
             if word == "--":
                 self.objects += self.words[self.at :]
+                self.as_ld += [named(word) for word in self.words[self.at :]]
                 return
             if word in FLAGS:
                 self._flag(word)
@@ -85,15 +108,16 @@ class _Reader:
                 self._sources()
             elif word.startswith("-") and word != "-":
                 self._valued(word)
-            elif word.startswith("@"):
-                self.objects.append(ListFile(word[1:]))
             else:
-                self.objects.append(word)
+                self.objects.append(ListFile(word[1:]) if word.startswith("@") else word)
+                self.as_ld.append(word)
 
     def _flag(self, word: str) -> None:
         if word in self.flags:
             raise WordsRefused(f"`{word}` is given twice")
         self.flags.add(word)
+        if word not in OWN:
+            self.as_ld.append(word)
 
     def _valued(self, word: str) -> None:
         name, equals, value = word.partition("=")
@@ -101,10 +125,40 @@ class _Reader:
             name, value = word[:2], word[2:].removeprefix("=")
             equals = "=" if len(word) > 2 else ""
         elif name not in LONG:
-            raise WordsRefused(f"`{word}` is no option of ldi-watch")
+            self._of_ld(word)
+            return
+        self._set(name, value if equals else self._next(name))
+
+    def _set(self, name: str, value: str) -> None:
         if name in self.values:
             raise WordsRefused(f"`{name}` is given twice")
-        self.values[name] = value if equals else self._next(name)
+        self.values[name] = value
+        if name not in OWN:
+            self.as_ld += [name, value]
+
+    def _of_ld(self, word: str) -> None:
+        """An option of GNU ld, by its whole name."""
+        try:
+            options, value = ld.find_option(word)
+        except ld.WordsRefused:
+            options, value = [], None
+        long = word.lstrip("-").partition("=")[0]
+        if not options or word.startswith("--") and all(long not in option.names for option in options):
+            raise WordsRefused(f"`{word}` is no option of ldi-watch")
+        words = [word]
+        if options[0].value is ld.Value.NEEDED and value is None:
+            if self.at == len(self.words):
+                raise WordsRefused(f"`{word}` has no value")
+            value = self.words[self.at]
+            words.append(value)
+            self.at += 1
+        if options[0].names[0] in AS_LD:
+            self._set(AS_LD[options[0].names[0]], value or "")
+        elif options[0].names[0] in NOTHING:
+            self.without_effect.append(word)
+        else:
+            self.is_ld = True
+            self.as_ld += words
 
     def _next(self, name: str) -> str:
         if self.at == len(self.words) or self.words[self.at].startswith("-"):
@@ -126,8 +180,15 @@ class _Reader:
             raise WordsRefused("`--sources` has no patterns")
 
 
+def named(word: str) -> str:
+    """A file's name as a word that is no option and no list."""
+    return f"./{word}" if word.startswith(("-", "@")) else word
+
+
 def _options(reader: _Reader) -> Options:
     handling = reader.values.get("--orphan-handling")
+    if handling in ("place", "warn"):  # as `ld.ldi` takes them
+        reader.is_ld, handling = True, "error"
     if handling not in (None, "error", "discard"):
         raise WordsRefused(f"--orphan-handling is `error` or `discard`, not `{handling}`")
     return Options("--gc-sections" in reader.flags, reader.values.get("-e"), handling)
@@ -150,6 +211,7 @@ def read_words(words: list[str]) -> Words:
     for name, what in (("-T", "SCRIPT"), ("-o", "IMAGE")):
         if not reader.values.get(name):
             raise WordsRefused(f"`{name} {what}` is missing")
+    options = _options(reader)
     if reader.sources is not None and "--make" not in reader.values:
         raise WordsRefused("--sources says when --make runs its COMMAND, which is not given")
     return Words(
@@ -157,11 +219,14 @@ def read_words(words: list[str]) -> Words:
         image=reader.values["-o"],
         objects=tuple(reader.objects),
         map=reader.values.get("--Map"),
-        options=_options(reader),
+        options=options,
         make=reader.values.get("--make"),
         sources=sources_of(reader.sources or []),
         run=reader.values.get("--run"),
         gdb=reader.values.get("--gdb"),
         json="--json" in reader.flags,
         once="--once" in reader.flags,
+        as_ld=tuple(reader.as_ld),
+        is_ld=reader.is_ld,
+        without_effect=tuple(reader.without_effect),
     )

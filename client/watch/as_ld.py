@@ -1,0 +1,301 @@
+"""A link as of `ld.ldi`: archives, libraries, GNU ld's options and scripts, over the session that is kept.
+
+It is `ld.ldi`'s own link (`client/ld/main.py`), which reads its files through the inputs of the watch, sends its edits
+to the kept session, and neither writes nor prints. Where nothing has changed but objects whose names and sections are
+as they were, their edits are sent alone: what the link would do for them is the same.
+"""
+from __future__ import annotations
+
+import os
+from collections.abc import Callable, Mapping, Sequence
+from dataclasses import replace
+
+import client.files
+from client.adapt.segments import about_segments
+from client.files import Files
+from client.inputs import Message
+from client.inputs_state import Input
+from client.ld.command import Command, read_command
+from client.ld.command import Input as Named
+from client.ld.fallback import Reasons
+from client.ld.flat import NoFlatImage
+from client.ld.host import Host
+from client.ld.inputs import BadInput, CannotLink, MissingInput, NotScript, Object
+from client.ld.link import Opened, Result
+from client.ld.main import Link
+from client.ld.options import WordsRefused
+from client.ld.page_size import PAGE, TooFar
+from client.ld.script import Script, Source
+from client.object_file import COMMON, SYMTAB, UNDEFINED, NotElf, ObjectFile
+from client.protocol import Options, Refused
+from client.watch.inputs import Inputs, NotThere
+from client.watch.kept import SCRIPT, Kept
+from client.watch.listing import names_in
+from client.watch.project import Found, NotFinished, Project
+from client.watch.quick import SCRIPT_WITHOUT_LINK
+from client.watch.says import Teller
+from client.watch.words import Words
+
+
+class WatchedFiles(Files):
+    """The files of a link as inputs of the watch."""
+
+    def __init__(self, inputs: Inputs) -> None:
+        super().__init__()
+        self._inputs = inputs
+
+    def read(self, path: str) -> bytes:
+        """The bytes of a file; NotThere where it has none now."""
+        return self._inputs.read(path)
+
+    def exists(self, path: str) -> bool:
+        """Whether there is something of this name."""
+        return self._inputs.exists(path)
+
+    def is_file(self, path: str) -> bool:
+        """Whether there is a regular file of this name."""
+        return self._inputs.is_file(path)
+
+    def numbers(self) -> dict[tuple[int, int], str]:
+        """The names of the files that were read, by their devices and inodes."""
+        return {one.stamp[:2]: one.path for one in self._inputs.asked() if one.stamp is not None}
+
+
+class KeptOpened(Opened):
+    """The kept session, brought in step with the objects of a link, and then with its script."""
+
+    def __init__(self, kept: Kept, options: Options, objects: Sequence[Object]) -> None:
+        self.objects = objects
+        self._kept = kept
+        self._options = options
+
+    def _bring(self, script: bytes) -> None:
+        objects = {item.name.decode(): item.data for item in self.objects}
+        self._kept.bring(Project(script, objects, self._options))
+        assert self._kept.session is not None
+        self.session = self._kept.session
+
+    def refused(self) -> list[tuple[Object, Refused]]:
+        """Brings the session in step with the objects; gives those that it refused."""
+        self._bring(self._kept.script or SCRIPT_WITHOUT_LINK)
+        refused = self._kept.refused
+        return [(item, refused[item.name.decode()]) for item in self.objects if item.name.decode() in refused]
+
+    def link(self, script: bytes, with_map: bool, with_image: bool = True) -> Result:
+        """Links the objects under the script; the result has a map where it is asked for without an image."""
+        self._bring(script)
+        if SCRIPT in self._kept.refused:
+            return Result(script_refused=self._kept.refused[SCRIPT])
+        if self._kept.status:
+            return Result(self._kept.status)
+        return Result(0, map=self.session.map() if with_map and not with_image else b"")
+
+    def end(self) -> None:
+        """The session is kept."""
+
+
+class WatchHost(Host):
+    """The watch as what a link uses of its process."""
+
+    def __init__(self) -> None:
+        super().__init__()
+        self.kept: Kept | None = None
+        """The session, from when it is used on."""
+        self._scripts: dict[tuple[tuple[str, int], ...] | None, Script] = {}
+
+    def opened(self, options: Options, objects: Sequence[Object]) -> Opened:
+        """The kept session."""
+        assert self.kept is not None
+        return KeptOpened(self.kept, options, objects)
+
+    def script(self, source: Source, command: Command, objects: Sequence[Object],
+               values: Mapping[str, int] | None) -> Script:
+        """The script as `write_script` has it, written once for the same values."""
+        key = None if values is None else tuple(sorted(values.items()))
+        if key not in self._scripts:
+            self._scripts[key] = super().script(source, command, objects, values)
+        return self._scripts[key]
+
+    def write(self, path: str, data: bytes, mode: int) -> None:
+        """Files are put in place by the watch."""
+
+    def hand_over(self, reasons: Reasons, words: Sequence[str], environment: Mapping[str, str], verbose: bool) -> int:
+        """No other linker keeps an image up to date."""
+        raise CannotLink("; ".join(reasons.lines))
+
+
+class WatchedLink(Link):
+    """A link of which nothing is written or printed, and whose script is there before the session is used."""
+
+    host: WatchHost
+
+    def __init__(self, command: Command, words: list[str]) -> None:
+        super().__init__(command, words, os.environ, WatchHost())
+        self.load()
+        self.reported = self._written({})
+        """The script as it was written last, with what was done to it."""
+
+    def _report(self, script: Script) -> bool:
+        self.reported = script
+        return bool(script.left)
+
+    def _finish(self, opened: Opened, script: Script, result: Result) -> int:
+        self.script = script
+        return result.status
+
+    def _refused(self, objects: list[tuple[Object, Refused]]) -> int:
+        return 2
+
+    def report(self) -> list[str]:
+        """What is said of the adapting of the script."""
+        return [str(note) for note in self.reported.report
+                if note.kind in ("changed", "left") and not about_segments(note)]
+
+    def options(self) -> Options:
+        """The options of the session."""
+        script = self.script or self.reported
+        return Options(self.command.gc_sections, script.entry, self.command.orphan_handling)
+
+    def finish(self) -> Callable[[bytes], bytes] | None:
+        """What makes the image that `ld.ldi` writes of the session's; none where that is the same."""
+        command, script = self.command, self.script
+        is_plain = command.output_format != "binary" and (command.page_size or PAGE) <= PAGE
+        return None if script is None or (is_plain and script.segments is None) else self._finished
+
+    def _finished(self, image: bytes) -> bytes:
+        assert self.script is not None
+        try:
+            return self._image(self.script, image)
+        except (NoFlatImage, TooFar) as fault:
+            raise NotFinished(str(fault)) from fault
+
+
+class AsLd:
+    """Finds what `ld.ldi` links by the same words."""
+
+    def __init__(self, words: Words, teller: Teller) -> None:
+        self._words = words
+        self._teller = teller
+        self._link: WatchedLink | None = None
+        self.is_no_script = False
+        """Whether the script is none of GNU ld."""
+        self._objects: list[Object] = []
+        self._whole: dict[str, list[int]] = {}
+        """The places of the objects that are whole files, by these."""
+
+    def find(self, inputs: Inputs, changed: list[Input] | None) -> Found:
+        """What the link is made of now."""
+        self.is_no_script = False
+        if changed is not None and self._link is not None and self._take(changed):
+            inputs.keep()
+            return self._alike(self._link)
+        self._link = None
+        client.files.begin(WatchedFiles(inputs))
+        try:
+            link = WatchedLink(self._command(inputs), list(self._words.as_ld))
+        except MissingInput as fault:
+            raise NotThere(("the link", str(fault))) from fault
+        except NotScript as fault:
+            self.is_no_script = True
+            return self._refused(str(fault))
+        except (BadInput, CannotLink, WordsRefused) as fault:
+            return self._refused(str(fault))
+        self._objects = link.objects
+        self._note_whole(inputs)
+        return self._anew(link)
+
+    def _command(self, inputs: Inputs) -> Command:
+        """The command of the words, with the names of the lists in their places."""
+        command = read_command(list(self._words.as_ld))
+        if command.cannot:
+            raise CannotLink("; ".join(command.cannot))
+        items: list[Named] = []
+        for item in command.inputs:
+            if item.kind == "file" and item.name.startswith("@"):
+                items += [replace(item, name=name) for name in names_in(inputs.read(item.name[1:]))]
+            else:
+                items.append(item)
+        command.inputs = items
+        return command
+
+    def _note_whole(self, inputs: Inputs) -> None:
+        self._whole = {}
+        by_data = {id(one.data): one.path for one in inputs.asked() if one.data is not None}
+        for place, item in enumerate(self._objects):
+            if by_data.get(id(item.data)) == item.path:
+                self._whole.setdefault(item.path, []).append(place)
+
+    def _take(self, changed: list[Input]) -> bool:
+        """Takes objects over that say the same of names and sections as before; says whether all that changed do."""
+        objects = list(self._objects)
+        for one in changed:
+            places = self._whole.get(one.path)
+            if not places or one.data is None or facts_of(one.data) != facts_of(objects[places[0]].data):
+                return False
+            for place in places:
+                objects[place] = replace(objects[place], data=one.data)
+        self._objects = objects
+        return True
+
+    def _found(self, link: WatchedLink, script: Script) -> Found:
+        objects = {item.name.decode(): item.data for item in self._objects}
+        found = Found(Project(script.text, objects, link.options()), script.path)
+        found.paths = {item.name.decode(): item.path for item in self._objects}
+        found.lines, found.entry, found.finish = script.lines, link.command.entry, link.finish()
+        return found
+
+    def _alike(self, link: WatchedLink) -> Found:
+        """What was found before with other bytes in objects."""
+        assert link.script is not None
+        found = self._found(link, link.script)
+        if link.valued is not None:
+            found.linked = lambda kept: self._tried(link, found, kept)
+        return found
+
+    def _tried(self, link: WatchedLink, found: Found, kept: Kept) -> Found:
+        """Sends the objects; makes the whole link where values in the script are others now."""
+        kept.bring(found.project)
+        if kept.refused or not kept.status:
+            return found
+        link.objects = self._objects
+        return self._linked(link, kept)
+
+    def _anew(self, link: WatchedLink) -> Found:
+        """What was found for a link that is still to be made."""
+        found = self._found(link, link.reported)
+        found.linked = lambda kept: self._linked(link, kept)
+        return found
+
+    def _linked(self, link: WatchedLink, kept: Kept) -> Found:
+        """Makes the link over the kept session; gives what was found with what came of it."""
+        link.host.kept = kept
+        try:
+            link.link()
+        except (BadInput, CannotLink) as fault:
+            return self._refused(str(fault))
+        self._teller.adapted(link.reported.path, link.report(), link.command.notes)
+        if link.reported.left:
+            said = [(link.reported.path, Message(str(note), "")) for note in link.reported.left]
+            return Found(Project(b""), link.reported.path, refused=tuple(said))
+        self._link = link if link.script is not None else None
+        return self._found(link, link.script or link.reported)
+
+    def _refused(self, text: str) -> Found:
+        return Found(Project(b""), self._words.script, refused=((self._words.script, Message(text, "")),))
+
+
+def facts_of(data: bytes) -> object:
+    """What decides of an object on members of archives, on the script as it is adapted, and on places: all but bytes.
+
+    None, which is like nothing, where it is no object.
+    """
+    try:
+        file = ObjectFile(data)
+        headers = [(file.section_name(at), *one[1:4], one.size, one.alignment, one.link, one.info)
+                   for at, one in enumerate(file.headers) if one.kind != SYMTAB]
+        first = file.first_global()
+        symbols = [(name, one.info, one.other, one.section, one.value, one.size)
+                   for name, one in file.symbols(first) if one.section not in (UNDEFINED, COMMON) or name]
+    except (NotElf, IndexError):
+        return object()
+    return headers, symbols
