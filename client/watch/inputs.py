@@ -52,9 +52,13 @@ class Inputs:
         self._recipe = recipe
         self._files: dict[str, Input] = {}
         self._all: list[Input] = []
+        self._spare: dict[str, Input] = {}
+        """Those that were inputs before the last search that found others, and may be again."""
         self._asked: dict[str, Input] = {}
         self._absent: set[str] = set()
         self._absent_before: set[str] = set()
+        self._needed: dict[str, Input] = {}
+        """The inputs that the last search asked for: others are kept where it was not done."""
         self._lacking: tuple[str, str] | None = None
         """What else is not there, by its name, and why."""
         self._changed: list[Input] = []
@@ -71,10 +75,12 @@ class Inputs:
     def get(self, path: str) -> Input:
         """An input, which is read if it is to be read; it may have failed."""
         one = self._files.get(path)
+        spare = self._spare.pop(path, None)
         if one is None:
-            one = self._files[path] = Input(path)
+            one = self._files[path] = spare or Input(path)
+            one.dirty, one.writing, one.asked = True, None, None
         self._asked[path] = one
-        self._read(one)
+        self._read(one, is_known=one is spare)
         return one
 
     def read(self, path: str) -> bytes:
@@ -114,11 +120,14 @@ class Inputs:
             self._read(one)
         self._asked, self._absent, self._absent_before = {}, set(), self._absent
         self._lacking = None
+        is_other = self._is_other or any([one.failure is not None for one in self._all])
         try:
-            self.found = self._recipe.find(self, None if self._is_other else self._changed)
+            self.found = self._recipe.find(self, None if is_other else self._changed)
             self._changed, self._is_other = [], False
+            self._needed = self._asked
         except NotThere as fault:
             self.found, self._is_other, self._lacking = None, True, fault.reason
+            self._needed = self._asked
             self._asked = {**self._files, **self._asked}
         if self._asked is not self._files:
             self._take_over()
@@ -130,25 +139,29 @@ class Inputs:
         if list(self._files.values()) != self._all:
             self._all = list(self._files.values())
         self.writers.intersection_update(self._all)
-        self.places.forget(gone)
+        if gone:
+            self.places.forget(gone)
+            self._spare = {one.path: one for one in gone}
 
-    def _read(self, one: Input) -> None:
+    def _read(self, one: Input, is_known: bool = False) -> None:
+        """Reads an input that is to be read. One that `is_known` is named only where it has changed."""
         if not one.dirty or one.writing is not None:
             return
         self.places.put(one)
         try:
-            if one.read():
-                self._changed.append(one)
+            is_changed = one.read()
         except Written:
             self._is_written(one, time.monotonic())
             return
-        if one.failure is None and one.path not in self.after:
+        if is_changed:
+            self._changed.append(one)
+        if one.failure is None and one.path not in self.after and (is_changed or not is_known):
             self.after.append(one.path)
 
     def waiting(self) -> list[tuple[str, str]]:
         """The inputs that are missing, cannot be read or are being written, and what there is to say of each."""
         reasons = [(one.path, "it is being written") for one in self.writers]
-        failed = [one for one in self._all if one.failure is not None and one not in self.writers]
+        failed = [one for one in self._needed.values() if one.failure is not None and one not in self.writers]
         reasons += [(one.path, one.failure or "") for one in failed]
         return reasons or ([] if self._lacking is None else [self._lacking])
 

@@ -65,4 +65,6 @@ def new_as_ld(words: Words, teller: Teller) -> AsLd:
 
 def recipe_of(words: Words, teller: Teller) -> Recipe:
     """What finds the objects and the script."""
-    return new_as_ld(words, teller) if words.is_ld else Either(words, teller)
+    if words.is_ld:
+        return new_as_ld(words, teller)
+    return Either(words, teller)
