@@ -124,6 +124,33 @@ class MakeTest(FolderTest):
         self.assertEqual((self.folder / "o2.o").read_bytes(), numbered(2, 5, 3))
         self.assertEqual((self.folder / "order").read_text().split(), ["begin", "end"] * 2)
 
+    def test_saved_in_each_run(self) -> None:
+        """A source that is saved in each of six runs is built each time; what is said of it, and the last one stands."""
+        watching = self.watch("--make", f"{MAKE}; sleep 0.3")
+        self.assertTrue(wait_until(lambda: self.runs() == 1))
+        for version in range(2, 8):
+            before = self.runs()
+            time.sleep(0.1)
+            self.source(1, version)
+            self.assertTrue(wait_until(lambda: self.runs() > before, 15))
+        said = watching.wait_for("waiting")
+        self.assertEqual(said["reasons"][0]["name"], "o1.c")
+        self.assertIn("--sources '!o1.c'", said["reasons"][0]["why"])
+        self.assertTrue(wait_until(lambda: (self.folder / "o1.o").read_bytes() == numbered(1, 7, 3)))
+        self.assertTrue(wait_until(lambda: self.folder.image() == self.folder.link()))
+
+    def test_saved_and_put_back(self) -> None:
+        """A source that is saved while the command runs, and has its old bytes again when it ends, is built once more."""
+        watching = self.watch("--make", f"{MAKE}; sleep 0.6")
+        self.assertTrue(wait_until(lambda: self.runs() == 1))
+        time.sleep(0.1)
+        self.source(1, 2)
+        time.sleep(0.15)
+        self.source(1, 1)
+        self.assertTrue(wait_until(lambda: self.runs() == 2))
+        self.assertEqual(watching.next()["event"], "linked")
+        self.assertEqual(self.folder.image(), self.folder.link())
+
     def test_back_meanwhile(self) -> None:
         """A source that was removed, and comes again while the command runs, is no file of the command's."""
         (self.folder / "other.h").write_text("1")

@@ -43,6 +43,8 @@ class Output:
         self._new = NewFile(path, mode)
         self._data = b""
         self._placed: Stamp | None = None
+        self._other: Stamp | None = None
+        """The file of somebody else that was noticed in its place."""
 
     def prepare(self, data: bytes) -> None:
         """Writes the bytes beside the file; NotWritten where that cannot be done, and then nothing is left."""
@@ -113,11 +115,12 @@ class Output:
         return self._placed is not None and self._stamp() is None
 
     def is_other(self) -> bool:
-        """Whether the file's bytes may be others than those that `commit` left."""
+        """Whether the file's bytes may be others than those that `commit` left; says it once of the same file."""
         now = self._stamp()
-        if self._placed is None or now is None or self._placed == now:
+        if self._placed is None or now is None or now in (self._placed, self._other):
             return False
         if now._replace(changed=0) != self._placed._replace(changed=0):
+            self._other = now
             return True
         self._placed = now  # its mode, its owner or the number of its names
         return False

@@ -5,6 +5,7 @@ import os
 from collections.abc import Mapping, Sequence
 
 from client.protocol import GREATEST_NAME, is_name
+from client.watch.here import real
 from client.watch.words import ListFile, Words
 
 GREATEST_COUNT = 4096
@@ -52,14 +53,14 @@ def check_names(names: Sequence[str]) -> None:
 def check_outputs(words: Words, names: Sequence[str]) -> None:
     """Refuses an output that is an input or another output; `names` are the objects'."""
     lists = [item.path for item in words.objects if isinstance(item, ListFile)]
-    inputs = {os.path.realpath(path) for path in (words.script, *lists, *names)}
+    inputs = {real(path) for path in (words.script, *lists, *names)}
     taken: dict[str, str] = {}
     for path in (words.image, words.map, words.gdb):
         if path is None:
             continue
-        real = os.path.realpath(path)
-        if real in inputs:
+        place = real(path)
+        if place in inputs:
             raise NamesRefused(f"`{path}` is an input, and so it cannot be written")
-        if real in taken and real != os.devnull:
-            raise NamesRefused(f"`{taken[real]}` and `{path}` are one file, and so they cannot both be written")
-        taken[real] = path
+        if place in taken and place != os.devnull:
+            raise NamesRefused(f"`{taken[place]}` and `{path}` are one file, and so they cannot both be written")
+        taken[place] = path
