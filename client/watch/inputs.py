@@ -57,6 +57,8 @@ class Inputs:
         self._asked: dict[str, Input] = {}
         self._absent: set[str] = set()
         self._absent_before: set[str] = set()
+        self._failed: dict[Input, None] = {}
+        """The inputs that could not be read, in the order in which that was found."""
         self._needed: dict[str, Input] = {}
         """The inputs that the last search asked for: others are kept where it was not done."""
         self._lacking: tuple[str, str] | None = None
@@ -120,7 +122,7 @@ class Inputs:
             self._read(one)
         self._asked, self._absent, self._absent_before = {}, set(), self._absent
         self._lacking = None
-        is_other = self._is_other or any([one.failure is not None for one in self._all])
+        is_other = self._is_other or bool(self._failed)
         try:
             self.found = self._recipe.find(self, None if is_other else self._changed)
             self._changed, self._is_other = [], False
@@ -139,6 +141,8 @@ class Inputs:
         if list(self._files.values()) != self._all:
             self._all = list(self._files.values())
         self.writers.intersection_update(self._all)
+        for one in gone:
+            self._failed.pop(one, None)
         if gone:
             self.places.forget(gone)
             self._spare = {one.path: one for one in gone}
@@ -153,6 +157,10 @@ class Inputs:
         except Written:
             self._is_written(one, time.monotonic())
             return
+        if one.failure is not None:
+            self._failed[one] = None
+        else:
+            self._failed.pop(one, None)
         if is_changed:
             self._changed.append(one)
         if one.failure is None and one.path not in self.after and (is_changed or not is_known):
@@ -161,7 +169,7 @@ class Inputs:
     def waiting(self) -> list[tuple[str, str]]:
         """The inputs that are missing, cannot be read or are being written, and what there is to say of each."""
         reasons = [(one.path, "it is being written") for one in self.writers]
-        failed = [one for one in self._needed.values() if one.failure is not None and one not in self.writers]
+        failed = [one for one in self._failed if self._needed.get(one.path) is one and one not in self.writers]
         reasons += [(one.path, one.failure or "") for one in failed]
         return reasons or ([] if self._lacking is None else [self._lacking])
 
@@ -234,7 +242,7 @@ class Inputs:
         self.places.look()
         if renewed:
             self._looks.close()
-        failed = [one for one in self._all if one.failure is not None]
+        failed = list(self._failed)
         changed = [one for one in self.changed() if not one.dirty and one.failure is None]
         self.mark(failed)
         self.mark(changed)

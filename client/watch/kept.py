@@ -51,6 +51,10 @@ class Kept:
         self._held: dict[str, bytes] = {}
         self._script: bytes | None = None
         self._started_with: Options | None = None
+        self._objects: dict[str, bytes] | None = None
+        """The objects that were brought last, as they were given."""
+        self._unsent: set[str] = set()
+        """Those of them that the session does not hold."""
 
     @property
     def script(self) -> bytes | None:
@@ -65,13 +69,9 @@ class Kept:
         if self.session is None:
             self._start(options)
         self.refused = {}
-        in_order = self._order == list(project.objects)
-        held = self._held  # asked here already, as there may be thousands
-        others = [
-            name
-            for name, data in project.objects.items()
-            if held.get(name) is not data and not self._holds(name, data)
-        ]
+        is_known = project.objects is self._objects and project.changed is not None
+        in_order = is_known and not self._unsent or self._order == list(project.objects)
+        others = self._others(project, is_known)
         count = len(others) + (script != self._script) + (0 if in_order else self._count_of_order(project))
         if count > HANDFUL and options.entry is None and self._answered(
             SCRIPT, self._running().script(SCRIPT_WITHOUT_LINK)
@@ -83,6 +83,16 @@ class Kept:
         self._replace(project, others)
         if script != self._script and self._answered(SCRIPT, self._set_script(script)):
             self._script = script
+        self._objects = project.objects
+        self._unsent = {name for name in others if self._held.get(name) is not project.objects[name]}
+        if project.changed is not None:
+            project.changed.clear()
+
+    def _others(self, project: Project, is_known: bool) -> list[str]:
+        """The objects that the session does not hold as they are; there may be thousands that it does."""
+        held, objects = self._held, project.objects
+        names = objects if not is_known or project.changed is None else project.changed | self._unsent
+        return [name for name in names if held.get(name) is not objects[name] and not self._holds(name, objects[name])]
 
     def _holds(self, name: str, data: bytes) -> bool:
         """Whether the session has these bytes under this name."""

@@ -111,7 +111,7 @@ class Watch:
         for one in self.inputs.give_up(now):
             self.gathering.note(now)
             self.teller.note(one.path, f"its writer has not closed it for {LONGEST_WRITING:g} s: read as it is")
-        if now >= self.gathering.next_look:
+        if now >= self.gathering.next_look and (self.gathering.first is None or self.watcher.is_disturbed):
             self.look_at_all(now)
         if self.gathering.first is not None and now >= self.gathering.due():
             self.gathering.first = None
@@ -123,13 +123,13 @@ class Watch:
 
     def _wait(self) -> None:
         """Waits for events, signals, the session's end, or the next thing to do."""
-        times = [self.gathering.next_look, *self.inputs.silent_from()]
+        times = self.inputs.silent_from()
         if self.gathering.first is not None:
             times.append(self.gathering.due())
         else:
-            times += [*self.standing.times(), *self.commands.times()]
+            times += [self.gathering.next_look, *self.standing.times(), *self.commands.times()]
         sources = [self.stops.fileno(), self.watcher.fileno(), self.linking.fileno()]
-        timeout = max(0.0, min(times) - time.monotonic())
+        timeout = 0.0 if self.watcher.is_disturbed else max(0.0, min(times) - time.monotonic())
         ready = select.select([number for number in sources if number >= 0], [], [], timeout)[0]
         if self.stops.fileno() in ready:
             self.stops.drain()

@@ -16,16 +16,23 @@ class Plain:
     def __init__(self, words: Words) -> None:
         self._words = words
         self.script: bytes | None = None
+        self.has_archives = False
+        """Whether a file is or was an archive, which is none for `ldi link`."""
         self._objects: dict[str, bytes] = {}
+        self._changed: set[str] = set()
         self._is_found = False
 
     def find(self, inputs: Inputs, changed: list[Input] | None) -> Found:
         """What the link is made of now."""
         script = inputs.get(self._words.script)
         self.script = script.data
-        if changed is not None and self._is_found and all(one.path in self._objects for one in changed):
+        if changed is not None and self._is_found and not self.has_archives and all(one.path in self._objects for one in changed):
             inputs.keep()
-            self._objects.update((one.path, one.data) for one in changed if one.data is not None)
+            for one in changed:
+                if one.data is not None:
+                    self._objects[one.path] = one.data
+                    self._changed.add(one.path)
+                    self.has_archives = self.has_archives or is_archive(one.data)
             return self._made(script)
         self._is_found = False
         lists = [inputs.get(item.path) for item in self._words.objects if isinstance(item, ListFile)]
@@ -37,18 +44,17 @@ class Plain:
             return self._refused(script, list(data), refused)
         objects = [inputs.get(name) for name in names]
         self._objects = {one.path: one.data for one in objects if one.data is not None}
+        self._changed = set()
+        self.has_archives = any(is_archive(data) for data in self._objects.values())
         if script.data is None or len(self._objects) < len(objects):
             raise NotThere
         self._is_found = True
         return self._made(script)
 
-    def has_archives(self) -> bool:
-        """Whether a file is an archive, which is none for `ldi link`."""
-        return any(is_archive(data) for data in self._objects.values())
-
     def _made(self, script: Input) -> Found:
         assert script.data is not None
-        return Found(Project(script.data, self._objects), script.path, entry=self._words.options.entry)
+        project = Project(script.data, self._objects, changed=self._changed)
+        return Found(project, script.path, entry=self._words.options.entry)
 
     def _refused(self, script: Input, lists: list[str], refused: NamesRefused) -> Found:
         said = [(path, Message(f"{path}: {refused}", f"{path}: {refused.line}")) for path in lists]

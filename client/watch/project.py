@@ -20,6 +20,8 @@ class Project:
     objects: dict[str, bytes] = field(default_factory=dict)
     options: Options | None = None
     """The options of the session, if they are not those that it is kept with."""
+    changed: set[str] | None = None
+    """The names of the objects whose bytes are others since the same `objects` were brought last, if that is known."""
 
 
 @dataclass

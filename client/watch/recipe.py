@@ -39,7 +39,7 @@ class Either:
         if self._outside is None or self._is_none:
             found = self._plain.find(inputs, changed if self._is_plain else None)
             self._is_plain = True
-            if not self._plain.has_archives():
+            if not self._plain.has_archives:
                 found.is_no_script = self._refuse if self._outside is None else None
                 return found
         as_ld = self._as_ld = self._as_ld or new_as_ld(self._words, self._teller)
