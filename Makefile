@@ -6,7 +6,7 @@ PREFIX ?= /usr/local
 export LDI
 
 .PHONY: help demo ldi install check test test-client fmt examples bench check-real check-images check-model \
-        check-link check-readers check-session check-counts check-memory mutants soak-client row
+        check-link check-readers check-session check-counts check-memory mutants soak-client row lint
 .PHONY: self dist dist-test
 
 help: ## this list
@@ -43,6 +43,9 @@ test-client: ## the tests of the client's programs, over the program that `make 
 
 soak-client: ## runs ldi-watch over 2,000 rounds of random rewrites, and judges every image: half an hour
 	@/usr/bin/python3 -m client.tests.soak 2000
+
+lint: ## looks over the client's programs by `mypy --strict`, and by ruff where that is installed
+	@tools/lint
 
 fmt: ## lays out every crate; prints what changed, needless names in crates.txt, ways past a face, and dead links
 	@tools/fmt

@@ -2,6 +2,7 @@
 from __future__ import annotations
 
 import re
+from collections.abc import Iterator
 
 from client.script_lexer import EXPRESSION, SCRIPT, Lexer, number_of
 from client.adapt.notes import Left
@@ -215,7 +216,7 @@ def write(e: Expr, level: int = COND) -> str:
     return text if own <= level else f"({text})"
 
 
-def walk(e: Expr):
+def walk(e: Expr) -> Iterator[Expr]:
     """The expression and all in it."""
     yield e
     for arg in e.args:

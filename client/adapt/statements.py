@@ -2,6 +2,7 @@
 from __future__ import annotations
 
 import re
+from collections.abc import Callable
 
 from client.adapt import expressions as ex
 from client.adapt.model import Definition, Model, Step
@@ -44,7 +45,7 @@ class Statements:
             elif step.kind == "data" and isinstance(node, Data) and node.word != "FILL":
                 self._guarded(step, self._data)
 
-    def _guarded(self, step: Step, rule) -> None:
+    def _guarded(self, step: Step, rule: Callable[[Step], None]) -> None:
         """Runs a rule; what can't be written is left as it stands."""
         try:
             rule(step)
