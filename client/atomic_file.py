@@ -193,9 +193,9 @@ def remove(path: str) -> None:
 
 def remove_left(path: str) -> None:
     """Removes the files beside this one that processes left which were killed."""
-    folder, name = os.path.split(os.fsencode(os.path.realpath(path)))
-    begin = b".%s." % name[:100]
     try:
+        folder, name = os.path.split(os.fsencode(os.path.realpath(path)))
+        begin = b".%s." % name[:100]
         names = [found for found in os.listdir(folder or b".") if found.startswith(begin)]
     except OSError:
         return

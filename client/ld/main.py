@@ -314,7 +314,7 @@ class Link:
             return path.replace("%", self.command.output, 1) + (".map" if path.endswith("%") else "")
         return path
 
-    def _image(self, script: Script, image: bytes) -> bytes:
+    def image(self, script: Script, image: bytes) -> bytes:
         """The image in the form that the command asks for."""
         if self.command.output_format == "binary":
             return flat_binary(image)
@@ -339,7 +339,7 @@ class Link:
             sys.stdout.flush()
         if path is not None and path != "-":
             self.host.write(path, result.map, TEXT)
-        image = self._image(script, result.image)
+        image = self.image(script, result.image)
         self.host.write(command.output, image, PROGRAM)
         if command.dependency_file is not None:
             names = list(dict.fromkeys([*self.source.files, *self.files]))

@@ -122,14 +122,30 @@ class WordsTest(unittest.TestCase):
     def test_default_sources(self) -> None:
         """The sources where no words name any."""
         read = read_words(["-Ts", "-oi", "--make", "m", "a.o"])
-        self.assertEqual(read.sources, ("*.c", "*.h", "*.s", "*.S", "*.cc", "*.rs", "*.ld", "Makefile"))
+        default = ("*.c", "*.h", "*.s", "*.S", "*.cc", "*.cpp", "*.cxx", "*.hpp", "*.inc", "*.rs", "*.ld", "Makefile")
+        self.assertEqual(read.sources, default)
+        read = read_words(["-Ts", "-oi", "--make", "m", "a.o", "--sources", "!made.h"])
+        self.assertEqual(read.sources, (*default, "!made.h"))
+
+    def test_of_ld(self) -> None:
+        """Options of GNU ld in their forms, by their whole names, in their order with files and lists."""
+        read = read_words(["-Ts", "-o", "i", "-Llib", "-L", "more", "a.o", "--start-group", "-lq", "@l", "--end-group",
+                           "-Map=m", "-z", "max-page-size=0x1000", "--defsym=a=1", "-static", "--", "-y.o"])
+        self.assertEqual((read.script, read.image, read.map, read.is_ld), ("s", "i", "m", True))
+        self.assertEqual(read.as_ld, ("-T", "s", "-o", "i", "-Llib", "-L", "more", "a.o", "--start-group", "-lq", "@l",
+                                      "--end-group", "--Map", "m", "-z", "max-page-size=0x1000", "--defsym=a=1",
+                                      "-static", "./-y.o"))
+        self.assertFalse(read_words(["-Ts", "-oi", "a.o", "--gc-sections", "-ex", "--Map=m"]).is_ld)
+        self.assertTrue(read_words(["-Ts", "-oi", "a.o", "--orphan-handling=place"]).is_ld)
+        self.assertEqual(read_words(["-Ts", "-oi", "a.o", "--verbose", "-M"]).without_effect, ("--verbose", "-M"))
 
     def test_refused(self) -> None:
         """Words that are refused."""
         for words in (
-            ["-o", "i"], ["-T", "s"], ["-Ts", "-oi", "-oj"], ["-Ts", "-oi", "--json", "--json"], ["-Ts", "-oi", "-x"],
+            ["-o", "i"], ["-T", "s"], ["-Ts", "-oi", "-oj"], ["-Ts", "-oi", "--json", "--json"], ["-Ts", "-oi", "-%"],
             ["-Ts", "-oi", "--make", "m", "--sources", "*.c", "a.o"], ["-Ts", "-oi", "--Map", "-m"],
-            ["-Ts", "-oi", "--gc"], ["-Ts", "-oi", "--make", "m", "--sources"], ["-Ts", "-oi", "\udcff.o"],
+            ["-Ts", "-oi", "--gc"], ["-Ts", "-oi", "--whole"], ["-Ts", "-oi", "-L"], ["-Ts", "-oi", "--script=x"],
+            ["-Ts", "-oi", "--make", "m", "--sources"], ["-Ts", "-oi", "\udcff.o"],
         ):
             with self.assertRaises(WordsRefused, msg=words):
                 read_words(words)

@@ -6,12 +6,14 @@ as they were, their edits are sent alone: what the link would do for them is the
 """
 from __future__ import annotations
 
+import contextlib
+import io
 import os
+import sys
 from collections.abc import Callable, Mapping, Sequence
 from dataclasses import replace
 
 import client.files
-from client.adapt.segments import about_segments
 from client.files import Files
 from client.inputs import Message
 from client.inputs_state import Input
@@ -21,12 +23,12 @@ from client.ld.fallback import Reasons
 from client.ld.flat import NoFlatImage
 from client.ld.host import Host
 from client.ld.inputs import BadInput, CannotLink, MissingInput, NotScript, Object
-from client.ld.link import Opened, Result
+from client.ld.link import Opened, Result, result_of
 from client.ld.main import Link
 from client.ld.options import WordsRefused
 from client.ld.page_size import PAGE, TooFar
 from client.ld.script import Script, Source
-from client.object_file import COMMON, SYMTAB, UNDEFINED, NotElf, ObjectFile
+from client.object_file import NOBITS, PROGBITS, NotElf, ObjectFile
 from client.protocol import Options, Refused
 from client.watch.inputs import Inputs, NotThere
 from client.watch.kept import SCRIPT, Kept
@@ -82,13 +84,11 @@ class KeptOpened(Opened):
         return [(item, refused[item.name.decode()]) for item in self.objects if item.name.decode() in refused]
 
     def link(self, script: bytes, with_map: bool, with_image: bool = True) -> Result:
-        """Links the objects under the script; the result has a map where it is asked for without an image."""
+        """Links the objects under the script; faults are asked for when they are said."""
         self._bring(script)
         if SCRIPT in self._kept.refused:
             return Result(script_refused=self._kept.refused[SCRIPT])
-        if self._kept.status:
-            return Result(self._kept.status)
-        return Result(0, map=self.session.map() if with_map and not with_image else b"")
+        return Result(self._kept.status) if self._kept.status else result_of(self.session, 0, with_map, with_image)
 
     def end(self) -> None:
         """The session is kept."""
@@ -124,48 +124,51 @@ class WatchHost(Host):
         raise CannotLink("; ".join(reasons.lines))
 
 
-class WatchedLink(Link):
-    """A link of which nothing is written or printed, and whose script is there before the session is used."""
-
-    host: WatchHost
+class WatchedLink:
+    """A link of `ld.ldi` whose session is kept, of which nothing is written, and what is printed is kept."""
 
     def __init__(self, command: Command, words: list[str]) -> None:
-        super().__init__(command, words, os.environ, WatchHost())
-        self.load()
-        self.reported = self._written({})
-        """The script as it was written last, with what was done to it."""
+        self.command = command
+        self.host = WatchHost()
+        self.link = Link(command, words, os.environ, self.host)
+        self.link.load()
+        self.first = self.host.script(self.link.source, command, self.link.objects, {})
+        """The script as it is written first, by which all that it INCLUDEs is read."""
+        self.said: list[str] = []
+        """What was printed."""
+        self.status = 0
 
-    def _report(self, script: Script) -> bool:
-        self.reported = script
-        return bool(script.left)
+    @property
+    def script(self) -> Script:
+        """The script that was sent, or is to be."""
+        return self.link.script or self.first
 
-    def _finish(self, opened: Opened, script: Script, result: Result) -> int:
-        self.script = script
-        return result.status
-
-    def _refused(self, objects: list[tuple[Object, Refused]]) -> int:
-        return 2
-
-    def report(self) -> list[str]:
-        """What is said of the adapting of the script."""
-        return [str(note) for note in self.reported.report
-                if note.kind in ("changed", "left") and not about_segments(note)]
+    def make(self, kept: Kept, objects: list[Object]) -> bool:
+        """Makes the link over the kept session; says whether it came to an image or to faults of the session."""
+        self.host.kept, self.link.objects, self.link.script = kept, objects, None
+        printed = io.StringIO()
+        with contextlib.redirect_stderr(printed), contextlib.redirect_stdout(io.StringIO()):
+            try:
+                self.status = self.link.link()
+            except (BadInput, CannotLink, NoFlatImage, TooFar) as fault:
+                self.status = 2
+                print(f"ld.ldi: {fault}", file=sys.stderr)
+        self.said = printed.getvalue().splitlines()
+        return self.status == 0 or bool(kept.refused) or kept.status != 0 and self.link.script is not None
 
     def options(self) -> Options:
         """The options of the session."""
-        script = self.script or self.reported
-        return Options(self.command.gc_sections, script.entry, self.command.orphan_handling)
+        return Options(self.command.gc_sections, self.script.entry, self.command.orphan_handling)
 
     def finish(self) -> Callable[[bytes], bytes] | None:
         """What makes the image that `ld.ldi` writes of the session's; none where that is the same."""
-        command, script = self.command, self.script
-        is_plain = command.output_format != "binary" and (command.page_size or PAGE) <= PAGE
-        return None if script is None or (is_plain and script.segments is None) else self._finished
+        is_plain = self.command.output_format != "binary" and (self.command.page_size or PAGE) <= PAGE
+        return None if is_plain and self.script.segments is None else self._finished
 
     def _finished(self, image: bytes) -> bytes:
-        assert self.script is not None
         try:
-            return self._image(self.script, image)
+            with contextlib.redirect_stderr(io.StringIO()):  # what it says was said when the link was made
+                return self.link.image(self.script, image)
         except (NoFlatImage, TooFar) as fault:
             raise NotFinished(str(fault)) from fault
 
@@ -177,6 +180,7 @@ class AsLd:
         self._words = words
         self._teller = teller
         self._link: WatchedLink | None = None
+        """The last link that came to an image."""
         self.is_no_script = False
         """Whether the script is none of GNU ld."""
         self._objects: list[Object] = []
@@ -192,7 +196,7 @@ class AsLd:
         self._link = None
         client.files.begin(WatchedFiles(inputs))
         try:
-            link = WatchedLink(self._command(inputs), list(self._words.as_ld))
+            watched = WatchedLink(self._command(inputs), list(self._words.as_ld))
         except MissingInput as fault:
             raise NotThere(("the link", str(fault))) from fault
         except NotScript as fault:
@@ -200,9 +204,11 @@ class AsLd:
             return self._refused(str(fault))
         except (BadInput, CannotLink, WordsRefused) as fault:
             return self._refused(str(fault))
-        self._objects = link.objects
+        self._objects = watched.link.objects
         self._note_whole(inputs)
-        return self._anew(link)
+        found = self._found(watched)
+        found.linked = lambda kept: self._linked(watched, kept)
+        return found
 
     def _command(self, inputs: Inputs) -> Command:
         """The command of the words, with the names of the lists in their places."""
@@ -237,65 +243,55 @@ class AsLd:
         self._objects = objects
         return True
 
-    def _found(self, link: WatchedLink, script: Script) -> Found:
+    def _found(self, watched: WatchedLink) -> Found:
         objects = {item.name.decode(): item.data for item in self._objects}
-        found = Found(Project(script.text, objects, link.options()), script.path)
+        script = watched.script
+        found = Found(Project(script.text, objects, watched.options()), script.path)
         found.paths = {item.name.decode(): item.path for item in self._objects}
-        found.lines, found.entry, found.finish = script.lines, link.command.entry, link.finish()
+        found.lines, found.entry, found.finish = script.lines, watched.command.entry, watched.finish()
         return found
 
-    def _alike(self, link: WatchedLink) -> Found:
+    def _alike(self, watched: WatchedLink) -> Found:
         """What was found before with other bytes in objects."""
-        assert link.script is not None
-        found = self._found(link, link.script)
-        if link.valued is not None:
-            found.linked = lambda kept: self._tried(link, found, kept)
+        found = self._found(watched)
+        if watched.link.valued is not None:
+            found.linked = lambda kept: self._tried(watched, found, kept)
         return found
 
-    def _tried(self, link: WatchedLink, found: Found, kept: Kept) -> Found:
+    def _tried(self, watched: WatchedLink, found: Found, kept: Kept) -> Found:
         """Sends the objects; makes the whole link where values in the script are others now."""
         kept.bring(found.project)
-        if kept.refused or not kept.status:
-            return found
-        link.objects = self._objects
-        return self._linked(link, kept)
+        return found if kept.refused or not kept.status else self._linked(watched, kept)
 
-    def _anew(self, link: WatchedLink) -> Found:
-        """What was found for a link that is still to be made."""
-        found = self._found(link, link.reported)
-        found.linked = lambda kept: self._linked(link, kept)
-        return found
-
-    def _linked(self, link: WatchedLink, kept: Kept) -> Found:
+    def _linked(self, watched: WatchedLink, kept: Kept) -> Found:
         """Makes the link over the kept session; gives what was found with what came of it."""
-        link.host.kept = kept
-        try:
-            link.link()
-        except (BadInput, CannotLink) as fault:
-            return self._refused(str(fault))
-        self._teller.adapted(link.reported.path, link.report(), link.command.notes)
-        if link.reported.left:
-            said = [(link.reported.path, Message(str(note), "")) for note in link.reported.left]
-            return Found(Project(b""), link.reported.path, refused=tuple(said))
-        self._link = link if link.script is not None else None
-        return self._found(link, link.script or link.reported)
+        if not watched.make(kept, self._objects):
+            path = watched.script.path
+            return Found(Project(b""), path, refused=tuple((path, Message(line, "")) for line in watched.said))
+        if watched.status == 0:
+            self._teller.adapted(watched.script.path, [*watched.said, *self._without_effect()])
+            self._link = watched
+        return self._found(watched)
+
+    def _without_effect(self) -> list[str]:
+        """What there is to say of options for what a watch does not print or write."""
+        return [f"{word}: without effect here: a watch writes the image and the map"
+                for word in self._words.without_effect]
 
     def _refused(self, text: str) -> Found:
         return Found(Project(b""), self._words.script, refused=((self._words.script, Message(text, "")),))
 
 
 def facts_of(data: bytes) -> object:
-    """What decides of an object on members of archives, on the script as it is adapted, and on places: all but bytes.
-
-    None, which is like nothing, where it is no object.
+    """All of an object but what its sections of code and data hold: what decides on members of archives, on the script
+    as it is adapted, on what stays with --gc-sections, and on places. Like nothing else where it is no object.
     """
     try:
         file = ObjectFile(data)
-        headers = [(file.section_name(at), *one[1:4], one.size, one.alignment, one.link, one.info)
-                   for at, one in enumerate(file.headers) if one.kind != SYMTAB]
-        first = file.first_global()
-        symbols = [(name, one.info, one.other, one.section, one.value, one.size)
-                   for name, one in file.symbols(first) if one.section not in (UNDEFINED, COMMON) or name]
+        kinds = file.kinds()
+        names = [file.section_name(at) for at in range(file.count)]
+        others = [file.content(at) for at, kind in enumerate(kinds) if kind not in (PROGBITS, NOBITS)]
+        headers = [header._replace(offset=0) for header in file.headers]
     except (NotElf, IndexError):
         return object()
-    return headers, symbols
+    return headers, names, others

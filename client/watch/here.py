@@ -8,7 +8,7 @@ class Here:
     """The folder in which the program was started."""
 
     def __init__(self) -> None:
-        self.path = os.path.realpath(".")
+        self.path = real(".")
 
     def look(self) -> bool:
         """Goes into the folder of that name, where this one was removed and another is there; says whether it did."""

@@ -90,16 +90,16 @@ class Teller:
         else:
             self._line(YELLOW, "session", f"{why}; started again")
 
-    def adapted(self, script: str, report: Sequence[str], notes: Sequence[str]) -> None:
+    def adapted(self, script: str, report: Sequence[str]) -> None:
         """Says what was changed in a script of GNU ld, and which options have no effect, if that is new."""
-        said = (script, *report, *notes)
-        if said == self._adapted:
+        said = (script, *report)
+        if not report or said == self._adapted:
             return
         self._adapted = said
         if self._as_json:
-            self._object("adapted", script=script, report=list(report), notes=list(notes))
+            self._object("adapted", script=script, report=list(report))
             return
-        for line in (*report, *notes):
+        for line in report:
             self._print(line)
 
     def note(self, name: str, text: str) -> None:

@@ -156,6 +156,7 @@ class _Reader:
             self._set(AS_LD[options[0].names[0]], value or "")
         elif options[0].names[0] in NOTHING:
             self.without_effect.append(word)
+            self.is_ld = True
         else:
             self.is_ld = True
             self.as_ld += words
