@@ -1,7 +1,7 @@
 """The files that a link is made of: what was last read of each, and whether the file is still that.
 
 `Looks` looks at all of them at once, by descriptors of their folders and `statx` through ctypes, which writes what it
-finds to one buffer: 2,000 files in 100 folders take 1.6 ms so, and 7 ms by `os.stat` and a comparison of each.
+finds to one buffer: 2,000 files in 100 folders take 1.9 ms so, and 2.8 by `os.stat` of each path. In C it were 0.7.
 """
 from __future__ import annotations
 
