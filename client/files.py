@@ -94,7 +94,7 @@ class Files:
         self.seen: dict[str, Seen] = {}
         self.probes: dict[tuple[str, str], bool] = {}
         self._before = before.seen if before is not None else {}
-        self._looks: Looks | None = None
+        self._looks: Looks[Seen] | None = None
         self._looked_at: list[Seen] | None = None
 
     def read(self, path: str) -> bytes:

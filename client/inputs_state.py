@@ -12,17 +12,11 @@ import struct
 import time
 from collections.abc import Iterable, Sequence
 from dataclasses import dataclass
-from typing import NamedTuple
+from typing import Generic, NamedTuple, Protocol, TypeVar
 
+from client.files import SECOND, is_settled
 from client.protocol import GREATEST_PAYLOAD
 from client.writers import has_writer_of
-
-TICK = 20_000_000
-"""Nanoseconds: a file's times go by ticks of the system, so that two changes within one may leave the same stamp."""
-
-SECOND = 1_000_000_000
-COARSE_TICK = 2 * SECOND + TICK
-"""The same where a time is one of whole seconds, as some file systems have them, and even seconds."""
 
 GREATEST_READ = GREATEST_PAYLOAD + 1
 """No more bytes of a file are read: so many are refused already."""
@@ -41,13 +35,6 @@ class Stamp(NamedTuple):
 def stamp_of(status: os.stat_result) -> Stamp:
     """The stamp of a file, by what the system says of it."""
     return Stamp(status.st_dev, status.st_ino, status.st_size, status.st_mtime_ns, status.st_ctime_ns)
-
-
-def is_settled(stamp: Stamp, now: int) -> bool:
-    """Whether a change from `now` on is certain to give another stamp."""
-    return all(
-        when + (TICK if when % SECOND else COARSE_TICK) < now for when in (stamp.modified, stamp.changed)
-    )
 
 
 class Changing(Exception):
@@ -166,12 +153,34 @@ _libc = ctypes.CDLL(None)
 _statx = getattr(_libc, "statx", None)
 
 
-class Folder:
+class Looked(Protocol):
+    """A file that is looked at."""
+
+    @property
+    def path(self) -> str:
+        """Its name, as it was given."""
+
+    @property
+    def stamp(self) -> tuple[int, int, int, int, int] | None:
+        """The stamp that it had when it was read."""
+
+    @property
+    def settled(self) -> bool:
+        """Whether any change since gives another stamp."""
+
+    def is_same(self) -> bool:
+        """Whether the file is still what was last read of it, by a look at it alone."""
+
+
+One = TypeVar("One", bound=Looked)
+
+
+class Folder(Generic[One]):
     """The files of one folder, by their names in it."""
 
     def __init__(self, path: str, keeps_open: bool) -> None:
         self.path = path
-        self.inputs: list[Input] = []
+        self.inputs: list[One] = []
         self._keeps_open = keeps_open
         self._descriptor = -1
         self._identity: tuple[int, int] | None = None
@@ -180,9 +189,9 @@ class Folder:
         self._found = ctypes.create_string_buffer(0)
         self._same = b""
         """What was found when all files were as they had been read, and their stamps then."""
-        self._stamps: list[Stamp | None] = []
+        self._stamps: list[tuple[int, int, int, int, int] | None] = []
 
-    def changed(self) -> list[Input]:
+    def changed(self) -> list[One]:
         """The inputs that are not what was last read of them."""
         if _statx is None or not self._is_open():
             return [one for one in self.inputs if not one.is_same()]
@@ -194,10 +203,13 @@ class Folder:
             return self._compared(failed, stamps)
         return [one for one in self.inputs if not one.settled and not one.is_same()]
 
-    def _compared(self, failed: bool, stamps: list[Stamp | None]) -> list[Input]:
+    def _compared(self, failed: bool, stamps: list[tuple[int, int, int, int, int] | None]) -> list[One]:
         """The same, file by file."""
-        found = [failed or not is_found(self._found, STATX_BYTES * at, stamp) for at, stamp in enumerate(stamps)]
-        changed = [one for one, is_other in zip(self.inputs, found) if (is_other or not one.settled) and not one.is_same()]
+        changed = []
+        for at, (one, stamp) in enumerate(zip(self.inputs, stamps)):
+            is_other = failed or not is_found(self._found, STATX_BYTES * at, stamp)
+            if (is_other or not one.settled) and not one.is_same():
+                changed.append(one)
         if not changed and not failed:
             self._same, self._stamps = self._found.raw, stamps
         return changed
@@ -238,25 +250,25 @@ class Folder:
         self._calls = []
 
 
-def is_found(found: ctypes.Array[ctypes.c_char], at: int, stamp: Stamp | None) -> bool:
+def is_found(found: ctypes.Array[ctypes.c_char], at: int, stamp: tuple[int, ...] | None) -> bool:
     """Whether what statx wrote there is this stamp."""
     inode, size, changed, changed_ns, modified, modified_ns, major, minor = FOUND.unpack_from(found, at)
     times = SECOND * modified + modified_ns, SECOND * changed + changed_ns
     return (os.makedev(major, minor), inode, size, *times) == stamp
 
 
-class Looks:
+class Looks(Generic[One]):
     """Looks at many files at once. Paths are as they were given: those that are relative go by the working folder."""
 
     def __init__(self) -> None:
-        self._inputs: Sequence[Input] = ()
-        self._folders: list[Folder] = []
+        self._inputs: Sequence[One] = ()
+        self._folders: list[Folder[One]] = []
 
-    def changed(self, inputs: Sequence[Input]) -> list[Input]:
+    def changed(self, inputs: Sequence[One]) -> list[One]:
         """The inputs whose files are not what was last read of them. It is quicker for those of the call before."""
         if inputs is not self._inputs:
             self._sort(inputs)
-        found: list[Input] = []
+        found: list[One] = []
         for folder in self._folders:
             found += folder.changed()
         return found
@@ -267,10 +279,10 @@ class Looks:
             folder.close()
         self._inputs, self._folders = (), []
 
-    def _sort(self, inputs: Sequence[Input]) -> None:
+    def _sort(self, inputs: Sequence[One]) -> None:
         self.close()
         self._inputs = inputs
-        folders: dict[str, Folder] = {}
+        folders: dict[str, Folder[One]] = {}
         for one in inputs:
             path = os.path.dirname(one.path)
             if path not in folders:
@@ -279,9 +291,9 @@ class Looks:
         self._folders = list(folders.values())
 
 
-def changed_among(inputs: Iterable[Input]) -> list[Input]:
+def changed_among(inputs: Iterable[One]) -> list[One]:
     """The inputs whose files are not what was last read of them, looked at once."""
-    looks = Looks()
+    looks: Looks[One] = Looks()
     try:
         return looks.changed(list(inputs))
     finally:

@@ -82,7 +82,7 @@ class AsLdTest(FolderTest):
             self.assert_as_ld(*words)
 
     def test_library_comes_first(self) -> None:
-        """A library that comes in a folder that is searched earlier is taken from then on, and no longer when it goes."""
+        """A library that comes in a folder that is searched earlier is taken, until it goes."""
         os.mkdir(self.folder / "first")
         words = ("o0.o", "-L", "first", "-L", "lib", "-lq")
         watching = self.begun(*words)

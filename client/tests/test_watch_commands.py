@@ -125,7 +125,7 @@ class MakeTest(FolderTest):
         self.assertEqual((self.folder / "order").read_text().split(), ["begin", "end"] * 2)
 
     def test_saved_in_each_run(self) -> None:
-        """A source that is saved in each of six runs is built each time; what is said of it, and the last one stands."""
+        """A source that is saved in each of six runs is built each time, and the last save stands."""
         watching = self.watch("--make", f"{MAKE}; sleep 0.3")
         self.assertTrue(wait_until(lambda: self.runs() == 1))
         for version in range(2, 8):
@@ -140,7 +140,7 @@ class MakeTest(FolderTest):
         self.assertTrue(wait_until(lambda: self.folder.image() == self.folder.link()))
 
     def test_saved_and_put_back(self) -> None:
-        """A source that is saved while the command runs, and has its old bytes again when it ends, is built once more."""
+        """A source that has other bytes while the command runs, and its old ones when it ends, is built once more."""
         watching = self.watch("--make", f"{MAKE}; sleep 0.6")
         self.assertTrue(wait_until(lambda: self.runs() == 1))
         time.sleep(0.1)

@@ -94,13 +94,12 @@ class LooksTest(FolderTest):
 
     def test_without_statx(self) -> None:
         """The same without the system's call, and for folders beyond those that are kept open."""
-        for patch in (mock.patch.object(inputs_state, "_statx", None), mock.patch.object(inputs_state, "MOST_FOLDERS", 1),
-                      mock.patch.object(inputs_state, "_statx", lambda *_: -1)):
-            with patch:
+        for name, value in (("_statx", None), ("MOST_FOLDERS", 1), ("_statx", lambda *_: -1)):
+            with mock.patch.object(inputs_state, name, value):
                 self.looks.close()
                 self.assert_changed()
-                Path("one/f1").write_text(str(patch))
-                Path("two/deep/f1").write_text(str(patch))
+                Path("one/f1").write_text(f"{name} {value}")
+                Path("two/deep/f1").write_text(f"{name} {value}")
                 time.sleep(0.03)
                 self.assert_changed("one/f1", "two/deep/f1")
                 self.assert_changed()

@@ -35,8 +35,8 @@ MASK = (
 )
 
 HEADER = struct.Struct("iIII")
-"""What an event begins with: the number of the watch, the mask, a number that both events of a rename have, the bytes of
-the name."""
+"""What an event begins with: the number of the watch, the mask, a number that both events of a rename have, and the
+bytes of the name."""
 
 BUFFER = 1 << 16
 

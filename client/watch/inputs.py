@@ -66,7 +66,7 @@ class Inputs:
         self._changed: list[Input] = []
         self._is_other = True
         """Whether there is more than bytes that may be other than at the last search."""
-        self._looks = Looks()
+        self._looks: Looks[Input] = Looks()
 
     def all(self) -> list[Input]:
         """All inputs, as the last search found them."""

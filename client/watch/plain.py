@@ -26,7 +26,8 @@ class Plain:
         """What the link is made of now."""
         script = inputs.get(self._words.script)
         self.script = script.data
-        if changed is not None and self._is_found and not self.has_archives and all(one.path in self._objects for one in changed):
+        is_known = changed is not None and self._is_found and not self.has_archives
+        if changed is not None and is_known and all(one.path in self._objects for one in changed):
             inputs.keep()
             for one in changed:
                 if one.data is not None:
