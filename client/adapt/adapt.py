@@ -28,10 +28,11 @@ __all__ = ["Adapted", "NoParse", "Note", "Reading", "adapt", "adapt_reading", "r
 class Adapted:
     """The script for `ldi`, what was done, and where each of its lines came from."""
 
-    __slots__ = ("text", "report", "lines", "valued", "segments")
+    __slots__ = ("text", "report", "lines", "valued", "segments", "tree", "names")
 
     def __init__(self, text: bytes, report: list[Note], lines: tuple[tuple[str, int], ...],
-                 valued: frozenset[str] = frozenset(), segments: Segments | None = None) -> None:
+                 valued: frozenset[str] = frozenset(), segments: Segments | None = None,
+                 tree: tuple[Source, list[Node]] | None = None, names: Mapping[int, str] | None = None) -> None:
         self.text, self.report = text, report
         self.lines = lines
         """For each line of `text`, from 0: the file and the line (from 1) that it came from."""
@@ -39,6 +40,10 @@ class Adapted:
         """The symbols of objects whose addresses expressions outside of ASSERT want."""
         self.segments = segments
         """What PHDRS and the `:NAME`s ask for, which `text` does not have."""
+        self.tree = tree
+        """The original text and its statements."""
+        self.names = names or {}
+        """By `id` of an output section among these: the name that it has in `text`, where that is another."""
 
     @property
     def status(self) -> int:
@@ -182,7 +187,8 @@ def _adapted(reading: Reading, objects: Objects | Mapping[str, bytes] | Iterable
     for at in long[:1]:
         where = lines[text.count("\n", 0, at)]
         model.note(LEFT, 0, f"an expression at {where[0]}:{where[1]} has more than 64 signs: use symbols for its parts")
-    return Adapted(text.encode("latin-1"), model.report(), lines, frozenset(model.valued), segments_of(model))
+    return Adapted(text.encode("latin-1"), model.report(), lines, frozenset(model.valued), segments_of(model),
+                   (source, nodes), model.names)
 
 
 def _checked(name: str, value: str) -> str:

@@ -28,6 +28,7 @@ class Rewriter:
 
     def __init__(self, model: Model, node: Input, discard: bool) -> None:
         self.model, self.node, self.discard = model, node, discard
+        self.patterns = node.patterns
         self.notes: list[tuple[str, str]] = []
 
     def run(self) -> None:
@@ -79,9 +80,9 @@ class Rewriter:
         files = self._files()
         if node.file.sorts and node.file.sorts != ["SORT_NONE"]:
             self._file_sort()
-        if node.patterns is None:
+        if self.patterns is None:
             return [self._keep(f"{name}(*)") for name in files]
-        groups = self._groups(node.patterns)
+        groups = self._groups(self.patterns)
         return [self._keep(f"{name}({inner})") for inner in groups for name in files]
 
     def _keep(self, text: str) -> str:
@@ -277,7 +278,7 @@ class Rewriter:
                 return False
         names = [name for name, has in good.items() if has]
         self.notes.append((REWRITTEN, "INPUT_SECTION_FLAGS by the names of these objects' sections"))
-        self.node.patterns = [Pattern(_escaped(name), [], [], 0, 0, False) for name in names or [".none"]]
+        self.patterns = [Pattern(_escaped(name), [], [], 0, 0, False) for name in names or [".none"]]
         return True
 
 

@@ -34,10 +34,12 @@ class InputSection:
 class Definition:
     """A definition of a name in an object."""
 
-    __slots__ = ("object", "section", "value", "weak")
+    __slots__ = ("object", "section", "value", "weak", "number")
 
-    def __init__(self, owner: str, section: str, value: int, weak: bool) -> None:
+    def __init__(self, owner: str, section: str, value: int, weak: bool, number: int) -> None:
         self.object, self.value, self.weak = owner, value, weak
+        self.number = number
+        """The number of the section, ABSOLUTE or COMMON."""
         self.section = section
         """The section's name; empty for an absolute one, COMMON for a common block."""
 
@@ -63,6 +65,12 @@ class Objects:
         self._definitions: dict[str, Definition] = {}
         self._undefined: set[str] = set()
         self._read = False
+
+    def take_tables(self, other: Objects | None) -> None:
+        """Takes what another one has read of objects that are the same bytes here."""
+        known = {} if other is None or other._tables is None else {tables.name: tables for tables in other._tables}
+        self._tables = [known[name] if name in known and known[name].data is data else _Tables(name, data)
+                        for name, data in self._files.items()]
 
     def _read_tables(self) -> list[_Tables]:
         """The tables of the objects, read once."""
@@ -134,7 +142,8 @@ class Objects:
                 continue
             old = definitions.get(symbol)
             if old is None or old.weak and not weak or old.section == "COMMON" and shndx != COMMON:
-                definitions[symbol] = Definition(tables.name, tables.section_name(shndx), value, weak)
+                definitions[symbol] = Definition(tables.name, tables.section_name(shndx), value, weak,
+                                                 shndx)
 
 
 class _Tables:

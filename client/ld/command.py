@@ -75,6 +75,8 @@ class Command:
     """`-N`: the default script does not begin its data on a page of their own."""
     section_starts: dict[str, int] = field(default_factory=dict)
     page_size: int | None = None
+    keywords: list[str] = field(default_factory=list)
+    """The words of `-z`."""
     output_format: str | None = None
     dependency_file: str | None = None
     verbose: bool = False
@@ -276,6 +278,7 @@ class Reader:
     def keyword(self, text: str) -> None:
         """A word of `-z`."""
         name, _, value = text.partition("=")
+        self.command.keywords.append(text)
         if name in KEYWORDS_SAID:
             self.command.note(f"-z {name}: {KEYWORDS_SAID[name]}")
         elif name in ("start-stop-gc", "nostart-stop-gc"):

@@ -38,6 +38,13 @@ class Host:
             self._known = Known({item.name.decode(): item.data for item in objects}, [item.linkage for item in objects])
         return write_script(source, command, self._known, values, objects)
 
+    def known(self, objects: Sequence[Object]) -> Known:
+        """What is known of these objects; of those that are the same bytes as before it is not read again."""
+        known = Known({item.name.decode(): item.data for item in objects}, [item.linkage for item in objects])
+        known.take_tables(self._known)
+        self._known = known
+        return known
+
     def write(self, path: str, data: bytes, mode: int) -> None:
         """Writes a file of the link."""
         write_file(path, data, mode)

@@ -10,6 +10,7 @@ from types import FrameType
 
 import client.files
 from client.adapt.segments import about_segments
+from client.check.link import CheckedLink, Checker, Outcome
 from client.ld.command import Command, read_command
 from client.ld.fallback import Reasons, hand_over
 from client.ld.flat import NoFlatImage, flat_binary
@@ -96,14 +97,17 @@ def print_asked(command: Command, source: Source | None) -> None:
         print(f"{'=' * 50}\n{source.text.rstrip()}\n\n{'=' * 50}", flush=True)
 
 
-def report_script(script: Script, verbose: bool) -> None:
-    """Prints what was done to the script: what is changed always, the rest where it is asked for.
+def report_script(script: Script, verbose: bool, outcome: Outcome) -> None:
+    """Prints what is changed in the image, and what is left where that ends the link; with --verbose all that was done.
 
     What is said of PHDRS is not: they are written after the link (`Link._elf`).
     """
     for note in script.report:
-        if (verbose or note.kind in ("changed", "left")) and not about_segments(note):
+        wanted = outcome.result is None if note.kind == "left" else verbose and note.kind != "changed"
+        if wanted and not about_segments(note):
             print(note, file=sys.stderr)
+    for line in outcome.said:
+        print(line, file=sys.stderr)
 
 
 def wanted_names(command: Command, source: Source) -> list[str]:
@@ -169,13 +173,11 @@ class Link:
         opened, script = self._open(), self._written({})
         if script.valued:
             return self._link_valued(opened, script)
-        if self._report(script):
-            return REFUSED
         if script.entry is not None:
             opened = self._open(script.entry)
         if refused := opened.refused():
             return self._refused(refused)
-        return self._finish(opened, script, opened.link(script.text, self._wants_map()))
+        return self._finish(opened, script, None if script.left else opened.link(script.text, True))
 
     def _link_valued(self, opened: Opened, script: Script) -> int:
         """Links under a script that names objects' symbols."""
@@ -184,9 +186,8 @@ class Link:
         if refused := opened.refused():
             return self._refused(refused)
         self.valued = Valued(self._written, script)
-        linked = self.valued.link(opened, self._wants_map())
+        linked = self.valued.link(opened, True)
         if linked is not None:
-            self._report(linked[0])
             return self._finish(opened, *linked)
         beforehand = opened_beforehand(self.command, script, self.objects)
         try:
@@ -204,29 +205,29 @@ class Link:
                 say(f"{self.source.path}: the section of {name} is not in the image, so that its value cannot be "
                     "written: take it in, under KEEP where --gc-sections leaves it out")
             beforehand = None
-        if self._report(script):
-            return REFUSED
-        result = opened.link(script.text, self._wants_map())
+        if script.left:
+            return self._finish(opened, script, None)
+        result = opened.link(script.text, True)
         settled = self.valued.settled(beforehand) if result.status and beforehand else None
         if settled is not None and settled.text != script.text:
-            script, result = settled, opened.link(settled.text, self._wants_map())
+            script, result = settled, opened.link(settled.text, True)
         return self._finish(opened, script, result)
 
-    def _report(self, script: Script) -> bool:
-        """Says what was done to the script, and what has no effect; says whether a part of the script is left."""
-        report_script(script, self.command.verbose)
-        if script.left:
+    def _checked(self, opened: Opened, script: Script, result: Result | None) -> Outcome:
+        """Compares the image with what GNU ld makes of the script, and says what is another; what was done to the
+        script, and what has no effect."""
+        assert script.adapted is not None
+        checker = Checker(script.adapted, self.host.known(self.objects), self.command, self.source.own)
+        outcome = CheckedLink(checker, script, result, lambda text: opened.link(text, True)).run()
+        report_script(script, self.command.verbose, outcome)
+        if outcome.result is None:
             say(f"{self.source.path}: {len(script.left)} places cannot be linked by ldi; they are named above")
-            return True
+            return outcome
         for note in self.command.notes:
             say(note)
-        return False
-
-    def _wants_map(self) -> bool:
-        """Whether the map is written, or something is printed from it."""
-        command = self.command
-        tables = command.print_memory_usage or command.gc_sections and command.print_gc_sections
-        return command.map_file is not None or command.print_map or tables
+        if outcome.differs:
+            say(f"{self.source.path}: the image would be another than GNU ld's, in what is named above: none is written")
+        return outcome
 
     def _check_required(self, loader: Loader) -> None:
         """The names of --require-defined are defined."""
@@ -266,15 +267,21 @@ class Link:
             opened = self._open(script.entry)
         if refused := opened.refused():
             return self._refused(refused)
-        result = opened.link(script.text, self._wants_map())
+        result = opened.link(script.text, True)
         if self.valued is not None and (result.status or result.script_refused):
             return self._link_valued(opened, self._written({}))
-        self._report(script)
         return self._finish(opened, script, result)
 
-    def _finish(self, opened: Opened, script: Script, result: Result) -> int:
-        """Says what came of the link, and writes the files of a good one."""
+    def _finish(self, opened: Opened, script: Script, result: Result | None) -> int:
+        """Says what came of the link, and writes the files of a good one; without a result the script has a part that
+        is left."""
         self.script = script
+        outcome = self._checked(opened, script, result)
+        script, result = outcome.script, outcome.result
+        if result is None:
+            return REFUSED
+        if outcome.differs:
+            return FAULTS
         if result.script_refused:
             return self._script_refused(result.script_refused, script)
         if result.status:

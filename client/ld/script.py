@@ -187,6 +187,8 @@ class Script:
     """The symbols of objects whose addresses expressions of the script want."""
     segments: Segments | None = None
     """The program headers that PHDRS asks for."""
+    adapted: Adapted | None = None
+    """What the adapter gave, with the original script's tree."""
 
     @property
     def left(self) -> list[Note]:
@@ -242,14 +244,15 @@ def write_script(
     else:
         entry = os.fsencode(command.entry)
     if entry is None:
-        return Script(source.path, text, adapted.lines, adapted.report, None, adapted.valued, adapted.segments)
+        return Script(source.path, text, adapted.lines, adapted.report, None, adapted.valued, adapted.segments,
+                      adapted)
     if entry[:1].isdigit():
         text = b"%s = 0x%x; %s" % (NUMBER_ENTRY, number(os.fsdecode(entry), "-e"), text)
         entry = NUMBER_ENTRY
     written = with_entry(text, entry)
     option = os.fsdecode(entry) if written is None else None
     return Script(source.path, written or text, adapted.lines, adapted.report, option, adapted.valued,
-                  adapted.segments)
+                  adapted.segments, adapted)
 
 
 def _kept(source: Source, command: Command, objects: Sequence[Object], adapted: Adapted) -> bytes:

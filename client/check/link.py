@@ -1,0 +1,213 @@
+"""The check of a link by `ld.ldi`: what it made beside what GNU ld makes of the original script."""
+from __future__ import annotations
+
+from collections import Counter
+from collections.abc import Callable
+from dataclasses import replace
+from typing import TYPE_CHECKING
+
+from client.adapt.adapt import Adapted
+from client.adapt.objects import Objects
+from client.adapt.segments import about_segments
+from client.check.compare import Comparison, Difference, pieces_of
+from client.check.evaluate import Evaluated, evaluate
+from client.check.fixed import NotFixed, fixed_script
+from client.check.state import ALLOC, Settings, Stopped, Unknown
+
+if TYPE_CHECKING:
+    from client.ld.command import Command
+    from client.ld.link import Result
+    from client.ld.script import Script
+
+
+def settings_of(command: Command, own: bool) -> Settings:
+    """What the words say of a layout."""
+    common = None
+    settings = Settings()
+    for word in command.keywords:
+        name, _, value = word.partition("=")
+        if name == "common-page-size":
+            common = _number(value)
+        elif name in ("relro", "norelro"):
+            settings.relro = name == "relro"
+        elif name in ("separate-code", "noseparate-code"):
+            settings.separate_code = name == "separate-code"
+    sized = Settings(command.page_size, common)
+    settings.max_page, settings.common_page = sized.max_page, sized.common_page
+    settings.paged = settings.text_read_only = not command.omagic
+    settings.undefined = [*command.undefined, *command.required]
+    settings.entry = command.entry
+    settings.starts = dict(command.section_starts)
+    return settings
+
+
+def _number(text: str) -> int | None:
+    try:
+        return int(text, 0)
+    except ValueError:
+        return None
+
+
+def script_is_first(command: Command) -> bool:
+    """Whether the script stands before the first object."""
+    kinds = [item.kind for item in command.inputs if item.kind in ("file", "library", "script")]
+    return kinds[:1] == ["script"]
+
+
+class Checker:
+    """Evaluates a script once, and compares images with that."""
+
+    def __init__(self, adapted: Adapted, known: Objects, command: Command, own: bool) -> None:
+        self.adapted, self.known, self.command, self.own = adapted, known, command, own
+        self.done: Evaluated | None = None
+        self.unknown: Unknown | None = None
+        """Why the script is not evaluated."""
+        self.stopped: Stopped | None = None
+        """Why GNU ld makes no image."""
+
+    def evaluated(self, map_text: bytes = b"") -> Evaluated | None:
+        """What GNU ld makes of the script; with --gc-sections the map says which sections stay."""
+        if self.done is None and self.unknown is None and self.stopped is None:
+            settings = settings_of(self.command, self.own)
+            try:
+                if self.command.gc_sections:
+                    settings.live = _Live(self.known, map_text)
+                assert self.adapted.tree is not None
+                self.done = evaluate(self.adapted.tree[1], self.known, settings,
+                                      self.own and script_is_first(self.command))
+            except Unknown as fault:
+                self.unknown = fault
+            except Stopped as fault:
+                self.stopped = fault
+        return self.done
+
+    def differences(self, image: bytes, map_text: bytes) -> list[Difference]:
+        """What is another in an image; nothing where the script is not evaluated."""
+        evaluated = self.evaluated(map_text)
+        if evaluated is None:
+            return []
+        return Comparison(evaluated, image, map_text).run(not self.command.gc_sections or self.command.entry is not None)
+
+    def fixed(self) -> tuple[bytes, tuple[tuple[str, int], ...]] | None:
+        """A script with the places of the evaluation, and the origins of its lines."""
+        if self.done is None or self.adapted.tree is None:
+            return None
+        try:
+            return fixed_script(self.done, dict(self.adapted.names), self.command.gc_sections,
+                                self.adapted.tree[0].place)
+        except NotFixed:
+            return None
+
+    def line(self, offset: int, text: str) -> str:
+        """A line for people, with its place in the script."""
+        assert self.adapted.tree is not None
+        source = self.adapted.tree[0]
+        path, line = source.place(offset) if offset >= 0 else (source.path, 1)
+        return f"{path}:{line}: {text}"
+
+
+class Outcome:
+    """What came of a link: the script that was sent, the result (None where something of the script is left), and what
+    is to be said."""
+
+    __slots__ = ("script", "result", "said", "differs")
+
+    def __init__(self, script: Script, result: Result | None, said: list[str], differs: bool = False) -> None:
+        self.script, self.result, self.said = script, result, said
+        self.differs = differs
+        """Whether the image is another than GNU ld's, and nothing that is reported says why."""
+
+
+class CheckedLink:
+    """A link by the adapted script; where that comes to another image than GNU ld's, another by one of numbers."""
+
+    def __init__(self, checker: Checker, script: Script, result: Result | None, link: Callable[[bytes], Result]) -> None:
+        """`result` is that of the adapted script; None where something of it is left."""
+        self.checker, self.script, self.result, self.link = checker, script, result, link
+
+    def run(self) -> Outcome:
+        """The link."""
+        checker, script, result = self.checker, self.script, self.result
+        found: list[Difference] = []
+        if result is not None and not result.script_refused and not result.status:
+            found = checker.differences(result.image, result.map)
+            if not found and checker.evaluated() is not None:
+                return Outcome(script, result, self._others())
+            if checker.evaluated() is None:
+                return Outcome(script, result, self._changed() + self._not_checked())
+        fixed = self._fixed()
+        if fixed is not None:
+            return fixed
+        if result is None or result.script_refused or result.status:
+            return Outcome(script, result, self._changed())
+        changed = self._changed()
+        said = [checker.line(one.offset, ("changed: " if changed else "") + one.text) for one in found]
+        return Outcome(script, result, changed + said, not changed)
+
+    def _fixed(self) -> Outcome | None:
+        """The link by a script of numbers, where that comes to GNU ld's image."""
+        checker = self.checker
+        if checker.command.gc_sections and checker.done is None or checker.evaluated() is None:
+            return None
+        written = checker.fixed()
+        if written is None:
+            return None
+        text, lines = written
+        script, result = replace(self.script, text=text, lines=lines), self.link(text)
+        if result.script_refused or result.status or checker.differences(result.image, result.map):
+            return None
+        return Outcome(script, result, self._others())
+
+    def _changed(self) -> list[str]:
+        """The lines of the report on what is changed."""
+        return [str(note) for note in self.script.changed if not about_segments(note)]
+
+    def _others(self) -> list[str]:
+        """What is another beside places, values and contents, which were compared."""
+        checker = self.checker
+        said = [str(note) for note in self.script.changed if not about_segments(note) and note.text.startswith(_OTHERS)]
+        for output in checker.done.statements.outputs if checker.done is not None else ():
+            place = output.place
+            if place is not None and output.node is not None and not place.gone and place.size \
+                    and not place.flags & ALLOC and output.kind:
+                said.append(checker.line(output.node.start, f"changed: ({output.kind}) of {output.name}: its "
+                                         f"{place.size:#x} bytes are not in the image; GNU ld's has them, not loaded"))
+        return said
+
+    def _not_checked(self) -> list[str]:
+        """Why the image was not compared, where no line of the report is of that."""
+        checker = self.checker
+        fault = checker.unknown or checker.stopped
+        if fault is None:
+            return []
+        line = checker.line(fault.offset, "")
+        if any(str(note).startswith(line) for note in self.script.changed):
+            return []
+        if checker.stopped is not None:
+            return [f"{line}changed: GNU ld makes no image here: {fault}"]
+        return [f"{line}changed: the image was not compared with what GNU ld makes: {fault}"]
+
+
+_OTHERS = ("LINKER_VERSION", "ENTRY(", "--gc-sections")
+"""How lines begin that say of something else."""
+
+
+class _Live:
+    """Which input sections a link with --gc-sections kept, by its map."""
+
+    def __init__(self, known: Objects, map_text: bytes) -> None:
+        kept = Counter((owner, name, size) for _, size, owner, name in pieces_of(map_text))
+        self._live: set[tuple[str, int]] = set()
+        for tables in known._read_tables():
+            same = Counter((section.name, section.size) for section in tables.sections.values())
+            for number, section in tables.sections.items():
+                count = kept[(tables.name, section.name, section.size)]
+                if count and count < same[section.name, section.size]:
+                    raise Unknown(f"{tables.name} has two sections {section.name}, of which one is left out")
+                if count:
+                    self._live.add((tables.name, number))
+
+    def __call__(self, owner: str, number: int) -> bool:
+        return (owner, number) in self._live
+
+

@@ -1,0 +1,108 @@
+"""A random case linked by GNU ld and by `ld.ldi`, in this process, and what came of it."""
+from __future__ import annotations
+
+import contextlib
+import faulthandler
+import io
+import os
+import resource
+import signal
+import subprocess
+import sys
+import traceback
+from collections import Counter
+from dataclasses import dataclass, field
+
+from client.ld.main import main as ld_ldi
+from client.tests.fuzz import objects
+from client.tests.fuzz.images import differences, read_image
+from client.tests.fuzz.scripts import Case, case
+
+SAME, CHANGED, REFUSED, GNU_REFUSES, SILENT, CRASHED = ("same", "changed, which is said", "refused", "refused by GNU ld",
+                                                        "SILENT DIFFERENCE", "CRASHED")
+LIMIT = 60.0
+"""Seconds that a case may take."""
+GREATEST = 1 << 25
+"""The bytes that a file may have: a case whose image has more is none."""
+GNU = ["ld.bfd", "-static", "--no-warn-rwx-segments", "--no-warn-execstack"]
+
+
+@dataclass
+class Came:
+    """What came of a case."""
+
+    outcome: str
+    said: str = ""
+    found: list[str] = field(default_factory=list)
+
+
+def prepare(one: Case) -> None:
+    """Writes a case's files here, where the pool of objects is."""
+    for name, text in {**one.files, "case.ld": one.script}.items():
+        with open(name, "w", encoding="ascii") as file:
+            file.write(text)
+    for name in ("gnu.out", "ldi.out"):
+        if os.path.exists(name):
+            os.unlink(name)
+
+
+def by_ldi(words: list[str]) -> tuple[int, str]:
+    """The status of `ld.ldi`, and what it says."""
+    said = io.StringIO()
+    kept = {number: signal.getsignal(number) for number in (signal.SIGTERM, signal.SIGHUP, signal.SIGINT)}
+    try:
+        with contextlib.redirect_stderr(said), contextlib.redirect_stdout(said):
+            status = ld_ldi(words)
+    finally:
+        for number, handler in kept.items():
+            signal.signal(number, handler)
+    return status, said.getvalue()
+
+
+def link(one: Case) -> Came:
+    """Links a case by both."""
+    prepare(one)
+    try:
+        done = subprocess.run([*GNU, *one.words("case.ld", "gnu.out")], capture_output=True, text=True, timeout=60,
+                              check=False)
+    except subprocess.TimeoutExpired:
+        return Came(GNU_REFUSES)
+    if done.returncode:
+        return Came(GNU_REFUSES, done.stderr)
+    try:
+        status, said = by_ldi(one.words("case.ld", "ldi.out"))
+    except Exception:  # whatever it is, it is a defect
+        return Came(CRASHED, traceback.format_exc())
+    if status:
+        return Came(REFUSED, said)
+    with open("gnu.out", "rb") as file:
+        gnu = read_image(file.read())
+    with open("ldi.out", "rb") as file:
+        found = differences(gnu, read_image(file.read()))
+    if not found:
+        return Came(SAME, said)
+    reported = any("changed:" in line or "PHDRS:" in line for line in said.splitlines())
+    return Came(CHANGED if reported else SILENT, said, found)
+
+
+def main(words: list[str]) -> int:
+    """`fuzz-adapt COUNT [SEED]`: that many cases, and a line for each silent difference."""
+    count, first = int(words[0]) if words else 300, int(words[1]) if len(words) > 1 else 0
+    folder = os.environ.get("FUZZ_FOLDER", "/tmp/fuzz-adapt")
+    os.makedirs(folder, exist_ok=True)
+    os.chdir(folder)
+    objects.make(".")
+    resource.setrlimit(resource.RLIMIT_FSIZE, (GREATEST, GREATEST))
+    tally: Counter[str] = Counter()
+    for seed in range(first, first + count):
+        faulthandler.dump_traceback_later(LIMIT, exit=True)
+        came = link(case(seed))
+        tally[came.outcome] += 1
+        if came.outcome in (SILENT, CRASHED) or "-v" in words:
+            print(f"{seed}: {came.outcome}: {' | '.join(came.found[:4]) or came.said[-300:]}", flush=True)
+    print(", ".join(f"{number} {outcome}" for outcome, number in sorted(tally.items())))
+    return 1 if tally[SILENT] or tally[CRASHED] else 0
+
+
+if __name__ == "__main__":
+    sys.exit(main(sys.argv[1:]))
