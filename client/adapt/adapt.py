@@ -188,7 +188,7 @@ def _adapted(reading: Reading, objects: Objects | Mapping[str, bytes] | Iterable
         where = lines[text.count("\n", 0, at)]
         model.note(LEFT, 0, f"an expression at {where[0]}:{where[1]} has more than 64 signs: use symbols for its parts")
     return Adapted(text.encode("latin-1"), model.report(), lines, frozenset(model.valued), segments_of(model),
-                   (source, nodes), model.names)
+                   (source, reading.nodes), model.names)
 
 
 def _checked(name: str, value: str) -> str:

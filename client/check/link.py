@@ -206,6 +206,7 @@ class _Live:
                     raise Unknown(f"{tables.name} has two sections {section.name}, of which one is left out")
                 if count:
                     self._live.add((tables.name, number))
+        self._live |= {(owner, -1) for owner, name, _ in kept if name == "COMMON"}
 
     def __call__(self, owner: str, number: int) -> bool:
         return (owner, number) in self._live

@@ -1,7 +1,7 @@
 """Which input sections each statement takes, and in what order."""
 from __future__ import annotations
 
-from collections.abc import Callable, Sequence
+from collections.abc import Sequence
 
 from client.adapt.objects import InputSection, Objects
 from client.adapt.patterns import matcher
@@ -48,7 +48,7 @@ class Rows:
         self.names = list(names)
         self.objects = objects
         flags: dict[tuple[int, int], int] = {}
-        live: Callable[[str, int], bool] | None = settings.live  # type: ignore[assignment]
+        live = self.live = settings.live
         for tables in objects._read_tables():
             own: dict[int, Item] = {}
             owner = tables.name
@@ -76,6 +76,8 @@ class Rows:
     def common(self, owner: str, size: int, align: int) -> Item:
         """The section of an object's common blocks."""
         item = Item(owner, "COMMON", ALLOC, size, align, 0)
+        if self.live is not None and not self.live(owner, -1):
+            item.flags |= EXCLUDE
         at = max((i for i, other in enumerate(self.items) if other.object == owner and not other.flags & CREATED),
                  default=len(self.items) - 1)
         self.items.insert(at + 1, item)

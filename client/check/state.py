@@ -1,6 +1,8 @@
 """What the passes of a link share: output sections, symbols, memory regions, settings."""
 from __future__ import annotations
 
+from collections.abc import Callable
+
 ALLOC, LOAD, READONLY, CODE, DATA, CONTENTS, NEVER_LOAD, TLS, EXCLUDE, KEEP, CREATED = (1 << n for n in range(11))
 """Flags of sections: `CREATED` by the linker itself, `KEEP` although empty."""
 
@@ -138,8 +140,9 @@ class Settings:
         """That of -e."""
         self.starts: dict[str, int] = {}
         """Addresses of output sections, by --section-start and the like."""
-        self.live: object = None
-        """With --gc-sections: which input sections stay, as a test of an object's name and a section's number."""
+        self.live: Callable[[str, int], bool] | None = None
+        """With --gc-sections: whether an input section stays, by an object's name and a section's number; -1 stands for
+        its common blocks."""
 
 
 def pages(max_page: int | None, common_page: int | None) -> tuple[int, int]:
