@@ -269,7 +269,7 @@ def _starts_and_stops(model: Model) -> None:
             continue
         for word, at in (("__start_", section.open + 1), ("__stop_", section.close)):
             name = word + section.name
-            if name not in model.definitions and model.objects.refers(name) \
+            if not model.definitions.get(name) and model.objects.refers(name) \
                     and model.objects.definition(name) is None:
                 model.edits.insert(at, f" PROVIDE({name} = .) ", order=-5 if at == section.open + 1 else 10 ** 7)
                 model.note(REWRITTEN, section.start, f"{name}, which GNU ld defines by itself, is PROVIDEd")

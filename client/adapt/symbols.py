@@ -4,9 +4,24 @@ from __future__ import annotations
 from client.adapt import expressions as ex
 from client.adapt.model import UNKNOWN, Definition, Model, Step
 from client.adapt.notes import CHANGED, DROPPED, LEFT, REWRITTEN
+from client.adapt.taking import row
 from client.adapt.tree import Assign, Expr, Region, Section
 
 _SOON = 1e-4
+
+
+BOUNDS = ("__start_", "__stop_")
+
+
+def bounded(model: Model, name: str) -> Section | None:
+    """The output section of which GNU ld itself defines the name as start or end, as an object uses it."""
+    if model.objects is None or not name.startswith(BOUNDS) or not model.objects.refers(name) \
+            or model.objects.definition(name) is not None:
+        return None
+    word = name.removeprefix(BOUNDS[0]).removeprefix(BOUNDS[1])
+    if not (word.isidentifier() and word.isascii() and any(item.name == word for item in model.objects.sections())):
+        return None
+    return next((section for section in model.order if section.name == word and row(model, section)), None)
 
 
 class Symbols:
@@ -133,6 +148,11 @@ class Symbols:
             if all(not d.provide for d in versions):
                 continue
             plain = [d for d in versions if not d.provide]
+            if not plain and bounded(model, name) is not None:
+                for d in versions:
+                    self._drop(d, f"PROVIDE({name} = ..) has no effect: GNU ld defines {name} by itself")
+                model.definitions[name] = []
+                continue
             kept = plain or versions[:1]
             for d in versions:
                 if d not in kept:

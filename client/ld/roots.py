@@ -104,6 +104,10 @@ class Roots:
             self._add(first)
         self._follow({*self.parts, *first})
 
+    def provided_bounds(self) -> set[str]:
+        """The names of bounds that the script PROVIDEs and an object uses."""
+        return {name for name in self._aliases.provided if name.startswith(BOUNDS)} & self.references.undefined
+
     def _add(self, parts: Iterable[Part]) -> None:
         self.parts.update(part for part in parts if self.references.section(part) is not None)
 

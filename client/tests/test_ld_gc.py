@@ -6,7 +6,7 @@ from client.tests.linking import BesideGnu, needs
 
 SCRIPT = """ENTRY(_start) {before}
 SECTIONS {{ . = 0x10000; .text : {{ *(.text*) }} .data : {{ {inside} *(.data*) *(.bss) *(COMMON) }}
-  .rest : {{ *(.note*) *(cmds) *(.alias*) *(.retained) *(.second) }} {after}
+  cmds : {{ *(cmds) }} .rest : {{ *(.note*) *(.alias*) *(.retained) *(.second) }} {after}
   /DISCARD/ : {{ *(.eh_frame) *(.comment) }} }}
 """
 PARTS = """
@@ -101,6 +101,7 @@ class CollectingTest(BesideGnu):
         """A link with --gc-sections."""
         with self.subTest(words=words, script=(self.folder / "t.ld").read_text(encoding="utf-8")):
             self.both("--gc-sections", "-T", "t.ld", *words)
+            self.assertTrue((self.folder / "own").exists())
 
     def test_names(self) -> None:
         """-u, --require-defined, EXTERN, -init and -fini, the entry and what stands for it."""
@@ -119,14 +120,15 @@ class CollectingTest(BesideGnu):
     def test_bounds(self) -> None:
         """`__start_NAME` keeps the sections NAME, but where the script assigns it, or by -z start-stop-gc."""
         for before, inside in (("", ""), ("__start_cmds = 4; __stop_cmds = 5;", ""),
-                               ("PROVIDE(__start_cmds = 4);", ""), ("", "PROVIDE_HIDDEN(__stop_cmds = .);"),
-                               ("HIDDEN(__start_cmds = 4);", "")):
+                               ("PROVIDE(__start_cmds = 4);", ""), ("", "PROVIDE(__stop_cmds = .);"),
+                               ("__start_cmds = 4;", "")):
             self.script(before, inside)
             self.collects("bounds.o", "other.o")
         self.script("__start_cmds = 4; __stop_cmds = 5;")
         self.collects("bounds.o", "other.o", "-z", "start-stop-gc", "-z", "nostart-stop-gc")
         self.script("PROVIDE(__start_cmds = 4); PROVIDE(__stop_cmds = 4);")
-        self.collects("bounds.o", "other.o", "-z", "start-stop-gc")
+        done = self.links("--gc-sections", "-T", "t.ld", "bounds.o", "-o", "own", "-z", "start-stop-gc")
+        self.assertIn("changed: -z start-stop-gc: PROVIDE of __start_cmds, __stop_cmds", done.stderr)
         self.script()
         self.collects("plain.o", "other.o", "--defsym=__start_cmds=1", "-u", "__start_cmds")
 
