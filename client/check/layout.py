@@ -90,7 +90,7 @@ class Layout:
             return self._to_dot(node, e, at, dot)
         provide = node.wrapper.startswith("PROVIDE") and not statement.provided
         symbol = fold.known(node.name)
-        if provide and (symbol is None or symbol.kind not in (NEW, UNDEFINED, UNDEFINED_WEAK) and not symbol.own):
+        if provide and (symbol is None or symbol.kind not in (NEW, UNDEFINED, UNDEFINED_WEAK)):
             return dot
         fold.assigned = node.name
         fold.fold(e, at, dot)

@@ -54,8 +54,8 @@ def with_keeps(text: bytes, nodes: Sequence[Node], command: Command, objects: Se
              "and what more references lead to")
     provided = sorted(name for name in roots.provided_bounds() if command.start_stop_gc)
     if provided:
-        notes.append((CHANGED, f"-z start-stop-gc: PROVIDE of {', '.join(provided)}: GNU ld goes by it where no section "
-                      "of that name stays"))
+        notes.append((CHANGED, f"--gc-sections: -z start-stop-gc: PROVIDE of {', '.join(provided)}: GNU ld goes by it "
+                      "where no section of that name stays"))
     if command.orphan_handling != "discard":
         note(CHANGED, keeps.orphans(roots.parts), "GNU ld keeps and places this, which no statement takes; here it is "
              "not in the image")

@@ -128,7 +128,7 @@ class CollectingTest(BesideGnu):
         self.collects("bounds.o", "other.o", "-z", "start-stop-gc", "-z", "nostart-stop-gc")
         self.script("PROVIDE(__start_cmds = 4); PROVIDE(__stop_cmds = 4);")
         done = self.links("--gc-sections", "-T", "t.ld", "bounds.o", "-o", "own", "-z", "start-stop-gc")
-        self.assertIn("changed: -z start-stop-gc: PROVIDE of __start_cmds, __stop_cmds", done.stderr)
+        self.assertIn("changed: --gc-sections: -z start-stop-gc: PROVIDE of __start_cmds, __stop_cmds", done.stderr)
         self.script()
         self.collects("plain.o", "other.o", "--defsym=__start_cmds=1", "-u", "__start_cmds")
 
