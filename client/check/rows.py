@@ -4,7 +4,7 @@ from __future__ import annotations
 from collections.abc import Sequence
 
 from client.adapt.objects import InputSection, Objects
-from client.adapt.patterns import matcher
+from client.adapt.patterns import has_wildcard, matcher
 from client.adapt.taking import _Index, file_names
 from client.adapt.tree import Input, Node, Pattern
 from client.check.script import ASSIGN, DATA, FILL, INPUT, NOT_LOADED, OBJECTS, OUTPUT, Output, Statement, Statements
@@ -137,7 +137,7 @@ class Matching:
         node = statement.node
         assert isinstance(node, Input)
         word = node.file.word
-        if word != "*" and not _file_matches(word, item.object):
+        if word != "*" and not _file_taken(word, item.object):
             return
         if node.file.exclude and _excluded(node.file.exclude, item.object):
             return
@@ -292,6 +292,13 @@ def _data(output: Output, expand: object) -> None:
         output.place.flags |= flags
 
 
+def _file_taken(pattern: str, name: str) -> bool:
+    """Whether an input statement takes an object by its name: without a wildcard a file, and no member of an archive."""
+    if not has_wildcard(pattern) and ":" not in pattern:
+        return pattern == name and not file_names(name)[0]
+    return _file_matches(pattern, name)
+
+
 def _file_matches(pattern: str, name: str) -> bool:
     archive, member = file_names(name)
     if ":" in pattern:
@@ -421,7 +428,6 @@ class Tree:
 
 def files_of(nodes: Sequence[Node]) -> dict[str, int]:
     """The files that the input statements of a script name without a wildcard, and where they do first."""
-    from client.adapt.patterns import has_wildcard
     from client.adapt.taking import all_sections
 
     found: dict[str, int] = {}

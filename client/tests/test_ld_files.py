@@ -55,6 +55,11 @@ class FilesTest(BesideGnu):
             self.script(statement)
             with self.subTest(statement=statement):
                 self.both("-T", "t.ld", "libq.a", "-u", "in_sub_mem", "m.o", "vec.o")
+        self.run_tool("ar", "rcs", "twin.a", "near/both.o")
+        for statement in ("both.o(.text)", "*both.o(.text)", "twin.a(.text)", "*(EXCLUDE_FILE(both.o) .text)"):
+            self.script(statement)
+            with self.subTest(statement=statement):
+                self.both("-T", "t.ld", "m.o", "twin.a", "-u", "in_near_both", "both.o")
 
     def test_inputs(self) -> None:
         """INPUT, GROUP, STARTUP and SEARCH_DIR of a -T, and of a script among the objects."""
