@@ -136,13 +136,16 @@ def exchange(name: str, target: str) -> bool:
     return bool(_renameat2(AT_FDCWD, os.fsencode(name), AT_FDCWD, os.fsencode(target), RENAME_EXCHANGE) == 0)
 
 
-def write_file(path: str, data: bytes, mode: int, keeps_mode: bool = False) -> None:
-    """Writes a file whole; OSError with its name where that fails, and then the old file stands as it was."""
-    new = NewFile(path, mode, keeps_mode)
+def write_file(path: str, data: bytes, mode: int, waits: bool = False) -> None:
+    """Writes a file whole; OSError with its name where that fails, and then the old file stands as it was.
+
+    Where it is a pipe, its reader is waited for if one `waits`; else it is an error that there is none.
+    """
+    new = NewFile(path, mode, keeps_mode=False)
     try:
         descriptor = new.open()
         if descriptor is None:
-            write_in_place(new.target, data)
+            write_in_place(new.target, data, waits)
             return
         write_all(descriptor, data)
         old = new.commit()
@@ -154,9 +157,9 @@ def write_file(path: str, data: bytes, mode: int, keeps_mode: bool = False) -> N
         remove(old)
 
 
-def write_in_place(path: str, data: bytes) -> None:
-    """Writes to something that is no regular file; OSError where it is a pipe that nobody reads."""
-    descriptor = os.open(path, os.O_WRONLY | os.O_CLOEXEC | os.O_NONBLOCK)
+def write_in_place(path: str, data: bytes, waits: bool = False) -> None:
+    """Writes to something that is no regular file; OSError where it is a pipe that nobody reads, unless one `waits`."""
+    descriptor = os.open(path, os.O_WRONLY | os.O_TRUNC | os.O_CLOEXEC | (0 if waits else os.O_NONBLOCK))
     try:
         os.set_blocking(descriptor, True)
         write_all(descriptor, data)

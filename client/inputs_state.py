@@ -9,6 +9,7 @@ import ctypes
 import os
 import stat
 import struct
+import sys
 import time
 from collections.abc import Iterable, Sequence
 from dataclasses import dataclass
@@ -19,7 +20,10 @@ from client.protocol import GREATEST_PAYLOAD
 from client.writers import has_writer_of
 
 GREATEST_READ = GREATEST_PAYLOAD + 1
-"""No more bytes of a file are read: so many are refused already."""
+"""No more bytes are read of what is an object or a script: so many are refused already."""
+
+WHOLE = sys.maxsize
+"""All bytes are read of what may be an archive."""
 
 
 class Stamp(NamedTuple):
@@ -68,6 +72,8 @@ class Input:
     """When its writer, who has not closed it yet, was last heard of."""
     asked: tuple[int, int] | None = None
     """The device and inode of the file of which it was asked whether somebody writes it."""
+    most: int = GREATEST_READ
+    """How many bytes of it are read."""
 
     def read(self) -> bool:
         """Reads the file; says whether its bytes are others than before.
@@ -78,7 +84,7 @@ class Input:
         self.missing = False
         begun = time.time_ns()
         try:
-            data, stamp = read_whole(self.path, self.asked)
+            data, stamp = read_whole(self.path, self.asked, self.most)
         except Changing:
             self.failure = "it changes while it is read"
             return False
@@ -107,15 +113,17 @@ class Input:
 
     def _is_same_again(self) -> bool:
         begun = time.time_ns()
-        data, stamp = read_whole(self.path, self.asked)
+        data, stamp = read_whole(self.path, self.asked, self.most)
         if data != self.data or stamp != self.stamp:
             return False
         self.settled = is_settled(stamp, begun)
         return True
 
 
-def read_whole(path: str, asked: tuple[int, int] | None = (0, 0)) -> tuple[bytes, Stamp]:
-    """The bytes of a file, as far as they are ever read, and the stamp that it had before and after.
+def read_whole(
+    path: str, asked: tuple[int, int] | None = (0, 0), most: int = GREATEST_READ
+) -> tuple[bytes, Stamp]:
+    """The bytes of a file, so many at most, and the stamp that it had before and after.
 
     Raises Written where somebody writes it, unless its device and inode are `asked`; by default that is not asked.
     """
@@ -128,7 +136,7 @@ def read_whole(path: str, asked: tuple[int, int] | None = (0, 0)) -> tuple[bytes
         if asked != (0, 0) and asked != before[:2] and has_writer_of(descriptor, before.device):
             raise Written(path)
         parts = []
-        left = GREATEST_READ
+        left = most
         while left > 0 and (part := os.read(descriptor, min(left, before.size + 1))):
             parts.append(part)
             left -= len(part)

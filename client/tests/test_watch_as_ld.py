@@ -1,5 +1,6 @@
 """`ldi-watch` over what `ld.ldi` takes: archives, libraries, GNU ld's options and scripts."""
 import os
+import signal
 import subprocess
 from pathlib import Path
 
@@ -184,6 +185,24 @@ class AsLdTest(FolderTest):
             self.folder.renew(1, version)
             watching.wait_for("linked")
             self.assert_as_ld(*self.folder.names)
+
+    def test_session_killed(self) -> None:
+        """A session that is killed gets all objects again, and the script; the image is not written again."""
+        words = ("o0.o", "-L", "lib", "-lq")
+        watching = self.begun(*words)
+        for data in (numbered(0, 1, 3), numbered(0, 4, 3), numbered(0, 5, 3)):
+            os.kill(watching.session(), signal.SIGKILL)
+            self.assertEqual(watching.wait_for("restarted")["event"], "restarted")
+            self.assertFalse(watching.wait_for("linked")["written"])
+            if data != (self.folder / "o0.o").read_bytes():
+                self.folder.put("o0.o", data)
+                self.assertEqual(watching.wait_for("linked")["after"], ["o0.o"])
+            self.assert_as_ld(*words)
+
+    def test_large_archive(self) -> None:
+        """An archive of more bytes than an object may have."""
+        self.archive("lib/libq.a", {"o1.o": numbered(1, 1, 3), "big": bytes(1 << 26), "o2.o": numbered(2, 1, 3)})
+        self.begun("o0.o", "lib/libq.a")
 
     def test_once(self) -> None:
         """Statuses: 0 a good image, 1 faults, 2 what `ld.ldi` refuses, 3 a library that is not there."""

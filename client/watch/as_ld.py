@@ -16,7 +16,7 @@ from dataclasses import replace
 import client.files
 from client.files import Files
 from client.inputs import Message
-from client.inputs_state import Input
+from client.inputs_state import WHOLE, Input
 from client.ld.command import Command, read_command
 from client.ld.command import Input as Named
 from client.ld.fallback import Reasons
@@ -48,7 +48,7 @@ class WatchedFiles(Files):
 
     def read(self, path: str) -> bytes:
         """The bytes of a file; NotThere where it has none now."""
-        return self._inputs.read(path)
+        return self._inputs.read(path, WHOLE)
 
     def exists(self, path: str) -> bool:
         """Whether there is something of this name."""

@@ -9,7 +9,7 @@ import time
 from collections.abc import Iterable
 from typing import Protocol
 
-from client.inputs_state import Input, Looks, Written
+from client.inputs_state import GREATEST_READ, Input, Looks, Written
 from client.watch.events import Event, Kind, Watcher
 from client.watch.places import Places
 from client.watch.project import Found
@@ -74,20 +74,23 @@ class Inputs:
 
     # what recipes read
 
-    def get(self, path: str) -> Input:
-        """An input, which is read if it is to be read; it may have failed."""
+    def get(self, path: str, most: int = GREATEST_READ) -> Input:
+        """An input, so many bytes of which are read if they are to be read; it may have failed."""
         one = self._files.get(path)
         spare = self._spare.pop(path, None)
         if one is None:
             one = self._files[path] = spare or Input(path)
             one.dirty, one.writing, one.asked = True, None, None
+        if most > one.most:
+            one.most = most
+            one.dirty = one.dirty or one.data is None or len(one.data) == GREATEST_READ
         self._asked[path] = one
         self._read(one, is_known=one is spare)
         return one
 
-    def read(self, path: str) -> bytes:
-        """The bytes of an input; NotThere where it has none now."""
-        one = self.get(path)
+    def read(self, path: str, most: int = GREATEST_READ) -> bytes:
+        """The bytes of an input, so many at most; NotThere where it has none now."""
+        one = self.get(path, most)
         if one.data is None or one.failure is not None or one.writing is not None:
             raise NotThere
         return one.data
