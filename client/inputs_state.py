@@ -7,6 +7,7 @@ from __future__ import annotations
 
 import ctypes
 import os
+import resource
 import stat
 import struct
 import sys
@@ -149,7 +150,7 @@ def read_whole(
 
 
 MOST_FOLDERS = 256
-"""The folders that are kept open; the files of others are looked at by their whole paths."""
+"""The folders that are kept open at most; the files of others are looked at by their whole paths."""
 
 AT_FDCWD = -100
 STATX_BASIC = 0x7FF
@@ -290,11 +291,12 @@ class Looks(Generic[One]):
     def _sort(self, inputs: Sequence[One]) -> None:
         self.close()
         self._inputs = inputs
+        most = min(MOST_FOLDERS, resource.getrlimit(resource.RLIMIT_NOFILE)[0] // 4)
         folders: dict[str, Folder[One]] = {}
         for one in inputs:
             path = os.path.dirname(one.path)
             if path not in folders:
-                folders[path] = Folder(path, len(folders) < MOST_FOLDERS)
+                folders[path] = Folder(path, len(folders) < most)
             folders[path].inputs.append(one)
         self._folders = list(folders.values())
 

@@ -64,6 +64,17 @@ class OtherHandsTest(FolderTest):
             self.assertTrue((self.folder / name).exists())
             self.assertEqual(self.folder.image(), self.folder.link())
 
+    def test_run(self) -> None:
+        """An image that is put back is no new one for --run."""
+        watching = self.opened("--run", "echo run >> log")
+        os.unlink(self.folder / "image")
+        self.assertTrue(watching.next()["written"])
+        self.assertTrue(watching.is_silent(0.5))
+        self.assertEqual((self.folder / "log").read_text(), "run\n")
+        self.folder.renew(1, 2)
+        watching.next()
+        self.assertTrue(wait_until(lambda: (self.folder / "log").read_text() == "run\nrun\n"))
+
     def test_overwritten(self) -> None:
         """An image that another program writes stays, which is said once; the next change writes it anew."""
         watching = self.opened()

@@ -181,9 +181,10 @@ class Image:
         return [self.image] if self.map is None else [self.map, self.image]
 
     def paths(self) -> set[str]:
-        """The real paths of all that is written."""
+        """The paths of all that is written, and the real ones."""
         names = [output.path for output in self.outputs()] + ([self._gdb] if self._gdb is not None else [])
-        return {real(name) for name in names}
+        folders = [(real(os.path.dirname(name) or "."), os.path.basename(name)) for name in names]
+        return {real(name) for name in names} | {os.path.join(*place) for place in folders}
 
     def is_old(self) -> None:
         """The session has another image now."""

@@ -160,6 +160,7 @@ class Watch:
         """Looks at all inputs, folders and outputs, for events that the system lost."""
         self.gathering.next_look = now + PERIOD
         is_renewed = self.here.look()
+        self.written = self.image.paths()
         disturbed = self.watcher.look() or self.watcher.is_disturbed or is_renewed
         self.watcher.is_disturbed = False
         if any([disturbed and self.commands.look(), self.inputs.look(is_renewed), self._is_to_place()]):
@@ -245,14 +246,14 @@ class Watch:
             self.image.drop()
 
     def _commit(self) -> None:
-        written = not self.image.is_there()
+        written, is_new = not self.image.is_there(), not self.image.is_current
         if written:
             self.image.commit()
             self._write_gdb()
         self.image.placed()
         self.linking.ends = 0
         self.standing.set(self._good(written), at_once=True)
-        if written:
+        if written and is_new:  # else it was put back
             self.commands.run()
 
     def _write_gdb(self) -> None:
