@@ -9,7 +9,7 @@ from client.protocol import Options
 USAGE = """\
 usage: ldi-watch -T SCRIPT -o IMAGE [--Map MAP] [--gc-sections] [-e SYMBOL] [--orphan-handling HANDLING]
                  [--make COMMAND [--sources PATTERN..]] [--run COMMAND] [--gdb FILE] [--json] [--once]
-                 [OPTION OF GNU LD..] OBJECT.. | ARCHIVE.. | -lNAME | @LIST
+                 [OPTION OF GNU LD..] OBJECT.. | ARCHIVE.. | @LIST
 
 Keeps IMAGE up to date while the script and the objects change. The words of `ldi link` mean what they mean there. With
 other options of GNU ld, archives, or a script that is not of the profile, the image is that of `ld.ldi`.
