@@ -1,11 +1,18 @@
 """`ldi-watch` over what `ld.ldi` takes: archives, libraries, GNU ld's options and scripts."""
+import io
 import os
 import signal
 import subprocess
+from contextlib import nullcontext
 from pathlib import Path
+from unittest import mock
 
 from client.tests.test_watch_commands import FolderTest
 from client.tests.watching import PATIENCE, SCRIPT, Watching, numbered, run_once, wait_until
+from client.watch.as_ld import CheckedLink
+from client.watch.loop import Watch
+from client.watch.says import Teller
+from client.watch.words import read_words
 
 LD_LDI = Path(__file__).resolve().parents[1] / "bin" / "ld.ldi"
 GNU_SCRIPT = b"""OUTPUT_FORMAT("elf64-x86-64")
@@ -185,6 +192,26 @@ class AsLdTest(FolderTest):
             self.folder.renew(1, version)
             watching.wait_for("linked")
             self.assert_as_ld(*self.folder.names)
+
+    def test_edits_alone(self) -> None:
+        """An object with other bytes and the same sizes and names is sent as an edit; another one is linked with all."""
+        os.rename(self.folder / "gnu.ld", self.folder / "t.ld")
+        before = os.getcwd()
+        os.chdir(self.folder.path)
+        self.addCleanup(os.chdir, before)
+        words = read_words(["-T", "t.ld", "-o", "image", "o0.o", "-L", "lib", "-lq"])
+        one = Watch(words, mock.Mock(shield=nullcontext), Teller(True, "image", io.StringIO()))
+        self.addCleanup(one.end)
+        for version, is_whole in ((1, True), (4, False), (7, False), (8, True), (2, False), (3, True)):
+            self.folder.put("o0.o", numbered(0, version, 3))
+            one.drain()
+            one.inputs.mark(one.inputs.all())
+            one.gathering.first = None
+            with mock.patch.object(CheckedLink, "link", autospec=True, side_effect=CheckedLink.link) as made:
+                one.step()
+            self.assertEqual(made.called, is_whole, version)
+            self.assertIsNone(one.gathering.first)
+            self.assert_as_ld("o0.o", "-L", "lib", "-lq")
 
     def test_session_killed(self) -> None:
         """A session that is killed gets all objects again, and the script; the image is not written again."""

@@ -14,6 +14,7 @@ from collections.abc import Callable, Mapping, Sequence
 from dataclasses import replace
 
 import client.files
+from client.check.link import Outcome
 from client.files import Files
 from client.inputs import Message
 from client.inputs_state import WHOLE, Input
@@ -124,13 +125,23 @@ class WatchHost(Host):
         raise CannotLink("; ".join(reasons.lines))
 
 
+class CheckedLink(Link):
+    """A link that keeps what came of its comparison with what GNU ld makes of the script."""
+
+    outcome: Outcome | None = None
+
+    def _checked(self, opened: Opened, script: Script, result: Result | None) -> Outcome:
+        self.outcome = super()._checked(opened, script, result)
+        return self.outcome
+
+
 class WatchedLink:
     """A link of `ld.ldi` whose session is kept, of which nothing is written, and what is printed is kept."""
 
     def __init__(self, command: Command, words: list[str]) -> None:
         self.command = command
         self.host = WatchHost()
-        self.link = Link(command, words, os.environ, self.host)
+        self.link = CheckedLink(command, words, os.environ, self.host)
         self.link.load()
         self.first = self.host.script(self.link.source, command, self.link.objects, {})
         """The script as it is written first, by which all that it INCLUDEs is read."""
@@ -141,11 +152,11 @@ class WatchedLink:
     @property
     def script(self) -> Script:
         """The script that was sent, or is to be."""
-        return self.link.script or self.first
+        return self.link.outcome.script if self.link.outcome is not None else self.first
 
     def make(self, kept: Kept, objects: list[Object]) -> bool:
         """Makes the link over the kept session; says whether it came to an image or to faults of the session."""
-        self.host.kept, self.link.objects, self.link.script = kept, objects, None
+        self.host.kept, self.link.objects, self.link.outcome = kept, objects, None
         printed = io.StringIO()
         with contextlib.redirect_stderr(printed), contextlib.redirect_stdout(io.StringIO()):
             try:
@@ -154,7 +165,11 @@ class WatchedLink:
                 self.status = 2
                 print(f"ld.ldi: {fault}", file=sys.stderr)
         self.said = printed.getvalue().splitlines()
-        return self.status == 0 or bool(kept.refused) or kept.status != 0 and self.link.script is not None
+        return self.status == 0 or bool(kept.refused) or self._has_faults()
+
+    def _has_faults(self) -> bool:
+        outcome = self.link.outcome
+        return outcome is not None and outcome.result is not None and outcome.result.status != 0 and not outcome.differs
 
     def options(self) -> Options:
         """The options of the session."""
