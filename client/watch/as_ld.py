@@ -125,7 +125,7 @@ class WatchHost(Host):
         raise CannotLink("; ".join(reasons.lines))
 
 
-class CheckedLink(Link):
+class KeptLink(Link):
     """A link that keeps what came of its comparison with what GNU ld makes of the script."""
 
     outcome: Outcome | None = None
@@ -141,7 +141,7 @@ class WatchedLink:
     def __init__(self, command: Command, words: list[str]) -> None:
         self.command = command
         self.host = WatchHost()
-        self.link = CheckedLink(command, words, os.environ, self.host)
+        self.link = KeptLink(command, words, os.environ, self.host)
         self.link.load()
         self.first = self.host.script(self.link.source, command, self.link.objects, {})
         """The script as it is written first, by which all that it INCLUDEs is read."""
