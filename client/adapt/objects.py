@@ -66,6 +66,11 @@ class Objects:
         self._undefined: set[str] = set()
         self._read = False
 
+    def has_same(self, objects: Sequence[bytes]) -> bool:
+        """Whether these are its objects."""
+        own = list(self._files.values())
+        return len(own) == len(objects) and all(one is other for one, other in zip(own, objects))
+
     def take_tables(self, other: Objects | None) -> None:
         """Takes what another one has read of objects that are the same bytes here."""
         known = {} if other is None or other._tables is None else {tables.name: tables for tables in other._tables}

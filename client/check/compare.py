@@ -2,6 +2,7 @@
 from __future__ import annotations
 
 import re
+import struct
 from collections.abc import Mapping
 
 from client.adapt.tree import Data
@@ -11,8 +12,8 @@ from client.check.state import ALLOC, CONTENTS, CREATED, EXCLUDE, LOAD, MASK, NE
 from client.object_file import ALLOC as ALLOCATED
 from client.object_file import NOBITS, SYMBOL, SYMTAB, ObjectFile
 
-_SECTION = re.compile(rb"^section (\S+) ([0-9a-f]+) ([0-9a-f]+) ([0-9a-f]+) ", re.M)
 _PIECE = re.compile(rb"^piece ([0-9a-f]+) ([0-9a-f]+) (\S+) (\S+)$", re.M)
+_SEGMENT = struct.Struct("<IIQQQQQQ")
 MOST = 10
 """The differences that are looked for."""
 
@@ -40,17 +41,20 @@ def has_bits(place: Place) -> bool:
     return bool(place.flags & (LOAD | CONTENTS)) and not place.flags & NEVER_LOAD
 
 
-def loaded_of(image: bytes, map_text: bytes) -> list[Loaded]:
-    """The sections of an image, with their load addresses by its map."""
+def loaded_of(image: bytes) -> list[Loaded]:
+    """The sections of an image, with their load addresses by its program headers: each is in one, by its place in the
+    file."""
     file = ObjectFile(image)
-    loads = {(name, int(start, 16)): int(load, 16) for name, start, load, _ in _SECTION.findall(map_text)}
+    count = int.from_bytes(image[56:58], "little")
+    segments = [_SEGMENT.unpack_from(image, 64 + 56 * number) for number in range(count)]
     result = []
     for number, header in enumerate(file.headers):
         if header.flags & ALLOCATED and header.size:
-            name = file.section_name(number)
-            load = loads.get((name, header.address), header.address)
-            result.append(Loaded(name.decode("latin-1"), header.address, header.size, load, header.kind != NOBITS,
-                                 header.offset))
+            distance = next((load - start for _, _, offset, start, load, _, memory, _ in segments
+                             if start <= header.address and header.address + header.size <= start + memory
+                             and header.offset - offset == header.address - start), 0)
+            result.append(Loaded(file.section_name(number).decode("latin-1"), header.address, header.size,
+                                 header.address + distance & MASK, header.kind != NOBITS, header.offset))
     return result
 
 
@@ -61,12 +65,12 @@ def pieces_of(map_text: bytes) -> list[tuple[int, int, str, str]]:
 
 
 class Comparison:
-    """Compares one image."""
+    """Compares one image; without a map the places of input sections are not looked at."""
 
     def __init__(self, evaluated: Evaluated, image: bytes, map_text: bytes) -> None:
         self.evaluated, self.image, self.map = evaluated, image, map_text
         self.found: list[Difference] = []
-        self.sections = loaded_of(image, map_text)
+        self.sections = loaded_of(image)
 
     def run(self, entry: bool = True) -> list[Difference]:
         """What is another."""
@@ -82,7 +86,8 @@ class Comparison:
         for section in rest:
             self._add(f"{section.name} is {section.size:#x} bytes at {section.address:#x}; to GNU ld there is no such "
                       "section that is loaded", self._offset(section.name))
-        self._pieces(outputs)
+        if self.map:
+            self._pieces(outputs)
         self._symbols()
         if entry and self.evaluated.entry is not None:
             own = int.from_bytes(self.image[24:32], "little")

@@ -190,6 +190,8 @@ class Fold:
             self.value = int(bool(plain(left, right)))
             self.place = None
             return
+        if word == "^":
+            raise Unknown("GNU ld 2.40 passes over `^`", e.start)
         simple = _SIMPLE.get(word)
         if simple is not None:
             self.value = simple(left, right) & MASK
@@ -385,4 +387,4 @@ _PLAIN: dict[str, Callable[[int, int], object]] = {
     "<=": lambda a, b: a <= b, ">=": lambda a, b: a >= b, "&&": lambda a, b: a and b, "||": lambda a, b: a or b}
 _SIMPLE: dict[str, Callable[[int, int], int]] = {
     "+": lambda a, b: a + b, "-": lambda a, b: a - b, "*": lambda a, b: a * b, "&": lambda a, b: a & b,
-    "|": lambda a, b: a | b, "^": lambda a, b: a ^ b, "<<": lambda a, b: a << (b & 63), ">>": lambda a, b: a >> (b & 63)}
+    "|": lambda a, b: a | b, "<<": lambda a, b: a << (b & 63), ">>": lambda a, b: a >> (b & 63)}

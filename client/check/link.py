@@ -9,6 +9,8 @@ from typing import TYPE_CHECKING
 from client.adapt.adapt import Adapted
 from client.adapt.objects import Objects
 from client.adapt.segments import about_segments
+from client.adapt.taking import all_sections
+from client.adapt.tree import Input
 from client.check.compare import Comparison, Difference, pieces_of
 from client.check.evaluate import Evaluated, evaluate
 from client.check.fixed import NotFixed, fixed_script
@@ -52,6 +54,27 @@ def script_is_first(command: Command) -> bool:
     """Whether the script stands before the first object."""
     kinds = [item.kind for item in command.inputs if item.kind in ("file", "library", "script")]
     return kinds[:1] == ["script"]
+
+
+def wants_map(adapted: Adapted | None, known: Objects, command: Command) -> bool:
+    """Whether the places of input sections are compared, by the map: in links that are not large, and where a statement
+    is more than files and names."""
+    if command.gc_sections or sum(len(tables.sections) for tables in known._read_tables()) <= SMALL:
+        return True
+    assert adapted is not None and adapted.tree is not None
+    return any(_is_special(node) for section in all_sections(adapted.tree[1]) for node in section.body
+               if isinstance(node, Input))
+
+
+def _is_special(node: Input) -> bool:
+    """Whether the adapter writes a statement in other words, but for a sort that it knows."""
+    patterns = node.patterns or []
+    return bool(node.flags or node.file.sorts or node.file.exclude or node.file.word not in ("*", "*.o")) or any(
+        pattern.exclude or len(pattern.sorts) > 1 or len(patterns) > 1 and pattern.sorts for pattern in patterns)
+
+
+SMALL = 5000
+"""The sections of the objects of a link that is not large."""
 
 
 class Checker:

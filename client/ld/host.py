@@ -40,10 +40,11 @@ class Host:
 
     def known(self, objects: Sequence[Object]) -> Known:
         """What is known of these objects; of those that are the same bytes as before it is not read again."""
-        known = Known({item.name.decode(): item.data for item in objects}, [item.linkage for item in objects])
-        known.take_tables(self._known)
-        self._known = known
-        return known
+        if self._known is None or not self._known.has_same([item.data for item in objects]):
+            known = Known({item.name.decode(): item.data for item in objects}, [item.linkage for item in objects])
+            known.take_tables(self._known)
+            self._known = known
+        return self._known
 
     def write(self, path: str, data: bytes, mode: int) -> None:
         """Writes a file of the link."""

@@ -10,7 +10,7 @@ from types import FrameType
 
 import client.files
 from client.adapt.segments import about_segments
-from client.check.link import CheckedLink, Checker, Outcome
+from client.check.link import CheckedLink, Checker, Outcome, wants_map
 from client.ld.command import Command, read_command
 from client.ld.fallback import Reasons, hand_over
 from client.ld.flat import NoFlatImage, flat_binary
@@ -177,7 +177,7 @@ class Link:
             opened = self._open(script.entry)
         if refused := opened.refused():
             return self._refused(refused)
-        return self._finish(opened, script, None if script.left else opened.link(script.text, True))
+        return self._finish(opened, script, None if script.left else opened.link(script.text, self._wants_map(script)))
 
     def _link_valued(self, opened: Opened, script: Script) -> int:
         """Links under a script that names objects' symbols."""
@@ -186,7 +186,7 @@ class Link:
         if refused := opened.refused():
             return self._refused(refused)
         self.valued = Valued(self._written, script)
-        linked = self.valued.link(opened, True)
+        linked = self.valued.link(opened, self._wants_map(script))
         if linked is not None:
             return self._finish(opened, *linked)
         beforehand = opened_beforehand(self.command, script, self.objects)
@@ -207,11 +207,18 @@ class Link:
             beforehand = None
         if script.left:
             return self._finish(opened, script, None)
-        result = opened.link(script.text, True)
+        result = opened.link(script.text, self._wants_map(script))
         settled = self.valued.settled(beforehand) if result.status and beforehand else None
         if settled is not None and settled.text != script.text:
-            script, result = settled, opened.link(settled.text, True)
+            script, result = settled, opened.link(settled.text, self._wants_map(settled))
         return self._finish(opened, script, result)
+
+    def _wants_map(self, script: Script) -> bool:
+        """Whether the map is written, something is printed from it, or the image is compared by it."""
+        command = self.command
+        tables = command.print_memory_usage or command.gc_sections and command.print_gc_sections
+        return command.map_file is not None or command.print_map or tables \
+            or wants_map(script.adapted, self.host.known(self.objects), command)
 
     def _checked(self, opened: Opened, script: Script, result: Result | None) -> Outcome:
         """Compares the image with what GNU ld makes of the script, and says what is another; what was done to the
@@ -267,7 +274,7 @@ class Link:
             opened = self._open(script.entry)
         if refused := opened.refused():
             return self._refused(refused)
-        result = opened.link(script.text, True)
+        result = opened.link(script.text, self._wants_map(script))
         if self.valued is not None and (result.status or result.script_refused):
             return self._link_valued(opened, self._written({}))
         return self._finish(opened, script, result)
