@@ -72,7 +72,7 @@ class Comparison:
         self.found: list[Difference] = []
         self.sections = loaded_of(image)
 
-    def run(self, entry: bool = True) -> list[Difference]:
+    def run(self) -> list[Difference]:
         """What is another."""
         outputs = [output for output in self.evaluated.statements.outputs
                    if output.place is not None and not output.place.gone and output.place.flags & ALLOC
@@ -89,10 +89,9 @@ class Comparison:
         if self.map:
             self._pieces(outputs)
         self._symbols()
-        if entry and self.evaluated.entry is not None:
-            own = int.from_bytes(self.image[24:32], "little")
-            if own != self.evaluated.entry:
-                self._add(f"the entry is {own:#x}; to GNU ld it is {self.evaluated.entry:#x}", -1)
+        own, entry = int.from_bytes(self.image[24:32], "little"), self.evaluated.entry or 0
+        if own != entry:
+            self._add(f"the entry is {own:#x}; to GNU ld it is {entry:#x}", -1)
         return self.found
 
     def _add(self, text: str, offset: int) -> None:
@@ -149,7 +148,8 @@ class Comparison:
         return self.image[section.offset + start:section.offset + start + size]
 
     def _gap(self, output: Output, section: Loaded, at: int, size: int, fill: bytes | None, offset: int) -> None:
-        if self._at(section, at, size) != filled(fill, size):
+        own = self._at(section, at, size)
+        if len(own) != size or own != filled(fill, size):
             self._add(f"a gap of {output.name} at {at:#x} is filled otherwise than by GNU ld", offset)
 
     # --- input sections ---

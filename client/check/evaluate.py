@@ -99,7 +99,8 @@ class Evaluation:
         fold.phase = FIRST
         self._commons()
         fold.pass_number += 1
-        Matching(self.statements, self.rows, self._expand).run()
+        matching = Matching(self.statements, self.rows, self._expand)
+        matching.run()
         orphans = Orphans(self.statements, self._expand)
         orphans.run(self.rows.items)
         self.orphans = orphans.placed
@@ -107,7 +108,7 @@ class Evaluation:
         self._propagate()
         self._undo_starts()
         layout.strip()
-        self._relro()
+        self._relro(matching)
         layout.size(True)
         self._segments()
         self._end_starts()
@@ -233,7 +234,7 @@ class Evaluation:
                     and output.region is before.region:
                 output.load_region = before.load_region
 
-    def _relro(self) -> None:
+    def _relro(self, matching: Matching) -> None:
         """Whether there is anything in the part of the data segment that is read-only after relocation."""
         segment, found = self.fold.segment, False
         if segment.start_at is not None:
@@ -243,13 +244,16 @@ class Evaluation:
                     break
                 if statement.kind == OUTPUT and statement.output is not None:
                     for inner in statement.output.body:
-                        found = found or any(self._counts(item) for item in inner.items)
+                        matches = matching.matches.get(id(inner), ())
+                        found = found or any(self._counts(item) for item, _ in matches)
         self.settings.relro = self.settings.relro and found
         self.layout.headers.has_relro = self.settings.relro
 
     @staticmethod
     def _counts(item: Item) -> bool:
-        return item.out is not None and not item.out.gone and bool(item.flags & 1) and item.size > 0
+        """Whether an input section is in the image, wherever that is."""
+        return item.out is not None and item.out is not NUMBERS and not item.out.gone and bool(item.flags & 1) \
+            and item.size > 0
 
     def _segments(self) -> None:
         """Lays out again while the number of program headers changes."""

@@ -109,7 +109,7 @@ class Checker:
         evaluated = self.evaluated(map_text)
         if evaluated is None:
             return []
-        return Comparison(evaluated, image, map_text).run(not self.command.gc_sections or self.command.entry is not None)
+        return Comparison(evaluated, image, map_text).run()
 
     def fixed(self) -> tuple[bytes, tuple[tuple[str, int], ...]] | None:
         """A script with the places of the evaluation, and the origins of its lines."""

@@ -190,6 +190,8 @@ class Orphans:
         output.constraint = "special" if special else ""
         output.region = after.region if after is not None and after.region is not None else statements.region(DEFAULT)
         output.load_region = after.load_region if after is not None else None
+        if output.load_region is not None and output.region.name == DEFAULT:
+            output.region = output.load_region
         self._add(output, item)
         hold.last = statements.all[at]
 

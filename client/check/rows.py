@@ -10,7 +10,7 @@ from client.adapt.tree import Input, Node, Pattern
 from client.check.script import ASSIGN, DATA, FILL, INPUT, NOT_LOADED, OBJECTS, OUTPUT, Output, Statement, Statements
 from client.check.state import (ALLOC, CODE, CONTENTS, CREATED, DATA as WRITTEN, EXCLUDE, KEEP, LOAD, NEVER_LOAD, NUMBERS,
                                 READONLY, TLS, Item, Place, Settings, Stopped, Unknown)
-from client.object_file import NOBITS
+from client.object_file import NOBITS, NOTE, PROGBITS
 
 _BITS = {"SHF_WRITE": 1, "SHF_ALLOC": 2, "SHF_EXECINSTR": 4, "SHF_MERGE": 16, "SHF_STRINGS": 32, "SHF_INFO_LINK": 64,
          "SHF_LINK_ORDER": 128, "SHF_OS_NONCONFORMING": 256, "SHF_GROUP": 512, "SHF_TLS": 1024}
@@ -253,8 +253,11 @@ def add_to(output: Output, item: Item, expand: object) -> None:
     if place.has_input:
         flags &= ~READONLY
     place.flags |= flags & ~(CREATED | EXCLUDE)
-    if not place.has_input and place.kind == 0 and not (place.flags ^ item.flags) & ~(CREATED | EXCLUDE):
-        place.kind = item.kind
+    if not place.has_input:
+        if place.kind in (PROGBITS, NOTE, NOBITS):
+            place.kind = 0
+        if place.kind == 0 and not (place.flags ^ item.flags) & ~(CREATED | EXCLUDE):
+            place.kind = item.kind
     place.has_input = True
     place.align = max(place.align, item.align)
     if (item.name.startswith(".ctors") and output.name == ".init_array"

@@ -70,7 +70,7 @@ def _load(header: object, segments: list[tuple[int, ...]]) -> int:
     exact = [load for load, same in inside if same]
     if exact or header.kind != NOBITS:  # type: ignore[attr-defined]
         return exact[0] if exact else -1
-    return inside[0][0] if inside else -1
+    return inside[0][0] if len({load for load, _ in inside}) == 1 else -1
 
 
 def differences(gnu: Image, ldi: Image) -> list[str]:
@@ -86,6 +86,8 @@ def differences(gnu: Image, ldi: Image) -> list[str]:
         rest.remove(match)
         if one.load >= 0 and one.load != match.load:
             found.append(f"load address of {one.name} {one.load:#x}: {match.load:#x}")
+        if one.load < 0:
+            continue
         if (one.data is None) != (match.data is None):
             found.append(f"file bytes of {one.name}: {one.data is not None} {match.data is not None}")
         elif one.data is not None and match.data is not None and not _same_bytes(one, match.data):
