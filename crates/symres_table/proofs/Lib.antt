@@ -21,3 +21,4 @@ pub mod Ordered
 pub mod ByPlace
 pub mod Fresh
 pub mod Reentering
+pub mod Undoing

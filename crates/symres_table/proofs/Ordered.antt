@@ -51,6 +51,22 @@ sorted_spelled (e ∷ es) s = λ k d l h.
     ∙ ap (λ y. before (get_or (e ∷ es) (k + 1) e).0 y) b')
     ∙ s k e.0 l (omega (arith, h, len, len'))
 
+-- the same, place by place
+pub in_places : (es : List (Name × ℕ))
+    → ((k : ℕ) (e : Name × ℕ) → k + 1 < length es
+    → is_lt (slice_cmp nat_cmp (get_or es (k + 1) e).0.items (get_or es k e).0.items) ≡ false)
+    → IsInByteOrder (map entry_spelled es)
+in_places [] s = λ k d l h. absurd (omega (arith, h))
+in_places (e ∷ es) s = λ k d l h.
+    let len = length-map (e ∷ es) entry_spelled in
+    let w : k + 1 < length (e ∷ es) = omega (arith, h, len) in
+    let w' : k < length (e ∷ es) = omega (arith, h, len) in
+    let a = get_or-map entry_spelled (e ∷ es) (k + 1) e d w in
+    let b = get_or-map entry_spelled (e ∷ es) k e d w' in
+    ap (λ x. comes_before x (get_or (map entry_spelled (e ∷ es)) k d)) a
+    ∙ ap (λ y. comes_before (entry_spelled (get_or (e ∷ es) (k + 1) e)) y) b
+    ∙ s k e w
+
 pub sorted_ok : {E A B : Type 0} (r : Result (Unit {0}) E) → (A → B) → OnOk r A → OnOk r B
 sorted_ok (Ok x) f a = f a
 sorted_ok (Err e) f a = tt

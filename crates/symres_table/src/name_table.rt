@@ -12,6 +12,7 @@ ghost use Rattle.symres_table.specs.Numbers.{is_used};
 ghost use Rattle.symres_table.specs.State.{slot, AreDistinct, IsInByteOrder, IsListing, IsNamed, KeepsNames};
 
 use crate::hashing::WordState;
+use crate::name_order::put_in_order;
 use crate::objects::Objects;
 use indexmap::IndexMap;
 use indexmap::map::{Entry, Iter};
@@ -232,7 +233,7 @@ impl NameTable {
         ensures refused { OnErr result (self.new ≡ self.old) }
         ensures slots { self.new.slots ≡ self.old.slots }
     {
-        self.numbers.sort_keys()?;
+        put_in_order(&mut self.numbers)?;
         file_all(&mut self.places, &self.numbers);
         Ok(())
     }
