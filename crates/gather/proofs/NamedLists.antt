@@ -1,7 +1,7 @@
 -- Lists under names, and lists of what stands at names.
 use Rattle.std.proofs.Common.{◌≡◌, ◌+◌, ◌++◌, ◌∷◌, [], ℕ, List, Bool, true, false, cond, map, take, get_or, refl, ap}
-use Rattle.std.proofs.Common.{sym, ◌∙◌, ◌<◌, arith, length, Option, Some}
-use Rattle.std.specs.Prelude.{bytes_eq, slice_get}
+use Rattle.std.proofs.Common.{sym, ◌∙◌, ◌<◌, ◌≢◌, arith, length, Option, Some, Result, Ok, Err, OnErr, OnOk}
+use Rattle.std.specs.Prelude.{bytes_eq, is_some, slice_get}
 use Rattle.std.specs.Option.{option_map, option_map_or}
 use Rattle.std.proofs.lemmas.List.{get_or-map, get_or-take, length-map, length-take-le, map-append, take_more}
 use Rattle.std.proofs.lemmas.Option.{get_or_from_slice_get, slice_get-get_or, slice_get-map, slice_get_within}
@@ -23,6 +23,19 @@ listed_more {W = W} items from name q new v xs is has = go (bytes_eq name q) ref
     go true e i = ap (λ o. option_map_or items o []) i ∙ has
         ∙ ap (λ n. option_map_or items (from n) [] ++ xs) (equal_names name q e)
     go false e i = ap (λ o. option_map_or items o []) i
+
+-- nothing under another name than the one put in, where there was nothing
+pub still_none : {V : Type 0} (name q : List ℕ) (v : V) (old new : Option V) → q ≢ name
+    → new ≡ cond (bytes_eq name q) (Some v) old → is_some old ≡ false → is_some new ≡ false
+still_none name q v old new apart is none = go (bytes_eq name q) refl is
+  where
+    go : (b : Bool) → bytes_eq name q ≡ b → new ≡ cond b (Some v) old → is_some new ≡ false
+    go true e i = absurd (apart (sym (equal_names name q e)))
+    go false e i = ap is_some i ∙ none
+
+pub by_result : {T E A B C : Type 0} (r : Result T E) → OnOk r A → OnErr r B → (A → C) → (B → C) → C
+by_result (Ok x) a b f g = f a
+by_result (Err e) a b f g = g b
 
 -- one more of what is so in a list
 pub map_more : {X Y : Type 0} (f : X → Y) (found : List X) (x : X) (ys : List Y) (i : ℕ) {new : List X}

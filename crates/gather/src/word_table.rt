@@ -1,15 +1,20 @@
 //! The words of a script, by what their patterns match.
 
-ghost use Rattle.std.specs.Prelude.{◌≡◌, ◌++◌, ◌∷◌, [], ℕ, List, Option, IfOk, OnOk, bytes_eq, if◌then◌else◌};
+ghost use Rattle.std.specs.Prelude.{◌≡◌, ◌++◌, ◌∷◌, [], ℕ, List, IfOk, MatchOption, Option, OnOk, bytes_eq, is_some};
+ghost use Rattle.std.specs.Prelude.{if◌then◌else◌};
+ghost use Rattle.std.specs.BTreeMap.{get_by};
+ghost use Rattle.std.specs.Cmp.Lexicographic.{slice_cmp};
 ghost use Rattle.std.specs.List.{filter};
+ghost use Rattle.std.specs.Ordering.{nat_cmp};
+ghost use Rattle.ldscript.specs.statements.NameKinds.{AreKindsOf};
 ghost use Rattle.gather.specs.Known.{AreKnown};
 ghost use Rattle.gather.specs.Matches.{number_of};
 ghost use Rattle.gather.specs.Words.{first_taker, is_named, is_wild, lesser, shown_word, shown_words, words_of};
-ghost use Rattle.gather.specs.WordTables.{AddsWords, listed, shown_listed};
 
 use crate::word::{WordAt, first_taker};
 use ldmodel::memory::NoMemory;
 use ldmodel::rows::InputIndex;
+use ldscript::statements::name_kinds::NameKinds;
 use ldscript::tree::{Input, SectionWord};
 use std::alloc::Global;
 use std::collections::BTreeMap;
@@ -22,9 +27,12 @@ const MANY: usize = 16;
 #[derive(Drop)]
 pub struct WordTable<'a> {
     named: BTreeMap<&'a [u8], Vec<WordAt<'a>>>,
+    /// Of these names: most sections have a name of none of these.
+    kinds: NameKinds,
     wild: Vec<WordAt<'a>>,
     /// The greatest number of patterns for files that a word under a name leaves out.
     excluded: usize,
+    ghost known: { AreKindsOf kinds (λ name. is_some (get_by (λ k. slice_cmp nat_cmp name k.now) named)) },
 }
 
 /// The one of two statements that comes first.
@@ -38,6 +46,8 @@ pub fn lesser(a: Option<InputIndex>, b: Option<InputIndex>) -> Option<InputIndex
 }
 
 impl<'a> WordTable<'a> {
+    ghost use Rattle.gather.specs.WordTables.{AddsWords, listed, shown_listed};
+
     /// The table of no words.
     pub fn new(alloc: Global) -> WordTable<'a>
         ensures named { (name : List ℕ) → shown_listed result name ≡ [] }
@@ -45,6 +55,7 @@ impl<'a> WordTable<'a> {
     {
         WordTable {
             named: BTreeMap::new(alloc),
+            kinds: NameKinds::none(),
             wild: Vec::new(alloc),
             excluded: 0,
         }
@@ -56,6 +67,7 @@ impl<'a> WordTable<'a> {
             ≡ (if bytes_eq name.now q then listed self.old q ++ word.entry ∷ [] else listed self.old q)) }
         ensures wild { self.new.wild ≡ self.old.wild }
     {
+        self.kinds.note(name);
         match self.named.get_mut(name) {
             Some(words) => {
                 words.push(word)?;
@@ -108,6 +120,19 @@ impl<'a> WordTable<'a> {
         Ok(())
     }
 
+    /// The words that match this name alone.
+    fn words_named(&self, name: &[u8]) -> Option<&[WordAt<'a>]>
+        ensures { MatchOption result (listed self.now name.now ≡ []) (λ words. words.now ≡ listed self.now name.now) }
+    {
+        if !self.kinds.has_kind_of(name) {
+            return None;
+        }
+        match self.named.get(name) {
+            Some(words) => Some(words.as_slice()),
+            None => None,
+        }
+    }
+
     /// Says of each word in the list of others that it isn't known yet whether it takes sections from a file.
     ///
     /// # Errors
@@ -138,10 +163,10 @@ impl<'a> WordTable<'a> {
             (first_taker file.now section.now (shown_words self.now.wild.items)) }
         ensures known { AreKnown file.now self.now.wild.items known.new }
     {
-        let named = match self.named.get(section) {
-            Some(words) => first_taker(words, &mut [], file, section),
-            None => None,
-        };
-        lesser(named, first_taker(&self.wild, known, file, section))
+        let wild = first_taker(&self.wild, known, file, section);
+        match self.words_named(section) {
+            Some(words) => lesser(first_taker(words, &mut [], file, section), wild),
+            None => wild,
+        }
     }
 }

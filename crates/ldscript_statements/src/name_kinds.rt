@@ -1,4 +1,4 @@
-//! Kinds of names: a look at a name that tells of most names that a table has not that it has them not.
+//! Kinds of names: a table that notes of which it has any need not be searched for a name of another kind.
 
 ghost use Rattle.std.specs.Prelude.{◌≡◌, ◌≢◌, ℕ, List, false};
 ghost use Rattle.ldscript_statements.specs.NameKinds.{has_kind, kind_of};
