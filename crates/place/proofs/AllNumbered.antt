@@ -76,12 +76,11 @@ module _ (p : Project) (t : InputSectionTable) (distinct : AreNamesDistinct p.ob
       (all_entries (n + 1) rows (drop (length row.items) starts)) (row_numbered n row.items starts owned.0 parts.0)
       (rows_numbered (n + 1) rows (drop (length row.items) starts) owned.1 parts.1)
 
-  pub all_numbered : (rows : List (Vec Piece Global)) (starts : List ℕ) (collected : List IndexedSection)
+  pub all_numbered : (rows : List (Vec Piece Global)) (starts : List ℕ)
       → rows_in p rows ≡ model.rows p → Each (IsOwned p) (flat_map (λ (row : List model.Piece). row) (model.rows p))
       → Each OfInput (flat_map (λ (row : List model.Piece). row) (model.rows p))
-      → collected ≡ all_entries 0 rows starts → HaveNumbers t collected
-  all_numbered rows starts collected same owned parts all =
-      subst (HaveNumbers t) (sym all)
+      → HaveNumbers t (all_entries 0 rows starts)
+  all_numbered rows starts same owned parts =
       (each_all IsNumbered (all_entries 0 rows starts)
       (rows_numbered 0 rows starts
       (subst (λ r. Each (IsOwned p) (flat_map (λ (row : List model.Piece). row) r)) (sym same) owned)

@@ -1,20 +1,18 @@
--- Columns of a table: under each number stands the first entry that has it.
-use Rattle.std.proofs.Common.{◌≡◌, ◌≢◌, ◌<◌, ◌≤◌, ◌+◌, ◌==◌, ℕ, suc, refl, sym, ap, subst, arith, ◌∙◌}
-use Rattle.std.proofs.Common.{List, [], ◌∷◌, ◌++◌, length, get_or, set, take, find, cond, Bool, true, false}
+-- Columns of a table: under each number stands the place of the first entry that has it.
+use Rattle.std.proofs.Common.{◌≡◌, ◌≢◌, ◌<◌, ◌==◌, ℕ, suc, refl, sym, ap, subst, arith, ◌∙◌}
+use Rattle.std.proofs.Common.{List, [], ◌∷◌, ◌++◌, length, get_or, set, find, cond, Bool, true, false, not, ⊎_elim}
 use Rattle.std.proofs.Common.{Option, Some, None}
-use Rattle.std.proofs.lemmas.Bool.{eq-eqb, eqb-false, eqb-true, false≢true}
-use Rattle.std.proofs.lemmas.List.{get_or-set_other, get_or-set_same, get_or_default, length-set, take_more}
+use Rattle.std.proofs.lemmas.Bool.{cases_eq, eq-eqb, eqb-true, false≢true, ne_eqb}
+use Rattle.std.proofs.lemmas.List.{append_assoc, get_or-set_other, get_or-set_same, get_or_default, length-set}
 use Rattle.std.proofs.lemmas.List.Folds.{find-append}
-use Rattle.std.proofs.lemmas.Option.{slice_get-get_or, slice_get_past}
 use Rattle.std.specs.Cmp.{both_ways}
-use Rattle.std.specs.List.{slice_get}
-use Rattle.std.specs.Option.{option_and_then, option_map, option_or}
+use Rattle.std.specs.Option.{is_none, is_some, option_and_then, option_map, option_or}
 use Rattle.std.specs.Prelude.{IsSome}
 use Rattle.ldmodel.specs.declared.sections.Part.{Part}
 use Rattle.ldmodel.specs.declared.sections.Part.TheVariants.{InTable, InCommon}
 use Rattle.ldmodel.specs.Project.{Project}
 use Rattle.ldmodel.specs.Sections.{is_same_part}
-use Rattle.place.specs.Columns.{AreOwners, HaveNumbers, has_number, is_number}
+use Rattle.place.specs.Columns.{AddsEntries, HaveNumbers, IsColumn, has_number, is_number, place_of}
 use Rattle.place.specs.Entries.{is_part_of}
 use Rattle.place.specs.declared.indexed_section.IndexedSection.{IndexedSection}
 use Rattle.gather.specs.sections.SectionTable.{IsTableOf, len_of, number_of}
@@ -49,9 +47,6 @@ number_is : (o : Option ℕ) (at : ℕ) → is_number at o ≡ true → o ≡ So
 number_is None at h = absurd (false≢true h)
 number_is (Some n) at h = ap Some (sym (eqb-true at n h))
 
-abbrev place_of : IndexedSection → SectionAddress
-place_of e = e.place
-
 same_part : (q r : Part) → is_same_part q r ≡ true → q ≡ r
 same_part (InTable k) (InTable n) e = ap (λ m. InTable (record { 0 = m })) (eqb-true k.0 n.0 e)
 same_part (InTable k) (InCommon n) e = absurd (false≢true e)
@@ -63,8 +58,9 @@ part_itself (InTable k) = eq-eqb k.0 k.0 refl
 part_itself (InCommon s) = eq-eqb s.0 s.0 refl
 
 -- a column of the first entries has the place of the first entry of each part
-module _ (p : Project) (entries : List IndexedSection) (t : InputSectionTable) (owners : List ℕ)
-    (table : IsTableOf p t) (numbers : HaveNumbers t entries) (owned : AreOwners t entries owners)
+module _ (p : Project) (entries : List IndexedSection) (t : InputSectionTable)
+    (places : List (Option SectionAddress))
+    (table : IsTableOf p t) (numbers : HaveNumbers t entries) (column : IsColumn t entries places)
     (n : ℕ) (part : Part) where
   abbrev sought : IndexedSection → Bool
   sought = is_part_of n part
@@ -86,13 +82,11 @@ module _ (p : Project) (entries : List IndexedSection) (t : InputSectionTable) (
         (λ h. ap (is_number at) (same_number e h ∙ is) ∙ eq-eqb at at refl)
         (λ h. is_sought e (table.apart e.object n e.part part at (number_is (number_of t e.object e.part) at h) is))
 
-    found : option_and_then (slice_get entries) (slice_get owners at) ≡ find sought entries
+    found : get_or places at None ≡ option_map place_of (find sought entries)
     found =
-        let low : at < len_of t = table.below n part at is in
-        let within : at < length owners = omega (arith, owned.long, low) in
-        ap (option_and_then (slice_get entries)) (slice_get-get_or owners at 0 within)
-        ∙ owned.firsts at low
-        ∙ sym (find_same sought (has_number t at) entries (λ i d l. same_test (get_or entries i d)))
+        column.firsts at (table.below n part at is)
+        ∙ ap (option_map place_of)
+        (sym (find_same sought (has_number t at) entries (λ i d l. same_test (get_or entries i d))))
 
   unranked : number_of t n part ≡ None → (i : ℕ) (d : IndexedSection) → i < length entries → sought (get_or entries i d)
       ≡ false
@@ -104,153 +98,128 @@ module _ (p : Project) (entries : List IndexedSection) (t : InputSectionTable) (
           absurd (false≢true (subst IsSome (same_number (get_or entries i d) h ∙ e) (numbers i d l)))
 
   pub has_first :
-      option_and_then (λ (at : ℕ). option_map place_of (option_and_then (slice_get entries) (slice_get owners at)))
-      (number_of t n part)
+      option_and_then (λ (at : ℕ). get_or places at None) (number_of t n part)
       ≡ option_map place_of (find (is_part_of n part) entries)
   has_first = go (number_of t n part) refl
     where
       go : (o : Option ℕ) → number_of t n part ≡ o
-          → option_and_then
-          (λ (at : ℕ). option_map place_of (option_and_then (slice_get entries) (slice_get owners at))) o
-          ≡ option_map place_of (find sought entries)
+          → option_and_then (λ (at : ℕ). get_or places at None) o ≡ option_map place_of (find sought entries)
       go None e = sym (ap (option_map place_of) (find_none sought entries (unranked e)))
-      go (Some at) e = ap (option_map place_of) (found at e)
+      go (Some at) e = found at e
 
 -- ---- a column that is filled, entry by entry
-
--- under each number stands the first of these many entries that has it
-pub record OwnFirst (p : ℕ → IndexedSection → Bool) (entries : List IndexedSection) (total count : ℕ)
-    (owners : List ℕ) : Type 0 where
-  pub long : length owners ≡ total
-  pub firsts : (at : ℕ) → at < total → slice_get entries (get_or owners at 0) ≡ find (p at) (take count entries)
-
--- the first of one more entry
-next_find : (p : IndexedSection → Bool) (xs : List IndexedSection) (i : ℕ) (x : IndexedSection) → i < length xs → x
-    ≡ get_or xs i x
-    → find p (take (i + 1) xs) ≡ option_or (find p (take i xs)) (cond (p x) (Some x) None)
-next_find p xs i x h e =
-    ap (find p) (take_more xs i x h ∙ ap (λ y. take i xs ++ y ∷ []) (sym e)) ∙ find-append p (take i xs) (x ∷ [])
 
 or_none : (o : Option IndexedSection) → option_or o None ≡ o
 or_none None = refl
 or_none (Some x) = refl
 
-other_find : (p : IndexedSection → Bool) (xs : List IndexedSection) (i : ℕ) (x : IndexedSection) → i < length xs → x
-    ≡ get_or xs i x
-    → p x ≡ false → find p (take (i + 1) xs) ≡ find p (take i xs)
-other_find p xs i x h e other =
-    next_find p xs i x h e ∙ ap (λ b. option_or (find p (take i xs)) (cond b (Some x) None)) other
-    ∙ or_none (find p (take i xs))
+pub none_is : (o : Option SectionAddress) (b : Bool) → is_some o ≡ not b → is_none o ≡ b
+none_is None true e = refl
+none_is None false e = absurd (false≢true e)
+none_is (Some x) true e = absurd (false≢true (sym e))
+none_is (Some x) false e = refl
 
-module _ (p : ℕ → IndexedSection → Bool) (entries : List IndexedSection) (total i : ℕ) (owners : List ℕ)
-    (x : IndexedSection)
-    (inside : i < length entries) (is : x ≡ get_or entries i x)
-    (before : OwnFirst p entries total i owners) where
-  -- an entry without a number
-  none_more : ((at : ℕ) → p at x ≡ false) → OwnFirst p entries total (i + 1) owners
-  none_more never = record {
-    long = before.long;
-    firsts = λ at h. before.firsts at h ∙ sym (other_find (p at) entries i x inside is (never at));
+-- what is found stays so where something has a place
+kept_first : (o : Option IndexedSection) (place : Option SectionAddress) (e : IndexedSection)
+    → place ≡ option_map place_of o → is_none place ≡ false → option_or o (Some e) ≡ o
+kept_first None place e is some = absurd (false≢true (sym some ∙ ap is_none is))
+kept_first (Some x) place e is some = refl
+
+-- and where nothing has one, it is the entry
+new_first : (o : Option IndexedSection) (place : Option SectionAddress) (e : IndexedSection)
+    → place ≡ option_map place_of o → is_none place ≡ true → option_or o (Some e) ≡ Some e
+new_first None place e is none = refl
+new_first (Some x) place e is none = absurd (false≢true (sym (ap is_none is) ∙ none))
+
+module _ (t : InputSectionTable) (before : List IndexedSection) (e : IndexedSection)
+    (old : List (Option SectionAddress)) (was : IsColumn t before old) where
+  abbrev firsts_now : ℕ → Option IndexedSection
+  firsts_now at = find (has_number t at) (before ++ e ∷ [])
+
+  abbrev firsts_before : ℕ → Option IndexedSection
+  firsts_before at = find (has_number t at) before
+
+  tested : (at : ℕ) (b : Bool) → has_number t at e ≡ b
+      → firsts_now at ≡ option_or (firsts_before at) (cond b (Some e) None)
+  tested at b h =
+      find-append (has_number t at) before (e ∷ [])
+      ∙ ap (λ b. option_or (firsts_before at) (cond b (Some e) None)) h
+
+  other : (at : ℕ) → has_number t at e ≡ false → firsts_now at ≡ firsts_before at
+  other at h = tested at false h ∙ or_none (firsts_before at)
+
+  -- after an entry without a number
+  pub none_added : number_of t e.object e.part ≡ None → IsColumn t (before ++ e ∷ []) old
+  none_added none = record {
+    long = was.long;
+    firsts = λ at l.
+        was.firsts at l ∙ ap (option_map place_of) (sym (other at (ap (is_number at) none)));
   }
 
-  module _ (own_at : ℕ) (numbers : (at : ℕ) → p at x ≡ (at == own_at)) (below : own_at < total) where
-    others : (at : ℕ) → at ≢ own_at → p at x ≡ false
-    others at other = numbers at ∙ go (at == own_at) refl
-      where
-        go : (b : Bool) → (at == own_at) ≡ b → b ≡ false
-        go true e = absurd (other (eqb-true at own_at e))
-        go false e = refl
+  module _ (own_at : ℕ) (number : number_of t e.object e.part ≡ Some own_at) (below : own_at < len_of t) where
+    others : (at : ℕ) → at ≢ own_at → firsts_now at ≡ firsts_before at
+    others at ne = other at (ap (is_number at) number ∙ ne_eqb at own_at ne)
 
-    own : p own_at x ≡ true
-    own = numbers own_at ∙ eq-eqb own_at own_at refl
+    own : firsts_now own_at ≡ option_or (firsts_before own_at) (Some e)
+    own = tested own_at true (ap (is_number own_at) number ∙ eq-eqb own_at own_at refl)
 
-    -- one whose number has an entry
-    later_more : get_or owners own_at 0 < length entries → OwnFirst p entries total (i + 1) owners
-    later_more owned = record { long = before.long; firsts = λ at h. go at h (at == own_at) refl }
-      where
-        found_is : find (p own_at) (take i entries) ≡ Some (get_or entries (get_or owners own_at 0) x)
-        found_is = sym (before.firsts own_at below) ∙ slice_get-get_or entries (get_or owners own_at 0) x owned
+    place_is : (o : Option SectionAddress) → o ≡ get_or old own_at o → o ≡ option_map place_of (firsts_before own_at)
+    place_is o is = is ∙ get_or_default old own_at o None (omega (arith, was.long, below)) ∙ was.firsts own_at below
 
-        first : find (p own_at) (take (i + 1) entries) ≡ find (p own_at) (take i entries)
-        first =
-            next_find (p own_at) entries i x inside is
-            ∙ ap (λ o. option_or o (cond (p own_at x) (Some x) None)) found_is ∙ sym found_is
-
-        go : (at : ℕ) → at < total → (b : Bool) → (at == own_at) ≡ b
-            → slice_get entries (get_or owners at 0) ≡ find (p at) (take (i + 1) entries)
-        go at h true e =
-            let same : at ≡ own_at = eqb-true at own_at e in
-            before.firsts at h ∙ ap (λ n. find (p n) (take i entries)) same ∙ sym first
-            ∙ ap (λ n. find (p n) (take (i + 1) entries)) (sym same)
-        go at h false e =
-            before.firsts at h
-            ∙ sym (other_find (p at) entries i x inside is (others at (eqb-false at own_at e)))
-
-    -- one whose number has none yet
-    first_more : length entries ≤ get_or owners own_at 0 → OwnFirst p entries total (i + 1) (set owners own_at i)
-    first_more free = record {
-      long = length-set owners own_at i ∙ before.long;
-      firsts = λ at h. go at h (at == own_at) refl;
+    -- after a later one of a number
+    pub later_added : (o : Option SectionAddress) → o ≡ get_or old own_at o → is_none o ≡ false
+        → IsColumn t (before ++ e ∷ []) old
+    later_added o is some = record {
+      long = was.long;
+      firsts = λ at l. was.firsts at l ∙ ap (option_map place_of) (⊎_elim
+          (λ (same : at ≡ own_at). subst (λ i. firsts_before i ≡ firsts_now i) (sym same)
+          (sym (own ∙ kept_first (firsts_before own_at) o e (place_is o is) some)))
+          (λ (ne : at ≢ own_at). sym (others at ne))
+          (cases_eq at own_at));
     }
-      where
-        within : own_at < length owners
-        within = omega (arith, before.long)
-
-        none : find (p own_at) (take i entries) ≡ None
-        none = sym (before.firsts own_at below) ∙ slice_get_past entries (get_or owners own_at 0) free
-
-        first : find (p own_at) (take (i + 1) entries) ≡ Some x
-        first =
-            next_find (p own_at) entries i x inside is
-            ∙ ap (λ o. option_or o (cond (p own_at x) (Some x) None)) none
-            ∙ ap (λ b. cond b (Some x) None) own
-
-        go : (at : ℕ) → at < total → (b : Bool) → (at == own_at) ≡ b
-            → slice_get entries (get_or (set owners own_at i) at 0) ≡ find (p at) (take (i + 1) entries)
-        go at h true e =
-            let same : at ≡ own_at = eqb-true at own_at e in
-            ap (λ n. slice_get entries (get_or (set owners own_at i) n 0)) same
-            ∙ ap (slice_get entries) (get_or-set_same owners own_at i 0 within)
-            ∙ slice_get-get_or entries i x inside ∙ ap Some (sym is) ∙ sym first
-            ∙ ap (λ n. find (p n) (take (i + 1) entries)) (sym same)
-        go at h false e =
-            let other : at ≢ own_at = eqb-false at own_at e in
-            ap (slice_get entries) (get_or-set_other owners own_at at i 0 other)
-            ∙ before.firsts at h ∙ sym (other_find (p at) entries i x inside is (others at other))
-
-module _ (t : InputSectionTable) (entries : List IndexedSection) (i : ℕ) (owners now : List ℕ) (d : IndexedSection)
-    (inside_now : i < length entries) (before : OwnFirst (has_number t) entries (len_of t) i owners) where
-  abbrev this : IndexedSection
-  this = get_or entries i d
-
-  this_is : this ≡ get_or entries i this
-  this_is = get_or_default entries i d this inside_now
-
-  -- after one more entry without a number
-  pub none_owned : now ≡ owners → number_of t this.object this.part ≡ None
-      → OwnFirst (has_number t) entries (len_of t) (i + 1) now
-  none_owned is none =
-      subst (OwnFirst (has_number t) entries (len_of t) (i + 1)) (sym is)
-      (none_more (has_number t) entries (len_of t) i owners this inside_now this_is before
-      (λ at. ap (is_number at) none))
-
-  module _ (at owner : ℕ) (number : number_of t this.object this.part ≡ Some at) (below : at < len_of t)
-      (was : owner ≡ get_or owners at owner) where
-    owner_is : owner ≡ get_or owners at 0
-    owner_is = was ∙ get_or_default owners at owner 0 (omega (arith, below, before.long))
 
     -- after the first one of a number
-    pub first_owned : now ≡ set owners at i → length entries ≤ owner
-        → OwnFirst (has_number t) entries (len_of t) (i + 1) now
-    first_owned is free =
-        subst (OwnFirst (has_number t) entries (len_of t) (i + 1)) (sym is)
-        (first_more (has_number t) entries (len_of t) i owners this inside_now this_is before at
-        (λ n. ap (is_number n) number) below (omega (arith, owner_is)))
+    pub first_added : (o : Option SectionAddress) → o ≡ get_or old own_at o → is_none o ≡ true
+        → IsColumn t (before ++ e ∷ []) (set old own_at (Some e.place))
+    first_added o is none = record {
+      long = length-set old own_at (Some e.place) ∙ was.long;
+      firsts = λ at l. ⊎_elim
+          (λ (same : at ≡ own_at). subst (λ i. get_or (set old own_at (Some e.place)) i None
+          ≡ option_map place_of (firsts_now i)) (sym same)
+          (get_or-set_same old own_at (Some e.place) None (omega (arith, was.long, below))
+          ∙ ap (option_map place_of) (sym (own
+          ∙ new_first (firsts_before own_at) o e (place_is o is) none))))
+          (λ (ne : at ≢ own_at). get_or-set_other old own_at at (Some e.place) None ne ∙ was.firsts at l
+          ∙ ap (option_map place_of) (sym (others at ne)))
+          (cases_eq at own_at);
+    }
 
-    -- after a later one
-    pub later_owned : now ≡ owners → owner < length entries
-        → OwnFirst (has_number t) entries (len_of t) (i + 1) now
-    later_owned is owned =
-        subst (OwnFirst (has_number t) entries (len_of t) (i + 1)) (sym is)
-        (later_more (has_number t) entries (len_of t) i owners this inside_now this_is before at
-        (λ n. ap (is_number n) number) below (omega (arith, owner_is)))
+-- ---- a column that is filled by several entries
+
+-- some of these entries have been added, and the others are left
+pub record Added (t : InputSectionTable) (old new : List (Option SectionAddress)) (left all : List IndexedSection)
+    : Type 0 where
+  pub done : List IndexedSection
+  pub added : AddsEntries t old new done
+  pub rest : done ++ left ≡ all
+
+append_nil : (xs : List IndexedSection) → xs ++ [] ≡ xs
+append_nil [] = refl
+append_nil (x ∷ xs) = ap (λ l. x ∷ l) (append_nil xs)
+
+-- nothing is added
+pub nothing_added : (t : InputSectionTable) (column : List (Option SectionAddress)) → AddsEntries t column column []
+nothing_added t column = λ before was. subst (λ l. IsColumn t l column) (sym (append_nil before)) was
+
+-- first these and then those
+pub added_both : (t : InputSectionTable) (a b c : List (Option SectionAddress)) (xs ys : List IndexedSection)
+    → AddsEntries t a b xs → AddsEntries t b c ys → AddsEntries t a c (xs ++ ys)
+added_both t a b c xs ys first second =
+    λ before was. subst (λ l. IsColumn t l c) (append_assoc before xs ys) (second (before ++ xs) (first before was))
+
+-- a column of some of these entries, where the others are left
+pub record ColumnOf (t : InputSectionTable) (places : List (Option SectionAddress)) (left all : List IndexedSection)
+    : Type 0 where
+  pub done : List IndexedSection
+  pub column : IsColumn t done places
+  pub rest : done ++ left ≡ all

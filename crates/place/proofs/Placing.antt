@@ -22,7 +22,7 @@ use Rattle.ldmodel.specs.declared.rows.Piece.{Piece}
 use Rattle.ldmodel.specs.declared.sections.SectionKey.{SectionKey}
 use Rattle.ldmodel_laws.specs.Spread.{entries_in}
 use Rattle.ldmodel_project.specs.ByPlace.{piece_in, rows_in}
-use Rattle.place.specs.Columns.{AreOwners, HaveNumbers}
+use Rattle.place.specs.Columns.{HaveNumbers, IsColumn}
 use Rattle.place.specs.Entries.{all_entries, entry_of, is_part_of, row_entries}
 use Rattle.place.specs.LinkLayout.{IsLinkLayout}
 use Rattle.place.specs.InPlace.{AreInPlace, IsOwned, entries_of}
@@ -190,10 +190,10 @@ module _ (p : Project) (distinct : AreNamesDistinct p.objects) (k : SectionKey) 
 -- where all entries have their numbers, everything is arranged
 pub all_places : (p : Project) (s : Layout) (starts : List ℕ) (x : IndexedLayout) → AreNamesDistinct p.objects
     → AreInPlace p s → map entries_in s.sections ≡ rows_in p x.rows.items → starts ≡ flat_map starts_of s.sections
-    → x.entries.items ≡ all_entries 0 x.rows.items starts → IsTableOf p x.table → rows_in p x.rows.items ≡ model.rows p
-    → IsLinkLayout p s x.link_layout → HaveNumbers x.table x.entries.items
-    → AreOwners x.table x.entries.items x.owners.items → IsIndexedLayout p s x
-all_places p s starts x distinct apart placed begin all table rows link_layout numbers owned =
+    → IsTableOf p x.table → rows_in p x.rows.items ≡ model.rows p
+    → IsLinkLayout p s x.link_layout → HaveNumbers x.table (all_entries 0 x.rows.items starts)
+    → IsColumn x.table (all_entries 0 x.rows.items starts) x.addresses.items → IsIndexedLayout p s x
+all_places p s starts x distinct apart placed begin table rows link_layout numbers column =
     record {
       table = table;
       rows = rows;
@@ -207,6 +207,7 @@ all_places p s starts x distinct apart placed begin all table rows link_layout n
         ≡ option_map (λ (e : IndexedSection). e.place)
         (find (is_part_of k.object.0 k.part) (all_entries 0 x.rows.items (flat_map starts_of s.sections)))
     same k =
-        has_first p x.entries.items x.table x.owners.items table numbers owned k.object.0 k.part
-        ∙ ap (λ xs. option_map (λ (e : IndexedSection). e.place) (find (is_part_of k.object.0 k.part) xs))
-        (all ∙ ap (all_entries 0 x.rows.items) begin)
+        has_first p (all_entries 0 x.rows.items starts) x.table x.addresses.items table numbers column k.object.0
+        k.part
+        ∙ ap (λ xs. option_map (λ (e : IndexedSection). e.place)
+        (find (is_part_of k.object.0 k.part) (all_entries 0 x.rows.items xs))) begin

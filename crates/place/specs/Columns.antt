@@ -1,7 +1,9 @@
 -- Columns over the numbers of input sections.
-use Rattle.std.specs.Prelude.{◌≡◌, ◌<◌, ◌==◌, ℕ, Bool, false, List, length, Option, Some, None}
-use Rattle.std.specs.Prelude.{slice_get, slice_index, find, All, IsSome}
+use Rattle.std.specs.Prelude.{◌≡◌, ◌<◌, ◌==◌, ◌++◌, ℕ, Bool, false, List, length, Option, Some, None}
+use Rattle.std.specs.Prelude.{slice_index_or, find, All, IsSome}
+use Rattle.std.specs.Option.{option_map}
 use Rattle.place.specs.declared.indexed_section.IndexedSection.{IndexedSection}
+use Rattle.place.specs.declared.indexed_layout.SectionAddress.{SectionAddress}
 use Rattle.gather.specs.sections.SectionTable.{len_of, number_of}
 use Rattle.gather.specs.sections.declared.input_section_table.InputSectionTable.{InputSectionTable}
 
@@ -17,8 +19,16 @@ is_number at (Some n) = at == n
 abbrev pub has_number : InputSectionTable → ℕ → IndexedSection → Bool
 has_number t at e = is_number at (number_of t e.object e.part)
 
--- a column has for each number the first entry of it
-pub record AreOwners (t : InputSectionTable) (entries : List IndexedSection) (owners : List ℕ) : Type 0 where
-  pub long : length owners ≡ len_of t
+-- where an input section stands
+abbrev pub place_of : IndexedSection → SectionAddress
+place_of e = e.place
+
+-- a column has for each number the place of the first entry of it
+pub record IsColumn (t : InputSectionTable) (entries : List IndexedSection) (places : List (Option SectionAddress)) : Type 0 where
+  pub long : length places ≡ len_of t
   pub firsts : (at : ℕ) → at < len_of t
-      → slice_get entries (slice_index owners at) ≡ find (has_number t at) entries
+      → slice_index_or places at None ≡ option_map place_of (find (has_number t at) entries)
+
+-- a column of some entries becomes one of these too
+abbrev pub AddsEntries : InputSectionTable → (old new : List (Option SectionAddress)) → List IndexedSection → Type 0
+AddsEntries t old new these = (before : List IndexedSection) → IsColumn t before old → IsColumn t (before ++ these) new

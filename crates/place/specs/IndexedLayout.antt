@@ -1,5 +1,5 @@
 -- Where everything of a link stands.
-use Rattle.std.specs.Prelude.{◌≡◌, ℕ, Option, Some, None, position, slice_get, option_and_then}
+use Rattle.std.specs.Prelude.{◌≡◌, ℕ, Option, Some, None, position, slice_index_or, option_and_then}
 use Rattle.std.specs.List.{list_any}
 use Rattle.std.specs.Option.{option_map}
 use Rattle.ldmodel.specs.Layout.{Layout, PlacedPiece, PlacedOutput}
@@ -15,7 +15,6 @@ pub use Rattle.gather.specs.sections.SectionTable.{linked_of}
 use Rattle.gather.specs.sections.SectionTable.{IsTableOf, number_of}
 use Rattle.ldmodel.specs.Rows as model
 use Rattle.ldmodel_project.specs.ByPlace.{rows_in}
-use Rattle.place.specs.declared.indexed_section.IndexedSection.{IndexedSection}
 use Rattle.place.specs.declared.indexed_layout.SectionAddress.{SectionAddress}
 use Rattle.place.specs.declared.indexed_layout.IndexedLayout.{IndexedLayout}
 
@@ -33,9 +32,7 @@ IsSectionAddress project layout k (Some x) =
 
 -- what stands under a number
 abbrev pub place_under : IndexedLayout → ℕ → Option SectionAddress
-place_under x at =
-    option_map (λ (e : IndexedSection). e.place)
-    (option_and_then (slice_get x.entries.items) (slice_get x.owners.items at))
+place_under x at = slice_index_or x.addresses.items at None
 
 -- where a part of object number n stands
 abbrev pub part_in : IndexedLayout → ℕ → Part → Option SectionAddress

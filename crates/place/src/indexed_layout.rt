@@ -6,16 +6,13 @@ ghost use Rattle.ldmodel.specs.Project.{Project};
 ghost use Rattle.place.specs.LinkLayout.{IsLinkLayout};
 ghost use Rattle.ldmodel.specs.Rows as model;
 ghost use Rattle.ldmodel_project.specs.ByPlace.{rows_in};
-ghost use Rattle.place.specs.Columns.{AreOwners};
 ghost use Rattle.gather.specs.sections.SectionTable.{IsTableOf};
 
-use crate::collected::collect;
-use crate::indexed_section::IndexedSection;
+use crate::address_column::address_column;
 use crate::link_layout::LinkLayout;
 use crate::numbered::are_numbered;
 use gather::sections::input_section_table::{InputSectionTable, SectionNumber};
 use gather::sections::law::sections_of_objects;
-use ldmodel::impossible::impossible;
 use ldmodel::memory::NoMemory;
 use ldmodel::names::ObjectPlace;
 use ldmodel::placed::OutputIndex;
@@ -46,36 +43,8 @@ pub struct IndexedLayout {
     pub rows: Vec<Vec<Piece>>,
     /// Where they stand, in memory and in the file.
     pub link_layout: LinkLayout,
-    /// All input sections in the output with their places, in the order of the rows.
-    entries: Vec<IndexedSection>,
-    /// For each number of the table which of the entries is its own; the number of entries where none is.
-    owners: Vec<u32>,
-}
-
-/// For each number of a table which entry is the first one of it; the number of entries where none is. Fails where
-/// memory runs out.
-fn owners(
-    alloc: Global,
-    table: &InputSectionTable,
-    entries: &[IndexedSection],
-) -> Result<Vec<u32>, NoMemory>
-    ensures { IfOk result (λ v. AreOwners table.now entries.now v.items) }
-{
-    let Ok(none) = u32::try_from(entries.len()) else {
-        // 2^32 input sections take 256 GiB
-        return Err(impossible());
-    };
-    let mut owners = vec![in alloc; none; table.len() as usize]?;
-    for (number, entry) in entries.iter().enumerate() {
-        if let Some(id) = table.find(ObjectPlace(entry.object), entry.part) {
-            let at = id.0 as usize;
-            // each section stands in one row, once, but the contract does not say so
-            if owners[at] >= none {
-                owners[at] = number as u32;
-            }
-        }
-    }
-    Ok(owners)
+    /// For each number of the table where its input section stands, if it is in the output.
+    addresses: Vec<Option<SectionAddress>>,
 }
 
 impl IndexedLayout {
@@ -108,14 +77,13 @@ impl IndexedLayout {
         sections_of_objects();
         are_numbered(project);
         project.objects_are_named();
-        let entries = collect(alloc, &rows, link_layout.placement.pieces())?;
-        let owners = owners(alloc, &table, &entries)?;
+        let starts = link_layout.placement.pieces();
+        let addresses = address_column(alloc, &table, &rows, starts)?;
         Ok(IndexedLayout {
             table,
             rows,
             link_layout,
-            entries,
-            owners,
+            addresses,
         })
     }
 
@@ -132,9 +100,7 @@ impl IndexedLayout {
     pub fn at(&self, id: SectionNumber) -> Option<SectionAddress>
         ensures { result ≡ place_under self.now id.0 }
     {
-        let owner = self.owners.get(id.0 as usize)?;
-        let entry = self.entries.get(*owner as usize)?;
-        Some(entry.place)
+        self.addresses.get(id.0 as usize).copied().unwrap_or(None)
     }
 
     /// Where a part of the object of a number stands, if it is in the output.

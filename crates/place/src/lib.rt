@@ -5,13 +5,13 @@
 //! - `link_layout`: the phase, over `place_sections`;
 //! - `segments` over `group`: what is loaded as one, and its offset in the file; `offsets`: where output sections begin
 //!   in the file; `length`: how long the image is;
-//! - `indexed_layout` over `collected` and `indexed_section`: all of that, and where each input section stands;
+//! - `indexed_layout` over `address_column` and `indexed_section`: all of that, and where each input section stands;
 //!   `numbered`: the sections of an object have different numbers;
 //! - the parts `terms` (values of expressions, what a layout keeps) and `sections` (output sections placed). Other
 //!   families name this crate alone.
 #![tactic(auto)]
 
-mod collected;
+mod address_column;
 mod group;
 pub mod indexed_layout;
 mod indexed_section;

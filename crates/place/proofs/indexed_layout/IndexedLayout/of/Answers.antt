@@ -1,13 +1,13 @@
-use Rattle.std.proofs.Common.{◌∙◌, ap, flat_map, subst, sym, List}
+use Rattle.std.proofs.Common.{◌∙◌, ap, flat_map, subst, sym, List, Vec, Global}
 use Rattle.ldmodel_laws.specs.PlacedOnce.{Differ}
 use Rattle.ldmodel_laws.specs.Spread.{EachLater}
 use Rattle.ldmodel.specs.Each.{Each}
 use Rattle.ldmodel.specs.Names.{provided}
 use Rattle.ldmodel.specs.Rows.{Piece, rows}
-use Rattle.place.specs.Columns.{AreOwners}
+use Rattle.place.specs.Columns.{IsColumn}
 use Rattle.place.specs.Entries.{all_entries}
 use Rattle.place.specs.InPlace.{IsOwned}
-use Rattle.place.specs.declared.indexed_section.IndexedSection.{IndexedSection}
+use Rattle.ldmodel.specs.declared.rows.Piece as code
 use Rattle.place.proofs.AllNumbered.{all_numbered}
 use Rattle.place.proofs.Owned.{all_inputs, all_owned}
 use Rattle.place.proofs.Placing.{all_places}
@@ -22,9 +22,11 @@ returns-clause-indexed_layout c = λ s placement.
     let distinct = c.objects_are_named.ensures.distinct in
     let owned : Each (IsOwned p) (flat (rows p)) =
     all_owned p c.objects_are_named.ensures.named (c.sections_of_objects.ensures p) (flat (rows p)) inputs in
-    let are = c.in_ok-entries.ensures
-    ∙ ap (λ rows. all_entries 0 rows c.pieces.result.now) c.deref.ensures.value in
-    all_places p s c.pieces.result.now _
+    let starts = c.pieces-starts.result.now in
+    let column : IsColumn c.args.table (all_entries 0 c.args.rows.items starts) c.in_ok-addresses.addresses.items =
+    subst (λ (rows : List (Vec code.Piece Global)). IsColumn c.args.table (all_entries 0 rows starts)
+    c.in_ok-addresses.addresses.items) c.deref.ensures.value c.in_ok-addresses.ensures in
+    all_places p s starts _
     distinct
     (record {
       once = subst (EachLater Differ) (ap flat (sym placed)) (c.once_in_rows.ensures p distinct c.are_numbered.ensures);
@@ -32,8 +34,7 @@ returns-clause-indexed_layout c = λ s placement.
       spread = c.nothing_meets.ensures p.script (rows p) (provided p) s placement.placed;
     })
     (placed ∙ sym c.requires.rows)
-    (c.pieces.ensures ∙ placement.places.starts) are c.requires.table c.requires.rows placement
+    (c.pieces-starts.ensures ∙ placement.places.starts) c.requires.table c.requires.rows placement
     (all_numbered p c.args.table distinct c.requires.table (c.sections_of_objects.ensures p)
-    c.args.rows.items c.pieces.result.now c.in_ok-entries.entries.items c.requires.rows owned inputs are)
-    (subst (λ (l : List IndexedSection). AreOwners c.args.table l c.in_ok-owners.owners.items) c.deref-2.ensures.value
-    c.in_ok-owners.ensures)
+    c.args.rows.items starts c.requires.rows owned inputs)
+    column
