@@ -25,3 +25,4 @@ pub mod Starting
 pub mod OwnWords
 pub mod Knowing
 mod Ranked
+pub mod AllTaken

@@ -19,3 +19,4 @@ pub mod Blocks
 pub mod Found
 pub mod SectionPlaces
 pub mod Gathering
+pub mod Taking

@@ -61,7 +61,7 @@ impl GatheredSection {
 }
 
 /// The linked section at a place among those of an object. `statements` are those that take them, in their order.
-fn linked_at(
+pub(crate) fn linked_at(
     key: ObjectPlace,
     object: &Object,
     statements: &[Option<InputIndex>],
@@ -102,7 +102,11 @@ fn add_linked(
 }
 
 /// A common block that an object owns. `statement` is the one that takes it.
-fn block(key: ObjectPlace, statement: Option<InputIndex>, block: CommonBlock) -> GatheredSection
+pub(crate) fn block(
+    key: ObjectPlace,
+    statement: Option<InputIndex>,
+    block: CommonBlock,
+) -> GatheredSection
     ensures { shown_facts result ≡ block_facts key.0 (number_of statement) block }
 {
     GatheredSection {

@@ -1,22 +1,20 @@
 //! What gathering finds.
 
-ghost use Rattle.std.specs.Prelude.{◌≡◌, IfOk, map};
-ghost use Rattle.gather.specs.GatheredSections.{AreGathered};
-ghost use Rattle.gather.specs.LiveMarks.{marked};
+ghost use Rattle.std.specs.Prelude.{◌≡◌, IfOk, false, map, true};
+ghost use Rattle.gather.specs.Blocks.{AreBlocks};
 ghost use Rattle.gather.specs.Gathering.{IsGathering};
 ghost use Rattle.gather.specs.ProjectMatches.{AreMatched};
-ghost use Rattle.ldmodel.specs.InputSections.{input_sections};
-ghost use Rattle.ldmodel.specs.Live.{live};
 ghost use Rattle.symres.specs.SymbolTable.{IsSymbolTable};
 ghost use Rattle.gather_sections.specs.SectionTable.{IsTableOf};
 
-use crate::blocks::{block_ranks, common_blocks};
+use crate::blocks::{CommonBlock, block_ranks, common_blocks};
 use crate::discarded_sections::discarded_sections;
-use crate::gathered_section::{GatheredSection, input_sections};
+use crate::gathered_section::input_sections;
 use crate::live::mark_live;
 use crate::live_sections::orphans;
 use crate::matches::Matches;
-use crate::rows::rows;
+use crate::rows::{join_buckets, rows};
+use crate::taking::take_all;
 use gather_sections::input_section_table::InputSectionTable;
 use ldmodel::memory::NoMemory;
 use ldmodel::rows::Piece;
@@ -37,26 +35,60 @@ pub struct Gathering {
     pub orphans: Vec<SectionKey>,
 }
 
-/// The rows and the orphans of live sections.
-fn sorted_out(
+/// Gathers what is live, where sections are collected. `blocks` has the common blocks of each object.
+fn gather_live(
     alloc: Global,
     project: &ProjectView<'_>,
-    sections: &[GatheredSection],
-    marks: &[bool],
+    symbol_table: &SymbolTable,
+    matches: &[&Matches],
+    blocks: &[Vec<CommonBlock>],
     table: InputSectionTable,
 ) -> Result<Gathering, NoMemory>
+    requires collected { project.now.options.gc ≡ true }
+    requires symbol_table { IsSymbolTable project.now symbol_table.now }
+    requires matches { AreMatched project.now (map (λ x. x.now) matches.now) }
+    requires blocks { AreBlocks project.now blocks.now }
     requires table { IsTableOf project.now table }
-    requires sections { AreGathered project.now sections.now }
-    requires marks { marked marks.now (input_sections project.now) ≡ live project.now }
     ensures { IfOk result (λ g. IsGathering project.now g) }
 {
     live_by_path();
-    let orphans = orphans(alloc, sections, marks)?;
-    let rows = rows(alloc, project, sections, marks)?;
+    let sections = input_sections(alloc, project, matches, blocks)?;
+    let options = project.options();
+    let out = discarded_sections(alloc, project.script(), options.orphans(), &sections)?;
+    let marks = mark_live(alloc, project, symbol_table, &table, &sections, &out)?;
+    let orphans = orphans(alloc, &sections, &marks)?;
+    let rows = rows(alloc, project, &sections, &marks)?;
     Ok(Gathering {
         table,
         rows,
         orphans,
+    })
+}
+
+/// Gathers all that is not left out, where no sections are collected. `blocks` has the common blocks of each object.
+fn gather_all(
+    alloc: Global,
+    project: &ProjectView<'_>,
+    matches: &[&Matches],
+    blocks: &[Vec<CommonBlock>],
+    table: InputSectionTable,
+) -> Result<Gathering, NoMemory>
+    requires kept { project.now.options.gc ≡ false }
+    requires matches { AreMatched project.now (map (λ x. x.now) matches.now) }
+    requires blocks { AreBlocks project.now blocks.now }
+    requires table { IsTableOf project.now table }
+    ensures { IfOk result (λ g. IsGathering project.now g) }
+{
+    live_by_path();
+    let script = project.script();
+    let statements = script.input_statements(alloc)?;
+    let outputs = script.output_sections(alloc)?.len();
+    let taken = take_all(alloc, project, matches, blocks, &statements, outputs)?;
+    let rows = join_buckets(alloc, project, &statements, outputs, taken.buckets)?;
+    Ok(Gathering {
+        table,
+        rows,
+        orphans: taken.orphans,
     })
 }
 
@@ -78,12 +110,13 @@ impl Gathering {
         ensures { IfOk result (λ g. IsGathering project.now g) }
     {
         let blocks = common_blocks(alloc, project, symbol_table)?;
-        let sections = input_sections(alloc, project, matches, &blocks)?;
-        let options = project.options();
-        let out = discarded_sections(alloc, project.script(), options.orphans(), &sections)?;
         let ranks = block_ranks(alloc, &blocks)?;
         let table = InputSectionTable::of(alloc, project, ranks)?;
-        let marks = mark_live(alloc, project, symbol_table, &table, &sections, &out)?;
-        sorted_out(alloc, project, &sections, &marks, table)
+        let options = project.options();
+        if options.gc() {
+            gather_live(alloc, project, symbol_table, matches, &blocks, table)
+        } else {
+            gather_all(alloc, project, matches, &blocks, table)
+        }
     }
 }

@@ -7,8 +7,8 @@
 //! - `gathered_section`, `blocks`, `cases`: the input sections, common blocks among them; `discarded_sections`;
 //! - `roots`, `marking`, `references`, and of a project `live`, `referring`, `targets`, `places`: which sections are
 //!   live;
-//! - `rows`, `sorting`, `section_names`, `live_sections`: rows and orphans; `gathering`: all of it, for a project;
-//!   `law`;
+//! - `rows` over `rooms`, `sorting`, `section_names`: rows; `live_sections`: orphans; `taking`: both, where nothing is
+//!   collected; `gathering`: all of it, for a project; `law`;
 //! - the part `sections`: the table of input sections. Other families name this crate alone.
 #![tactic(auto)]
 
@@ -29,10 +29,12 @@ mod name_places;
 mod places;
 pub mod references;
 mod referring;
+mod rooms;
 pub mod roots;
 pub mod rows;
 mod section_names;
 mod sorting;
+mod taking;
 mod targets;
 mod word;
 mod word_table;

@@ -10,7 +10,6 @@ ghost use Rattle.symres.specs.SymbolTable.{IsSymbolTable};
 ghost use Rattle.gather_sections.specs.SectionTable.{IsTableOf};
 
 use crate::gathered_section::GatheredSection;
-use crate::live_sections::not_discarded;
 use crate::marking::mark;
 use crate::places::{Places, places_of};
 use crate::referring::ProjectReferences;
@@ -22,9 +21,13 @@ use ldmodel_project::view::ProjectView;
 use std::alloc::Global;
 use symres::SymbolTable;
 
-/// Marks the sections that the program needs. `out` says of each whether it is left out. The relocations of the other
-/// sections are not gone through.
-fn mark_needed(
+/// Marks the live sections of a project that collects: those that the program needs. `out` says of each section whether
+/// it is left out. The relocations of the other sections are not gone through.
+///
+/// # Errors
+///
+/// Where memory runs out.
+pub(crate) fn mark_live(
     alloc: Global,
     project: &ProjectView<'_>,
     symbol_table: &SymbolTable,
@@ -53,31 +56,4 @@ fn mark_needed(
         sections,
     };
     mark(alloc, out, &roots, &references)
-}
-
-/// Marks the live sections. `out` says of each whether it is left out.
-///
-/// # Errors
-///
-/// Where memory runs out.
-pub(crate) fn mark_live(
-    alloc: Global,
-    project: &ProjectView<'_>,
-    symbol_table: &SymbolTable,
-    table: &InputSectionTable,
-    sections: &[GatheredSection],
-    out: &[bool],
-) -> Result<Vec<bool>, NoMemory>
-    requires symbol_table { IsSymbolTable project.now symbol_table.now }
-    requires table { IsTableOf project.now table.now }
-    requires sections { AreGathered project.now sections.now }
-    requires out { out.now ≡ map (is_discarded project.now) (input_sections project.now) }
-    ensures { IfOk result (λ marks. marked marks.items (input_sections project.now) ≡ live project.now) }
-{
-    let options = project.options();
-    if options.gc() {
-        mark_needed(alloc, project, symbol_table, table, sections, out)
-    } else {
-        not_discarded(alloc, out)
-    }
 }

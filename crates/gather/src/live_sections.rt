@@ -1,7 +1,6 @@
 //! What becomes of the live sections: statements take them, or they are orphans.
 
-ghost use Rattle.std.specs.Prelude.{◌≡◌, ◌++◌, ◌∷◌, [], IfOk, OnOk, false, map, not, slice_index_or, if◌then◌else◌};
-ghost use Rattle.ldmodel.specs.Gathering.{is_discarded};
+ghost use Rattle.std.specs.Prelude.{◌≡◌, ◌++◌, ◌∷◌, [], IfOk, OnOk, false, map, slice_index_or, if◌then◌else◌};
 ghost use Rattle.ldmodel.specs.HandedOver.{section_id};
 ghost use Rattle.ldmodel.specs.InputSections.{input_sections};
 ghost use Rattle.ldmodel.specs.Live.{live, orphans};
@@ -14,27 +13,7 @@ ghost use Rattle.gather.specs.LiveMarks.{marked};
 use crate::gathered_section::GatheredSection;
 use ldmodel::memory::NoMemory;
 use ldmodel::sections::SectionKey;
-use ldmodel_laws::gathering::live_by_path;
 use std::alloc::Global;
-
-/// The sections without those that are left out: the live ones where nothing is collected.
-///
-/// # Errors
-///
-/// Where memory runs out.
-pub fn not_discarded(alloc: Global, out: &[bool]) -> Result<Vec<bool>, NoMemory>
-    ensures marks { IfOk result (λ marks. marks.items ≡ map not out.now) }
-    ensures live { IfOk result (λ marks. (project : Project) → project.options.gc ≡ false → out.now
-        ≡ map (is_discarded project) (input_sections project) → marked marks.items (input_sections project)
-        ≡ live project) }
-{
-    live_by_path();
-    let mut marks = Vec::with_capacity(alloc, out.len())?;
-    for is_discarded in out {
-        marks.push(!*is_discarded)?;
-    }
-    Ok(marks)
-}
 
 /// The mark of the section of this number; a section without one is not live.
 pub(crate) fn is_marked(marks: &[bool], number: usize) -> bool

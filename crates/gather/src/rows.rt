@@ -1,18 +1,21 @@
 //! The rows of the output sections.
 
-ghost use Rattle.std.specs.Prelude.{◌≡◌, ◌++◌, ◌∷◌, [], ℕ, IfOk, List, OnOk, if◌then◌else◌, length};
+ghost use Rattle.std.specs.Prelude.{◌≡◌, ◌++◌, ◌∷◌, [], ℕ, IfOk, List, OnOk, if◌then◌else◌, length, map};
 ghost use Rattle.std.specs.List.{filter_map};
 ghost use Rattle.gather.specs.GatheredSections.{AreGathered, own_piece, taken_in};
 ghost use Rattle.gather.specs.LiveMarks.{marked};
-ghost use Rattle.gather.specs.RowPieces.{AddsTo, AreBuckets, AreEmpty};
+ghost use Rattle.gather.specs.RowPieces.{AddsTo, AreBuckets, AreEmpty, taken_piece};
 ghost use Rattle.ldmodel.specs.InputSections.{input_sections};
 ghost use Rattle.ldmodel.specs.Live.{live};
 ghost use Rattle.ldmodel.specs.Rows.{rows};
 ghost use Rattle.ldmodel.specs.declared.rows.Piece.{Piece};
-ghost use Rattle.ldmodel_project.specs.ByPlace.{rows_in};
+ghost use Rattle.ldmodel_project.specs.ByPlace.{piece_in, rows_in};
+ghost use Rattle.ldscript.specs.statements.Numbered.{shown_inputs};
+ghost use Rattle.ldscript.specs.statements.Numbering.{input_statements, output_sections};
 
 use crate::gathered_section::GatheredSection;
 use crate::live_sections::is_marked;
+use crate::rooms::{count_taken, empty_buckets};
 use crate::sorting::order;
 use ldmodel::memory::NoMemory;
 use ldmodel::rows::Piece;
@@ -32,16 +35,6 @@ fn empty_rows(alloc: Global, count: usize) -> Result<Vec<Vec<Piece>>, NoMemory>
     Ok(lists)
 }
 
-/// Counts a section for the statement that takes it, if it is live and one does.
-fn count_taken(counts: &mut Vec<usize>, section: &GatheredSection, is_live: bool) {
-    if let Some(statement) = section.statement {
-        let number = statement.0 as usize;
-        if is_live && number < counts.len() {
-            counts[number] = counts[number].saturating_add(1);
-        }
-    }
-}
-
 /// How many live sections each statement takes.
 fn counts(
     alloc: Global,
@@ -51,68 +44,15 @@ fn counts(
 ) -> Result<Vec<usize>, NoMemory> {
     let mut counts = vec![in alloc; 0_usize; statements]?;
     for (place, section) in sections.iter().enumerate() {
-        count_taken(&mut counts, section, is_marked(marks, place));
+        if is_marked(marks, place) {
+            count_taken(&mut counts, section.statement, 1);
+        }
     }
     Ok(counts)
 }
 
-/// Adds to the length of a statement's row.
-fn add_length(lengths: &mut Vec<usize>, place: InputPlace, count: usize) {
-    if let InputPlace::InSection(row) = place {
-        if row < lengths.len() {
-            lengths[row] = lengths[row].saturating_add(count);
-        }
-    }
-}
-
-/// How long each row becomes, where its statements take these many sections.
-fn row_lengths(
-    alloc: Global,
-    statements: &[InputStatementAt<'_>],
-    counts: &[usize],
-    rows: usize,
-) -> Result<Vec<usize>, NoMemory> {
-    let mut lengths = vec![in alloc; 0_usize; rows]?;
-    for (statement, count) in statements.iter().zip(counts) {
-        add_length(&mut lengths, statement.place, *count);
-    }
-    Ok(lengths)
-}
-
-/// How many pieces the bucket of a statement is made for: those of its whole row where it is the first one that takes
-/// any, since its bucket becomes the row. From then on the row has no length left.
-fn room(lengths: &mut Vec<usize>, place: InputPlace, count: usize) -> usize {
-    match place {
-        InputPlace::InSection(row) if count > 0 && row < lengths.len() => {
-            let room = count.max(lengths[row]);
-            lengths[row] = 0;
-            room
-        }
-        _ => count,
-    }
-}
-
-/// An empty bucket for each statement, which has room for the pieces that come into it. `lengths` are those of the
-/// rows.
-fn empty_buckets(
-    alloc: Global,
-    statements: &[InputStatementAt<'_>],
-    counts: &[usize],
-    lengths: &mut Vec<usize>,
-) -> Result<Vec<Vec<Piece>>, NoMemory>
-    ensures { IfOk result (λ lists. AreEmpty (length statements.now) lists.items) }
-{
-    let mut buckets: Vec<Vec<Piece>> = Vec::with_capacity(alloc, statements.len())?;
-    for (number, statement) in statements.iter().enumerate() {
-        let count = counts.get(number).copied().unwrap_or(0);
-        let room = room(lengths, statement.place, count);
-        buckets.push(Vec::with_capacity(alloc, room)?)?;
-    }
-    Ok(buckets)
-}
-
 /// Adds a piece to those of its statement.
-fn add_piece(buckets: &mut Vec<Vec<Piece>>, piece: Piece) -> Result<(), NoMemory>
+pub(crate) fn add_piece(buckets: &mut Vec<Vec<Piece>>, piece: Piece) -> Result<(), NoMemory>
     ensures { OnOk result ((xs : List Piece) (count : ℕ) → AreBuckets xs count buckets.old.items
         → AreBuckets (xs ++ piece ∷ []) count buckets.new.items) }
 {
@@ -146,14 +86,13 @@ fn buckets(
     sections: &[GatheredSection],
     marks: &[bool],
     statements: &[InputStatementAt<'_>],
-    rows: usize,
+    outputs: usize,
 ) -> Result<Vec<Vec<Piece>>, NoMemory>
     ensures { IfOk result (λ buckets.
         AreBuckets (taken_in marks.now sections.now) (length statements.now) buckets.items) }
 {
     let counts = counts(alloc, sections, marks, statements.len())?;
-    let mut lengths = row_lengths(alloc, statements, &counts, rows)?;
-    let mut buckets = empty_buckets(alloc, statements, &counts, &mut lengths)?;
+    let mut buckets = empty_buckets(alloc, statements, &counts, outputs)?;
     for (place, section) in sections.iter().enumerate() {
         add_taken(&mut buckets, section, is_marked(marks, place))?;
     }
@@ -194,6 +133,43 @@ fn add_statement(
     }
 }
 
+/// The rows that these buckets make, which have the pieces of each statement: those of a row's statements one after
+/// another, each in the order of its statement's sort. The script has this many output sections.
+///
+/// # Errors
+///
+/// Where memory runs out.
+pub(crate) fn join_buckets(
+    alloc: Global,
+    project: &ProjectView<'_>,
+    statements: &[InputStatementAt<'_>],
+    outputs: usize,
+    taken: Vec<Vec<Piece>>,
+) -> Result<Vec<Vec<Piece>>, NoMemory>
+    requires statements { shown_inputs statements.now ≡ input_statements project.now.script }
+    requires outputs { outputs ≡ length (output_sections project.now.script) }
+    requires taken { length taken.items ≡ length statements.now }
+    ensures { IfOk result (λ found. (xs : List Piece) → AreBuckets xs (length statements.now) taken.items
+        → map (piece_in project.now) xs ≡ filter_map (taken_piece project.now) (live project.now)
+        → rows_in project.now found.items ≡ rows project.now) }
+{
+    let mut buckets = taken;
+    let mut found = empty_rows(alloc, outputs)?;
+    for (number, statement) in statements.iter().enumerate() {
+        let place = statement.place;
+        let sort = statement.input.sort;
+        add_statement(
+            alloc,
+            project,
+            &mut found,
+            place,
+            sort,
+            &mut buckets[number],
+        )?;
+    }
+    Ok(found)
+}
+
 /// The row of each output section, in the order of the script: statement by statement the live sections that the
 /// statement takes, in object order and then section order or, where the statement has a sort, as this orders them.
 /// `marks` says of each section whether it is live.
@@ -214,19 +190,6 @@ pub fn rows(
     let script = project.script();
     let statements = script.input_statements(alloc)?;
     let outputs = script.output_sections(alloc)?.len();
-    let mut buckets = buckets(alloc, sections, marks, &statements, outputs)?;
-    let mut found = empty_rows(alloc, outputs)?;
-    for (number, statement) in statements.iter().enumerate() {
-        let place = statement.place;
-        let sort = statement.input.sort;
-        add_statement(
-            alloc,
-            project,
-            &mut found,
-            place,
-            sort,
-            &mut buckets[number],
-        )?;
-    }
-    Ok(found)
+    let buckets = buckets(alloc, sections, marks, &statements, outputs)?;
+    join_buckets(alloc, project, &statements, outputs, buckets)
 }

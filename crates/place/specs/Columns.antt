@@ -24,7 +24,8 @@ abbrev pub place_of : IndexedSection → SectionAddress
 place_of e = e.place
 
 -- a column has for each number the place of the first entry of it
-pub record IsColumn (t : InputSectionTable) (entries : List IndexedSection) (places : List (Option SectionAddress)) : Type 0 where
+pub record IsColumn (t : InputSectionTable) (entries : List IndexedSection) (places : List (Option SectionAddress))
+    : Type 0 where
   pub long : length places ≡ len_of t
   pub firsts : (at : ℕ) → at < len_of t
       → slice_index_or places at None ≡ option_map place_of (find (has_number t at) entries)

@@ -1,62 +1,24 @@
-use Rattle.std.proofs.Common.{◌≡◌, ◌≢◌, ◌<◌, ◌+◌, ◌∷◌, [], length, drop, get_or, arith, ap, sym, ◌∙◌}
-use Rattle.std.proofs.Common.{get_or-set_other}
-use Rattle.std.specs.List.{enumerate_from}
-use Rattle.gather.specs.GatheredSections.{taken_in}
-use Rattle.std.proofs.Math.ListN.{length-set}
-use Rattle.std.proofs.lemmas.List.{drop_more, drop_all}
-use Rattle.ldscript.specs.statements.Numbering.{InputStatementAt, input_statements}
+use Rattle.std.proofs.Common.{ap, length, sym, subst, ◌∙◌}
+use Rattle.std.proofs.lemmas.Result.{IfOk-weaker}
+use Rattle.ldscript.specs.statements.Numbering.{input_statements}
 use Rattle.ldscript.specs.statements.Numbered.{shown_inputs}
-use Rattle.std.specs.Prelude.{flat_map}
-use Rattle.gather.specs.RowPieces.{pieces_at, shown_row}
+use Rattle.gather.specs.GatheredSections.{taken_in}
+use Rattle.gather.specs.RowPieces.{AreBuckets}
 use Rattle.gather.proofs.GatheredLists.{taken_are}
-use Rattle.gather.proofs.RowSteps.{rows_step, rows_end, rows_are}
 use Rattle.gather.proofs.rows.rows.Goals as goal
 
-pub loop-number-preserved : goal.loop-number-preserved
-loop-number-preserved c =
-    let i = c.loop-number.number in
-    let inv = c.loop-number.invariant in
-    let items = c.deref-statement-items.result.now in
-    let within : i < length items = c.loop-number-test.true in
-    let st : InputStatementAt =
-    record {
-      line = c.statement-item.result.line;
-      place = c.statement-item.result.place;
-      input =
-          c.statement-item.result.input.now;
-    } in
-    let cut : shown_inputs (drop i items) ≡ st ∷ shown_inputs (drop (i + 1) items) =
-    ap shown_inputs (drop_more items i c.statement-item.result within
-    ∙ ap (λ x. x ∷ drop (i + 1) items) (sym c.statement-item.is)) in
-    let is = ap (λ v. v.items) c.index_mut.ensures.value ∙ inv.left i c.index_mut.result.now (omega arith) within in
-    let added = c.in_ok-add_statement.ensures in
-    record {
-      long = added.long ∙ inv.long;
-      buckets = length-set c.loop-number.buckets.items i c.add_statement.new.pieces ∙ inv.buckets;
-      left = λ k d h l. let ne : k ≢ i = omega (arith, h) in
-          ap (λ v. v.items) (get_or-set_other c.loop-number.buckets.items i k c.add_statement.new.pieces d ne)
-          ∙ inv.left k d (omega (arith, h)) l;
-      rows = λ k d h.
-          (let before : k < length c.loop-number.found.items = omega (arith, h, added.long) in
-          rows_step c.args.project.now (taken_in c.args.marks.now c.args.sections.now) c.index_mut.result.now.items k i
-          (shown_inputs (drop i items)) (shown_inputs (drop (i + 1) items)) st
-          (shown_row c.args.project.now (get_or c.loop-number.found.items k d))
-          (shown_row c.args.project.now (get_or c.add_statement.new.rows.items k d)) _
-          is (added.row k d before) cut (inv.rows k d before));
-    }
+pub join_buckets-requires-clause-statements : goal.join_buckets-requires-clause-statements
+join_buckets-requires-clause-statements c =
+    ap shown_inputs c.deref-2.ensures.value ∙ c.in_ok-statements.ensures
+    ∙ ap input_statements c.script-script.ensures
 
 pub returns : goal.returns
-returns c = λ gathered lives.
+returns c =
     let p = c.args.project.now in
     let xs = taken_in c.args.marks.now c.args.sections.now in
-    let i = c.loop-number.number in
-    let inv = c.loop-number.invariant in
-    let items = c.deref-statement-items.result.now in
-    let none : drop i items ≡ [] = drop_all i items (omega (arith, c.loop-number-test.false)) in
-    let all : shown_inputs items ≡ input_statements p.script =
-    ap shown_inputs c.deref-statement-items.ensures.value ∙ c.in_ok-statements.ensures
-    ∙ ap input_statements c.script-script.ensures in
-    rows_are p xs c.loop-number.found.items
-    (taken_are p c.args.marks.now c.args.sections.now gathered lives) inv.long
-    (λ k d l. rows_end p xs k i (shown_inputs (drop i items)) _ _ (ap shown_inputs none) (inv.rows k d l)
-    ∙ ap (λ s. flat_map (pieces_at p xs k) (enumerate_from 0 s)) all)
+    IfOk-weaker c.join_buckets.result _ _
+    (λ found h gathered lives. h xs
+    (subst (λ n. AreBuckets xs n c.in_ok-buckets.buckets.items)
+    (ap length (c.deref.ensures.value ∙ sym c.deref-2.ensures.value)) c.in_ok-buckets.ensures)
+    (taken_are p c.args.marks.now c.args.sections.now gathered lives))
+    c.join_buckets.ensures

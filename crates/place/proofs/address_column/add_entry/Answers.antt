@@ -19,4 +19,5 @@ pub returns-else-is_none-clause-added : goal.returns-else-is_none-clause-added
 returns-else-is_none-clause-added c = λ before was.
     later_added c.args.table.now before c.args.entry c.args.column.now.items was c.in-Some.number.0
     (sym c.find.ensures.is ∙ ap (option_map (λ (i : SectionNumber). i.0)) c.in-Some.is) c.in-Some.ensures.below
-    c.index.result.now c.index.ensures (none_is c.index.result.now false (c.is_none.ensures ∙ ap not c.if-is_none.false))
+    c.index.result.now c.index.ensures
+    (none_is c.index.result.now false (c.is_none.ensures ∙ ap not c.if-is_none.false))

@@ -10,7 +10,7 @@ use Rattle.ldmodel.specs.Sections.{InputSection}
 use Rattle.gather.specs.SectionPlaces.{AreProjectPlaces, IsPlaceOf, place_under}
 use Rattle.gather.proofs.Keyed.{place_of_key}
 use Rattle.gather.proofs.Starting.{graph_is}
-use Rattle.gather.proofs.live.mark_needed.Goals as goal
+use Rattle.gather.proofs.live.mark_live.Goals as goal
 
 pub mark-requires-clause-count : goal.mark-requires-clause-count
 mark-requires-clause-count c =

@@ -1,0 +1,203 @@
+-- Sections of which nothing is collected, taken one after the other.
+use Rattle.std.proofs.Common.{◌≡◌, ◌∙◌, ◌<◌, ◌+◌, ◌++◌, ◌∷◌, ℕ, Bool, true, false, not, cond, List, [], append-nil}
+use Rattle.std.proofs.Common.{append_assoc, ap, arith, drop, filter, get_or, length, map, refl, sym, subst}
+use Rattle.std.proofs.Common.{Option, Some, None}
+use Rattle.std.specs.List.{cons_option, filter_map}
+use Rattle.std.specs.Prelude.{slice_get}
+use Rattle.std.proofs.lemmas.List.{drop_more, map-append}
+use Rattle.std.proofs.lemmas.List.Elements.{filter-append, filter_map-append}
+use Rattle.ldscript.specs.statements.Numbering.{InputStatementAt, input_statements}
+use Rattle.ldmodel.specs.InputSections.{input_sections, object_inputs}
+use Rattle.ldmodel.specs.Live.{live}
+use Rattle.ldmodel.specs.Gathering.{is_discarded}
+use Rattle.ldmodel.specs.Project.{NamedObject, Project}
+use Rattle.ldmodel.specs.declared.options.Orphans.{Orphans}
+use Rattle.ldmodel.specs.declared.rows.InputIndex.{InputIndex}
+use Rattle.ldmodel.specs.declared.rows.Piece as code
+use Rattle.elfobj.specs.Sections.{LinkedSection}
+use Rattle.gather.specs.Apart.{IsAscending}
+use Rattle.gather.specs.Blocks.{AreBlocksOf}
+use Rattle.gather.specs.GatheredSections.{AreGathered, Facts, as_piece, beside, block_facts, facts}
+use Rattle.gather.specs.GatheredSections.{linked_facts, own_piece, shown_facts, untaken, untaken_by_none}
+use Rattle.gather.specs.LeftOut.{is_out_of}
+use Rattle.gather.specs.LiveMarks.{marked}
+use Rattle.gather.specs.Matches.{number_of}
+use Rattle.gather.specs.ProjectMatches.{IsMatched}
+use Rattle.gather.specs.RowPieces.{AreBuckets}
+use Rattle.gather.specs.Taking.{IsTaken, Takes, TakesFacts, kept_of}
+use Rattle.gather.specs.declared.blocks.CommonBlock.{CommonBlock}
+use Rattle.gather.specs.declared.gathered_section.GatheredSection.{GatheredSection}
+use Rattle.gather.specs.declared.matches.Matches.{Matches}
+use Rattle.gather.specs.declared.taking.Taken.{Taken}
+use Rattle.std.specs.Option.{option_map}
+use Rattle.gather.proofs.GatheredLists.{out_are}
+use Rattle.gather.proofs.LivePaths.{kept_are}
+use Rattle.gather.proofs.ObjectFacts.{linked_step, object_added}
+use Rattle.gather.proofs.Preparing.{GatheredBefore, more_gathered}
+
+module _ (st : List InputStatementAt) (or : Orphans) where
+  abbrev is_out : GatheredSection → Bool
+  is_out x = is_out_of st or x.size (number_of x.statement)
+
+  -- one more
+  kept_more : (xs : List GatheredSection) (x : GatheredSection) (b : Bool) → is_out x ≡ b
+      → kept_of st or (xs ++ x ∷ []) ≡ kept_of st or xs ++ cond (not b) (x ∷ []) []
+  kept_more xs x b e =
+      filter-append (λ (x : GatheredSection). not (is_out x)) xs (x ∷ [])
+      ∙ ap (λ b. kept_of st or xs ++ cond (not b) (x ∷ []) []) e
+
+  -- a section that is left out
+  pub out_taken : (t : Taken) (x : GatheredSection) → is_out x ≡ true → Takes st or t t (x ∷ [])
+  out_taken t x out = λ count xs h.
+      let same : kept_of st or (xs ++ x ∷ []) ≡ kept_of st or xs =
+      kept_more xs x true out ∙ append-nil (kept_of st or xs) in
+      record {
+        buckets = subst (λ l. AreBuckets (filter_map own_piece l) count t.buckets.items) (sym same) h.buckets;
+        orphans = h.orphans ∙ ap (filter_map untaken) (sym same);
+      }
+
+  module _ (old new : Taken) (x : GatheredSection) (kept : is_out x ≡ false) where
+    own_more : (xs : List GatheredSection) (o : Option code.Piece) → own_piece x ≡ o
+        → filter_map own_piece (kept_of st or (xs ++ x ∷ []))
+        ≡ filter_map own_piece (kept_of st or xs) ++ cons_option o []
+    own_more xs o e =
+        ap (filter_map own_piece) (kept_more xs x false kept)
+        ∙ filter_map-append own_piece (kept_of st or xs) (x ∷ [])
+        ∙ ap (λ o. filter_map own_piece (kept_of st or xs) ++ cons_option o []) e
+
+    untaken_more : (xs : List GatheredSection) (o : Option InputIndex) → x.statement ≡ o
+        → filter_map untaken (kept_of st or (xs ++ x ∷ []))
+        ≡ filter_map untaken (kept_of st or xs) ++ cons_option (untaken_by_none x.section o) []
+    untaken_more xs o e =
+        ap (filter_map untaken) (kept_more xs x false kept)
+        ∙ filter_map-append untaken (kept_of st or xs) (x ∷ [])
+        ∙ ap (λ o. filter_map untaken (kept_of st or xs) ++ cons_option (untaken_by_none x.section o) []) e
+
+    -- one that a statement takes
+    pub piece_taken : (n : InputIndex) → x.statement ≡ Some n
+        → ((xs : List code.Piece) (count : ℕ) → AreBuckets xs count old.buckets.items
+        → AreBuckets (xs ++ as_piece x n ∷ []) count new.buckets.items)
+        → new.orphans ≡ old.orphans → Takes st or old new (x ∷ [])
+    piece_taken n is added same = λ count xs h. record {
+      buckets = subst (λ l. AreBuckets l count new.buckets.items)
+          (sym (own_more xs (Some (as_piece x n)) (ap (option_map (as_piece x)) is)))
+          (added (filter_map own_piece (kept_of st or xs)) count h.buckets);
+      orphans = ap (λ v. v.items) same ∙ h.orphans
+          ∙ sym (untaken_more xs (Some n) is ∙ append-nil (filter_map untaken (kept_of st or xs)));
+    }
+
+    -- one that no statement takes
+    pub orphan_taken : x.statement ≡ None → new.buckets ≡ old.buckets
+        → new.orphans.items ≡ old.orphans.items ++ x.section ∷ [] → Takes st or old new (x ∷ [])
+    orphan_taken none same added = λ count xs h. record {
+      buckets = subst (λ v. AreBuckets (filter_map own_piece (kept_of st or (xs ++ x ∷ []))) count v.items) (sym same)
+          (subst (λ l. AreBuckets l count old.buckets.items)
+          (sym (own_more xs None (ap (option_map (as_piece x)) none)
+          ∙ append-nil (filter_map own_piece (kept_of st or xs)))) h.buckets);
+      orphans = added ∙ ap (λ l. l ++ x.section ∷ []) h.orphans ∙ sym (untaken_more xs None none);
+    }
+
+  -- ---- several
+
+  -- some sections are taken, of which these are the facts with those that are left
+  pub record TakesSome (old new : Taken) (left all : List Facts) : Type 0 where
+    pub sections : List GatheredSection
+    pub takes : Takes st or old new sections
+    pub rest : map shown_facts sections ++ left ≡ all
+
+  pub nothing_taken : (t : Taken) (all : List Facts) → TakesSome t t all all
+  nothing_taken t all = record {
+    sections = [];
+    takes = λ count xs h. subst (λ l. IsTaken st or count l t) (sym (append-nil xs)) h;
+    rest = refl;
+  }
+
+  pub both_taken : (a b c : Taken) (xs ys : List GatheredSection) → Takes st or a b xs → Takes st or b c ys
+      → Takes st or a c (xs ++ ys)
+  both_taken a b c xs ys first second = λ count before h.
+      subst (λ l. IsTaken st or count l c) (append_assoc before xs ys)
+      (second count (before ++ xs) (first count before h))
+
+  pub all_taken : (old new : Taken) (left all : List Facts) → left ≡ [] → TakesSome old new left all
+      → TakesFacts st or old new all
+  all_taken old new left all none h = record {
+    sections = h.sections;
+    facts = sym (append-nil (map shown_facts h.sections))
+        ∙ ap (λ l. map shown_facts h.sections ++ l) (sym none) ∙ h.rest;
+    takes = h.takes;
+  }
+
+  -- one more linked section
+  pub linked_taken : (i : ℕ) (ss : List LinkedSection) (ms : List (Option InputIndex)) (old now new : Taken)
+      (x : GatheredSection) (k : ℕ) (s : LinkedSection) (all : List Facts)
+      → slice_get ss k ≡ Some s
+      → shown_facts x ≡ linked_facts i s (number_of (get_or ms k None))
+      → Takes st or now new (x ∷ [])
+      → TakesSome old now (beside i (drop k ss) (map number_of (drop k ms))) all
+      → TakesSome old new (beside i (drop (k + 1) ss) (map number_of (drop (k + 1) ms))) all
+  linked_taken i ss ms old now new x k s all at is one h = record {
+    sections = h.sections ++ x ∷ [];
+    takes = both_taken old now new h.sections (x ∷ []) h.takes one;
+    rest = linked_step i ss ms h.sections (h.sections ++ x ∷ []) x k s all at is refl h.rest;
+  }
+
+  -- one more block
+  pub block_taken : (f : CommonBlock → Facts) (bs : List CommonBlock) (old now new : Taken) (x : GatheredSection)
+      (k : ℕ) (d : CommonBlock) (all : List Facts) → k < length bs → shown_facts x ≡ f (get_or bs k d)
+      → Takes st or now new (x ∷ []) → TakesSome old now (map f (drop k bs)) all
+      → TakesSome old new (map f (drop (k + 1) bs)) all
+  block_taken f bs old now new x k d all low is one h = record {
+    sections = h.sections ++ x ∷ [];
+    takes = both_taken old now new h.sections (x ∷ []) h.takes one;
+    rest = ap (λ l. l ++ map f (drop (k + 1) bs)) (map-append shown_facts h.sections (x ∷ []))
+        ∙ append_assoc (map shown_facts h.sections) (shown_facts x ∷ []) (map f (drop (k + 1) bs))
+        ∙ ap (λ l. map shown_facts h.sections ++ l)
+        (ap (λ y. y ∷ map f (drop (k + 1) bs)) is ∙ sym (ap (map f) (drop_more bs k d low)))
+        ∙ h.rest;
+  }
+
+  -- the linked sections of an object and then its blocks
+  pub object_taken : (p : Project) (i : ℕ) (o : NamedObject) (m : Matches) (bs : List CommonBlock) (a b c : Taken)
+      → IsMatched p.script o m → AreBlocksOf p i o bs
+      → TakesFacts st or a b (beside i o.object.sections (map number_of m.linked.items))
+      → TakesFacts st or b c (map (block_facts i (number_of m.common)) bs)
+      → TakesFacts st or a c (map (facts p) (object_inputs p i o))
+  object_taken p i o m bs a b c matched own linked blocks = record {
+    sections = linked.sections ++ blocks.sections;
+    facts = object_added p i o m bs [] linked.sections (linked.sections ++ blocks.sections) matched own linked.facts
+        (map-append shown_facts linked.sections blocks.sections
+        ∙ ap (λ l. map shown_facts linked.sections ++ l) blocks.facts);
+    takes = both_taken a b c linked.sections blocks.sections linked.takes blocks.takes;
+  }
+
+-- ---- the project
+
+-- no object yet
+pub before_objects : (p : Project) → GatheredBefore p 0 []
+before_objects p = record { are = refl; ascending = λ k d low. absurd (omega (arith, low)) }
+
+-- one more object
+pub after_object : (p : Project) (n : ℕ) (o : NamedObject) (xs ys : List GatheredSection)
+    → slice_get p.objects n ≡ Some o → map shown_facts ys ≡ map (facts p) (object_inputs p n o) → IsAscending o
+    → GatheredBefore p n xs → GatheredBefore p (n + 1) (xs ++ ys)
+after_object p n o xs ys at facts up h =
+    more_gathered p n o xs (xs ++ ys) at
+    (map-append shown_facts xs ys ∙ ap (λ l. map shown_facts xs ++ l) facts) up h
+
+-- marks of the sections that are kept
+pub record KeptMarks (p : Project) (xs : List GatheredSection) : Type 0 where
+  pub marks : List Bool
+  pub kept : marked marks xs ≡ kept_of (input_statements p.script) p.options.orphans xs
+  pub are_live : marked marks (input_sections p) ≡ live p
+
+pub kept_marks : (p : Project) (xs : List GatheredSection) → AreGathered p xs
+    → live p ≡ filter (λ s. not (is_discarded p s)) (input_sections p) → KeptMarks p xs
+kept_marks p xs a lives = record {
+  marks = map not (map test xs);
+  kept = kept_are test xs;
+  are_live = ap (λ l. marked (map not l) (input_sections p)) (out_are p xs a)
+      ∙ kept_are (is_discarded p) (input_sections p) ∙ sym lives;
+}
+  where
+    test : GatheredSection → Bool
+    test x = is_out_of (input_statements p.script) p.options.orphans x.size (number_of x.statement)

@@ -1,0 +1,14 @@
+-- The objects so far are taken.
+use Rattle.std.proofs.Common.{List, length}
+use Rattle.ldscript.specs.statements.Numbered.{shown_inputs}
+use Rattle.gather.specs.Taking.{IsTaken}
+use Rattle.gather.specs.declared.gathered_section.GatheredSection.{GatheredSection}
+use Rattle.gather.proofs.Preparing.{GatheredBefore}
+use Rattle.gather.proofs.taking.take_all.Given as goal
+
+abbrev pub invariant-loop-place : goal.invariant-loop-place
+invariant-loop-place l = record {
+  sections : List GatheredSection;
+  before : GatheredBefore l.project l.place sections;
+  taken : IsTaken (shown_inputs l.statements) l.orphans (length l.statements) sections l.taken;
+}

@@ -1,0 +1,171 @@
+//! The pieces and the orphans of a project of which nothing is collected, object by object: no list of all its input
+//! sections is made.
+
+ghost use Rattle.std.specs.Prelude.{◌≡◌, ◌<◌, ◌∷◌, [], IfOk, OnOk, false, length, map};
+ghost use Rattle.gather.specs.Apart.{IsAscending};
+ghost use Rattle.gather.specs.Blocks.{AreBlocks, AreBlocksOf};
+ghost use Rattle.gather.specs.GatheredSections.{beside, block_facts, facts};
+ghost use Rattle.gather.specs.Matches.{number_of};
+ghost use Rattle.gather.specs.ProjectMatches.{AreMatched, IsMatched};
+ghost use Rattle.gather.specs.Taking.{IsAllTaken, Takes, TakesFacts};
+ghost use Rattle.ldmodel.specs.InputSections.{object_inputs};
+ghost use Rattle.ldmodel.specs.Project.{Project};
+ghost use Rattle.ldmodel_project.specs.Inputs.{shown_input};
+ghost use Rattle.ldscript.specs.statements.Numbered.{shown_inputs};
+ghost use Rattle.ldscript.specs.statements.Numbering.{input_statements};
+
+use crate::blocks::CommonBlock;
+use crate::discarded_sections::is_discarded;
+use crate::gathered_section::{GatheredSection, block, linked_at};
+use crate::matches::Matches;
+use crate::rooms::buckets_for;
+use crate::rows::add_piece;
+use elfobj::Object;
+use ldmodel::memory::NoMemory;
+use ldmodel::names::ObjectPlace;
+use ldmodel::options::Orphans;
+use ldmodel::rows::{InputIndex, Piece};
+use ldmodel::sections::SectionKey;
+use ldmodel_project::input::InputObject;
+use ldmodel_project::view::ProjectView;
+use ldscript::tree::InputStatementAt;
+use std::alloc::Global;
+
+/// What was found of some input sections.
+#[derive(Drop)]
+pub(crate) struct Taken {
+    /// The pieces that each statement takes.
+    pub(crate) buckets: Vec<Vec<Piece>>,
+    /// The sections that no statement takes and that are not left out.
+    pub(crate) orphans: Vec<SectionKey>,
+}
+
+/// Takes a section, unless it is left out.
+fn take_section(
+    taken: &mut Taken,
+    statements: &[InputStatementAt<'_>],
+    orphans: Orphans,
+    section: &GatheredSection,
+) -> Result<(), NoMemory>
+    ensures { OnOk result (Takes (shown_inputs statements.now) orphans taken.old taken.new (section.now ∷ [])) }
+{
+    if is_discarded(statements, orphans, section) {
+        return Ok(());
+    }
+    match section.statement {
+        Some(statement) => add_piece(&mut taken.buckets, section.piece(statement)),
+        None => {
+            taken.orphans.push(section.section)?;
+            Ok(())
+        }
+    }
+}
+
+/// Takes the linked sections of an object. `matched` are the statements that take them, in their order.
+fn take_linked(
+    taken: &mut Taken,
+    statements: &[InputStatementAt<'_>],
+    orphans: Orphans,
+    key: ObjectPlace,
+    object: &Object,
+    matched: &[Option<InputIndex>],
+) -> Result<(), NoMemory>
+    ensures { OnOk result (TakesFacts (shown_inputs statements.now) orphans taken.old taken.new
+        (beside key.0 object.now.sections (map number_of matched.now))) }
+{
+    for place in 0..object.sections().len() {
+        let section = linked_at(key, object, matched, place);
+        take_section(taken, statements, orphans, &section)?;
+    }
+    Ok(())
+}
+
+/// Takes the common blocks that an object owns. `matched` is the statement that takes them.
+fn take_blocks(
+    taken: &mut Taken,
+    statements: &[InputStatementAt<'_>],
+    orphans: Orphans,
+    key: ObjectPlace,
+    matched: Option<InputIndex>,
+    blocks: &[CommonBlock],
+) -> Result<(), NoMemory>
+    ensures { OnOk result (TakesFacts (shown_inputs statements.now) orphans taken.old taken.new
+        (map (block_facts key.0 (number_of matched)) blocks.now)) }
+{
+    for number in 0..blocks.len() {
+        let section = block(key, matched, blocks[number]);
+        take_section(taken, statements, orphans, &section)?;
+    }
+    Ok(())
+}
+
+/// Takes the input sections of the object at a place.
+fn take_object(
+    taken: &mut Taken,
+    statements: &[InputStatementAt<'_>],
+    orphans: Orphans,
+    place: usize,
+    input: &InputObject<'_>,
+    matches: &Matches,
+    blocks: &[CommonBlock],
+) -> Result<(), NoMemory>
+    ensures added { OnOk result ((p : Project) → IsMatched p.script (shown_input input.now) matches.now
+        → AreBlocksOf p place (shown_input input.now) blocks.now
+        → TakesFacts (shown_inputs statements.now) orphans taken.old taken.new
+        (map (facts p) (object_inputs p place (shown_input input.now)))) }
+    ensures ascending { IsAscending (shown_input input.now) }
+{
+    // so that what an object says of its sections is known
+    let _sections = input.object.sections();
+    let key = ObjectPlace(place);
+    take_linked(
+        taken,
+        statements,
+        orphans,
+        key,
+        input.object,
+        &matches.linked,
+    )?;
+    take_blocks(taken, statements, orphans, key, matches.common, blocks)
+}
+
+/// The pieces and the orphans of a project of which nothing is collected: all its input sections but those that are
+/// left out. `statements` are the input statements of its script, which has this many output sections. `blocks` has
+/// the common blocks of each object, in object order.
+///
+/// # Errors
+///
+/// Where memory runs out.
+pub(crate) fn take_all(
+    alloc: Global,
+    project: &ProjectView<'_>,
+    matches: &[&Matches],
+    blocks: &[Vec<CommonBlock>],
+    statements: &[InputStatementAt<'_>],
+    outputs: usize,
+) -> Result<Taken, NoMemory>
+    requires matches { AreMatched project.now (map (λ x. x.now) matches.now) }
+    requires blocks { AreBlocks project.now blocks.now }
+    requires statements { shown_inputs statements.now ≡ input_statements project.now.script }
+    ensures { IfOk result (λ t. IsAllTaken project.now (length statements.now) t) }
+{
+    let orphans = project.options().orphans();
+    let inputs = project.inputs();
+    let buckets = buckets_for(alloc, matches, blocks, statements, outputs)?;
+    let mut taken = Taken {
+        buckets,
+        orphans: Vec::new(alloc),
+    };
+    for (place, input) in inputs.iter().enumerate() {
+        take_object(
+            &mut taken,
+            statements,
+            orphans,
+            place,
+            input,
+            matches[place],
+            &blocks[place],
+        )?;
+    }
+    Ok(taken)
+}
