@@ -68,12 +68,12 @@ returns c =
     let past : length p.objects ≤ c.loop-place.place =
     omega (arith, c.loop-place-test.false, as_many p c.inputs-inputs.result.now c.inputs-inputs.ensures.same) in
     let h = c.loop-place.invariant in
-    let count = length c.args.statements.now in
-    let taken = c.loop-place.taken in
     record {
       sections = h.sections;
       gathered = all_gathered p c.loop-place.place h.sections past h.before;
-      taken = subst (λ or. IsTaken (input_statements p.script) or count h.sections taken)
+      taken = subst (λ or. IsTaken (input_statements p.script) or (length c.args.statements.now) h.sections
+          c.loop-place.taken)
           (c.orphans-orphans.ensures ∙ ap (λ (o : LinkOptions). o.orphans) c.options.ensures)
-          (subst (λ st. IsTaken st c.orphans-orphans.result count h.sections taken) c.requires.statements h.taken);
+          (subst (λ st. IsTaken st c.orphans-orphans.result (length c.args.statements.now) h.sections
+          c.loop-place.taken) c.requires.statements h.taken);
     }
