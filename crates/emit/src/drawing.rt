@@ -113,7 +113,7 @@ fn draw_outputs(
         sections: &parts.sections,
         tail: &tail,
     };
-    redraw(alloc, canvas, &drawing, patches, meter)
+    redraw(canvas, &drawing, patches, meter)
 }
 
 /// Draws the image of a link without faults onto a canvas, and counts the bytes that it writes: all but those of the

@@ -16,7 +16,7 @@ use Rattle.emit_image.specs.Drawing.{end_of_parts, end_of_sections, ends_in, gap
 use Rattle.emit_image.specs.Drawing.{spot_among}
 use Rattle.emit_image.specs.Drawing.{spot_past_headers}
 use Rattle.emit_image.specs.Joined.{AreAlike, IsJoined, IsJoinedSection, piece_ends, piece_spot, spot_in}
-use Rattle.emit_image.specs.Plan.{IsDrawnFor, count_unstayed}
+use Rattle.emit_image.specs.Drawn.{IsDrawnFor, count_unstayed}
 use Rattle.emit_image.specs.Stretches.{Spot}
 use Rattle.emit_image.specs.declared.section.Drawing.{Drawing}
 use Rattle.emit_image.specs.declared.section.ImagePart.{ImagePart}

@@ -108,6 +108,11 @@ pub sections-all : (d : Drawing) (k at : ℕ) → AreSectionsReached d k at → 
     ≡ end_of_sections (length d.headers.now) d.sections.now
 sections-all d k at r l = sym (ap (λ xs. end_of_sections at xs) (drop_all k d.sections.now l)) ∙ r.end
 
+-- the first output sections end by the end of all
+pub sections_to : (d : Drawing) (k at : ℕ) → AreSectionsReached d k at
+    → at ≤ end_of_sections (length d.headers.now) d.sections.now
+sections_to d k at r = let up = sections-end at (drop k d.sections.now) r.order in omega (arith, up, r.end)
+
 -- the next output section
 pub record SectionTurn (d : Drawing) (k at : ℕ) (x : ImageSection) : Type 0 where
   pub above : at ≤ x.offset
@@ -197,6 +202,14 @@ parts-none d h = record { low = omega arith; before = λ i x l n. absurd (omega 
 pub parts-all : (d : Drawing) (k at : ℕ) → ArePartsReached d k at → length d.tail.now ≤ k → at ≡ drawing_end d
 parts-all d k at r l = sym (ap (λ xs. end_of_parts at xs) (drop_all k d.tail.now l)) ∙ r.end
 
+pub parts_end : (from : ℕ) (xs : List ImagePart) → AreParts from xs → from ≤ end_of_parts from xs
+parts_end from [] h = omega arith
+parts_end from (y ∷ ys) h = let later = parts_end (part_end y) ys h.2 in omega (arith, h.0)
+
+-- the first parts end by the end of all
+pub parts_to : (d : Drawing) (k at : ℕ) → ArePartsReached d k at → at ≤ drawing_end d
+parts_to d k at r = let up = parts_end at (drop k d.tail.now) r.order in omega (arith, up, r.end)
+
 -- the next part of the tail
 pub record PartTurn (d : Drawing) (k at : ℕ) (x : ImagePart) : Type 0 where
   pub above : at ≤ x.offset
@@ -283,3 +296,10 @@ pub part-turn-of : (d : Drawing) (k at : ℕ) (x : ImagePart) → IsDrawing d �
     → k < length d.tail.now → x ≡ get_or d.tail.now k x → PartTurn d k at x
 part-turn-of d k at x h r l e = let P : ImagePart → Type 0 = λ y. PartTurn d k at y in
     subst P (sym e) (part-turn d k at x h r l)
+
+pub part_within : (d : Drawing) (k at : ℕ) (x : ImagePart) (limit : ℕ) → IsDrawing d → ArePartsReached d k at
+    → k < length d.tail.now → drawing_end d ≤ limit → part_end (get_or d.tail.now k x) ≤ limit
+part_within d k at x limit h r l m =
+    let t = part-turn d k at x h r l in
+    let to = parts_to d (k + 1) (part_end (get_or d.tail.now k x)) t.reached in
+    omega (arith, to, m)

@@ -28,7 +28,7 @@ use Rattle.emit_image.specs.Drawing.{covers_data, covers_part, covers_piece, cov
 use Rattle.emit_image.specs.Drawing.{section_spot, spot_among, spot_past_headers}
 use Rattle.emit_image.specs.Kept.{ArePatchesOf, EachPiece, HasStayed, IsRedrawing, IsSitePatch, file_patch, linked_in}
 use Rattle.emit_image.specs.OfLink.{IsDrawingOf, IsImagePiece, IsImageSection, loaded}
-use Rattle.emit_image.specs.Plan.{IsDrawnFor}
+use Rattle.emit_image.specs.Drawn.{IsDrawnFor}
 use Rattle.emit_image.specs.Stretches.{EndsBy, IsPatchOf, is_patched}
 use Rattle.emit_image.specs.declared.section.Drawing.{Drawing}
 use Rattle.emit_image.specs.declared.section.ImagePart.{ImagePart}

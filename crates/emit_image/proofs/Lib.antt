@@ -8,7 +8,6 @@ pub mod Alike
 pub mod Counting
 pub mod FileOrder
 pub mod Found
-pub mod Growing
 pub mod InDrawing
 pub mod InSection
 pub mod Joining
@@ -16,10 +15,10 @@ pub mod Keeping
 pub mod Members
 pub mod OfLink
 pub mod Patching
-pub mod Planned
+pub mod Painting
 pub mod Settling
 pub mod Sparing
 mod Spending
 pub mod Standing
 pub mod Together
-pub mod Walking
+pub mod Unstayed

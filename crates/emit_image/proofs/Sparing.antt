@@ -26,7 +26,7 @@ use Rattle.emit_image.specs.Drawing.{covers_section, drawing_end, drawing_spot, 
 use Rattle.emit_image.specs.Drawing.{piece_end, section_spot, spot_among}
 use Rattle.emit_image.specs.Kept.{EachPiece, IsKept, linked_in}
 use Rattle.emit_image.specs.OfLink.{IsDrawingOf, IsImagePiece, IsImageSection, loaded}
-use Rattle.emit_image.specs.Plan.{count_unstayed}
+use Rattle.emit_image.specs.Drawn.{count_unstayed}
 use Rattle.emit_image.specs.Reached.{section_image}
 use Rattle.emit_image.specs.Stretches.{Spot, patch_bytes}
 use Rattle.emit_image.specs.declared.section.Drawing.{Drawing}
@@ -38,7 +38,7 @@ use Rattle.emit_image.proofs.InDrawing.{in_section, sections-order}
 use Rattle.emit_image.proofs.InSection.{pieces-end, pieces-order}
 use Rattle.emit_image.proofs.Members.{here, later, zip_both}
 use Rattle.emit_image.proofs.OfLink.{end-same}
-use Rattle.emit_image.proofs.Planned.{run, unless}
+use Rattle.emit_image.proofs.Unstayed.{run, unless}
 
 -- ---- of the bytes from one offset up to another n at least stay
 

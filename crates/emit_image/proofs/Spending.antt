@@ -17,7 +17,7 @@ use Rattle.emit_image.specs.Drawing.{IsDrawing, covers_data, covers_part, covers
 use Rattle.emit_image.specs.Drawing.{drawing_spot, section_spot, spot_among, spot_past_headers}
 use Rattle.emit_image.specs.Kept.{EachPiece, HasStayed, IsKept, linked_in}
 use Rattle.emit_image.specs.OfLink.{IsDrawingOf, IsImagePiece, IsImageSection, loaded}
-use Rattle.emit_image.specs.Plan.{count_unstayed}
+use Rattle.emit_image.specs.Drawn.{count_unstayed}
 use Rattle.emit_image.specs.Stretches.{Spot}
 use Rattle.emit_image.specs.declared.section.Drawing.{Drawing}
 use Rattle.emit_image.specs.declared.section.ImagePart.{ImagePart}

@@ -3,10 +3,10 @@ pub mod Joined
 pub mod SegmentBytes
 pub mod Tables
 pub mod Drawing
-pub mod Grown
+pub mod Painted
 pub mod InMemory
 pub mod Kept
 pub mod OfLink
-pub mod Plan
+pub mod Drawn
 pub mod Reached
 pub mod Stretches

@@ -15,19 +15,13 @@ use crate::section::Drawing;
 use elfobj::Meter;
 use emit_fields::canvas::Canvas;
 use ldmodel::memory::NoMemory;
-use std::alloc::Global;
 
 /// Writes the image that is drawn from these parts, of which none stays, onto a canvas.
 ///
 /// # Errors
 ///
 /// Where memory runs out. Then the canvas is as it was.
-pub fn draw(
-    alloc: Global,
-    canvas: &mut Canvas,
-    drawing: &Drawing<'_>,
-    meter: &mut Meter,
-) -> Result<(), NoMemory>
+pub fn draw(canvas: &mut Canvas, drawing: &Drawing<'_>, meter: &mut Meter) -> Result<(), NoMemory>
     requires drawing { IsDrawing drawing.now }
     requires unstayed { AreUnstayed drawing.now }
     ensures image { OnOk result ((project : Project) (layout : Layout) → IsDrawingOf project layout drawing.now
@@ -37,5 +31,5 @@ pub fn draw(
     ensures unchanged { OnErr result (canvas.new.bytes ≡ canvas.old.bytes) }
 {
     drawing_is_image();
-    redraw(alloc, canvas, drawing, &[], meter)
+    redraw(canvas, drawing, &[], meter)
 }

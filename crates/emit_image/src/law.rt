@@ -22,7 +22,7 @@ ghost use Rattle.emit_image.specs.InMemory.{AreFilled, IsInMemory};
 ghost use Rattle.emit_image.specs.Joined.{AreAlike, IsJoined};
 ghost use Rattle.emit_image.specs.Kept.{ArePatchesOf, EachPiece, HasStayed, IsKept, IsRedrawing};
 ghost use Rattle.emit_image.specs.OfLink.{AreUnstayed, IsDrawingOf};
-ghost use Rattle.emit_image.specs.Plan.{IsDrawnFor, count_unstayed};
+ghost use Rattle.emit_image.specs.Drawn.{IsDrawnFor, count_unstayed};
 ghost use Rattle.emit_image.specs.Stretches.{EndsBy, patch_bytes};
 ghost use Rattle.emit_image.specs.declared.section.Drawing.{Drawing};
 

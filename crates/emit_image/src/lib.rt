@@ -1,22 +1,21 @@
 //! The image: its headers, its tail (symbol table, names, section headers), and drawing it. Takes layout, symbols and
-//! fields; a plan makes every growth, and a commit takes no memory and has no refusal.
+//! fields; all growth comes before a byte of the canvas changes.
 //!
 //! - `headers`: ELF header and program headers; `tail` over `symbols`, `strings`, `sections`, `number`: the tail;
-//! - `section`: what is drawn; `row`: sections that stayed side by side as one; `write_span`, `add`, `add_section`: a
-//!   drawing as write spans, gaps and their fill among them;
-//! - `plan`, `commit` over `patched`, `redraw`, `draw`: over the image of a previous link, of which what stayed is
-//!   kept, or anew; `law`.
+//! - `section`: what is drawn; `row`: sections that stayed side by side as one;
+//! - `redraw`, `draw`: over the image of a previous link, of which what stayed is kept, or anew; `commit`: the patches,
+//!   and then what does not stay, by `paint_drawing` over `paint_section` over `paint`, `patched`; `law`.
 #![tactic(auto)]
 
-mod add;
-mod add_section;
-pub mod commit;
+mod commit;
 pub mod draw;
 pub mod headers;
 pub mod law;
 mod number;
+pub mod paint;
+mod paint_drawing;
+pub mod paint_section;
 mod patched;
-pub mod plan;
 pub mod redraw;
 pub mod row;
 pub mod section;
@@ -24,4 +23,3 @@ pub mod sections;
 pub mod strings;
 pub mod symbols;
 pub mod tail;
-pub mod write_span;

@@ -14,22 +14,22 @@ ghost use Rattle.emit_image.specs.Drawing.{IsDrawing, drawing_end, drawing_spot}
 ghost use Rattle.emit_image.specs.Joined.{AreAlike};
 ghost use Rattle.emit_image.specs.Kept.{EachPiece, HasStayed, IsKept, IsRedrawing};
 ghost use Rattle.emit_image.specs.OfLink.{AreUnstayed, IsDrawingOf};
-ghost use Rattle.emit_image.specs.Plan.{count_unstayed};
+ghost use Rattle.emit_image.specs.Drawn.{count_unstayed};
 ghost use Rattle.emit_image.specs.Stretches.{EndsBy, patch_bytes};
 ghost use Rattle.emit_image.specs.declared.section.Drawing.{Drawing as DrawingOf};
 
+use crate::commit::write_image;
 use crate::law::{drawing_is_image, kept_is_image, kept_is_not_drawn, kept_is_what_stayed};
-use crate::plan::plan_image;
+use crate::paint_drawing::image_end;
 use crate::section::Drawing;
 use elfobj::Meter;
 use emit_fields::canvas::Canvas;
 use emit_fields::patch::Patch;
 use ldmodel::memory::NoMemory;
-use std::alloc::Global;
 
 /// Writes the image that is drawn from these parts onto a canvas: all of it but the bytes that stay. In these only the
-/// patches are written, whose offsets are places in the file. It plans, and then commits: so of the calls of an edit
-/// that may fail it can be the last.
+/// patches are written, whose offsets are places in the file. Nothing is written before there is room for all of it: so
+/// of the calls of an edit that may fail it can be the last.
 ///
 /// The drawing may have input sections that stay joined: `whole` is a drawing of the same bytes, of which the same stay,
 /// that has each of them. One in which none are joined is its own.
@@ -43,7 +43,6 @@ use std::alloc::Global;
 ///
 /// Where memory runs out. Then the canvas is as it was.
 pub fn redraw(
-    alloc: Global,
     canvas: &mut Canvas,
     drawing: &Drawing<'_>,
     patches: &[Patch],
@@ -74,7 +73,8 @@ pub fn redraw(
     kept_is_image();
     kept_is_not_drawn();
     kept_is_what_stayed();
-    let plan = plan_image(alloc, canvas, drawing, patches)?;
-    plan.commit(canvas, meter);
+    let end = image_end(drawing);
+    canvas.reserve(end)?;
+    write_image(canvas, drawing, end, patches, meter);
     Ok(())
 }

@@ -4,9 +4,9 @@ use Rattle.std.specs.Prelude.{Result, Ok, Err, OnOk}
 use Rattle.elfobj.specs.Raised.{raised}
 use Rattle.elfobj.specs.declared.meter.Count.TheVariants.{Bytes}
 use Rattle.emit_image.specs.Drawing.{drawing_end, drawing_spot}
-use Rattle.emit_image.specs.Plan.{count_unstayed}
+use Rattle.emit_image.specs.Drawn.{count_unstayed}
 use Rattle.emit_image.proofs.Alike.{alike_self}
-use Rattle.emit_image.proofs.Planned.{count_all}
+use Rattle.emit_image.proofs.Unstayed.{count_all}
 use Rattle.emit_image.proofs.draw.draw.Goals as goal
 
 on_ok : {T E : Type 0} (P Q : Type 0) (r : Result T E) → (P → Q) → OnOk r P → OnOk r Q

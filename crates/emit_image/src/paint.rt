@@ -1,0 +1,182 @@
+//! What stands in the image, written span by span, each from where the one before it ends: a run, an input section, a
+//! data command. A span that stays is passed over.
+
+ghost use Rattle.std.specs.Prelude.{◌≡◌, ◌≤◌, ◌<◌, ◌+◌, ◌-◌, ◌%◌, ℕ, length, slice_index, false};
+ghost use Rattle.elfobj.specs.Raised.{raised};
+ghost use Rattle.elfobj.specs.declared.meter.Count.TheVariants.{Bytes};
+ghost use Rattle.ldscript.specs.statements.Widths.{byte_count};
+ghost use Rattle.emit_image.specs.Drawing.{IsFilled, data_byte, piece_byte};
+ghost use Rattle.emit_image.specs.Painted.{IsPainted, IsReady};
+ghost use Rattle.emit_image.specs.Stretches.{Fills, content_byte};
+
+use crate::patched::{BUFFER_SIZE, write_piece};
+use crate::section::ImagePiece;
+use elfobj::Meter;
+use emit_fields::canvas::Canvas;
+use emit_fields::patch::Patch;
+use emit_fields::run::write_run;
+use ldmodel::placed::PlacedData;
+
+/// What lies between output sections, and where an input section has no bytes.
+pub(crate) const ZERO: [u8; 1] = [0];
+
+/// The bytes of a span.
+#[derive(Clone, Copy)]
+pub enum Content<'a> {
+    /// A pattern of 1 to 8 bytes, over and over.
+    Fill(&'a [u8]),
+    /// The lowest bytes of a number, the lowest first.
+    Number(u64),
+    /// These bytes, with fields over them in the order of their offsets.
+    Bytes(&'a [u8], &'a [Patch]),
+}
+
+/// Writes the bytes of a content from `from` up to `end`. An input section may be put together on `desk` before.
+fn write_content(
+    canvas: &mut Canvas,
+    desk: &mut [u8; BUFFER_SIZE],
+    from: usize,
+    end: usize,
+    content: &Content<'_>,
+    meter: &mut Meter,
+)
+    requires order { from ≤ end }
+    requires within { end ≤ length canvas.old.bytes }
+    requires fills { Fills (end - from) content.now }
+    ensures own { (i : ℕ) → i < end - from → slice_index canvas.new.bytes (from + i) ≡ content_byte content.now i }
+    ensures before { (o : ℕ) → o < from → slice_index canvas.new.bytes o ≡ slice_index canvas.old.bytes o }
+    ensures after { (o : ℕ) → end ≤ o → slice_index canvas.new.bytes o ≡ slice_index canvas.old.bytes o }
+    ensures len { length canvas.new.bytes ≡ length canvas.old.bytes }
+    ensures room { canvas.new.room ≡ canvas.old.room }
+    ensures counted { meter.new ≡ raised meter.old Bytes (end - from) }
+{
+    match content {
+        Content::Fill(pattern) => write_run(canvas, from, end - from, pattern, meter),
+        Content::Number(value) => {
+            let bytes = value.to_le_bytes();
+            canvas.write(from, &bytes[..end - from], meter);
+        }
+        Content::Bytes(bytes, fields) => write_piece(canvas, desk, from, bytes, fields, meter),
+    }
+}
+
+/// How far the canvas grows at a time. Its new bytes are zeros at first; a block of them is still in the processor's
+/// cache when the bytes of the image are written over it.
+const BLOCK: usize = 65_536;
+
+/// Makes a canvas of at most `most` bytes at least `least` long, by zeros.
+pub(crate) fn grow_to(canvas: &mut Canvas, least: usize, most: usize)
+    requires order { least ≤ most }
+    requires short { length canvas.old.bytes ≤ most }
+    requires room { most ≤ canvas.old.room }
+    ensures reached { least ≤ length canvas.new.bytes }
+    ensures grown { length canvas.old.bytes ≤ length canvas.new.bytes }
+    ensures short { length canvas.new.bytes ≤ most }
+    ensures same { (o : ℕ) → slice_index canvas.new.bytes o ≡ slice_index canvas.old.bytes o }
+    ensures room { canvas.old.room ≤ canvas.new.room }
+{
+    let len = canvas.len();
+    if len < least {
+        canvas.resize_reserved(len.saturating_add(BLOCK).max(least).min(most));
+    }
+}
+
+/// Writes what stands from `from` up to `end`, unless it stays. The canvas grows with it, up to `limit`.
+pub(crate) fn paint(
+    canvas: &mut Canvas,
+    desk: &mut [u8; BUFFER_SIZE],
+    limit: usize,
+    from: usize,
+    end: usize,
+    stays: bool,
+    content: &Content<'_>,
+    meter: &mut Meter,
+)
+    requires ready { IsReady limit canvas.old }
+    requires order { from ≤ end }
+    requires within { end ≤ limit }
+    requires fills { Fills (end - from) content.now }
+    ensures ready { IsReady limit canvas.new }
+    ensures painted { IsPainted canvas.old.bytes canvas.new.bytes meter.old meter.new from end (λ o.
+        record { byte = content_byte content.now (o - from); stays = stays }) }
+{
+    grow_to(canvas, end, limit);
+    if stays {
+        return;
+    }
+    write_content(canvas, desk, from, end, content, meter);
+}
+
+/// Writes a run of a pattern up to `end`; nothing where it is empty.
+pub(crate) fn paint_fill(
+    canvas: &mut Canvas,
+    desk: &mut [u8; BUFFER_SIZE],
+    limit: usize,
+    from: usize,
+    end: usize,
+    pattern: &[u8],
+    meter: &mut Meter,
+)
+    requires ready { IsReady limit canvas.old }
+    requires order { from ≤ end }
+    requires within { end ≤ limit }
+    requires some { 0 < length pattern.now }
+    requires few { length pattern.now ≤ 8 }
+    ensures ready { IsReady limit canvas.new }
+    ensures painted { IsPainted canvas.old.bytes canvas.new.bytes meter.old meter.new from end (λ o.
+        record { byte = slice_index pattern.now ((o - from) % length pattern.now); stays = false }) }
+{
+    if from == end {
+        return;
+    }
+    let content = Content::Fill(pattern);
+    paint(canvas, desk, limit, from, end, false, &content, meter);
+}
+
+/// Writes an input section that is not empty.
+pub(crate) fn paint_piece(
+    canvas: &mut Canvas,
+    desk: &mut [u8; BUFFER_SIZE],
+    limit: usize,
+    from: usize,
+    end: usize,
+    x: &ImagePiece<'_>,
+    meter: &mut Meter,
+)
+    requires ready { IsReady limit canvas.old }
+    requires end { from + x.now.size ≡ end }
+    requires within { end ≤ limit }
+    requires filled { IsFilled x.now }
+    ensures ready { IsReady limit canvas.new }
+    ensures painted { IsPainted canvas.old.bytes canvas.new.bytes meter.old meter.new from end (λ o.
+        record { byte = piece_byte (x.now.start + (o - from)) x.now; stays = x.now.stays }) }
+{
+    if x.bytes.is_empty() {
+        let content = Content::Fill(&ZERO);
+        paint(canvas, desk, limit, from, end, x.stays, &content, meter);
+        return;
+    }
+    let content = Content::Bytes(x.bytes, x.fields);
+    paint(canvas, desk, limit, from, end, x.stays, &content, meter);
+}
+
+/// Writes a data command.
+pub(crate) fn paint_data(
+    canvas: &mut Canvas,
+    desk: &mut [u8; BUFFER_SIZE],
+    limit: usize,
+    from: usize,
+    end: usize,
+    d: &PlacedData,
+    meter: &mut Meter,
+)
+    requires ready { IsReady limit canvas.old }
+    requires end { from + byte_count d.now.width ≡ end }
+    requires within { end ≤ limit }
+    ensures ready { IsReady limit canvas.new }
+    ensures painted { IsPainted canvas.old.bytes canvas.new.bytes meter.old meter.new from end (λ o.
+        record { byte = data_byte (d.now.start + (o - from)) d.now; stays = false }) }
+{
+    let content = Content::Number(d.value);
+    paint(canvas, desk, limit, from, end, false, &content, meter);
+}

@@ -1,0 +1,218 @@
+//! What stands in an output section: its input sections and data commands, in the order of their addresses, and the
+//! gaps between them.
+
+ghost use Rattle.std.specs.Prelude.{◌≡◌, ◌≤◌, ◌<◌, ◌+◌, length, slice_index_or};
+ghost use Rattle.ldmodel.specs.declared.placed.PlacedData.{PlacedData};
+ghost use Rattle.emit_image.specs.Drawing.{IsOrderly};
+ghost use Rattle.emit_image.specs.Painted.{IsPainted, IsReady};
+ghost use Rattle.emit_image.specs.Reached.{DataFrom, IsReached, PiecesFrom, place_of, section_image};
+ghost use Rattle.emit_image.specs.declared.section.ImagePiece.{ImagePiece};
+
+use crate::paint::{paint_data, paint_fill, paint_piece};
+use crate::patched::BUFFER_SIZE;
+use crate::section::ImageSection;
+use elfobj::Meter;
+use emit_fields::canvas::Canvas;
+
+/// How far the parts of an output section are written.
+#[derive(Clone, Copy)]
+pub struct SectionCursor {
+    /// How many input sections.
+    pub pieces: usize,
+    /// How many data commands.
+    pub data_commands: usize,
+    /// The address up to which they reach.
+    pub at: u64,
+}
+
+/// Where an address of an output section lies in the file.
+fn place(x: &ImageSection<'_>, at: u64) -> usize
+    requires orderly { IsOrderly x.now }
+    requires low { x.now.start ≤ at }
+    requires high { at ≤ x.now.start + x.now.size }
+    ensures { result ≡ place_of x.now at }
+{
+    (x.offset + (at - x.start)) as usize
+}
+
+/// Writes the next data command, which starts below `below`, and the gap before it. The input sections to come start at
+/// `below` or later.
+fn paint_next_data(
+    canvas: &mut Canvas,
+    desk: &mut [u8; BUFFER_SIZE],
+    limit: usize,
+    x: &ImageSection<'_>,
+    cursor: SectionCursor,
+    below: u64,
+    meter: &mut Meter,
+) -> SectionCursor
+    requires orderly { IsOrderly x.now }
+    requires reached { IsReached x.now cursor.pieces cursor.data_commands cursor.at }
+    requires ready { IsReady limit canvas.old }
+    requires within { x.now.offset + x.now.size ≤ limit }
+    requires pieces { PiecesFrom x.now cursor.pieces below }
+    requires some { cursor.data_commands < length x.now.data_commands.now }
+    requires below { (d : PlacedData) → (slice_index_or x.now.data_commands.now cursor.data_commands d).start < below }
+    ensures reached { IsReached x.now result.pieces result.data_commands result.at }
+    ensures pieces { result.pieces ≡ cursor.pieces }
+    ensures data_commands { result.data_commands ≡ cursor.data_commands + 1 }
+    ensures up { cursor.at ≤ result.at }
+    ensures ready { IsReady limit canvas.new }
+    ensures painted { IsPainted canvas.old.bytes canvas.new.bytes meter.old meter.new (place_of x.now cursor.at)
+        (place_of x.now result.at) (section_image x.now) }
+{
+    let d = &x.data_commands[cursor.data_commands];
+    let end = d.start + u64::from(d.width.byte_count());
+    let from = place(x, d.start);
+    paint_fill(
+        canvas,
+        desk,
+        limit,
+        place(x, cursor.at),
+        from,
+        x.fill,
+        meter,
+    );
+    paint_data(canvas, desk, limit, from, place(x, end), d, meter);
+    SectionCursor {
+        pieces: cursor.pieces,
+        data_commands: cursor.data_commands + 1,
+        at: end,
+    }
+}
+
+/// Writes the data commands to come that start below `below`, where the input sections to come start at `below` or
+/// later.
+fn paint_data_before(
+    canvas: &mut Canvas,
+    desk: &mut [u8; BUFFER_SIZE],
+    limit: usize,
+    x: &ImageSection<'_>,
+    cursor: SectionCursor,
+    below: u64,
+    meter: &mut Meter,
+) -> SectionCursor
+    requires orderly { IsOrderly x.now }
+    requires reached { IsReached x.now cursor.pieces cursor.data_commands cursor.at }
+    requires ready { IsReady limit canvas.old }
+    requires within { x.now.offset + x.now.size ≤ limit }
+    requires pieces { PiecesFrom x.now cursor.pieces below }
+    ensures reached { IsReached x.now result.pieces result.data_commands result.at }
+    ensures pieces { result.pieces ≡ cursor.pieces }
+    ensures data_commands { DataFrom x.now result.data_commands below }
+    ensures up { cursor.at ≤ result.at }
+    ensures ready { IsReady limit canvas.new }
+    ensures painted { IsPainted canvas.old.bytes canvas.new.bytes meter.old meter.new (place_of x.now cursor.at)
+        (place_of x.now result.at) (section_image x.now) }
+{
+    let mut now = cursor;
+    for _k in cursor.data_commands..x.data_commands.len() {
+        if x.data_commands[now.data_commands].start >= below {
+            return now;
+        }
+        now = paint_next_data(canvas, desk, limit, x, now, below, meter);
+    }
+    now
+}
+
+/// Writes the next input section, which is not empty, the data commands before it, and the gaps.
+fn paint_full_piece(
+    canvas: &mut Canvas,
+    desk: &mut [u8; BUFFER_SIZE],
+    limit: usize,
+    x: &ImageSection<'_>,
+    cursor: SectionCursor,
+    meter: &mut Meter,
+) -> SectionCursor
+    requires orderly { IsOrderly x.now }
+    requires reached { IsReached x.now cursor.pieces cursor.data_commands cursor.at }
+    requires ready { IsReady limit canvas.old }
+    requires within { x.now.offset + x.now.size ≤ limit }
+    requires some { cursor.pieces < length x.now.pieces.now }
+    requires full { (y : ImagePiece) → 0 < (slice_index_or x.now.pieces.now cursor.pieces y).size }
+    ensures reached { IsReached x.now result.pieces result.data_commands result.at }
+    ensures pieces { result.pieces ≡ cursor.pieces + 1 }
+    ensures up { cursor.at ≤ result.at }
+    ensures ready { IsReady limit canvas.new }
+    ensures painted { IsPainted canvas.old.bytes canvas.new.bytes meter.old meter.new (place_of x.now cursor.at)
+        (place_of x.now result.at) (section_image x.now) }
+{
+    let piece = &x.pieces[cursor.pieces];
+    let now = paint_data_before(canvas, desk, limit, x, cursor, piece.start, meter);
+    let end = piece.start + piece.size;
+    let from = place(x, piece.start);
+    paint_fill(canvas, desk, limit, place(x, now.at), from, x.fill, meter);
+    paint_piece(canvas, desk, limit, from, place(x, end), piece, meter);
+    SectionCursor {
+        pieces: now.pieces + 1,
+        data_commands: now.data_commands,
+        at: end,
+    }
+}
+
+/// Writes the next input section; nothing where it is empty.
+fn paint_next_piece(
+    canvas: &mut Canvas,
+    desk: &mut [u8; BUFFER_SIZE],
+    limit: usize,
+    x: &ImageSection<'_>,
+    cursor: SectionCursor,
+    meter: &mut Meter,
+) -> SectionCursor
+    requires orderly { IsOrderly x.now }
+    requires reached { IsReached x.now cursor.pieces cursor.data_commands cursor.at }
+    requires ready { IsReady limit canvas.old }
+    requires within { x.now.offset + x.now.size ≤ limit }
+    requires some { cursor.pieces < length x.now.pieces.now }
+    ensures reached { IsReached x.now result.pieces result.data_commands result.at }
+    ensures pieces { result.pieces ≡ cursor.pieces + 1 }
+    ensures up { cursor.at ≤ result.at }
+    ensures ready { IsReady limit canvas.new }
+    ensures painted { IsPainted canvas.old.bytes canvas.new.bytes meter.old meter.new (place_of x.now cursor.at)
+        (place_of x.now result.at) (section_image x.now) }
+{
+    if x.pieces[cursor.pieces].size == 0 {
+        return SectionCursor {
+            pieces: cursor.pieces + 1,
+            data_commands: cursor.data_commands,
+            at: cursor.at,
+        };
+    }
+    paint_full_piece(canvas, desk, limit, x, cursor, meter)
+}
+
+/// Writes an output section.
+pub(crate) fn paint_section(
+    canvas: &mut Canvas,
+    desk: &mut [u8; BUFFER_SIZE],
+    limit: usize,
+    x: &ImageSection<'_>,
+    meter: &mut Meter,
+)
+    requires orderly { IsOrderly x.now }
+    requires ready { IsReady limit canvas.old }
+    requires within { x.now.offset + x.now.size ≤ limit }
+    ensures ready { IsReady limit canvas.new }
+    ensures painted { IsPainted canvas.old.bytes canvas.new.bytes meter.old meter.new x.now.offset
+        (x.now.offset + x.now.size) (section_image x.now) }
+{
+    let mut cursor = SectionCursor {
+        pieces: 0,
+        data_commands: 0,
+        at: x.start,
+    };
+    for _k in 0..x.pieces.len() {
+        cursor = paint_next_piece(canvas, desk, limit, x, cursor, meter);
+    }
+    let end = x.start + x.size;
+    let last = paint_data_before(canvas, desk, limit, x, cursor, end, meter);
+    paint_fill(
+        canvas,
+        desk,
+        limit,
+        place(x, last.at),
+        place(x, end),
+        x.fill,
+        meter,
+    );
+}
