@@ -4,7 +4,7 @@ use crate::files::{MAP_MODE, read_file, read_objects, write_file, write_image};
 use crate::{DEVICE, NO_MEMORY};
 use relink::driver::exit_report::{exit_status, message};
 use relink::driver::fault::LinkFault;
-use relink::driver::from_files::link;
+use relink::driver::from_files::{link, link_without_map};
 use relink::{Options, Output};
 use std::hash::RandomState;
 use std::io;
@@ -33,7 +33,7 @@ fn write_output(rt: &HostRuntime, names: &FileNames, output: &Output) -> io::Res
     write_image(rt, names.image.as_str(), output.image())
 }
 
-/// Reads all files, the script first, and links.
+/// Reads all files, the script first, and links. Without a file for the map none is made.
 fn link_read(
     rt: &HostRuntime,
     names: &FileNames,
@@ -42,7 +42,11 @@ fn link_read(
     let script = read_file(rt, names.script.as_str())?;
     let objects = read_objects(rt, names.objects.as_slice())?;
     let seed = RandomState::new(rt)?;
-    Ok(link(rt.alloc(), seed, script, objects, options))
+    let alloc = rt.alloc();
+    Ok(match names.map {
+        Some(_) => link(alloc, seed, script, objects, options),
+        None => link_without_map(alloc, seed, script, objects, options),
+    })
 }
 
 /// Writes the image and the map of a good link, or what else there is to say on standard error. Gives the status to end

@@ -256,7 +256,7 @@ module _ (h : ProjectState) (s : Staged) (same : Bool) (bytes : List ℕ) (a : L
 
 -- what a link without faults leaves is the last one
 pub followed_good : (l : Listing) (p : Project) (keys : List ℕ) (bytes : List ℕ) (x : PreviousLink) (m : List ℕ)
-    → p ≡ project_of l → keys ≡ keys_of l.entries → AreKeysDistinct keys → IsGoodOutcome p bytes x.good m
+    → p ≡ project_of l → keys ≡ keys_of l.entries → AreKeysDistinct keys → IsGoodOutcome true p bytes x.good m
     → map (λ v. v.items) x.names.items ≡ map (λ (o : NamedObject). o.name) p.objects
     → HasPlaces keys x.origins.items
     → ((key : ℕ) → is_some (position (nat_eq key) (keys_of l.entries)) ≡ is_some (found_under l.entries key))

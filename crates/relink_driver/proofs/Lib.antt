@@ -20,4 +20,5 @@ pub mod Reading
 pub mod Stopping
 pub mod Working
 mod Courses
+mod Shown
 mod Words

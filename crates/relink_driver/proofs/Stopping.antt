@@ -15,6 +15,7 @@ use Rattle.ldmodel.specs.declared.fault.Fault as code
 use Rattle.ldmodel.specs.declared.fault.Fault.TheVariants as variant
 use Rattle.ldmodel.specs.declared.sections.SectionKey.{SectionKey}
 use Rattle.ldmodel_project.specs.ByPlace.{faults_in}
+use Rattle.relink_driver.specs.WithoutMap.{shown, shown_map, without_map}
 
 -- without faults the link goes on
 pub unless_none : (p : Project) (xs : List code.Fault) (fs : List model.Fault) (next : Link) → length xs ≡ 0
@@ -73,3 +74,20 @@ ends_well p s i m ei em rest =
     ap (λ (x : List ℕ). let l : Link = record { status = 0; image = x; map = m; faults = [] } in l) ei
     ∙ (ap (λ (x : List ℕ). let l : Link = record { status = 0; image = image p s; map = x; faults = [] } in l) em
     ∙ sym rest)
+
+-- so it does with its map, or without
+pub ends_shown : (with_map : Bool) (p : Project) (s : Layout) (i m : List ℕ) → i ≡ image p s
+    → m ≡ shown_map with_map (map_text p s) → link p ≡ good p s
+    → shown with_map (link p) ≡ (let l : Link = record { status = 0; image = i; map = m; faults = [] } in l)
+ends_shown true p s i m ei em rest = sym (ends_well p s i m ei em rest)
+ends_shown false p s i m ei em rest =
+    ap without_map rest
+    ∙ sym (ap (λ (x : List ℕ). let l : Link = record { status = 0; image = x; map = m; faults = [] } in l) ei
+    ∙ ap (λ (x : List ℕ). let l : Link = record { status = 0; image = image p s; map = x; faults = [] } in l) em)
+
+-- a link with faults has no map
+pub faults_shown : (with_map : Bool) (l : Link) (lines : List ℕ)
+    → l ≡ record { status = 1; image = []; map = []; faults = lines }
+    → (let f : Link = record { status = 1; image = []; map = []; faults = lines } in f) ≡ shown with_map l
+faults_shown true l lines e = sym e
+faults_shown false l lines e = ap without_map (sym e)

@@ -65,7 +65,7 @@ use Rattle.relink_driver.specs.InPlace.{IsNextLink, IsKeptLink, IsInPlaceOutcome
 use Rattle.relink_driver.specs.LocatedSections.{spots_below}
 use Rattle.relink_driver.specs.StayedSections.{IsPreviousOf, PreviousState, ReplacedObjectState}
 use Rattle.relink_driver.specs.Touched.{HasFault, HasTouched, IsTouchedCount, IsTouchedWork}
-use Rattle.relink_driver.specs.RelinkOutcome.{HasRelinkOutcome}
+use Rattle.relink_driver.specs.RelinkOutcome.{HasShownOutcome}
 use Rattle.relink_driver.specs.Worked.{HasWorked, IsLinkWork, IsWorkBeside}
 use Rattle.relink_driver.specs.declared.incremental.RelinkOutcome.{RelinkOutcome}
 use Rattle.relink_driver.specs.declared.incremental.RelinkOutcome.TheVariants as ended
@@ -407,17 +407,17 @@ touched_reads m0 m1 a b small few e = record {
 }
 
 -- the passes that follow where a relocation has a fault end with fault lines
-pub worked_after : (q : Project) (previous : Option PreviousState) (a b d : List ℕ) (m0 m1 m2 : Counts)
-    (e : RelinkOutcome)
-    → HasTouched q previous a b m0 m1 false → HasRelinkOutcome q previous b d e → HasWorked q previous m1 m2 e
+pub worked_after : (with_map : Bool) (q : Project) (previous : Option PreviousState) (a b d : List ℕ)
+    (m0 m1 m2 : Counts) (e : RelinkOutcome)
+    → HasTouched q previous a b m0 m1 false → HasShownOutcome with_map q previous b d e → HasWorked q previous m1 m2 e
     → HasWorked q previous m0 m2 e
-worked_after q previous a b d m0 m1 m2 (ended.Faulty t) h k w = w
-worked_after q previous a b d m0 m1 m2 (ended.Good g m) h k w = go h.1
+worked_after with_map q previous a b d m0 m1 m2 (ended.Faulty t) h k w = w
+worked_after with_map q previous a b d m0 m1 m2 (ended.Good g m) h k w = go h.1
   where
     go : (m1 ≡ m0) ⊎ (HasFault q × ReadsNothing m0 m1) → IsWorkBeside q previous m0 m2
     go (inl same) = subst (λ (z : Counts). IsWorkBeside q previous z m2) same w
     go (inr faulty) = absurd (faulty.0 k.layout k.table.layout (faultless q k.layout k.table.layout k.table.link))
-worked_after q previous a b d m0 m1 m2 ended.RewrittenInPlace h k w = go h.1
+worked_after with_map q previous a b d m0 m1 m2 ended.RewrittenInPlace h k w = go h.1
   where
     go : (m1 ≡ m0) ⊎ (HasFault q × ReadsNothing m0 m1) → IsWorkBeside q previous m0 m2
     go (inl same) = subst (λ (z : Counts). IsWorkBeside q previous z m2) same w

@@ -14,6 +14,7 @@ pub mod RelinkOutcome
 pub mod Context
 pub mod Phases
 pub mod Reads
+pub mod WithoutMap
 pub mod Worked
 pub mod Touched
 pub mod PassErrors

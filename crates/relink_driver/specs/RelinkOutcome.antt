@@ -1,5 +1,5 @@
 -- How a link over an earlier one ends.
-use Rattle.std.specs.Prelude.{◌≡◌, ℕ, List, [], Ok, Option}
+use Rattle.std.specs.Prelude.{◌≡◌, ℕ, List, [], Ok, Option, Bool, true}
 use Rattle.place.specs.LinkLayout.{IsLinkLayout}
 use Rattle.place.specs.declared.indexed_layout.IndexedLayout.{IndexedLayout}
 use Rattle.ldmodel_laws.specs.Untouched.{IsGood}
@@ -13,6 +13,7 @@ use Rattle.ldmodel.specs.Stayed.{GoodLink}
 use Rattle.relink_driver.specs.StayedSections.{IsPreviousOf, PreviousState}
 use Rattle.relink_driver.specs.InPlace.{IsInPlaceOutcome}
 use Rattle.relink_driver.specs.LinkSnapshot.{IsLinkSnapshot}
+use Rattle.relink_driver.specs.WithoutMap.{shown}
 use Rattle.relink_driver.specs.declared.link_snapshot.LinkSnapshot.{LinkSnapshot}
 use Rattle.relink_driver.specs.declared.incremental.RelinkOutcome.{RelinkOutcome}
 use Rattle.relink_driver.specs.declared.incremental.RelinkOutcome.TheVariants as ended
@@ -23,28 +24,34 @@ pub record HasPreviousImage (new : Project) (bytes : List ℕ) (previous : Previ
   pub is : IsPreviousOf old new previous
   pub image : bytes ≡ image old.project old.layout
 
--- a link without faults at the layout of these tables, whose image and map these are
-pub record IsEmitted (project : Project) (a : IndexedLayout) (bytes map : List ℕ) : Type 0 where
+-- a link without faults at the layout of these tables, whose image these bytes are, and whose map, if that is asked for
+pub record IsEmitted (with_map : Bool) (project : Project) (a : IndexedLayout) (bytes map : List ℕ) : Type 0 where
   pub layout : Layout
   pub link_layout : IsLinkLayout project layout a.link_layout
   pub good : IsGood (record { project = project; layout = layout })
   pub names : AreNamesDistinct project.objects
   pub is : model.layout project ≡ Ok layout
   pub rest : link project ≡ model.good project layout
-  pub link : link project ≡ record { status = 0; image = bytes; map = map; faults = [] }
+  pub link : shown with_map (link project) ≡ record { status = 0; image = bytes; map = map; faults = [] }
   pub image : bytes ≡ image project layout
 
--- a link without faults, whose image these bytes are
-pub record IsGoodOutcome (project : Project) (bytes : List ℕ) (g : LinkSnapshot) (map : List ℕ) : Type 0 where
+-- a link without faults, whose image these bytes are, and whose map, if that is asked for
+pub record IsGoodOutcome (with_map : Bool) (project : Project) (bytes : List ℕ) (g : LinkSnapshot) (map : List ℕ)
+    : Type 0 where
   pub layout : Layout
-  pub link : link project ≡ record { status = 0; image = bytes; map = map; faults = [] }
+  pub link : shown with_map (link project) ≡ record { status = 0; image = bytes; map = map; faults = [] }
   pub table : IsLinkSnapshot (record { project = project; layout = layout }) g
   pub image : bytes ≡ image project layout
 
 -- fault lines, where the bytes are as they were; or a link without faults, of which all but the image may be that of
 -- the previous link
-abbrev pub HasRelinkOutcome : Project → Option PreviousState → List ℕ → List ℕ → RelinkOutcome → Type 0
-HasRelinkOutcome project previous old new (ended.Faulty t) =
+abbrev pub HasShownOutcome : (with_map : Bool) → Project → Option PreviousState → List ℕ → List ℕ → RelinkOutcome
+    → Type 0
+HasShownOutcome with_map project previous old new (ended.Faulty t) =
     (link project ≡ record { status = 1; image = []; map = []; faults = t.items }) × (new ≡ old)
-HasRelinkOutcome project previous old new (ended.Good g m) = IsGoodOutcome project new g m.items
-HasRelinkOutcome project previous old new ended.RewrittenInPlace = IsInPlaceOutcome project previous new
+HasShownOutcome with_map project previous old new (ended.Good g m) = IsGoodOutcome with_map project new g m.items
+HasShownOutcome with_map project previous old new ended.RewrittenInPlace = IsInPlaceOutcome project previous new
+
+-- so with the map
+abbrev pub HasRelinkOutcome : Project → Option PreviousState → List ℕ → List ℕ → RelinkOutcome → Type 0
+HasRelinkOutcome project previous old new e = HasShownOutcome true project previous old new e

@@ -19,4 +19,6 @@ pub(crate) struct PassContext<'a, 'p> {
     pub matches: &'a [&'a Matches],
     /// The previous link, if there is one.
     pub previous: Option<PreviousView<'a>>,
+    /// Whether the map is asked for.
+    pub with_map: bool,
 }

@@ -1,6 +1,6 @@
 //! The link of files.
 
-ghost use Rattle.std.specs.Prelude.{◌≡◌, ◌+◌, ◌<◌, ◌^◌, IfErr, IfOk, Ok, OnOk};
+ghost use Rattle.std.specs.Prelude.{◌≡◌, ◌+◌, ◌<◌, ◌^◌, IfErr, IfOk, Ok, OnOk, false};
 ghost use Rattle.ldmodel.specs.EditMeaning.{change_of};
 ghost use Rattle.ldmodel.specs.Edits.{Add, After};
 ghost use Rattle.ldmodel.specs.Link.{link};
@@ -8,9 +8,11 @@ ghost use Rattle.ldmodel.specs.LinkCommand.{LinkAnswers, Linking};
 ghost use Rattle.ldmodel_project.specs.ProjectState.{held};
 ghost use Rattle.relink_driver.specs.Answer.{answer_of, file_of, files_of};
 ghost use Rattle.relink_driver.specs.Adding.{Adds, EndsAt, Prepares};
+ghost use Rattle.relink_driver.specs.WithoutMap.{ShownAnswers, shown};
 
 use crate::fault::LinkFault;
 use crate::file::ObjectFile;
+use crate::from_scratch;
 use crate::output::Output;
 use ldmodel::edit::{Edit, EditRefusal};
 use ldmodel::memory::NoMemory;
@@ -79,12 +81,37 @@ fn project_of(
     Ok(project)
 }
 
-/// The link of a project. Fails where memory runs out.
-fn link_project(alloc: Global, seed: RandomState, project: &Project) -> Result<Output, NoMemory>
-    ensures { IfOk result (λ o. o ≡ link (held project.now)) }
+/// The link of a project, with its map or without. Fails where memory runs out.
+fn link_project(
+    alloc: Global,
+    seed: RandomState,
+    project: &Project,
+    with_map: bool,
+) -> Result<Output, NoMemory>
+    ensures { IfOk result (λ o. o ≡ shown with_map (link (held project.now))) }
 {
     let inputs = project.inputs(alloc)?;
-    Output::of(alloc, seed, &project.view(&inputs), &mut Meter::new())
+    from_scratch::link(alloc, seed, &project.view(&inputs), with_map, &mut Meter::new())
+}
+
+/// Links files, with the map of the link or without.
+fn link_files(
+    alloc: Global,
+    seed: RandomState,
+    script: &[u8],
+    objects: Vec<ObjectFile>,
+    options: Options,
+    with_map: bool,
+) -> Result<Output, LinkFault>
+    ensures { ShownAnswers with_map options script.now (files_of objects.items) (answer_of result) }
+{
+    match project_of(alloc, script, objects, options) {
+        Err(fault) => Err(fault),
+        Ok(project) => match link_project(alloc, seed, &project, with_map) {
+            Err(_) => Err(LinkFault::Memory),
+            Ok(output) => Ok(output),
+        },
+    }
 }
 
 /// Links files: sets the script, adds the objects in their order, each under its word, and links once. `seed` is for
@@ -102,11 +129,22 @@ pub fn link(
 ) -> Result<Output, LinkFault>
     ensures { LinkAnswers options script.items (files_of objects.items) (answer_of result) }
 {
-    match project_of(alloc, &script, objects, options) {
-        Err(fault) => Err(fault),
-        Ok(project) => match link_project(alloc, seed, &project) {
-            Err(_) => Err(LinkFault::Memory),
-            Ok(output) => Ok(output),
-        },
-    }
+    link_files(alloc, seed, &script, objects, options, true)
+}
+
+/// Links files as `link` does, and makes no map: the status, the image, the fault lines and the refusals are the same.
+///
+/// # Errors
+///
+/// As `link`.
+pub fn link_without_map(
+    alloc: Global,
+    seed: RandomState,
+    script: Vec<u8>,
+    objects: Vec<ObjectFile>,
+    options: Options,
+) -> Result<Output, LinkFault>
+    ensures { ShownAnswers false options script.items (files_of objects.items) (answer_of result) }
+{
+    link_files(alloc, seed, &script, objects, options, false)
 }

@@ -4,8 +4,9 @@ ghost use Rattle.std.specs.Prelude.{◌≡◌, IfOk};
 ghost use Rattle.gather.specs.ProjectMatches.{AreMatched};
 ghost use Rattle.ldmodel.specs.Link.{link};
 ghost use Rattle.symres.specs.SymbolTable.{IsSymbolTable};
+ghost use Rattle.relink_driver.specs.WithoutMap.{shown};
 
-use crate::incremental::{RelinkOutcome, relink};
+use crate::incremental::{RelinkOutcome, relink_shown};
 use crate::output::Output;
 use emit::Canvas;
 use gather::matches::{Matches, lend_all, match_all};
@@ -22,20 +23,22 @@ fn link_over(
     project: &ProjectView<'_>,
     symbol_table: &SymbolTable,
     matches: &[Matches],
+    with_map: bool,
     meter: &mut Meter,
 ) -> Result<Output, NoMemory>
     requires symbol_table { IsSymbolTable project.now symbol_table.now }
     requires matches { AreMatched project.now matches.now }
-    ensures { IfOk result (λ o. o ≡ link project.now) }
+    ensures { IfOk result (λ o. o ≡ shown with_map (link project.now)) }
 {
     let match_refs = lend_all(alloc, matches)?;
     let mut image = Canvas::new(alloc);
-    match relink(
+    match relink_shown(
         alloc,
         project,
         symbol_table,
         &match_refs,
         None,
+        with_map,
         &mut image,
         meter,
     ) {
@@ -47,7 +50,8 @@ fn link_over(
     }
 }
 
-/// Links a project from scratch: over names and matches of its own, and no previous link.
+/// Links a project from scratch: over names and matches of its own, and no previous link. The map is made if it is
+/// asked for.
 ///
 /// # Errors
 ///
@@ -56,11 +60,12 @@ pub(crate) fn link(
     alloc: Global,
     seed: RandomState,
     project: &ProjectView<'_>,
+    with_map: bool,
     meter: &mut Meter,
 ) -> Result<Output, NoMemory>
-    ensures { IfOk result (λ o. o ≡ link project.now) }
+    ensures { IfOk result (λ o. o ≡ shown with_map (link project.now)) }
 {
     let symbol_table = SymbolTable::of(alloc, seed, project.inputs(), project.script(), meter)?;
     let matches = match_all(alloc, project)?;
-    link_over(alloc, project, &symbol_table, &matches, meter)
+    link_over(alloc, project, &symbol_table, &matches, with_map, meter)
 }

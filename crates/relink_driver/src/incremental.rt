@@ -5,15 +5,18 @@ ghost use Rattle.gather.specs.ProjectMatches.{AreMatched};
 ghost use Rattle.relink_driver.specs.StayedSections.{previous_of};
 ghost use Rattle.ldmodel.specs.Layout.{Layout};
 ghost use Rattle.ldmodel.specs.Link.{link};
+ghost use Rattle.ldmodel.specs.MapText as definition;
 ghost use Rattle.place.specs.LinkLayout.{IsLinkLayout};
-ghost use Rattle.symres.specs.SymbolTable.{IsSymbolTable};
+ghost use Rattle.symres.specs.SymbolTable.{IsSymbolTable, SymbolTableState};
+ghost use Rattle.emit.specs.values.Values.{AreValues};
 ghost use Rattle.emit.specs.relocate.SymbolValues.{AreSymbolValues};
 ghost use Rattle.relink_driver.specs.Counted.{AreDrawn, ArePlaced};
-ghost use Rattle.relink_driver.specs.RelinkOutcome.{HasRelinkOutcome, HasPreviousImage, IsEmitted};
+ghost use Rattle.relink_driver.specs.RelinkOutcome.{HasRelinkOutcome, HasPreviousImage, HasShownOutcome, IsEmitted};
 ghost use Rattle.relink_driver.specs.Context.{IsPassContext, project_of};
 ghost use Rattle.relink_driver.specs.Phases.{HasPreviousLink, IsLaidOut, IsShort};
 ghost use Rattle.relink_driver.specs.Reads.{EndsReadingNothing, ReadsNothing};
 ghost use Rattle.relink_driver.specs.PassErrors.{IsPassError};
+ghost use Rattle.relink_driver.specs.WithoutMap.{shown_map};
 ghost use Rattle.relink_driver.specs.Worked.{HasWorked};
 
 use crate::context::PassContext;
@@ -45,7 +48,7 @@ use symres::SymbolTable;
 pub enum RelinkOutcome {
     /// The project has faults, and these are their lines.
     Faulty(Vec<u8>),
-    /// It has none: what is kept of the link, and its map.
+    /// It has none: what is kept of the link, and its map, which is empty where it is not asked for.
     Good(LinkSnapshot, Vec<u8>),
     /// It has none, and differs from the previous link in what the input sections of one object hold: the image is the
     /// new one; the map, and what is kept of the previous link, are right for this one.
@@ -71,8 +74,32 @@ fn lay_out(context: PassContext<'_, '_>, meter: &mut Meter) -> Result<IndexedLay
     }
 }
 
+/// The map, if it is asked for, else no bytes. Fails where memory runs out.
+fn map_if_asked(
+    context: PassContext<'_, '_>,
+    indexed_layout: &IndexedLayout,
+    values: &Values<'_>,
+) -> Result<Vec<u8>, NoMemory>
+    requires { IsLaidOut (project_of context) indexed_layout.now }
+    ensures { IfOk result (λ text. (layout : Layout) (a : SymbolTableState)
+        → IsLinkLayout (project_of context.entry) layout indexed_layout.now.link_layout
+        → AreValues (project_of context.entry) layout a values.now
+        → text.items ≡ shown_map context.entry.with_map (definition.map_text (project_of context.entry) layout)) }
+{
+    if !context.with_map {
+        return Ok(Vec::new(context.alloc));
+    }
+    map_text(
+        context.alloc,
+        context.project,
+        &indexed_layout.rows,
+        &indexed_layout.link_layout,
+        values,
+    )
+}
+
 /// What is put out at a layout whose symbols have their values: the image, drawn over that of the previous link, and
-/// the map.
+/// the map, if it is asked for.
 fn emit_output(
     context: PassContext<'_, '_>,
     indexed_layout: &IndexedLayout,
@@ -87,7 +114,7 @@ fn emit_output(
     requires symbols { (layout : Layout) → IsLinkLayout (project_of context) layout indexed_layout.now.link_layout
         → AreSymbolValues (project_of context) layout symbols.now }
     requires previous { IfSome (previous_of context.previous) (HasPreviousImage (project_of context) canvas.old.bytes) }
-    ensures good { IfOk result (λ map. IsEmitted
+    ensures good { IfOk result (λ map. IsEmitted context.entry.with_map
         (project_of context.entry) indexed_layout.now canvas.new.bytes map.items) }
     ensures stop { IfErr result (λ stop. IsPassError (link (project_of context.entry)) stop) }
     ensures reads { OnOk result (ReadsNothing meter.old meter.new) }
@@ -104,13 +131,7 @@ fn emit_output(
     };
     let fields = evaluate_relocations(context, &stayed_sections, view, values, symbols, meter)?;
     check_assertions(context, &stayed_sections, values, &fields)?;
-    let map = map_text(
-        context.alloc,
-        context.project,
-        &indexed_layout.rows,
-        &indexed_layout.link_layout,
-        values,
-    )?;
+    let map = map_if_asked(context, indexed_layout, values)?;
     // the last pass that may fail, since it changes the canvas
     draw_output(context, canvas, &stayed_sections, values, &fields, meter)?;
     Ok(map)
@@ -124,7 +145,7 @@ fn run_passes(
 ) -> Result<RelinkOutcome, PassError>
     requires context { IsPassContext context }
     requires previous { IfSome (previous_of context.previous) (HasPreviousImage (project_of context) canvas.old.bytes) }
-    ensures ended { IfOk result (HasRelinkOutcome (project_of context.entry)
+    ensures ended { IfOk result (HasShownOutcome context.entry.with_map (project_of context.entry)
         (previous_of context.entry.previous) canvas.old.bytes canvas.new.bytes) }
     ensures stop { IfErr result (λ stop. IsPassError (link (project_of context.entry)) stop) }
     ensures reads { OnOk result (ReadsNothing meter.old meter.new) }
@@ -170,6 +191,48 @@ fn run_passes(
     ))
 }
 
+/// Links as `relink` does, and makes the map if that is asked for.
+///
+/// # Errors
+///
+/// Where memory runs out. Then the canvas is as it was.
+pub(crate) fn relink_shown(
+    alloc: Global,
+    project: &ProjectView<'_>,
+    symbol_table: &SymbolTable,
+    matches: &[&Matches],
+    previous: Option<PreviousView<'_>>,
+    with_map: bool,
+    canvas: &mut Canvas,
+    meter: &mut Meter,
+) -> Result<RelinkOutcome, NoMemory>
+    requires symbol_table { IsSymbolTable project.now symbol_table.now }
+    requires matches { AreMatched project.now (map (λ x. x.now) matches.now) }
+    requires previous { IfSome (previous_of previous) (HasPreviousImage project.now canvas.old.bytes) }
+    ensures ended { IfOk result (HasShownOutcome with_map project.now
+        (previous_of previous.entry) canvas.old.bytes canvas.new.bytes) }
+    ensures reads { OnOk result (ReadsNothing meter.old meter.new) }
+    ensures worked { IfOk result (HasWorked project.now (previous_of previous.entry) meter.old meter.new) }
+    ensures unchanged { OnErr result (canvas.new.bytes ≡ canvas.old.bytes) }
+{
+    let context = PassContext {
+        alloc,
+        project,
+        symbol_table,
+        matches,
+        previous,
+        with_map,
+    };
+    if rewrite_if_alone(context, canvas, meter)? {
+        return Ok(RelinkOutcome::RewrittenInPlace);
+    }
+    match run_passes(context, canvas, meter) {
+        Ok(ended) => Ok(ended),
+        Err(PassError::Faulty(lines)) => Ok(RelinkOutcome::Faulty(lines)),
+        Err(PassError::NoMemory) => Err(AllocError),
+    }
+}
+
 /// Links a project over names that are decided, matches that are found, and a previous link, if there is one, whose
 /// image the canvas holds. Where the project has no faults, the canvas then holds its image: of what stayed, only the
 /// fields are written whose symbols have other values. Where it has faults, the canvas is as it was.
@@ -203,19 +266,14 @@ pub fn relink(
     ensures worked { IfOk result (HasWorked project.now (previous_of previous.entry) meter.old meter.new) }
     ensures unchanged { OnErr result (canvas.new.bytes ≡ canvas.old.bytes) }
 {
-    let context = PassContext {
+    relink_shown(
         alloc,
         project,
         symbol_table,
         matches,
         previous,
-    };
-    if rewrite_if_alone(context, canvas, meter)? {
-        return Ok(RelinkOutcome::RewrittenInPlace);
-    }
-    match run_passes(context, canvas, meter) {
-        Ok(ended) => Ok(ended),
-        Err(PassError::Faulty(lines)) => Ok(RelinkOutcome::Faulty(lines)),
-        Err(PassError::NoMemory) => Err(AllocError),
-    }
+        true,
+        canvas,
+        meter,
+    )
 }

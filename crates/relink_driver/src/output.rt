@@ -3,6 +3,7 @@
 ghost use Rattle.std.specs.Prelude.{◌≡◌, [], IfOk};
 ghost use Rattle.ldmodel.specs.EditMeaning.{linked_of};
 ghost use Rattle.ldmodel.specs.Link.{link};
+ghost use Rattle.relink_driver.specs.WithoutMap.{without_map};
 
 use crate::from_scratch::link;
 use emit::Canvas;
@@ -14,7 +15,7 @@ use std::alloc::Global;
 use std::hash::RandomState;
 use std::marker::Model;
 
-/// What a link gives: the image and the map, or the fault lines.
+/// What a link gives: the image and, if it is asked for, the map; or the fault lines.
 #[derive(Drop)]
 pub struct Output {
     status: u8,
@@ -50,7 +51,24 @@ impl Output {
     ) -> Result<Output, NoMemory>
         ensures { IfOk result (λ o. o ≡ link project.now) }
     {
-        link(alloc, seed, project, meter)
+        link(alloc, seed, project, true, meter)
+    }
+
+    /// Links a project from scratch, as `of` does, and makes no map: the image, the fault lines and the status are those
+    /// of the link.
+    ///
+    /// # Errors
+    ///
+    /// Where memory runs out.
+    pub fn without_map(
+        alloc: Global,
+        seed: RandomState,
+        project: &ProjectView<'_>,
+        meter: &mut Meter,
+    ) -> Result<Output, NoMemory>
+        ensures { IfOk result (λ o. o ≡ without_map (link project.now)) }
+    {
+        link(alloc, seed, project, false, meter)
     }
 
     /// A good link.
@@ -91,7 +109,7 @@ impl Output {
         self.image.bytes()
     }
 
-    /// The map of names, sections and segments; empty where the link has faults.
+    /// The map of names, sections and segments; empty where the link has faults, or was made without a map.
     pub fn map(&self) -> &[u8]
         ensures { result.now ≡ self.now.map }
     {

@@ -4,7 +4,7 @@ use Rattle.relink_driver.specs.Context.{project_of}
 use Rattle.relink_driver.specs.DirtyObjects.{AreDirtyObjects}
 use Rattle.relink_driver.proofs.Beside.{has_old}
 use Rattle.relink_driver.proofs.Reading.{ends_reading, reads_then}
-use Rattle.relink_driver.proofs.Stopping.{ends_well}
+use Rattle.relink_driver.proofs.Stopping.{ends_shown}
 use Rattle.relink_driver.proofs.Working.{are_drawn, of_short}
 use Rattle.relink_driver.proofs.incremental.emit_output.Goals as goal
 
@@ -35,7 +35,8 @@ returns-clause-good c =
       names = f.names;
       is = k.link_layout.layout ∙ of_short p s f.short.length;
       rest = all.rest;
-      link = sym (ends_well p s _ _ same (c.in_ok-map.ensures s h.symbol_table k.link_layout h.values) all.rest);
+      link = ends_shown c.args.context.with_map p s _ _ same (c.in_ok-map.ensures s h.symbol_table k.link_layout h.values)
+          all.rest;
       image = same;
     }
 

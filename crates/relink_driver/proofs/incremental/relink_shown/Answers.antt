@@ -3,13 +3,14 @@ use Rattle.ldmodel.specs.Project.{Project}
 use Rattle.relink_driver.specs.StayedSections.{previous_of}
 use Rattle.relink_driver.specs.Touched.{HasTouched}
 use Rattle.relink_driver.proofs.Touching.{worked_after}
-use Rattle.relink_driver.proofs.incremental.relink.Goals as goal
+use Rattle.relink_driver.proofs.incremental.relink_shown.Goals as goal
 
 pub returns-in-Ok-clause-worked : goal.returns-in-Ok-clause-worked
 returns-in-Ok-clause-worked c =
     let p : Project = c.args.project.now in
-    worked_after p (previous_of c.args.previous) c.args.canvas.now.bytes c.rewrite_if_alone.new.canvas.bytes
-    c.run_passes.new.canvas.bytes c.args.meter.now c.rewrite_if_alone.new.meter c.run_passes.new.meter c.in-Ok.ended
+    worked_after c.args.with_map p (previous_of c.args.previous) c.args.canvas.now.bytes
+    c.rewrite_if_alone.new.canvas.bytes c.run_passes.new.canvas.bytes c.args.meter.now c.rewrite_if_alone.new.meter
+    c.run_passes.new.meter c.in-Ok.ended
     (subst (λ (b : Bool). HasTouched p (previous_of c.args.previous) c.args.canvas.now.bytes
     c.rewrite_if_alone.new.canvas.bytes
     c.args.meter.now c.rewrite_if_alone.new.meter b) c.if-branch.false c.in_ok-rewrite_if_alone.ensures.done)
