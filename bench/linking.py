@@ -1,8 +1,13 @@
-"""Links the same files by each linker in turn and prints what each took; for bench/link and bench/image."""
+"""Links the same files by each linker in turn and prints what each took; for bench/link, bench/image, bench/session and
+bench/shapes.
+
+Beside the program that is named stands the one that `make install` puts in place, the static one of examples/self:
+where `make -C examples/self` left it, or where STATIC_LDI says."""
 import os
 import shutil
 import statistics
 import tempfile
+from dataclasses import dataclass
 
 import measuring
 
@@ -17,15 +22,40 @@ def program(words):
     return os.path.abspath(os.environ.get("LDI", os.path.join(ROOT, "crates/ldi/out/ldi")))
 
 
+def programs(ldi):
+    """The name and the path of `ldi`, and of the static one if it is there."""
+    static = os.path.abspath(os.environ.get("STATIC_LDI", os.path.join(ROOT, "examples/self/out/ldi")))
+    return {"ldi": ldi, "static": static} if os.access(static, os.X_OK) else {"ldi": ldi}
+
+
+@dataclass(frozen=True)
+class Linker:
+    """A linker, and how it is run."""
+    name: str
+    command: list
+    takes_scripts: bool = True
+
+    def words(self, image):
+        """Its words, but for options and objects."""
+        script = ["-T", SCRIPT_NAME] if self.takes_scripts else ["-static"]
+        return [*self.command, *script, "-o", image]
+
+
 def linkers(ldi):
-    """The name and the command of each linker that is here."""
-    found = [("ldi", [ldi, "link"])]
-    for name, words in ("ld.bfd", []), ("ld.lld", ["--threads=1"]):
+    """Each linker that is here, `ldi` first, each on one thread. mold takes no script."""
+    found = [Linker(name, [path, "link"]) for name, path in programs(ldi).items()]
+    if len(found) == 1:
+        print("the static program is not there: 'make -C examples/self' links it")
+    for name, words, takes_scripts in (
+        ("ld.bfd", [], True),
+        ("ld.lld", ["--threads=1"], True),
+        ("mold", ["--no-fork", "--thread-count=1"], False),
+    ):
         path = shutil.which(name)
         if path is None:
             print(f"{name} is not installed")
         else:
-            found.append((name, [path, *words]))
+            found.append(Linker(name, [path, *words], takes_scripts))
     return found
 
 
@@ -38,10 +68,10 @@ def write(folder, name, data):
 class Link:
     """The links of one project by one linker."""
 
-    def __init__(self, name, command, folder, words):
-        self.name, self.folder = name, folder
-        self.image = os.path.join(folder, f"{name}.out")
-        self.command = [*command, "-T", SCRIPT_NAME, "-o", self.image, *words]
+    def __init__(self, linker, folder, words):
+        self.name, self.folder = linker.name, folder
+        self.image = os.path.join(folder, f"{linker.name}.out")
+        self.command = [*linker.words(self.image), *words]
         self.runs, self.failed = [], None
 
     def run(self):
@@ -90,7 +120,7 @@ class Link:
 
 def links(found, folder, words):
     """The links of one project by all linkers."""
-    return [Link(name, command, folder, words) for name, command in found]
+    return [Link(linker, folder, words) for linker in found]
 
 
 def run(all_links, rounds):
@@ -104,11 +134,11 @@ HEAD = f"  {'':8} {'ms, least':>9} {'median':>9} {'processor':>9} {'peak MB':>9}
 
 
 def ratios(some_links):
-    """A line for each other linker: median time and peak memory of `ldi` as multiples of its own."""
-    own, *others = some_links
-    for other in others:
-        if own.failed is None and other.failed is None:
-            yield (f"  ldi takes {own.median / other.median:.2f} times the time of {other.name}, "
+    """A line for each other linker: median time and peak memory of `ldi` as multiples of its own; of both programs."""
+    good = [link for link in some_links if link.failed is None]
+    for own in (link for link in good if link.name in ("ldi", "static")):
+        for other in (link for link in good if link.name not in ("ldi", own.name)):
+            yield (f"  {own.name} takes {own.median / other.median:.2f} times the time of {other.name}, "
                    f"{own.memory / other.memory:.2f} times its memory")
 
 

@@ -1,6 +1,7 @@
 /* An allocator for one thread in the place of musl's, which maps and copies more. The heap is a row of blocks; two free
- * ones that meet become one; free ones stand in lists by their size, and the first that is large enough is taken. Very
- * large blocks are mappings of their own. Memory comes in pages of 2 MB where the system has them. */
+ * ones that meet become one; free ones stand in lists by their size, and the first that is large enough is taken. All
+ * memory comes in pages of 2 MB where the system has them. Where the heap cannot grow, a block is a mapping of its own.
+ * alloc_test.c tries it. */
 #define _GNU_SOURCE
 #include <stddef.h>
 #include <stdint.h>
@@ -9,8 +10,7 @@
 #include <sys/syscall.h>
 #include <unistd.h>
 
-#define LARGE ((size_t)1 << 23) /* blocks from this size on are mappings of their own */
-#define HUGE ((size_t)1 << 21)  /* the size of a large page, and by how much the heap grows */
+#define HUGE ((size_t)1 << 21) /* the size of a large page, and by how much the heap grows */
 #define PAGE ((size_t)1 << 12)
 
 enum {
@@ -114,8 +114,9 @@ static int grow(size_t size)
     uintptr_t wanted = ((uintptr_t)last + size + 2 * sizeof(struct block) + HUGE - 1) & -(uintptr_t)HUGE;
     if ((uintptr_t)syscall(SYS_brk, wanted) != wanted)
         return 0;
-    if ((uintptr_t)end % HUGE == 0)
-        madvise(end, wanted - (uintptr_t)end, MADV_HUGEPAGE);
+    uintptr_t first = ((uintptr_t)end + HUGE - 1) & -(uintptr_t)HUGE;
+    if (first < wanted)
+        madvise((void *)first, wanted - first, MADV_HUGEPAGE);
     end = (char *)wanted;
     set_top(last);
     return 1;
@@ -176,8 +177,6 @@ void *malloc(size_t count)
     if (count > PTRDIFF_MAX)
         return NULL;
     size_t size = block_size(count);
-    if (size >= LARGE)
-        return map(size);
     struct block *found = find(size);
     if (found) {
         take_out(found);
@@ -185,7 +184,7 @@ void *malloc(size_t count)
         return &found->next;
     }
     if ((!top || size_of(top) < size + LEAST) && !grow(size))
-        return NULL;
+        return map(size);
     found = top;
     set_top(at(top, size));
     found->marked = size | BEFORE_USED;
@@ -241,15 +240,14 @@ void *realloc(void *bytes, size_t count)
         return bytes ? NULL : malloc(count);
     struct block *block = (struct block *)((char *)bytes - offsetof(struct block, next));
     size_t size = block_size(count), before = size_of(block) - sizeof(size_t);
-    int is_mapped = (block->marked & MAPPED) != 0;
-    if (is_mapped && size >= LARGE)
+    if (block->marked & MAPPED)
         return remap(block, size);
-    if (!is_mapped && size < LARGE && resize(block, size))
+    if (resize(block, size))
         return bytes;
-    void *copy = malloc(count);
+    void *copy = malloc(count); /* of a longer block: a shorter one stays where it is */
     if (!copy)
         return NULL;
-    memcpy(copy, bytes, count < before ? count : before);
+    memcpy(copy, bytes, before);
     free(bytes);
     return copy;
 }
