@@ -91,7 +91,13 @@ fn link_project(
     ensures { IfOk result (λ o. o ≡ shown with_map (link (held project.now))) }
 {
     let inputs = project.inputs(alloc)?;
-    from_scratch::link(alloc, seed, &project.view(&inputs), with_map, &mut Meter::new())
+    from_scratch::link(
+        alloc,
+        seed,
+        &project.view(&inputs),
+        with_map,
+        &mut Meter::new(),
+    )
 }
 
 /// Links files, with the map of the link or without.
