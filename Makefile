@@ -41,8 +41,9 @@ test: ## the merge gate: every proof from nothing, the edits that must fail, the
 test-client: ## the tests of the client's programs, over the program that `make ldi` built
 	@tools/test-client
 
-soak-client: ## runs ldi-watch over 2,000 rounds of random rewrites, and judges every image: half an hour
+soak-client: ## runs ldi-watch over 2,000 rounds of random rewrites and ld.ldi over 500, and judges every image
 	@/usr/bin/python3 -m client.tests.soak 2000
+	@/usr/bin/python3 -m client.tests.soak_server 500
 
 lint: ## looks over the client's programs by `mypy --strict`, and by ruff where that is installed
 	@tools/lint

@@ -58,11 +58,14 @@ SECTIONS {
   } :data
   . = ALIGN(4096);
   __init_begin = .;
-  .init.text : AT(ADDR(.init.text) - 0xffffffff80000000) { _sinittext = .; *(.init.text .init.text.*) _einittext = .; } :init
+  .init.text : AT(ADDR(.init.text) - 0xffffffff80000000) {
+    _sinittext = .; *(.init.text .init.text.*) _einittext = .;
+  } :init
   .init.data : AT(ADDR(.init.data) - 0xffffffff80000000) {
     *(.init.data .init.data.*)
     . = ALIGN(8);
-    __initcall_start = .; KEEP(*(.initcallearly.init)) __initcall0_start = .; KEEP(*(.initcall6.init)) __initcall_end = .;
+    __initcall_start = .; KEEP(*(.initcallearly.init))
+    __initcall0_start = .; KEEP(*(.initcall6.init)) __initcall_end = .;
   }
   .altinstructions : AT(ADDR(.altinstructions) - 0xffffffff80000000) { *(.altinstructions) }
   . = ALIGN(4096);

@@ -49,7 +49,7 @@ class Objects:
 
     def __init__(self, objects: Mapping[str, bytes] | Iterable[str],
                  linkages: Sequence[Mapping[bytes, int]] | None = None) -> None:
-        """`linkages` has the names of each object, where they have been read already: 2 and more where it defines one."""
+        """`linkages` has the names of each object, where they were read before: 2 and more where it defines one."""
         self._linkages = linkages
         if isinstance(objects, Mapping):
             self._files = dict(objects)

@@ -124,6 +124,8 @@ class Link:
     ) -> None:
         self.command = command
         self.words = words
+        self.expanded: list[str] = words
+        """The words with those of each `@FILE` in its place."""
         self.environment = environment
         self.host = host or Host()
         self.source = find_script(command, environment)
@@ -375,7 +377,8 @@ def run(words: list[str], environment: Mapping[str, str], host: Host | None = No
     """Does what the words ask for; gives the exit status."""
     client.files.begin(client.files.Files())
     try:
-        command = read_command(expand(words))
+        expanded = expand(words)
+        command = read_command(expanded)
     except WordsRefused as fault:
         return hand_over(Reasons([str(fault)]), words, environment, "--verbose" in words)
     if not command.inputs_named():
@@ -390,7 +393,9 @@ def run(words: list[str], environment: Mapping[str, str], host: Host | None = No
     try:
         if command.cannot:
             raise CannotLink(*command.cannot)
-        return Link(command, words, environment, host).run()
+        link = Link(command, words, environment, host)
+        link.expanded = expanded
+        return link.run()
     except CannotLink as fault:
         return hand_over(Reasons(fault.args), words, environment, command.verbose)
 

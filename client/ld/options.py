@@ -109,6 +109,9 @@ verbose|optional
 t trace|none
 print-output-format|none
 print-sysroot|none
+no-server|none
+server-status|none
+server-stop|none
 """
 
 IGNORED = """

@@ -1,8 +1,6 @@
 """`@FILE` in a command line: the words of a file, as GNU's tools read them."""
 from __future__ import annotations
 
-from client import files
-
 GREATEST_DEPTH = 100
 """How deep files of words may name others."""
 
@@ -45,7 +43,8 @@ def expand(words: list[str], depth: int = 0) -> list[str]:
             expanded.append(word)
             continue
         try:
-            text = files.read_text(word[1:])
+            with open(word[1:], encoding="utf-8", errors="surrogateescape") as file:  # no input of the link itself
+                text = file.read()
         except OSError:
             expanded.append(word)
             continue

@@ -55,6 +55,8 @@ class Calls:
         self.words = words
         self.host = host
         self._last_objects = link.objects
+        self._command = read_command(link.expanded)
+        """What the words ask for; the link's own has more in it by now."""
         self.files = client.files.CURRENT
         self.count = 0
         """The links that were made."""
@@ -89,17 +91,27 @@ class Calls:
             return self._once(words)
 
     def _once(self, words: list[str]) -> int:
-        objects = self._objects_now() if words == self.words and self.link is not None else None
+        is_same = self.link is not None and self._is_same_command(words)
+        self.host.is_same_text = False
+        objects = self._objects_now() if is_same else None
         if objects is not None and self.link is not None:
             return self.link.again(objects)
         return self._anew(words)
+
+    def _is_same_command(self, words: list[str]) -> bool:
+        """Whether the words ask for the same: a compiler's have names of files of its own, which differ each time."""
+        if words == self.words and not any(word.startswith("@") for word in words):
+            return True
+        try:
+            return read_command(expand(words)) == self._command
+        except (WordsRefused, OSError):
+            return False
 
     # the link before, once more
 
     def _objects_now(self) -> list[Object] | None:
         """The objects of the link before, as they are now; None where the link is to be made from the words on."""
         link, changed = self.link, self.files.changed()
-        self.host.is_same_text = False
         if link is None or changed is None or link.command.trace or self._default != self._default_script():
             return None
         objects, is_alike = list(link.objects), True
@@ -169,16 +181,17 @@ class Calls:
     def _anew(self, words: list[str]) -> int:
         self._last_objects = self.link.objects if self.link is not None else self._last_objects
         self.link = None
-        self.host.is_same_text = self.host.is_same_text and words == self.words
         files = Files(self.files)
         client.files.begin(files)
         try:
-            command = read_command(expand(words))
+            expanded = expand(words)
+            command, self._command = read_command(expanded), read_command(expanded)
         except WordsRefused as fault:
             raise ByItself(str(fault)) from None
         if command.cannot or not command.inputs_named() or command.asks:
             raise ByItself("another linker, or no link")
         link = Link(command, words, os.environ, self.host)
+        link.expanded = expanded
         with remembered(self._last_objects):
             status = link.run()
         self._last_objects = link.objects

@@ -33,7 +33,7 @@ class EditTest(ServerTest):
             self.assertEqual(self.image(), self.expected(), text)
 
     def test_words(self) -> None:
-        """Order of objects, objects that come and go, --defsym, --gc-sections, another script, its text, its INCLUDE."""
+        """The order of objects, some that come and go, --defsym, --gc-sections, other scripts, texts and INCLUDEs."""
         self.start()
         self.write("other.ld", SCRIPT.replace("0x401000", "0x500000"))
         for words in (WORDS[:4] + ("c.o", "b.o", "a.o"), WORDS[:-1], WORDS, ("--defsym=added=0x1234", *WORDS),
@@ -89,7 +89,8 @@ class EditTest(ServerTest):
         self.compile("c.c", "long first[3] = {1}, jiffies_64 = 7;")
         self.start()
         for number in (3, 3, 4, 90, 9):
-            self.compile("b.c", f"int other = 5, table[{number}] = {{1}}; int b(int x) {{ return table[x] + {number}; }}")
+            text = f"int other = 5, table[{number}] = {{1}}; int b(int x) {{ return table[x] + {number}; }}"
+            self.compile("b.c", text)
             self.assert_same(*WORDS)
 
     def test_flat_image_and_header_types(self) -> None:
@@ -181,7 +182,8 @@ class SaysTest(ServerTest):
 
     def test_program_that_runs(self) -> None:
         """An image that is being run is replaced, and can be started at once."""
-        self.compile("a.c", 'extern int b(int); void _start(void) { __asm__ volatile("syscall" :: "a"(60), "D"(b(3))); }')
+        end = '__asm__ volatile("syscall" :: "a"(60), "D"(b(3)));'
+        self.compile("a.c", f"extern int b(int); void _start(void) {{ {end} }}")
         self.start()
         for number in range(10):
             self.compile("b.c", f"int other; int b(int x) {{ return x + {number}; }}")
