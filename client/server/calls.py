@@ -32,17 +32,18 @@ Outcome = tuple[int, list[tuple[str, str]], list[tuple[int, bytes]]]
 """The exit status, the new files with their places, and what is to be printed on which stream."""
 
 
-class Said(io.TextIOBase):
+class Said(io.StringIO):
     """A stream of a link, whose texts are kept in the order of both streams."""
 
     def __init__(self, number: int, texts: list[tuple[int, bytes]]) -> None:
+        super().__init__()
         stream = sys.__stderr__ if number == 2 else sys.__stdout__
         self._number, self._texts = number, texts
         self._how = stream.encoding, stream.errors or "strict"
 
     def write(self, text: str) -> int:
         """Keeps a text."""
-        self._texts.append((self._number, text.encode(*self._how)))
+        self._texts.append((self._number, text.encode(*self._how)))  # not in itself
         return len(text)
 
 

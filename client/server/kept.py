@@ -19,15 +19,14 @@ class KeptSession:
         """Takes over a session with all its objects; `handle` is a descriptor of its process."""
         self.script: bytes | None = None
         self.status = 0
-        self._take(opened)
-        self._handle = handle
+        self._take(opened, handle)
 
-    def _take(self, opened: Opened) -> None:
+    def _take(self, opened: Opened, handle: int | None = None) -> None:
         self.options = opened.options
         self.session: Session | None = opened.session
         self._held = {item.name: item.data for item in opened.objects}
         self._order = [item.name for item in opened.objects]
-        self._handle: int | None = None
+        self._handle = handle
 
     def process(self) -> int:
         """The number of its process; 0 where there is none."""

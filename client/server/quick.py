@@ -213,7 +213,7 @@ def _exchange(beside: str, target: str) -> bool:
     try:
         import _ctypes
 
-        class Number(_ctypes._SimpleCData):  # type: ignore[misc, name-defined, type-arg]
+        class Number(_ctypes._SimpleCData):  # type: ignore[misc, name-defined]
             """A C int."""
 
             _type_ = "i"

@@ -80,11 +80,12 @@ class Soak:
 
     def _rewrite(self, number: int) -> None:
         self.version += 1
-        data = numbered(number, self.version, COUNT)
+        data: bytes | None = numbered(number, self.version, COUNT)
         self.bad.discard(number)
         if self.chance.random() < 0.15:
             self.bad.add(number)
-            data = self.chance.choice((b"no object", data[: self.chance.randrange(64)], b"\0" * 700, None))
+            short = numbered(number, 0, COUNT)[: self.chance.randrange(64)]
+            data = self.chance.choice((b"no object", short, b"\0" * 700, None))
         self._write(self.folder / self.folder.names[number], data)
         if number >= COUNT - IN_ARCHIVE:
             self._archive()

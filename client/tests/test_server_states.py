@@ -325,7 +325,7 @@ class DiskTest(ServerTest):
         room.mkdir()
         if subprocess.run(["mount", "-t", "tmpfs", "-o", "size=64k", "none", room], check=False).returncode:
             self.skipTest("no tmpfs can be mounted")
-        self.addCleanup(subprocess.run, ["umount", "-l", room], check=False)
+        self.addCleanup(lambda: subprocess.run(["umount", "-l", room], check=False))
         words = ("-T", "t.ld", "-o", "room/image", *WORDS[4:])
         self.start(*words)
         before = self.image("room/image")
