@@ -369,12 +369,21 @@ def _sorted(node: Input, found: list[tuple[Item, Pattern | None]]) -> list[tuple
         raise Unknown(f"{' '.join(node.file.sorts)} of files is not evaluated", node.start)
     if by_file and any(pattern is None or not _sort(pattern.sorts) for _, pattern in found):
         return _by_file(found)
+    sorts = {_sort(pattern.sorts) if pattern is not None else "" for _, pattern in found}
+    if not by_file and len(sorts) == 1 and "priority" not in sorts:
+        keys = sorts.pop().split()
+        return sorted(found, key=lambda entry: [_key(key, entry[0]) for key in keys])  # as the tree, but in less time
     tree = Tree()
     for entry in found:
         item, pattern = entry
         sort = _sort(pattern.sorts) if pattern is not None else ""
         tree.add(entry, sort, by_file)
     return tree.listed()
+
+
+def _key(key: str, item: Item) -> bytes | int:
+    """What `_compare` compares by one key."""
+    return item.name.encode("latin-1", "replace") if key == "name" else -item.align
 
 
 def _by_file(found: list[tuple[Item, Pattern | None]]) -> list[tuple[Item, Pattern | None]]:

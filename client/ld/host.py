@@ -18,6 +18,8 @@ from client.ld.script import Script, Source, write_script
 from client.protocol import Options
 
 if TYPE_CHECKING:
+    from client.check.link import Outcome
+    from client.ld.link import Result
     from client.ld.main import Link
 
 
@@ -45,6 +47,17 @@ class Host:
             known.take_tables(self._known)
             self._known = known
         return self._known
+
+    def is_checked(self, script: Script, objects: Sequence[Object]) -> bool:
+        """Whether it is known without a check what one would say of a good link."""
+        return False
+
+    def checked_before(self, script: Script, objects: Sequence[Object], result: Result | None) -> Outcome | None:
+        """What a check of a link would say, where that is known."""
+        return None
+
+    def checked(self, script: Script, objects: Sequence[Object], outcome: Outcome, command: Command) -> None:
+        """Takes note of what a check said."""
 
     def write(self, path: str, data: bytes, mode: int) -> None:
         """Writes a file of the link."""

@@ -219,15 +219,20 @@ class Link:
         """Whether the map is written, something is printed from it, or the image is compared by it."""
         command = self.command
         tables = command.print_memory_usage or command.gc_sections and command.print_gc_sections
-        return command.map_file is not None or command.print_map or tables \
-            or wants_map(script.adapted, self.host.known(self.objects), command)
+        if command.map_file is not None or command.print_map or tables:
+            return True
+        return not self.host.is_checked(script, self.objects) \
+            and wants_map(script.adapted, self.host.known(self.objects), command)
 
     def _checked(self, opened: Opened, script: Script, result: Result | None) -> Outcome:
         """Compares the image with what GNU ld makes of the script, and says what is another; what was done to the
         script, and what has no effect."""
         assert script.adapted is not None
-        checker = Checker(script.adapted, self.host.known(self.objects), self.command, self.source.own)
-        outcome = CheckedLink(checker, script, result, lambda text: opened.link(text, True)).run()
+        outcome = self.host.checked_before(script, self.objects, result)
+        if outcome is None:
+            checker = Checker(script.adapted, self.host.known(self.objects), self.command, self.source.own)
+            outcome = CheckedLink(checker, script, result, lambda text: opened.link(text, True)).run()
+            self.host.checked(script, self.objects, outcome, self.command)
         report_script(script, self.command.verbose, outcome)
         if outcome.result is None:
             say(f"{self.source.path}: {len(script.left)} places cannot be linked by ldi; they are named above")

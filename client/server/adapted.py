@@ -58,6 +58,8 @@ class Adapted:
 
     def __init__(self) -> None:
         self._asked: Asked | None = None
+        self._read: Known | None = None
+        """What was read of the objects last."""
         self._objects: dict[bytes, bytes] = {}
         self._scripts: dict[object, tuple[Script, list[str]]] = {}
         self._facts: dict[bytes, tuple[bytes, object]] = {}
@@ -82,6 +84,13 @@ class Adapted:
         for note in found[1]:
             command.note(note)
         return found[0]
+
+    def known(self, objects: Sequence[Object]) -> Known:
+        """What is known of these objects; what was read of the same bytes is not read again."""
+        known = Known({item.name.decode(): item.data for item in objects}, [item.linkage for item in objects])
+        known.take_tables(self._read or self._asked)
+        self._read = known
+        return known
 
     def _are_same(self, objects: Sequence[Object]) -> bool:
         """Whether all is as it was: for --gc-sections their relocations are looked at too."""

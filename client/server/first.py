@@ -7,6 +7,8 @@ import sys
 from collections.abc import Mapping, Sequence
 
 import client.server.later  # noqa: F401  # before what imports dataclasses
+from client.adapt.objects import Objects as Known
+from client.check.link import Outcome
 from client.ld.command import Command
 from client.ld.host import Host
 from client.ld.inputs import Object
@@ -15,6 +17,7 @@ from client.ld.main import Link, main, say
 from client.ld.script import Script, Source
 from client.protocol import Options
 from client.server.adapted import Adapted
+from client.server.checked import CheckedLayout
 from client.server.quick import Attempt
 
 
@@ -26,6 +29,7 @@ class FirstHost(Host):
         self.link: Link | None = None
         """The link, where it was good."""
         self.adapted = Adapted()
+        self.layout = CheckedLayout()
         self._errors = os.memfd_create("ldi")
 
     def opened(self, options: Options, objects: Sequence[Object]) -> Opened:
@@ -36,6 +40,15 @@ class FirstHost(Host):
                values: Mapping[str, int] | None) -> Script:
         """The script as `write_script` has it; what it was written from is kept."""
         return self.adapted.script(source, command, objects, values, is_same_text=True)
+
+    def known(self, objects: Sequence[Object]) -> Known:
+        """What is known of these objects; what the adapter has read is not read again."""
+        return self.adapted.known(objects)
+
+    def checked(self, script: Script, objects: Sequence[Object], outcome: Outcome, command: Command) -> None:
+        """Keeps what a check said, but with --gc-sections, where the layout goes by relocations too."""
+        if not command.gc_sections:
+            self.layout.keep(script, objects, outcome)
 
     def good(self, link: Link) -> None:
         """Keeps the link for the calls that follow."""
@@ -71,7 +84,7 @@ def link_by_itself(attempt: Attempt) -> int:
     if status == 0 and host.link is not None:
         from client.server.start import go_on
 
-        go_on(attempt, host.link, words, host.adapted)
+        go_on(attempt, host.link, words, host)
     return status
 
 

@@ -5,17 +5,20 @@ import _socket
 import fcntl
 import os
 import sys
+from typing import TYPE_CHECKING
 
 import client.files
 from client.ld.main import Link
-from client.server.adapted import Adapted
 from client.server.quick import Attempt, Declined, connect, output_of
+
+if TYPE_CHECKING:
+    from client.server.first import FirstHost
 
 LENGTH = 16
 """The calls that may wait to be taken."""
 
 
-def go_on(attempt: Attempt, link: Link, words: list[str], adapted: Adapted) -> None:
+def go_on(attempt: Attempt, link: Link, words: list[str], first: FirstHost) -> None:
     """Returns where there is to be no server, and never in the server."""
     if not _is_kept(attempt, link):
         _end(link)
@@ -41,7 +44,7 @@ def go_on(attempt: Attempt, link: Link, words: list[str], adapted: Adapted) -> N
 
     kept = KeptSession(link.opened, handle)
     kept.script = link.script.text if link.script is not None and not link.command.print_memory_usage else None
-    Server(attempt, listener, Calls(link, words, ServerHost(kept, adapted))).run()
+    Server(attempt, listener, Calls(link, words, ServerHost(kept, first.adapted, first.layout))).run()
     os._exit(0)
 
 

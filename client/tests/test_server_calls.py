@@ -40,7 +40,7 @@ class CallsTest(ServerTest):
         assert link is not None and link.opened is not None and link.script is not None
         kept = KeptSession(link.opened, None)
         kept.script = link.script.text
-        self.host = Meddling(kept, first.adapted)
+        self.host = Meddling(kept, first.adapted, first.layout)
         self.addCleanup(kept.end)
         self.calls_made = Calls(link, list(WORDS), self.host)
         self.host.meddles = []

@@ -1,0 +1,64 @@
+"""What the check of a link said, for links whose layout is the same.
+
+The check compares places, values, and what the script itself puts into the image. They are functions of the script and
+of the sections and names of the objects; not of what is in the sections, but with `--gc-sections`.
+"""
+from __future__ import annotations
+
+from collections.abc import Sequence
+
+from client.check.link import Outcome
+from client.ld.inputs import Object
+from client.ld.link import Result
+from client.ld.script import Script
+from client.object_file import RELA, STRTAB, SYMBOL, SYMTAB, NotElf, ObjectFile
+
+
+def layout_facts(data: bytes) -> object:
+    """All that the layout of a link goes by in an object."""
+    try:
+        file = ObjectFile(data)
+        sections = [(file.section_name(number), header.kind, header.flags, header.size, header.alignment,
+                     header.entry_size)
+                    for number, header in enumerate(file.headers) if header.kind not in (SYMTAB, STRTAB, RELA)]
+        table, names = file.global_table()
+        symbols = [(names[entry[0] : names.find(b"\0", entry[0])], *entry[1:]) for entry in SYMBOL.iter_unpack(table)]
+    except NotElf:
+        return data
+    return sections, symbols
+
+
+class CheckedLayout:
+    """The last check that found the image of the adapted script to be GNU ld's."""
+
+    def __init__(self) -> None:
+        self._script: Script | None = None
+        self._objects: dict[bytes, bytes] = {}
+        self._said: list[str] = []
+        self._differs = False
+
+    def keep(self, script: Script, objects: Sequence[Object], outcome: Outcome) -> None:
+        """Keeps what was said of a link; nothing where it was made by another script than the adapted one."""
+        self._script = None
+        if outcome.script is script and outcome.result is not None and outcome.result.status == 0:
+            self._script, self._said, self._differs = script, outcome.said, outcome.differs
+            self._objects = {item.name: item.data for item in objects}
+
+    def outcome(self, script: Script, objects: Sequence[Object], result: Result) -> Outcome | None:
+        """What a check of this link would say, where that is known."""
+        if result.status or result.script_refused or not self.is_same(script, objects):
+            return None
+        return Outcome(script, result, self._said, self._differs)
+
+    def is_same(self, script: Script, objects: Sequence[Object]) -> bool:
+        """Whether the layout is that of the link that was checked."""
+        known = self._objects
+        if self._script is not script or len(known) != len(objects):
+            return False
+        for (name, data), item in zip(known.items(), objects):
+            if name != item.name:
+                return False
+            if data is not item.data and layout_facts(data) != layout_facts(item.data):
+                return False
+        known.update((item.name, item.data) for item in objects)
+        return True
