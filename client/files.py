@@ -137,7 +137,7 @@ class Files:
             self._looks = Looks()
         if self._looked_at is None:
             self._looked_at = [one for one in self.seen.values() if one.data is not None]
-        found = [one.path for one in self._looks.changed(self._looked_at)]  # type: ignore[arg-type]
+        found = [one.path for one in self._looks.changed(self._looked_at)]
         if any(one.data is None and os.path.exists(path) for path, one in self.seen.items()):
             return None
         if any(PROBES[question](path) != answer for (question, path), answer in self.probes.items()):
