@@ -9,6 +9,7 @@ import unittest
 
 def main() -> int:
     """Runs the tests that the words name; gives the exit status."""
+    os.environ["LDI_SERVER"] = "0"  # no `ld.ldi` leaves a server, but in the tests of it
     folder = os.path.dirname(os.path.abspath(__file__))
     loader = unittest.TestLoader()
     if len(sys.argv) > 1:
