@@ -6,6 +6,7 @@ whose definitions of these names are as they were is adapted alike, whatever els
 from __future__ import annotations
 
 from collections.abc import Iterable, Mapping, Sequence
+from operator import is_
 
 from client.adapt.objects import Definition
 from client.adapt.objects import Objects as Known
@@ -60,6 +61,7 @@ class Adapted:
         self._asked: Asked | None = None
         self._read: Known | None = None
         """What was read of the objects last."""
+        self._datas: list[bytes] = []
         self._objects: dict[bytes, bytes] = {}
         self._scripts: dict[object, tuple[Script, list[str]]] = {}
         self._facts: dict[bytes, tuple[bytes, object]] = {}
@@ -87,9 +89,12 @@ class Adapted:
 
     def known(self, objects: Sequence[Object]) -> Known:
         """What is known of these objects; what was read of the same bytes is not read again."""
+        datas = [item.data for item in objects]
+        if self._read is not None and len(datas) == len(self._datas) and all(map(is_, datas, self._datas)):
+            return self._read
         known = Known({item.name.decode(): item.data for item in objects}, [item.linkage for item in objects])
         known.take_tables(self._read or self._asked)
-        self._read = known
+        self._read, self._datas = known, datas
         return known
 
     def _are_same(self, objects: Sequence[Object]) -> bool:
