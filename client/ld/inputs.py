@@ -293,6 +293,8 @@ class Loader:
         if not archive.has_index:
             archive.symbols = [(name, member.offset) for member in archive.members for name in self._defines(member)]
             archive.has_index = True
+        if archive.path not in self._taken:
+            self.names.ask(name for name, _ in archive.symbols)
         self._enter()
         taken = self._taken.setdefault(archive.path, set())
         before, count = len(taken), -1

@@ -69,12 +69,25 @@ def read_linkage(data: bytes) -> Linkage:
 
 
 class Names:
-    """What is known of each name at a point of the command line, as GNU ld keeps it."""
+    """What is known of names at a point of the command line, as GNU ld keeps it: of those that are asked for alone.
+
+    A kernel's objects have 100,000 names, and its libraries 1,000.
+    """
 
     UNDEFINED, UNDEFINED_WEAK, COMMON, WEAK, DEFINED = range(5)
 
     def __init__(self) -> None:
         self.state: dict[bytes, int] = {}
+        self._asked: set[bytes] = set()
+        self._taken: list[Linkage] = []
+
+    def ask(self, names: Iterable[bytes]) -> None:
+        """From now on it is known what is known of these names."""
+        new = set(names) - self._asked
+        if new:
+            self._asked |= new
+            for linkage in self._taken:
+                self._enter(linkage, linkage.keys() & new)
 
     def want(self, name: bytes) -> None:
         """The name is undefined, as by `-u`."""
@@ -87,9 +100,15 @@ class Names:
 
     def add(self, linkage: Linkage) -> None:
         """An object is taken."""
+        self._taken.append(linkage)
+        self._enter(linkage, linkage.keys() & self._asked)
+
+    def _enter(self, linkage: Linkage, names: Iterable[bytes]) -> None:
+        """Goes through some names of an object."""
         state = self.state
         known = state.get
-        for name, kind in linkage.items():
+        for name in names:
+            kind = linkage[name]
             if kind == IS_DEFINED:
                 state[name] = IS_DEFINED
                 continue

@@ -245,6 +245,7 @@ class Link:
 
     def _check_required(self, loader: Loader) -> None:
         """The names of --require-defined are defined."""
+        loader.names.ask(map(os.fsencode, self.command.required))
         for name in self.command.required:
             if loader.names.state.get(os.fsencode(name), 0) <= loader.names.UNDEFINED_WEAK:
                 raise BadInput(f"required symbol `{name}' not defined")
