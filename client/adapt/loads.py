@@ -11,6 +11,8 @@ from client.adapt.tree import Expr, Part, Section
 from client.adapt.values import Place
 
 ZERO = ex.number(0)
+LEAST = 64
+"""What load addresses are taken to be aligned by where they are numbers, and nothing is known of the objects."""
 
 
 class Loads(Heads):
@@ -27,6 +29,8 @@ class Loads(Heads):
         """`own` before the present section."""
         self.load_region = ""
         """The region of the AT>r of the section before."""
+        self.odd: dict[str, str] = {}
+        """By region: the section whose AT is not surely at a multiple of LEAST."""
         self.region_before: str | None = None
 
     def run(self, step: Step, section: Section, region: str, address: Expr | None) -> None:
@@ -65,11 +69,14 @@ class Loads(Heads):
             self.model.note(REWRITTEN, section.start, f"{section.name}: an empty section {name} before it has the "
                             "distance of the last section without AT>, which it keeps")
         self._both(region, wanted)
-        self._aligned(section, wanted)
+        self._aligned(section, wanted, region)
 
-    def _aligned(self, section: Section, distance: Expr) -> None:
+    def _aligned(self, section: Section, distance: Expr, region: str) -> None:
         """GNU ld aligns a load address that it finds by the distance."""
         value = self._number(distance)
+        if value is None and self.model.objects is None and region in self.odd:
+            self.model.note(CHANGED, section.start, f"{section.name}: GNU ld aligns its load address as the section; "
+                            f"here it is as far from its start as that of {self.odd[region]}")
         if not value:
             return
         align = alignment_of(self.model, section) if self.model.objects is not None else 4096
@@ -134,6 +141,11 @@ class Loads(Heads):
             place.notes = place.notes or ["as " + ex.short(result)]
         self.report(at.start, f"AT of {section.name}:", place)
         self._both(region, self._of(section))
+        value = ex.constant(result)
+        if value is None or value % LEAST:
+            self.odd[region] = section.name
+        else:
+            self.odd.pop(region, None)
 
     def _at_own(self, section: Section, region: str, address: Expr | None, at: Part, result: Expr) -> None:
         """AT with ADDR of the section itself: its distance is what counts."""

@@ -1,7 +1,14 @@
 """The program `ldi-adapt`: a script of GNU ld's language as one of the profile."""
 from __future__ import annotations
 
+import re
+import subprocess
 import sys
+import tempfile
+from typing import TYPE_CHECKING
+
+if TYPE_CHECKING:
+    from client.adapt.adapt import Adapted
 
 USAGE = """usage: ldi-adapt SCRIPT [-o OUT] [-L DIR].. [--defsym SYMBOL=EXPRESSION].. [--objects OBJECT.. | @LIST]
 
@@ -114,9 +121,56 @@ def _run(call: Call) -> int:
         return 2
     for note in result.report:
         sys.stderr.write(f"{note}\n")
+    differs = _differences(result, call.objects) if result.status < 2 and call.objects else []
+    for line in differs:
+        sys.stderr.write(f"{line}\n")
+    refused = _refusals(call.script, result) if result.status < 2 else []
+    for sentence in refused:
+        sys.stderr.write(f"{sentence}: left: the adapted script is refused there\n")
     if call.out:
         write_file(call.out, result.text, TEXT)
     else:
         sys.stdout.buffer.write(result.text)
         sys.stdout.flush()
-    return result.status
+    return 2 if refused else max(result.status, int(bool(differs)))
+
+
+def _differences(result: Adapted, objects: list[str]) -> list[str]:
+    """What is another in the image of the objects than GNU ld makes, where `ldi` can be had and links them."""
+    from client.adapt.objects import Objects
+    from client.check.link import Checker
+    from client.ld.command import Command
+    from client.protocol import Linked, Session, SessionEnded, find_program
+    known = Objects(objects)
+    try:
+        session = Session(program=find_program())
+    except OSError:
+        return []
+    try:
+        for position, (name, data) in enumerate(known.files()):
+            session.add(f"{position}.{len(name)}.o".encode() if not name.isascii() else name.encode(), position, data)
+        answer = session.script(result.text)
+        if not isinstance(answer, Linked) or answer.status:
+            return []
+        return Checker(result, known, Command(), own=True).lines(session.image(), session.map())
+    except SessionEnded:
+        return []
+    finally:
+        session.kill()
+
+
+def _refusals(path: str, result: Adapted) -> list[str]:
+    """Why `readscript` refuses the adapted script, where it does and can be had."""
+    from client.protocol import Refused, find_program
+    from client.refusals import NO_SCRIPT, refusal_sentences
+    with tempfile.NamedTemporaryFile(prefix="ldi-adapt-") as file:
+        file.write(result.text)
+        file.flush()
+        try:
+            done = subprocess.run([find_program("readscript"), file.name], capture_output=True, check=False)
+        except OSError:
+            return []
+    found = re.search(rb"refused 5 ([0-9]+)", done.stdout)
+    if done.returncode == 0 or found is None:
+        return []
+    return refusal_sentences(path, Refused(NO_SCRIPT, int(found.group(1))), result.text, result.lines)

@@ -66,6 +66,10 @@ class Objects:
         self._undefined: set[str] = set()
         self._read = False
 
+    def files(self) -> Iterable[tuple[str, bytes]]:
+        """The names of the objects and their bytes, in their order."""
+        return self._files.items()
+
     def has_same(self, objects: Sequence[bytes]) -> bool:
         """Whether these are its objects."""
         own = list(self._files.values())

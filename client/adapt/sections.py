@@ -8,7 +8,7 @@ from client.adapt.model import Model, Step
 from client.adapt.notes import CHANGED, DROPPED, LEFT, REWRITTEN, SEGMENTS, Left
 from client.adapt.patterns import is_name
 from client.adapt.statements import needs_writing
-from client.adapt.taking import OWN_ALIGN, flags_of, inputs, row, takes_others, takes_own
+from client.adapt.taking import OWN_ALIGN, flags_of, inputs, row, takes_others, takes_own, words
 from client.adapt.tree import Assert, Assign, Command, Data, Expr, Input, Node, Part, Region, Section
 from client.adapt.values import Place
 from client.object_file import NOBITS
@@ -107,6 +107,8 @@ class Sections(Heads):
             pass
         elif align is not None and align.value is not None:
             self.write(align.value, Place(step.index, None), f"ALIGN of {section.name}:")
+        if model.objects is None:
+            self._perhaps_empty(section)
         region = self._tail(section)
         self.loads.run(step, section, region, known)
         self._subalign(section)
@@ -132,6 +134,15 @@ class Sections(Heads):
         model.note(REWRITTEN, section.start, f"{section.name} is aligned by {OWN_ALIGN}, as sections are that GNU ld "
                    "makes itself and places there, without contents in a static link")
         return True
+
+    def _perhaps_empty(self, section: Section) -> None:
+        """Says where a section that says where it goes may take nothing; GNU ld drops it then."""
+        says = section.address is not None or any(section.part(word) for word in ("AT", "ALIGN", "AT>"))
+        if says and section.body and all(isinstance(node, Input) for node in section.body) \
+                and not any(word.startswith(_USUAL) or word == "*" for word in words(section)) \
+                and all(node.patterns is not None for node in inputs(section)):
+            self.model.note(CHANGED, section.start, f"{section.name}: where it takes nothing, GNU ld drops it with what "
+                            "its head says of addresses; here it stays (--objects says whether it takes anything)")
 
     def _after_empty(self, step: Step, section: Section) -> None:
         """Says where `.` is the address of a section that takes nothing: GNU ld has it for the next section alone."""
@@ -307,6 +318,10 @@ class Sections(Heads):
         elif text != own:
             model.edits.replace(part.start, part.end, "=" + text)
             model.note(REWRITTEN, part.start, f"the fill {own} of {section.name} as {text}")
+
+
+_USUAL = (".text", ".rodata", ".data", ".bss", "COMMON")
+"""Beginnings of names that mostly are there."""
 
 
 def _has_contents(section: Section) -> bool:

@@ -111,6 +111,14 @@ class Checker:
             return []
         return Comparison(evaluated, image, map_text).run()
 
+    def lines(self, image: bytes, map_text: bytes) -> list[str]:
+        """Lines for the report of what is another in an image."""
+        found = self.differences(image, map_text)
+        fault = self.unknown or self.stopped
+        if fault is not None:
+            return [self.line(fault.offset, f"changed: it is not known whether GNU ld makes the same of it: {fault}")]
+        return [self.line(one.offset, f"changed: {one.text}") for one in found]
+
     def fixed(self) -> tuple[bytes, tuple[tuple[str, int], ...]] | None:
         """A script with the places of the evaluation, and the origins of its lines."""
         if self.done is None or self.adapted.tree is None:

@@ -161,6 +161,28 @@ class ProgramTest(unittest.TestCase):
         self.assertEqual(self.run_program("--help")[0], 0)
         self.assertEqual(self.run_program("s.ld", "--defsym=x=1", "--defsym", "y=2")[1], "x = 1; y = 2; ")
 
+    def test_refused_by_the_reader(self) -> None:
+        """A text that `readscript` refuses has status 2, whatever the report says."""
+        memory = "MEMORY { rom : ORIGIN = 0, LENGTH = 1M ram : ORIGIN = 0x8000000, LENGTH = 1M }\n"
+        for text, line in ((f"{memory}SECTIONS {{\n.t : AT(0x1000) {{ *(.text) }} >ram AT>rom }}", "s.ld:3: "),
+                           ("SECTIONS { .t : { *(.text) }\n.u : { : *(.data) } }", "s.ld:")):
+            status, _, report = self.run_program("s.ld", text=text)
+            self.assertEqual(status, 2, report)
+            self.assertTrue(any(one.startswith(line) for one in report.splitlines()), report)
+
+    def test_image_of_the_objects(self) -> None:
+        """With objects the images are compared: what no line of the report says is found."""
+        with tempfile.TemporaryDirectory() as folder:
+            paths = make(folder)
+            rest = ".r : { *(.text*) *(.rodata*) *(.tab*) *(.init_array*) *(.data*) *(.bss) *(COMMON) } "
+            rest += "end = .; _end = .; provided = 1; __stack = 2;"
+            for script, found in ((f"SECTIONS {{ . = 0x1000; .d : AT(0x2003) {{ *(.data) }} {rest} }}",
+                                   ".r is loaded at 0x"),
+                                  (f"SECTIONS {{ . = 0x1000; .d : {{ *(.data) }} {rest} }}", "")):
+                status, _, report = self.run_program("s.ld", "--objects", *paths, text=script)
+                self.assertEqual(status, 1 if found else 0, report)
+                self.assertIn(found, report)
+
     def test_rest_of_a_statement(self) -> None:
         """What is around a name that is left is in the profile's words; the statement is left all the same."""
         status, out, report = self.run_program("s.ld", text="x = 1M; p = ABSOLUTE(start - x) + MAX(x, 3);")
