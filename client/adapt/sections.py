@@ -141,8 +141,8 @@ class Sections(Heads):
         if says and section.body and all(isinstance(node, Input) for node in section.body) \
                 and not any(word.startswith(_USUAL) or word == "*" for word in words(section)) \
                 and all(node.patterns is not None for node in inputs(section)):
-            self.model.note(CHANGED, section.start, f"{section.name}: where it takes nothing, GNU ld drops it with what "
-                            "its head says of addresses; here it stays (--objects says whether it takes anything)")
+            self.model.note(CHANGED, section.start, f"{section.name}: where it takes nothing, GNU ld drops it with "
+                            "what its head says of addresses; here it stays (--objects says whether it takes anything)")
 
     def _after_empty(self, step: Step, section: Section) -> None:
         """Says where `.` is the address of a section that takes nothing: GNU ld has it for the next section alone."""

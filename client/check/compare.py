@@ -166,7 +166,7 @@ class Comparison:
         found = [piece for piece in pieces_of(self.map) if piece[3] != "COMMON"]
         if sorted(wanted) == sorted(found):
             return
-        own = {}
+        own: dict[tuple[str, str, int], list[int]] = {}
         for piece in found:
             own.setdefault((piece[2], piece[3], piece[1]), []).append(piece[0])
         for address, size, owner, name in wanted:

@@ -4,15 +4,14 @@ from __future__ import annotations
 import gc
 
 from client.adapt.objects import Objects
-from client.adapt.tree import Expr, Node
+from client.adapt.tree import Assign, Expr, Node
 from client.check.fold import ASSIGN, FINAL, FIRST, MARK, Fold
 from client.check.layout import TRIES, Layout
 from client.check.orphans import Orphans
 from client.check.rows import Matching, Rows, files_of, make
-from client.check.script import ASSIGN as ASSIGN_STATEMENT
 from client.check.script import OUTPUT, Statements, folded
-from client.check.state import (COMMON, DEFINED, DEFINED_WEAK, MASK, NOWHERE, NUMBERS, READONLY, UNDEFINED, UNDEFINED_WEAK, Item,
-                                Place, Settings, Stopped, Symbol, Unknown)
+from client.check.state import (COMMON, DEFINED, DEFINED_WEAK, MASK, NOWHERE, NUMBERS, READONLY, UNDEFINED,
+                                UNDEFINED_WEAK, Item, Settings, Stopped, Symbol, Unknown)
 from client.object_file import ABSOLUTE
 from client.object_file import COMMON as COMMON_NUMBER
 from client.object_file import SYMBOL
@@ -33,7 +32,7 @@ class Evaluated:
         """The symbols that the script gives a value."""
         self.started: list[tuple[Symbol, str, bool]] = []
         """The names that GNU ld itself gives to starts and ends of sections."""
-        self.assigned = {s.node.name: s.node.start for s in statements.every() if s.kind == ASSIGN_STATEMENT}
+        self.assigned = {s.node.name: s.node.start for s in statements.every() if isinstance(s.node, Assign)}
         """Where each of the script's symbols has its last assignment."""
         self.entry_name = ""
         self.orphans: list[Item] = []

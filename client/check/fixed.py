@@ -7,7 +7,7 @@ from __future__ import annotations
 
 from collections.abc import Callable
 
-from client.adapt.patterns import is_name
+from client.adapt.patterns import RESERVED, is_name
 from client.adapt.tree import Data
 from client.check.compare import filled, has_bits
 from client.check.evaluate import Evaluated
@@ -27,12 +27,7 @@ class NotFixed(Exception):
 def word_of(name: str) -> str:
     """A name as a pattern that matches it alone."""
     text = "".join(char if char in _PLAIN else "\\" + char for char in name)
-    return "\\" + text if text.startswith("/*") or text.isupper() and "_" in text or text in _RESERVED else text
-
-
-_RESERVED = frozenset(("ADDR", "ALIGN", "ASSERT", "AT", "BYTE", "CONSTANT", "DEFINED", "ENTRY", "FILL", "HIDDEN", "KEEP",
-                       "LENGTH", "LOADADDR", "LONG", "MAX", "MEMORY", "MIN", "NOLOAD", "ORIGIN", "PROVIDE", "QUAD",
-                       "SECTIONS", "SHORT", "SIZEOF", "SORT", "SQUAD"))
+    return "\\" + text if text in RESERVED else text
 
 
 class Fixed:
@@ -198,12 +193,12 @@ class _Body:
         """Bytes that nothing is in: the fill, or zeros."""
         if start != self.at:
             raise NotFixed(f"a gap of {self.output.name} is not where it should be")
-        contents = filled(fill, size)
-        if not self.bits or not any(contents):
+        if not self.bits or not any(fill or b""):
             self.fixed._line(f". = {start + size:#x};", offset)
         elif size > 1 << 16:
             raise NotFixed(f"a gap of {self.output.name} is too large to be filled")
         else:
+            contents = filled(fill, size)
             words = [f"QUAD(0x{contents[i:i + 8][::-1].hex()})" for i in range(0, size - 7, 8)]
             words += [f"BYTE({byte:#x})" for byte in contents[size - size % 8:]]
             for i in range(0, len(words), 8):
@@ -224,6 +219,6 @@ class _Body:
 
 def fixed_script(evaluated: Evaluated, names: dict[int, str], keep: bool,
                  place: Callable[[int], tuple[str, int]]) -> tuple[bytes, tuple[tuple[str, int], ...]]:
-    """The script, and for each of its lines the file and the line that it came from; NotFixed says why there is none."""
+    """The script, and for each of its lines the file and the line that it came from; NotFixed where there is none."""
     text, offsets = Fixed(evaluated, names, keep).write()
     return text, tuple(place(max(offset, 0)) for offset in offsets)

@@ -9,8 +9,8 @@ from __future__ import annotations
 from collections.abc import Callable
 
 from client.adapt.tree import Expr
-from client.check.state import (DEFINED, DEFINED_WEAK, COMMON, MASK, NEW, NOWHERE, NUMBERS, UNDEFINED,
-                                Place, Settings, Stopped, Symbol, Unknown)
+from client.check.state import (COMMON, DEFINED, DEFINED_WEAK, MASK, NEW, NOWHERE, NUMBERS, UNDEFINED, Place,
+                                Settings, Stopped, Symbol, Unknown)
 
 FIRST, MARK, SIZE, ASSIGN, FINAL = range(5)
 (NONE, ALIGN_SEEN, RELRO_SEEN, END_SEEN, DONE, ADJUST, RELRO_ADJUST) = range(7)
@@ -251,7 +251,8 @@ class Fold:
     def _relro_end(self, end: int, offset: int) -> None:
         segment = self.segment
         segment.relro, segment.relro_offset = 2, offset
-        if self.phase == FIRST or self.at is not NUMBERS or segment.phase not in (ALIGN_SEEN, ADJUST, RELRO_ADJUST, DONE):
+        in_turn = segment.phase in (ALIGN_SEEN, ADJUST, RELRO_ADJUST, DONE)
+        if self.phase == FIRST or self.at is not NUMBERS or not in_turn:
             self.valid = False
             return
         if segment.phase in (ALIGN_SEEN, RELRO_ADJUST):

@@ -1,9 +1,8 @@
 """How many program headers GNU ld's image has, for SIZEOF_HEADERS."""
 from __future__ import annotations
 
-from client.adapt.tree import Expr
-from client.check.script import Output, Statements
-from client.check.state import ALLOC, CODE, CONTENTS, LOAD, MASK, READONLY, TLS, Place, Region, Settings
+from client.check.script import Statements
+from client.check.state import ALLOC, CODE, CONTENTS, LOAD, MASK, READONLY, TLS, Place, Settings
 
 ELF_HEADER, PROGRAM_HEADER = 64, 56
 

@@ -1,19 +1,18 @@
 """The passes over a script's statements in which GNU ld finds sizes, addresses and values.
 
-Each pass goes over all statements. The sizing passes set addresses and sizes, the others give symbols their values; what
-an expression sees of something that comes later is what the pass before left.
+Each pass goes over all statements. The sizing passes set addresses and sizes, the others give symbols their values;
+what an expression sees of something that comes later is what the pass before left.
 """
 from __future__ import annotations
 
 from client.adapt.tree import Assert, Assign, Data, Expr
-from client.check.fold import (ADJUST, ASSIGN as ASSIGNING, DONE, END_SEEN, FINAL, FIRST, MARK, NONE, RELRO_ADJUST, SIZE,
-                               Fold, align_up)
+from client.check.fold import ADJUST, DONE, END_SEEN, FINAL, FIRST, MARK, NONE, RELRO_ADJUST, SIZE, Fold, align_up
 from client.check.headers import Headers
 from client.check.script import (ASSERT, ASSIGN, DATA, DEFAULT, FILL, INPUT, OUTPUT, SIZES, Output, Statement,
                                  Statements)
-from client.check.state import (ALLOC, CODE, CREATED, DATA as WRITTEN, DEFINED, EXCLUDE, KEEP, LOAD, MASK, NEVER_LOAD,
-                                NEW, NOWHERE, NUMBERS, READONLY, TLS, UNDEFINED, UNDEFINED_WEAK, COMMON, DEFINED_WEAK,
-                                Item, Place, Region, Settings, Stopped, Symbol, Unknown)
+from client.check.state import (ALLOC, CODE, COMMON, CREATED, DATA as WRITTEN, DEFINED, DEFINED_WEAK, EXCLUDE, KEEP,
+                                LOAD, MASK, NEW, NOWHERE, NUMBERS, READONLY, TLS, UNDEFINED, UNDEFINED_WEAK, Place,
+                                Region, Settings, Stopped, Symbol)
 
 TRIES = 10
 """Layouts after which a number of program headers that still changes is given up."""
@@ -45,7 +44,8 @@ class Layout:
 
     def places(self) -> list[Place]:
         """The output sections of the image, in the order in which they were made."""
-        return [output.place for output in self.statements.outputs if output.place is not None and not output.place.gone]
+        places = (output.place for output in self.statements.outputs)
+        return [place for place in places if place is not None and not place.gone]
 
     def power(self, e: Expr | None) -> int:
         """An alignment; 0 where there is none."""
@@ -258,7 +258,8 @@ class Layout:
         else:
             first, last = -segment.base & segment.common - 1, segment.end & segment.common - 1
             page = ~(segment.common - 1)
-            again = bool(first and last) and segment.base & page != segment.end & page and first + last <= segment.common
+            again = bool(first and last) and first + last <= segment.common \
+                and segment.base & page != segment.end & page
             segment.phase = ADJUST if again else DONE
         if again:
             self.reset()

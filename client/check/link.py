@@ -152,7 +152,8 @@ class Outcome:
 class CheckedLink:
     """A link by the adapted script; where that comes to another image than GNU ld's, another by one of numbers."""
 
-    def __init__(self, checker: Checker, script: Script, result: Result | None, link: Callable[[bytes], Result]) -> None:
+    def __init__(self, checker: Checker, script: Script, result: Result | None,
+                 link: Callable[[bytes], Result]) -> None:
         """`result` is that of the adapted script; None where something of it is left."""
         self.checker, self.script, self.result, self.link = checker, script, result, link
 

@@ -5,11 +5,11 @@ room, but the load addresses of the sections after them go by theirs.
 """
 from __future__ import annotations
 
+from client.adapt.expressions import uses_dot
 from client.adapt.tree import Assign
 from client.check.rows import add_to
-from client.check.script import ASSIGN, ASSERT, DEFAULT, OUTPUT, Output, Statement, Statements
-from client.check.state import (ALLOC, CODE, CONTENTS, DATA, EXCLUDE, LOAD, NUMBERS, READONLY, TLS, CREATED, Item, Place,
-                                Unknown)
+from client.check.script import ASSIGN, DEFAULT, OUTPUT, Output, Statement, Statements
+from client.check.state import ALLOC, CODE, CONTENTS, DATA, EXCLUDE, LOAD, NUMBERS, READONLY, TLS, Item, Unknown
 from client.object_file import NOTE, RELA
 
 LOOK = CONTENTS | ALLOC | LOAD | READONLY | CODE | TLS
@@ -57,6 +57,17 @@ class Orphans:
                 self._common(item)
             elif item.flags & (ALLOC | LOAD):
                 self._place(item)
+            elif item.size:
+                self._unloaded(item)
+
+    def _unloaded(self, item: Item) -> None:
+        """What is not loaded goes after the last section that is not, at 0: `.` after that is another."""
+        after = False
+        for output in self.statements.outputs:
+            if after and output.address is not None and uses_dot(output.address):
+                raise Unknown(f"{item.name} of {item.object}, which no statement takes, is put before it",
+                              output.node.start if output.node else -1)
+            after = after or output.place is not None and not output.place.flags & (ALLOC | LOAD) and bool(output.kind)
 
     def _common(self, item: Item) -> None:
         """Common blocks that no statement takes go to where others go, or to .bss."""

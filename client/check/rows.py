@@ -8,8 +8,8 @@ from client.adapt.patterns import has_wildcard, matcher
 from client.adapt.taking import _Index, file_names
 from client.adapt.tree import Input, Node, Pattern
 from client.check.script import ASSIGN, DATA, FILL, INPUT, NOT_LOADED, OBJECTS, OUTPUT, Output, Statement, Statements
-from client.check.state import (ALLOC, CODE, CONTENTS, CREATED, DATA as WRITTEN, EXCLUDE, KEEP, LOAD, NEVER_LOAD, NUMBERS,
-                                READONLY, TLS, Item, Place, Settings, Stopped, Unknown)
+from client.check.state import (ALLOC, CODE, CONTENTS, CREATED, DATA as WRITTEN, EXCLUDE, KEEP, LOAD, NEVER_LOAD,
+                                NUMBERS, READONLY, TLS, Item, Place, Settings, Stopped, Unknown)
 from client.object_file import NOBITS, NOTE, PROGBITS
 
 _BITS = {"SHF_WRITE": 1, "SHF_ALLOC": 2, "SHF_EXECINSTR": 4, "SHF_MERGE": 16, "SHF_STRINGS": 32, "SHF_INFO_LINK": 64,
@@ -397,44 +397,61 @@ def file_key(name: str) -> tuple[str, str]:
     return (archive, member) if archive else (member, "")
 
 
+Entry = tuple[Item, Pattern | None]
+
+
+class Slot:
+    """A place in the tree: empty, or a section with what goes before it and after it."""
+
+    __slots__ = ("entry", "left", "right")
+
+    def __init__(self) -> None:
+        self.entry: Entry | None = None
+        self.left: Slot | None = None
+        self.right: Slot | None = None
+
+    def take(self, entry: Entry) -> "Slot":
+        """Puts a section here; gives the place to its right."""
+        self.entry, self.left, self.right = entry, Slot(), Slot()
+        return self.right
+
+
 class Tree:
     """A binary tree of sections: one that is no less than a node goes to its right."""
 
     def __init__(self) -> None:
-        self.root: list = [None]
-        self.right_end: list = self.root
+        self.root = self.right_end = Slot()
 
-    def add(self, entry: tuple[Item, Pattern | None], sort: str, by_file: bool) -> None:
+    def add(self, entry: Entry, sort: str, by_file: bool) -> None:
+        """Adds a section; without a sort at the right end."""
         slot = self.right_end if not by_file and not sort else self._slot(entry[0], sort, by_file)
-        left: list = [None]
-        right: list = [None]
-        slot[0] = (entry, left, right)
+        right = slot.take(entry)
         if slot is self.right_end:
             self.right_end = right
 
-    def _slot(self, item: Item, sort: str, by_file: bool) -> list:
+    def _slot(self, item: Item, sort: str, by_file: bool) -> Slot:
         slot = self.root
-        while slot[0] is not None:
-            entry, left, right = slot[0]
-            if by_file:
-                one, other = file_key(item.object), file_key(entry[0].object)
-                if one != other:
-                    slot = right if one > other else left
-                    continue
-            slot = left if _compare(sort, item, entry[0]) < 0 else right
+        while slot.entry is not None and slot.left is not None and slot.right is not None:
+            other = slot.entry[0]
+            if by_file and file_key(item.object) != file_key(other.object):
+                slot = slot.right if file_key(item.object) > file_key(other.object) else slot.left
+            else:
+                slot = slot.left if _compare(sort, item, other) < 0 else slot.right
         return slot
 
-    def listed(self) -> list[tuple[Item, Pattern | None]]:
-        result: list[tuple[Item, Pattern | None]] = []
-        stack: list = []
-        node = self.root[0]
-        while stack or node is not None:
-            while node is not None:
-                stack.append(node)
-                node = node[1][0]
-            node = stack.pop()
-            result.append(node[0])
-            node = node[2][0]
+    def listed(self) -> list[Entry]:
+        """The sections from left to right."""
+        result: list[Entry] = []
+        stack: list[Slot] = []
+        slot: Slot | None = self.root
+        while stack or slot is not None and slot.entry is not None:
+            while slot is not None and slot.entry is not None:
+                stack.append(slot)
+                slot = slot.left
+            slot = stack.pop()
+            assert slot.entry is not None
+            result.append(slot.entry)
+            slot = slot.right
         return result
 
 

@@ -14,6 +14,9 @@ from client.ld.options import (
     find_option,
 )
 
+OF_LAYOUT = frozenset({"relro", "norelro", "separate-code", "noseparate-code"})
+"""Words of -z that have a part in the layout (client/check)."""
+
 GREATEST_PAGE = 1 << 30
 """The greatest page of `-z max-page-size=`."""
 
@@ -287,7 +290,10 @@ class Reader:
             self.command.page_size = number(value, "-z max-page-size")
             if self.command.page_size > GREATEST_PAGE or self.command.page_size.bit_count() != 1:
                 raise WordsRefused(f"-z {text}: no power of two up to {GREATEST_PAGE:#x}")
-        elif name not in KEYWORDS_IGNORED:
+        elif name == "common-page-size":
+            if number(value, "-z common-page-size").bit_count() != 1:
+                raise WordsRefused(f"-z {text}: no power of two")
+        elif name not in KEYWORDS_IGNORED and name not in OF_LAYOUT:
             self.command.note(f"-z {text}: not known, without effect")
 
     def orphans(self, value: str) -> None:

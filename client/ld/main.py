@@ -240,7 +240,7 @@ class Link:
         for note in self.command.notes:
             say(note)
         if outcome.differs:
-            say(f"{self.source.path}: the image would be another than GNU ld's, in what is named above: none is written")
+            say(f"{self.source.path}: the image would be another than GNU ld's, as is said above: none is written")
         return outcome
 
     def _check_required(self, loader: Loader) -> None:
@@ -305,7 +305,7 @@ class Link:
             print_faults(result.faults, inputs)
             return FAULTS
         self._write(script, result)
-        self._tables(opened, script, result)
+        self._tables(opened, self.script, result)
         self.host.good(self)
         return GOOD
 

@@ -269,12 +269,12 @@ Tldata-segment|needed|the address of a segment
 """
 
 KEYWORDS_IGNORED = frozenset(
-    "call-nop cet-report combreloc common common-page-size defs dynamic-undefined-weak execstack global globalaudit ibt"
+    "call-nop cet-report combreloc common defs dynamic-undefined-weak execstack global globalaudit ibt"
     " ibtplt indirect-extern-access initfirst interpose keep-text-section-prefix lam-report lam-u48 lam-u48-report"
     " lam-u57 lam-u57-report lazy loadfltr nocombreloc nocommon nocopyreloc nodefaultlib nodelete nodlopen"
-    " nodump nodynamic-undefined-weak noexecstack noextern-protected-data noindirect-extern-access norelro"
-    " noseparate-code notext nounique nounique-symbol now origin relro report-relative-reloc"
-    " nopack-relative-relocs pack-relative-relocs sectionheader separate-code shstk stack-size start-stop-visibility"
+    " nodump nodynamic-undefined-weak noexecstack noextern-protected-data noindirect-extern-access "
+    " notext nounique nounique-symbol now origin report-relative-reloc"
+    " nopack-relative-relocs pack-relative-relocs sectionheader shstk stack-size start-stop-visibility"
     " text textoff unique unique-symbol x86-64-baseline x86-64-v2 x86-64-v3 x86-64-v4".split()
 )
 """The words of `-z` that change nothing of a static image, or only headers that `ldi` never makes."""

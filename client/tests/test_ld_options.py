@@ -22,7 +22,8 @@ from client.ld.options import (
 from client.ld.words import expand, split_words
 from client.tests.linking import ROOT, needs
 
-TAKEN_KEYWORDS = {"max-page-size", "start-stop-gc", "nostart-stop-gc"}
+TAKEN_KEYWORDS = {"max-page-size", "common-page-size", "relro", "norelro", "separate-code", "noseparate-code",
+                  "start-stop-gc", "nostart-stop-gc"}
 
 
 def help_of_gnu_ld() -> str:

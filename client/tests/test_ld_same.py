@@ -41,8 +41,8 @@ SCRIPTS = {
     "EXCLUDE_FILE of an archive":
         "SECTIONS { . = 0x400000; .t : { *(EXCLUDE_FILE(*libx.a) .text) *(EXCLUDE_FILE(*libx.a:x1.o) .data*) } REST }",
     "attributes of regions":
-        TWO.replace("rom (rx)", "ram2 (w!x)").replace("ram (w!x)", "rom (rx)") + " SECTIONS { .text : { *(.text*) } .ro "
-        ": { *(.rodata*) } .data : { *(.data*) } REST >ccm }",
+        TWO.replace("rom (rx)", "ram2 (w!x)").replace("ram (w!x)", "rom (rx)") + " SECTIONS { .text : { *(.text*) } "
+        ".ro : { *(.rodata*) } .data : { *(.data*) } REST >ccm }",
     "ALIGNOF with ALIGN in the head":
         "SECTIONS { . = 0x400000; .t : ALIGN(256) { *(.text) } a = ALIGNOF(.t); REST b = ALIGNOF(.rest); }",
     "objects' symbols in a section":
@@ -97,8 +97,6 @@ class SameTest(unittest.TestCase):
         self.assertNotEqual(came.outcome, GNU_REFUSES, came.said)
         if came.outcome == SAME:
             self.assertNotIn("changed", came.said)
-        else:
-            print(came.outcome, came.found[:3], came.said[:200])
         return came.outcome
 
     def test_scripts(self) -> None:
@@ -109,8 +107,8 @@ class SameTest(unittest.TestCase):
 
     def test_page_constants(self) -> None:
         """CONSTANT of pages in the script, in what it includes and in --defsym, with and without -z."""
-        script = ("a = CONSTANT(MAXPAGESIZE); SECTIONS { INCLUDE inner.ld . = ALIGN(CONSTANT(COMMONPAGESIZE)); REST b = "
-                  "CONSTANT(COMMONPAGESIZE); }")
+        script = ("a = CONSTANT(MAXPAGESIZE); SECTIONS { INCLUDE inner.ld . = ALIGN(CONSTANT(COMMONPAGESIZE)); REST "
+                  "b = CONSTANT(COMMONPAGESIZE); }")
         inner = ". = 0x400000 + CONSTANT(MAXPAGESIZE);\n"
         defsym = "--defsym=sym_1=CONSTANT(MAXPAGESIZE) + 1"
         for words in ((), ("-z", "max-page-size=0x4000"), ("-z", "common-page-size=0x2000"),

@@ -18,8 +18,8 @@ from client.tests.fuzz import objects
 from client.tests.fuzz.images import differences, read_image
 from client.tests.fuzz.scripts import Case, case
 
-SAME, CHANGED, REFUSED, GNU_REFUSES, SILENT, CRASHED = ("same", "changed, which is said", "refused", "refused by GNU ld",
-                                                        "SILENT DIFFERENCE", "CRASHED")
+SAME, CHANGED, REFUSED = "same", "changed, which is said", "refused"
+GNU_REFUSES, SILENT, CRASHED = "refused by GNU ld", "SILENT DIFFERENCE", "CRASHED"
 LIMIT = 60.0
 """Seconds that a case may take."""
 GREATEST = 1 << 25

@@ -141,7 +141,8 @@ class Writer:
                              ". = . + 0;", f". = {self.pick('0x80', '0x100', '0x200')};", ". = 0;",
                              f". = ALIGN(., {self.power()}) + 4;", f". = MAX(., {self.small()});")
         return self.pick(f". = ALIGN({self.power()});", f". += {self.small()};", f". = . + {self.small()};",
-                         f". = {hex(0x1000 * self.random.randrange(0x402, 0x500))};", f". = ALIGN(., {self.power()}) + 4;",
+                         f". = {hex(0x1000 * self.random.randrange(0x402, 0x500))};",
+                         f". = ALIGN(., {self.power()}) + 4;",
                          ". = ALIGN(CONSTANT(MAXPAGESIZE)) + (. & (CONSTANT(MAXPAGESIZE) - 1));",
                          f". = ALIGN({self.power()});")
 
@@ -214,9 +215,10 @@ class Writer:
             text += f" ({self.pick('NOLOAD', 'NOLOAD', 'INFO', 'COPY', 'DSECT')})"
         text += " :"
         if self.chance(15):
+            last = self.names[-1] if self.names else ""
+            after = f"LOADADDR({last}) + SIZEOF({last})" if last else "0x300000"
             text += " AT(" + self.pick(hex(0x200000 + self.random.randrange(0x100000)), "0x200000 + 4",
-                                       f"ADDR({name}) - 0x1000", f"LOADADDR({self.names[-1]}) + SIZEOF({self.names[-1]})"
-                                       if self.names else "0x300000", f"ADDR({name})") + ")"
+                                       f"ADDR({name}) - 0x1000", after, f"ADDR({name})") + ")"
         if self.chance(12):
             text += f" ALIGN({self.power()})"
         elif self.chance(3):
