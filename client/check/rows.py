@@ -7,7 +7,8 @@ from client.adapt.objects import InputSection, Objects
 from client.adapt.patterns import has_wildcard, matcher
 from client.adapt.taking import _Index, file_names
 from client.adapt.tree import Input, Node, Pattern
-from client.check.script import ASSIGN, DATA, FILL, INPUT, NOT_LOADED, OBJECTS, OUTPUT, Output, Statement, Statements
+from client.check.script import (ASSERT, ASSIGN, DATA, FILL, INPUT, NOT_LOADED, OBJECTS, OUTPUT, Output, Statement,
+                                 Statements)
 from client.check.state import (ALLOC, CODE, CONTENTS, CREATED, DATA as WRITTEN, EXCLUDE, KEEP, LOAD, NEVER_LOAD,
                                 NUMBERS, READONLY, TLS, Item, Place, Settings, Stopped, Unknown)
 from client.object_file import NOBITS, NOTE, PROGBITS
@@ -159,7 +160,7 @@ class Matching:
         for statement in self.statements.all:
             if statement.kind == OUTPUT and statement.output is not None:
                 self._output(statement.output)
-            elif statement.kind == ASSIGN:
+            elif statement.kind in (ASSIGN, ASSERT):
                 self.expand(statement.expr)  # type: ignore[operator]
 
     def _output(self, output: Output) -> None:
@@ -177,7 +178,7 @@ class Matching:
                 _data(output, self.expand)
             elif statement.kind in (FILL, OBJECTS):
                 make(output, 0, self.expand)
-            elif statement.kind == ASSIGN:
+            elif statement.kind in (ASSIGN, ASSERT):
                 make(output, 0, self.expand)
                 self.expand(statement.expr)  # type: ignore[operator]
 
