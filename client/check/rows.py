@@ -297,7 +297,7 @@ def _data(output: Output, expand: object) -> None:
 
 
 def _file_taken(pattern: str, name: str) -> bool:
-    """Whether an input statement takes an object by its name: without a wildcard a file, and no member of an archive."""
+    """Whether an input statement takes an object by its name: without a wildcard a file, and no member."""
     if not has_wildcard(pattern) and ":" not in pattern:
         return pattern == name and not file_names(name)[0]
     return _file_matches(pattern, name)
@@ -421,7 +421,8 @@ class Tree:
     """A binary tree of sections: one that is no less than a node goes to its right."""
 
     def __init__(self) -> None:
-        self.root = self.right_end = Slot()
+        self.root = Slot()
+        self.right_end = self.root
 
     def add(self, entry: Entry, sort: str, by_file: bool) -> None:
         """Adds a section; without a sort at the right end."""
@@ -435,9 +436,10 @@ class Tree:
         while slot.entry is not None and slot.left is not None and slot.right is not None:
             other = slot.entry[0]
             if by_file and file_key(item.object) != file_key(other.object):
-                slot = slot.right if file_key(item.object) > file_key(other.object) else slot.left
+                is_right = file_key(item.object) > file_key(other.object)
             else:
-                slot = slot.left if _compare(sort, item, other) < 0 else slot.right
+                is_right = _compare(sort, item, other) >= 0
+            slot = slot.right if is_right else slot.left
         return slot
 
     def listed(self) -> list[Entry]:
