@@ -55,7 +55,7 @@ pub fn places_of(alloc: Global, keys: &[usize]) -> Result<Vec<Option<usize>>, No
     requires { AreKeysDistinct keys.now }
     ensures { IfOk result (λ v. HasPlaces keys.now v.items) }
 {
-    let mut places = Vec::new(alloc);
+    let mut places = Vec::with_capacity(alloc, keys.len())?;
     for (place, key) in keys.iter().enumerate() {
         note_place(&mut places, *key, place)?;
     }

@@ -28,6 +28,7 @@ use Rattle.ldmodel_project.specs.declared.staged.Step.{Step}
 use Rattle.ldmodel_project.specs.declared.staged.Step.TheVariants.{Put, Remove, Move, Stay}
 use Rattle.ldscript.specs.statements.declared.statement.Statement.{Statement}
 use Rattle.relink_driver.specs.RelinkOutcome.{HasPreviousImage, IsGoodOutcome}
+use Rattle.relink.specs.NameList.{Names}
 use Rattle.relink_driver.specs.InPlace.{IsInPlaceOutcome}
 use Rattle.relink.specs.Outcome.{shown}
 use Rattle.relink.specs.Kept.{IsKept}
@@ -182,9 +183,8 @@ is_last_of h s same bytes x from e kept edit none script is =
       table = kept.table;
       objects = (
           let same = ap length kept.names in
-          let names = length-map x.names.items (λ v. v.items) in
           let objects = length-map kept.old.project.objects (λ (o : NamedObject). o.name) in
-          omega (arith, same, names, objects, x.names.ok.0, x.names.ok.1));
+          omega (arith, same, objects));
       options = kept.options;
       origins = subst (λ (from : List (Option ℕ)). AreOrigins kept.old.project p from) (sym is)
           (origins_by_place kept.old.project p es after edit.keys refl since);
@@ -240,8 +240,7 @@ module _ (h : ProjectState) (s : Staged) (same : Bool) (bytes : List ℕ) (a : L
       record {
         old = kept.old;
         table = subst (λ g. IsLinkSnapshot kept.old g) (sym fault.0) kept.table;
-        names = subst (λ (ns : List _). map (λ v. v.items) ns
-            ≡ map (λ (o : NamedObject). o.name) kept.old.project.objects) (sym (ap (λ v. v.items) fault.1)) kept.names;
+        names = ap (λ (names : Names). names.names) fault.1 ∙ kept.names;
         since = since_next kept.old.project.objects h.contents.entries (next_listing h s).entries s.objects.step same
             (origin_of x.origins.items) (origin_of y.origins.items) edit.found kept.since edit.puts
             (none_of_last h s same bytes a x e is edit effect are)
@@ -257,7 +256,7 @@ module _ (h : ProjectState) (s : Staged) (same : Bool) (bytes : List ℕ) (a : L
 -- what a link without faults leaves is the last one
 pub followed_good : (l : Listing) (p : Project) (keys : List ℕ) (bytes : List ℕ) (x : PreviousLink) (m : List ℕ)
     → p ≡ project_of l → keys ≡ keys_of l.entries → AreKeysDistinct keys → IsGoodOutcome true p bytes x.good m
-    → map (λ v. v.items) x.names.items ≡ map (λ (o : NamedObject). o.name) p.objects
+    → x.names.names ≡ map (λ (o : NamedObject). o.name) p.objects
     → HasPlaces keys x.origins.items
     → ((key : ℕ) → is_some (position (nat_eq key) (keys_of l.entries)) ≡ is_some (found_under l.entries key))
     → x.same_script ≡ true
@@ -354,8 +353,7 @@ renewed_with h s same bytes new (outcome.Good m) e x y u v edit are is effect fr
           old = record { project = q; layout = by.end.layout };
           table = subst (λ g. IsLinkSnapshot (record { project = q; layout = by.end.layout }) g)
               (sym good_is) by.end.table;
-          names = subst (λ (ns : List _). map (λ v. v.items) ns ≡ map (λ (o : NamedObject). o.name) q.objects)
-              (sym (ap (λ v. v.items) renewed.1)) (is.kept.names ∙ sym (by.end.names old of_last));
+          names = ap (λ (names : Names). names.names) renewed.1 ∙ (is.kept.names ∙ sym (by.end.names old of_last));
           since = subst (λ (w : Vec (Option ℕ) Global). IsSince q.objects (origin_of w.items)
               (next_listing h s).entries) (sym renewed.3) by.since;
           options = refl;

@@ -4,6 +4,7 @@ mod Changing
 mod Following
 mod Finding
 mod Since
+mod Listed
 mod Putting
 mod Succession
 mod Lending

@@ -5,5 +5,6 @@ pub mod Change
 pub mod Kept
 pub mod Work
 pub mod PreviousLink
+pub mod NameList
 pub mod Outcome
 pub mod Update

@@ -48,7 +48,7 @@ pub record IsSince (old : List NamedObject) (origin : ℕ → Option ℕ) (es : 
 pub record IsOfGoodLink (l : Listing) (bytes : List ℕ) (x : PreviousLink) : Type 0 where
   pub old : GoodLink
   pub table : IsLinkSnapshot old x.good
-  pub names : map (λ v. v.items) x.names.items ≡ map (λ (object : NamedObject). object.name) old.project.objects
+  pub names : x.names.names ≡ map (λ (object : NamedObject). object.name) old.project.objects
   pub since : IsSince old.project.objects (origin_of x.origins.items) l.entries
   pub options : old.project.options ≡ l.options
   pub script : x.same_script ≡ true → old.project.script ≡ l.script
@@ -127,7 +127,7 @@ HasUpdateOutcome l previous old new (RewrittenInPlace origins) = IsRewrittenBy l
 -- the object that an edit puts is none of the link
 abbrev pub Knows : PreviousLink → List Listed → Step → Type 0
 Knows x es step =
-    (old : List NamedObject) → map (λ v. v.items) x.names.items ≡ map (λ (object : NamedObject). object.name) old
+    (old : List NamedObject) → x.names.names ≡ map (λ (object : NamedObject). object.name) old
     → IsSince old (origin_of x.origins.items) es → PutsNoneOf old step
 
 -- what an edit means to the previous link, where it puts an object over the same one or another
@@ -170,7 +170,7 @@ abbrev pub previous_view_with : PreviousLink → List (Option ℕ) → EditEffec
     → PreviousState
 previous_view_with x from e es s = record {
   good = x.good;
-  objects = vec_len x.names;
+  objects = length x.names.names;
   from = from;
   same_script = x.same_script && e.same_script;
   replaced = replaced_in (origin_of x.origins.items) es s.step s.places.after;

@@ -4,6 +4,7 @@
 //! - `session`: `Session`; `link_tables`: what it keeps, and how that follows an edit; `unchanged`: edits that change
 //!   nothing;
 //! - `change`, `match_table`: what an edit changes under a key; the matches of all objects;
+//! - `name_list`: the names of the objects of a link;
 //! - `previous`, `session_link`: the previous link without faults, and a link over it; `outcome`: what the queries get;
 //! - the parts `project` (the crate `ldmodel_project`) and `driver`. Programs name this crate alone.
 #![tactic(auto)]
@@ -11,6 +12,7 @@
 mod change;
 mod link_tables;
 mod match_table;
+mod name_list;
 mod outcome;
 mod previous;
 pub mod session;

@@ -6,11 +6,12 @@ ghost use Rattle.std.specs.Option.{option_copied, option_map};
 ghost use Rattle.relink_driver.specs.StayedSections.{previous_of, replaced_state};
 ghost use Rattle.ldmodel.specs.Project.{NamedObject};
 ghost use Rattle.ldmodel_project.specs.Listing.{keys_of};
-ghost use Rattle.relink.specs.PreviousLink.{IsAfterFault, IsEffect, IsRecorded, IsFrom, IsNamedAt, IsNoneOf};
+ghost use Rattle.relink.specs.PreviousLink.{IsAfterFault, IsEffect, IsRecorded, IsFrom, IsNoneOf};
 ghost use Rattle.relink.specs.PreviousLink.{AreOriginsRefreshed, IsSince};
 ghost use Rattle.relink.specs.PreviousLink.{Knows, PutsNoneOf, changed_key, lent, lost_key, origin_of, replaced_by};
 ghost use Rattle.relink.specs.PreviousLink.{replaced_in, without};
 
+use crate::name_list::NameList;
 use crate::outcome::LinkOutcome;
 use elfobj::Object;
 use ldmodel::memory::NoMemory;
@@ -30,7 +31,7 @@ pub(crate) struct PreviousLink {
     /// At which place of that link each object stood that is still there with the same bytes, under the object's key.
     pub origins: Vec<Option<usize>>,
     /// The names of the objects of that link, by their places.
-    pub names: Vec<Vec<u8>>,
+    pub names: NameList,
     /// Whether the script is known to be the same still.
     pub same_script: bool,
 }
@@ -68,28 +69,6 @@ impl UpdateOutcome {
             UpdateOutcome::Good(..) | UpdateOutcome::RewrittenInPlace(_) => true,
         }
     }
-}
-
-/// Whether a name may stand at a place: it is another one, or this is the place where it may.
-fn is_allowed(is_same: bool, place: Option<usize>, at: usize) -> bool
-    ensures { result ≡ true → is_same ≡ true → place ≡ Some at }
-{
-    match place {
-        Some(place) if place == at => true,
-        _ => !is_same,
-    }
-}
-
-/// Whether each object of a name stands at this place, if any does.
-fn is_named_at(names: &[Vec<u8>], name: &[u8], place: Option<usize>) -> bool
-    ensures { result ≡ true → IsNamedAt (map (λ v. v.items) names.now) name.now place }
-{
-    for (at, other) in names.iter().enumerate() {
-        if !is_allowed(other.as_slice() == name, place, at) {
-            return false;
-        }
-    }
-    true
 }
 
 /// An object of the previous link, and the place of the one that comes in its place, where there are both.
@@ -161,17 +140,17 @@ impl PreviousLink {
     /// than each of those, or other bytes than the one in whose place it comes.
     fn is_new(&self, project: &Project, key: ObjectKey, named: &NamedObject) -> bool
         ensures { result ≡ true → (old : List NamedObject)
-            → map (λ v. v.items) self.now.names.items ≡ map (λ (object : NamedObject). object.name) old
+            → self.now.names.names ≡ map (λ (object : NamedObject). object.name) old
             → IsSince old (origin_of self.now.origins.items) project.now.contents.entries → IsNoneOf old named.now }
     {
         let place = self.place_of_other(project, key, named);
-        is_named_at(&self.names, named.name(), place)
+        self.names.is_named_at(named.name(), place)
     }
 
     /// Whether the object that an edit puts, if it puts one, is known to be no object of the previous link.
     fn knows(&self, project: &Project, staged: &Staged) -> bool
         ensures { result ≡ true → (old : List NamedObject)
-            → map (λ v. v.items) self.now.names.items ≡ map (λ (object : NamedObject). object.name) old
+            → self.now.names.names ≡ map (λ (object : NamedObject). object.name) old
             → IsSince old (origin_of self.now.origins.items) project.now.contents.entries
             → PutsNoneOf old staged.now.objects.step }
     {

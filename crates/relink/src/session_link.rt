@@ -1,12 +1,10 @@
 //! A link over what a session keeps.
 
-ghost use Rattle.std.specs.Prelude.{◌≡◌, IfOk, IfSome, None, OnErr, OnOk, map};
+ghost use Rattle.std.specs.Prelude.{◌≡◌, IfOk, IfSome, None, OnErr, OnOk};
 ghost use Rattle.gather.specs.ProjectMatches.{AreMatched};
 ghost use Rattle.relink_driver.specs.StayedSections.{previous_of};
-ghost use Rattle.ldmodel.specs.Project.{NamedObject};
 ghost use Rattle.symres.specs.SymbolTable.{IsSymbolTable};
 ghost use Rattle.ldmodel_project.specs.ProjectState.{Listing, listing_of, project_of};
-ghost use Rattle.ldmodel_project.specs.Inputs.{shown_inputs};
 ghost use Rattle.ldmodel_project.specs.Listing.{AreKeysDistinct, keys_of};
 ghost use Rattle.relink.specs.Kept.{IsKept};
 ghost use Rattle.relink.specs.PreviousLink.{HasUpdateOutcome};
@@ -14,32 +12,21 @@ ghost use Rattle.relink.specs.Work.{HasWorked};
 ghost use Rattle.relink_driver.specs.RelinkOutcome.{HasPreviousImage};
 ghost use Rattle.relink_driver.specs.Reads.{ReadsNothing};
 
+use crate::name_list::{names_in_room, room_for_names};
 use crate::previous::{PreviousLink, UpdateOutcome};
 use gather::matches::{Matches, lend_all};
 use ldmodel::memory::NoMemory;
 use ldmodel::meter::Meter;
-use ldmodel_project::input::InputObject;
 use ldmodel_project::law::found_where_placed;
 use ldmodel_project::order::places_of;
 use ldmodel_project::project::{Next, Project};
 use ldmodel_project::view::ProjectView;
 use relink_driver::Canvas;
 use relink_driver::incremental::{RelinkOutcome, relink};
+use relink_driver::name_faults::name_fault_lines;
 use relink_driver::stayed_sections::PreviousView;
 use std::alloc::Global;
 use symres::SymbolTable;
-
-/// The names of these objects, in their order. Fails where memory runs out.
-fn names_of(alloc: Global, inputs: &[InputObject<'_>]) -> Result<Vec<Vec<u8>>, NoMemory>
-    ensures { IfOk result (λ v. map (λ n. n.items) v.items
-        ≡ map (λ (object : NamedObject). object.name) (shown_inputs inputs.now)) }
-{
-    let mut names = Vec::with_capacity(alloc, inputs.len())?;
-    for input in inputs {
-        names.push(Vec::from_slice(alloc, input.name)?)?;
-    }
-    Ok(names)
-}
 
 /// Links a project, whose objects have these keys, over what is kept of it. Fails where memory runs out: then the
 /// canvas is as it was.
@@ -64,9 +51,14 @@ fn link_keyed(
     ensures worked { IfOk result (HasWorked project.now (previous_of previous.entry) meter.old meter.new) }
 {
     found_where_placed();
+    // while a project is opened its names mostly have a fault: what goes over all objects is made only after them
+    if let Some(text) = name_fault_lines(alloc, project, symbol_table)? {
+        return Ok(UpdateOutcome::Faulty(text));
+    }
     let lent = lend_all(alloc, matches)?;
     let origins = places_of(alloc, keys)?;
-    let names = names_of(alloc, project.inputs())?;
+    let inputs = project.inputs();
+    let names = room_for_names(alloc, inputs)?;
     match relink(alloc, project, symbol_table, &lent, previous, canvas, meter) {
         Err(refused) => Err(refused),
         Ok(RelinkOutcome::Faulty(text)) => Ok(UpdateOutcome::Faulty(text)),
@@ -75,7 +67,7 @@ fn link_keyed(
             PreviousLink {
                 good,
                 origins,
-                names,
+                names: names_in_room(names, inputs),
                 same_script: true,
             },
             map,

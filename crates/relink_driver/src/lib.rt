@@ -8,6 +8,7 @@
 //!   objects with a symbol of another value;
 //! - `in_place` over `outline`, `located`: a link that differs from the earlier one in what the input sections of one
 //!   object hold;
+//! - `name_faults`: the lines of a link that ends with its names;
 //! - `symbol_values`, `section_location`: what symbols are worth, and where a section stands in memory and in the file;
 //! - `from_scratch`, `output`: a link from scratch; `plain`: `Plain`, the linker that links from scratch after every
 //!   edit;
@@ -26,6 +27,7 @@ mod in_place;
 pub mod incremental;
 pub mod link_snapshot;
 mod located;
+pub mod name_faults;
 mod outline;
 pub mod output;
 mod pass_error;

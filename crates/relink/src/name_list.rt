@@ -1,0 +1,144 @@
+//! The names of the objects of a link, one after the other in one text.
+
+ghost use Rattle.std.specs.Prelude.{◌≡◌, ◌≤◌, ◌<◌, ◌+◌, ◌++◌, [], ◌∷◌, IfOk, Some, length, map, true};
+ghost use Rattle.std.specs.List.{sum_by};
+ghost use Rattle.ldmodel.specs.Project.{NamedObject};
+ghost use Rattle.ldmodel_project.specs.Inputs.{shown_inputs};
+ghost use Rattle.relink.specs.NameList.{HasRoomFor};
+ghost use Rattle.relink.specs.PreviousLink.{IsNamedAt};
+
+use ldmodel::impossible::impossible;
+use ldmodel::memory::NoMemory;
+use ldmodel_project::input::InputObject;
+use std::alloc::Global;
+use std::marker::Model;
+
+/// Names in an order, in two blocks of memory however many they are: their bytes, one name after the other, and their
+/// lengths. Room is taken before, so that names are added without memory.
+#[derive(Drop)]
+pub(crate) struct NameList {
+    text: Vec<u8>,
+    lengths: Vec<usize>,
+}
+
+impl Model for NameList {
+    ghost use Rattle.std.specs.Prelude.{◌≡◌, ◌-◌, length, vec_capacity};
+    ghost use Rattle.std.specs.List.{sum_by};
+    ghost use Rattle.relink.specs.NameList.{Names, names_in};
+
+    ghost Value = { Names };
+
+    ghost view = { λ n. record {
+      names = names_in n.text.items n.lengths.items;
+      count_room = vec_capacity n.lengths - length n.lengths.items;
+      byte_room = vec_capacity n.text - length n.text.items;
+    } };
+
+    ghost invariant = { λ n. sum_by (λ k. k) n.lengths.items ≡ length n.text.items };
+}
+
+/// Whether a name may stand at a place: it is another one, or this is the place where it may.
+fn is_allowed(is_same: bool, place: Option<usize>, at: usize) -> bool
+    ensures { result ≡ true → is_same ≡ true → place ≡ Some at }
+{
+    match place {
+        Some(place) if place == at => true,
+        _ => !is_same,
+    }
+}
+
+impl NameList {
+    /// No name, with room for this many names of this many bytes in all.
+    ///
+    /// # Errors
+    ///
+    /// Where memory runs out.
+    pub(crate) fn with_room(alloc: Global, count: usize, bytes: usize) -> Result<NameList, NoMemory>
+        ensures names { IfOk result (λ n. n.names ≡ []) }
+        ensures count { IfOk result (λ n. count ≤ n.count_room) }
+        ensures bytes { IfOk result (λ n. bytes ≤ n.byte_room) }
+    {
+        let text = Vec::with_capacity(alloc, bytes)?;
+        let lengths = Vec::with_capacity(alloc, count)?;
+        Ok(NameList { text, lengths })
+    }
+
+    /// Adds a name in room that was taken for it.
+    pub(crate) fn push_reserved(&mut self, name: &[u8])
+        requires count { 0 < self.old.count_room }
+        requires bytes { length name.now ≤ self.old.byte_room }
+        ensures names { self.new.names ≡ self.old.names ++ name.now ∷ [] }
+        ensures count { self.old.count_room ≤ self.new.count_room + 1 }
+        ensures bytes { self.old.byte_room ≤ self.new.byte_room + length name.now }
+    {
+        self.text.extend_from_slice(name).unwrap();
+        self.lengths.push(name.len()).unwrap();
+    }
+
+    /// The number of names.
+    pub(crate) fn len(&self) -> usize
+        ensures { result ≡ length self.now.names }
+    {
+        self.lengths.len()
+    }
+
+    /// Whether each of the names that is this one stands at this place, if any is.
+    pub(crate) fn is_named_at(&self, name: &[u8], place: Option<usize>) -> bool
+        ensures { result ≡ true → IsNamedAt self.now.names name.now place }
+    {
+        let mut rest: &[u8] = &self.text;
+        for (at, length) in self.lengths.iter().enumerate() {
+            let Some((other, others)) = rest.split_at_checked(*length) else {
+                return false;
+            };
+            if !is_allowed(other == name, place, at) {
+                return false;
+            }
+            rest = others;
+        }
+        true
+    }
+}
+
+/// How many bytes the names of these objects have in all. Fails where no memory holds so many.
+fn name_bytes(inputs: &[InputObject<'_>]) -> Result<usize, NoMemory>
+    ensures { IfOk result (λ n. n ≡ sum_by (λ (o : NamedObject). length o.name) (shown_inputs inputs.now)) }
+{
+    let mut bytes: usize = 0;
+    for input in inputs {
+        let Some(more) = bytes.checked_add(input.name.len()) else {
+            // names that are in memory have fewer bytes
+            return Err(impossible());
+        };
+        bytes = more;
+    }
+    Ok(bytes)
+}
+
+/// No name, with room for those of these objects.
+///
+/// # Errors
+///
+/// Where memory runs out.
+pub(crate) fn room_for_names(
+    alloc: Global,
+    inputs: &[InputObject<'_>],
+) -> Result<NameList, NoMemory>
+    ensures names { IfOk result (λ n. n.names ≡ []) }
+    ensures room { IfOk result (HasRoomFor (shown_inputs inputs.now)) }
+{
+    let bytes = name_bytes(inputs)?;
+    NameList::with_room(alloc, inputs.len(), bytes)
+}
+
+/// The names of these objects, in room that was taken for them. It takes no memory.
+pub(crate) fn names_in_room(mut names: NameList, inputs: &[InputObject<'_>]) -> NameList
+    requires none { names.names ≡ [] }
+    requires room { HasRoomFor (shown_inputs inputs.now) names }
+    ensures { result.names ≡ map (λ (o : NamedObject). o.name) (shown_inputs inputs.now) }
+{
+    for input in inputs {
+        names.push_reserved(input.name);
+    }
+    names
+}
