@@ -22,7 +22,7 @@ use ldmodel_project::order::places_of;
 use ldmodel_project::project::{Next, Project};
 use ldmodel_project::view::ProjectView;
 use relink_driver::Canvas;
-use relink_driver::incremental::{RelinkOutcome, relink};
+use relink_driver::driver::{RelinkOutcome, relink};
 use relink_driver::name_faults::name_fault_lines;
 use relink_driver::stayed_sections::PreviousView;
 use std::alloc::Global;

@@ -67,8 +67,8 @@ use Rattle.relink_driver.specs.StayedSections.{IsPreviousOf, PreviousState, Repl
 use Rattle.relink_driver.specs.Touched.{HasFault, HasTouched, IsTouchedCount, IsTouchedWork}
 use Rattle.relink_driver.specs.RelinkOutcome.{HasShownOutcome}
 use Rattle.relink_driver.specs.Worked.{HasWorked, IsLinkWork, IsWorkBeside}
-use Rattle.relink_driver.specs.declared.incremental.RelinkOutcome.{RelinkOutcome}
-use Rattle.relink_driver.specs.declared.incremental.RelinkOutcome.TheVariants as ended
+use Rattle.relink_driver.specs.declared.driver.RelinkOutcome.{RelinkOutcome}
+use Rattle.relink_driver.specs.declared.driver.RelinkOutcome.TheVariants as ended
 use Rattle.relink_driver.proofs.Outlined.{names_of}
 use Rattle.relink_driver.proofs.Rewriting.{beside_own, came_before, came_is, is_rewritten, same_arranged}
 use Rattle.relink_driver.proofs.Rewriting.{same_name_there}

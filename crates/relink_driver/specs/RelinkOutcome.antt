@@ -15,8 +15,8 @@ use Rattle.relink_driver.specs.InPlace.{IsInPlaceOutcome}
 use Rattle.relink_driver.specs.LinkSnapshot.{IsLinkSnapshot}
 use Rattle.relink_driver.specs.WithoutMap.{shown}
 use Rattle.relink_driver.specs.declared.link_snapshot.LinkSnapshot.{LinkSnapshot}
-use Rattle.relink_driver.specs.declared.incremental.RelinkOutcome.{RelinkOutcome}
-use Rattle.relink_driver.specs.declared.incremental.RelinkOutcome.TheVariants as ended
+use Rattle.relink_driver.specs.declared.driver.RelinkOutcome.{RelinkOutcome}
+use Rattle.relink_driver.specs.declared.driver.RelinkOutcome.TheVariants as ended
 
 -- the previous link is one whose image this is
 pub record HasPreviousImage (new : Project) (bytes : List ℕ) (previous : PreviousState) : Type 0 where

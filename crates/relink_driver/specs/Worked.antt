@@ -10,8 +10,8 @@ use Rattle.ldmodel.specs.Rows.{rows}
 use Rattle.ldmodel.specs.SessionWork.{entries_from}
 use Rattle.ldmodel.specs.Stayed.{GoodLink}
 use Rattle.relink_driver.specs.Counted.{IsImageCount}
-use Rattle.relink_driver.specs.declared.incremental.RelinkOutcome.{RelinkOutcome}
-use Rattle.relink_driver.specs.declared.incremental.RelinkOutcome.TheVariants as ended
+use Rattle.relink_driver.specs.declared.driver.RelinkOutcome.{RelinkOutcome}
+use Rattle.relink_driver.specs.declared.driver.RelinkOutcome.TheVariants as ended
 
 -- the entries of the rows from this one on are placed, before which no row differs; where the project follows the
 -- earlier one at once, it is the first that does; and where the script is another, it is the first of all

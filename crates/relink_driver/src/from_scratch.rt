@@ -6,7 +6,7 @@ ghost use Rattle.ldmodel.specs.Link.{link};
 ghost use Rattle.symres.specs.SymbolTable.{IsSymbolTable};
 ghost use Rattle.relink_driver.specs.WithoutMap.{shown};
 
-use crate::incremental::{RelinkOutcome, relink_shown};
+use crate::driver::{RelinkOutcome, relink_shown};
 use crate::output::Output;
 use emit::Canvas;
 use gather::matches::{Matches, lend_all, match_all};

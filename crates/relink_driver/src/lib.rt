@@ -1,7 +1,7 @@
 //! Links, from scratch or over a previous one. Takes a project; gives image, map, fault lines and status, or out of
 //! memory; and keeps of a link without faults what the next one asks.
 //!
-//! - `incremental` over `passes`, `context`, `pass_error`: the driver: all passes of a link over names and matches that
+//! - `driver` over `passes`, `context`, `pass_error`: the driver: all passes of a link over names and matches that
 //!   are given, and a previous link;
 //! - `link_snapshot`: what is kept of a link; `stayed_sections`: which input sections stayed where it has them, as
 //!   `emit_relocate` asks it; `resume` over `row_changes` and `section_names`: the first row that differs; `dirty`:
@@ -18,13 +18,13 @@
 
 mod context;
 pub mod dirty;
+pub mod driver;
 pub mod exit_report;
 pub mod fault;
 pub mod file;
 pub mod from_files;
 mod from_scratch;
 mod in_place;
-pub mod incremental;
 pub mod link_snapshot;
 mod located;
 pub mod name_faults;

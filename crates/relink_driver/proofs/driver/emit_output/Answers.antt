@@ -6,7 +6,7 @@ use Rattle.relink_driver.proofs.Beside.{has_old}
 use Rattle.relink_driver.proofs.Reading.{ends_reading, reads_then}
 use Rattle.relink_driver.proofs.Stopping.{ends_shown}
 use Rattle.relink_driver.proofs.Working.{are_drawn, of_short}
-use Rattle.relink_driver.proofs.incremental.emit_output.Goals as goal
+use Rattle.relink_driver.proofs.driver.emit_output.Goals as goal
 
 pub evaluate_relocations-requires-clause-beside : goal.evaluate_relocations-requires-clause-beside
 evaluate_relocations-requires-clause-beside c =

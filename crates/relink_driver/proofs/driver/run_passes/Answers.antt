@@ -8,7 +8,7 @@ use Rattle.relink_driver.specs.Context.{project_of}
 use Rattle.relink_driver.proofs.Beside.{has_old, one_placement}
 use Rattle.relink_driver.proofs.Reading.{reads_ending, reads_then}
 use Rattle.relink_driver.proofs.Working.{link_work}
-use Rattle.relink_driver.proofs.incremental.run_passes.Goals as goal
+use Rattle.relink_driver.proofs.driver.run_passes.Goals as goal
 
 pub lay_out-requires-clause-previous : goal.lay_out-requires-clause-previous
 lay_out-requires-clause-previous c = has_old (project_of c.args.context) _ _ c.requires.previous

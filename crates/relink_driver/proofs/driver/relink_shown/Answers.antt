@@ -3,7 +3,7 @@ use Rattle.ldmodel.specs.Project.{Project}
 use Rattle.relink_driver.specs.StayedSections.{previous_of}
 use Rattle.relink_driver.specs.Touched.{HasTouched}
 use Rattle.relink_driver.proofs.Touching.{worked_after}
-use Rattle.relink_driver.proofs.incremental.relink_shown.Goals as goal
+use Rattle.relink_driver.proofs.driver.relink_shown.Goals as goal
 
 pub returns-in-Ok-clause-worked : goal.returns-in-Ok-clause-worked
 returns-in-Ok-clause-worked c =

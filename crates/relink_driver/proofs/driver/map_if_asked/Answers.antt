@@ -7,7 +7,7 @@ use Rattle.place.specs.LinkLayout.{IsLinkLayout}
 use Rattle.relink_driver.specs.Context.{project_of}
 use Rattle.relink_driver.specs.WithoutMap.{shown_map}
 use Rattle.symres.specs.SymbolTable.{SymbolTableState}
-use Rattle.relink_driver.proofs.incremental.map_if_asked.Goals as goal
+use Rattle.relink_driver.proofs.driver.map_if_asked.Goals as goal
 
 pub returns : goal.returns
 returns c =

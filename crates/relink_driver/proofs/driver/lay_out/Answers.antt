@@ -1,7 +1,7 @@
 use Rattle.std.proofs.Common.{subst, sym}
 use Rattle.place.specs.LinkLayout.{IsLinkLayout}
 use Rattle.relink_driver.specs.Context.{project_of}
-use Rattle.relink_driver.proofs.incremental.lay_out.Goals as goal
+use Rattle.relink_driver.proofs.driver.lay_out.Goals as goal
 
 pub returns-in-Ok-clause-good : goal.returns-in-Ok-clause-good
 returns-in-Ok-clause-good c =
