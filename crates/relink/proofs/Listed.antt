@@ -1,12 +1,9 @@
 -- Names that stand in one text.
-use Rattle.std.proofs.Common.{◌≡◌, ◌∙◌, ◌+◌, ◌-◌, ◌≤◌, ◌<◌, ℕ, suc, Bool, true, false, List, [], ◌∷◌, ◌++◌, Option, Some, arith, ap}
-use Rattle.std.proofs.Common.{drop, get_or, length, ltb, refl, subst, sym, take}
+use Rattle.std.proofs.Common.{◌≡◌, ◌∙◌, ◌+◌, ◌-◌, ◌≤◌, ◌<◌, ℕ, suc, List, [], ◌∷◌, ◌++◌, arith, ap}
+use Rattle.std.proofs.Common.{drop, get_or, length, refl, sym, take}
 use Rattle.std.proofs.lemmas.List.Sums.{sum_by-cons}
 use Rattle.std.specs.List.{sum_by}
-use Rattle.std.proofs.lemmas.Bool.{ltb-false, ltb-true}
-use Rattle.std.proofs.lemmas.Slice.Eq.{bytes_eq-Decides}
-use Rattle.std.specs.Prelude.{bytes_eq}
-use Rattle.std.proofs.lemmas.List.{drop-append-le, drop_more, get_or-drop, length-drop, take-append-le}
+use Rattle.std.proofs.lemmas.List.{drop-append-le, drop_more, length-drop, take-append-le}
 use Rattle.std.proofs.lemmas.List.{take_all}
 use Rattle.relink.specs.NameList.{names_in}
 

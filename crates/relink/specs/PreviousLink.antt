@@ -5,7 +5,6 @@ use Rattle.std.specs.Option.{option_map}
 use Rattle.elfobj.specs.Object.{ObjectData}
 use Rattle.relink_driver.specs.StayedSections.{PreviousState, ReplacedObjectState}
 use Rattle.std.specs.Global.{Global}
-use Rattle.std.specs.Vec.{vec_len}
 use Rattle.relink_driver.specs.InPlace.{IsInPlaceOutcome}
 use Rattle.relink_driver.specs.LinkSnapshot.{IsLinkSnapshot}
 use Rattle.ldmodel.specs.Image.{image}

@@ -19,7 +19,7 @@ returns-clause-updated c = λ l is keys.
     (subst (HasRelinkOutcome c.args.project.now
     (previous_of c.args.previous) c.args.canvas.now.bytes c.relink.new.canvas.bytes)
     c.in-Ok-Good.field-0-is c.in-Ok-Good.ensures.ended)
-    (c.names_in_room.ensures ∙ ap (map (λ (o : NamedObject). o.name)) c.inputs.ensures.same) c.in_ok-origins.ensures
+    (c.names_in_room.ensures ∙ ap (map (λ (o : NamedObject). o.name)) c.inputs-inputs.ensures.same) c.in_ok-origins.ensures
     (c.found_where_placed.ensures l.entries) refl
 
 pub returns-clause-worked : goal.returns-clause-worked

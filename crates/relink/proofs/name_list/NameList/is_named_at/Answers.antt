@@ -1,4 +1,4 @@
-use Rattle.std.proofs.Common.{◌∙◌, ◌+◌, ℕ, List, [], ap, drop}
+use Rattle.std.proofs.Common.{◌∙◌, ◌+◌, ℕ, List, ap, drop}
 use Rattle.relink.specs.NameList.{names_in}
 use Rattle.relink.proofs.Listed.{stands_at}
 use Rattle.relink.proofs.Since.{named_more, same_bytes}

@@ -1,4 +1,4 @@
-use Rattle.std.proofs.Common.{◌∙◌, [], ◌∷◌, ◌++◌, List, ℕ, ap, length, refl, sym}
+use Rattle.std.proofs.Common.{◌∙◌, [], ◌∷◌, ◌++◌, List, ℕ, ap, length, refl}
 use Rattle.std.proofs.lemmas.Slice.{pushed}
 use Rattle.relink.specs.NameList.{Names, names_in}
 use Rattle.relink.proofs.Listed.{names_more}
