@@ -59,9 +59,9 @@ def loaded_of(image: bytes) -> list[Loaded]:
 
 
 def pieces_of(map_text: bytes) -> list[tuple[int, int, str, str]]:
-    """The input sections that are not empty: address, size, object, name."""
+    """The input sections, empty ones too: address, size, object, name."""
     return [(int(address, 16), int(size, 16), owner.decode("latin-1"), name.decode("latin-1"))
-            for address, size, owner, name in _PIECE.findall(map_text) if int(size, 16)]
+            for address, size, owner, name in _PIECE.findall(map_text)]
 
 
 class Comparison:
@@ -163,7 +163,7 @@ class Comparison:
             wanted += [(place.address + item.offset & MASK, item.size, item.object, item.name)
                        for item in place.inputs if item.size and not item.flags & (EXCLUDE | CREATED)
                        and item.name != "COMMON"]
-        found = [piece for piece in pieces_of(self.map) if piece[3] != "COMMON"]
+        found = [piece for piece in pieces_of(self.map) if piece[1] and piece[3] != "COMMON"]
         if sorted(wanted) == sorted(found):
             return
         own: dict[tuple[str, str, int], list[int]] = {}

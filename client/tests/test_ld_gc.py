@@ -167,6 +167,15 @@ class CollectingTest(BesideGnu):
                               /DISCARD/ : { *(cmds) *(*) } .again : { KEEP(*(cmds)) } }""")
         self.collects("plain.o", "other.o")
 
+    def test_empty(self) -> None:
+        """An empty section that stays moves what comes after it to its alignment."""
+        self.compile("empty.s", """ .section .text._start,"ax"\n .globl _start\n _start: .quad nothing, after\n
+            .section .data.a,"aw"\n .byte 1\n .section .data.b,"aw"\n .balign 16\n nothing:\n
+            .section .data.c,"aw"\n after: .byte 2\n""")
+        self.write("t.ld", "ENTRY(_start) SECTIONS { . = 0x10000; .text : { *(.text*) } "
+                   ".data : { BYTE(1) *(.data.a) *(.data.b) *(.data.c) } /DISCARD/ : { *(*) } }")
+        self.collects("empty.o")
+
     def test_unwinding(self) -> None:
         """The tables of exceptions of code that stays."""
         code = """ .section .text.{0},"ax"\n .globl {0}\n{0}: .cfi_startproc\n .cfi_personality 3, personality\n
