@@ -10,7 +10,7 @@ from client.check.layout import TRIES, Layout
 from client.check.orphans import Orphans
 from client.check.rows import Matching, Rows, files_of, make
 from client.check.script import OUTPUT, Statements, folded
-from client.check.state import (COMMON, DEFINED, DEFINED_WEAK, MASK, NOWHERE, NUMBERS, READONLY, UNDEFINED,
+from client.check.state import (COMMON, DEFINED, DEFINED_WEAK, MASK, NUMBERS, READONLY, UNDEFINED,
                                 UNDEFINED_WEAK, Item, Settings, Stopped, Symbol, Unknown)
 from client.object_file import ABSOLUTE
 from client.object_file import COMMON as COMMON_NUMBER
@@ -47,8 +47,9 @@ class Evaluated:
 
 
 def value_of(symbol: Symbol) -> int | None:
-    """The value of a symbol at the end."""
-    if symbol.kind not in (DEFINED, DEFINED_WEAK) or symbol.item is None and symbol.place is NOWHERE:
+    """The value of a symbol at the end. One that counts from NOWHERE, as an assignment in a section that ONLY_IF_RO or
+    ONLY_IF_RW leaves out, is undefined in GNU ld's table of symbols, and relocations have its value all the same."""
+    if symbol.kind not in (DEFINED, DEFINED_WEAK):
         return None
     if symbol.item is not None:
         out = symbol.item.out

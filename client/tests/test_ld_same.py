@@ -71,6 +71,15 @@ SCRIPTS = {
     "values that are known later":
         "a = top; SECTIONS { . = 0x400000; .t : { LONG(top) *(.text*) x = later; } later = . + 4; REST } top = end_of; "
         "end_of = ADDR(.rest) + SIZEOF(.rest);",
+    "assignments in a section that is left out, which objects refer to":
+        "sym_2 = 1; SECTIONS { . = 0x400000; REST .n : ONLY_IF_RW { PROVIDE_HIDDEN(provided_1 = 1); sym_1 = 5; sym_2 = "
+        "sym_1 + 2; end = .; } }",
+    "no bytes between bytes, with a load address of their own":
+        "SECTIONS { . = 0x400000; .a : { *(.text*) } .b : AT(0x230029) ALIGN(64) { . += 4; } .c : AT(ADDR(.c)) { "
+        "*(.data*) } REST }",
+    "no bytes after bytes, with a load address of their own":
+        "SECTIONS { . = 0x400000; .a : { . = 0x100; BYTE(1) } .b : AT(0x200004) { . = 0x80; } REST .c : AT(ADDR(.c)) { "
+        ". += 33; } }",
     "NOLOAD, and ALIGN_WITH_INPUT":
         TWO + " SECTIONS { .one : { BYTE(1) } >rom .two : ALIGN_WITH_INPUT { *(.data*) } >ram AT>rom .n (NOLOAD) : { "
         "*(.noinit) . = ALIGN(64); } >ccm REST >ram AT>rom }",

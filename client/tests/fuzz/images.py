@@ -1,12 +1,18 @@
 """What two images say, and how they differ."""
 from __future__ import annotations
 
+import re
 import struct
+from collections.abc import Mapping
 from dataclasses import dataclass, field
 
-from client.object_file import ALLOC, EXECUTABLE, NOBITS, SYMBOL, ObjectFile
+from client.object_file import ALLOC, EXECUTABLE, NOBITS, SYMBOL, Header, ObjectFile
 
 SEGMENT = struct.Struct("<IIQQQQQQ")
+MAPPED = re.compile(r"^(\S+)\s+(0x[0-9a-f]+)\s+(0x[0-9a-f]+)(?: load address (0x[0-9a-f]+))?$", re.M)
+"""An output section in GNU ld's map."""
+Loads = Mapping[tuple[str, int, int], int]
+"""Load addresses by the names, addresses and sizes of output sections."""
 NOPS = frozenset(b"\x66\x2e\x0f\x1f\x84\x00\x40\x44\x80\x90")
 """The bytes that GNU ld fills gaps in code with, where `ldi` has 0."""
 
@@ -34,8 +40,14 @@ class Image:
     local: dict[str, int] = field(default_factory=dict)
 
 
-def read_image(data: bytes) -> Image:
-    """The sections, the symbols and the entry of an image."""
+def loads_of(text: str) -> Loads:
+    """The load addresses of the output sections in GNU ld's map."""
+    return {(name, int(address, 16), int(size, 16)): int(load or address, 16)
+            for name, address, size, load in MAPPED.findall(text)}
+
+
+def read_image(data: bytes, mapped: Loads | None = None) -> Image:
+    """The sections, the symbols and the entry of an image. Of GNU ld's the map is given too."""
     file = ObjectFile(data)
     at, = struct.unpack_from("<Q", data, 32)
     count, = struct.unpack_from("<H", data, 56)
@@ -46,7 +58,8 @@ def read_image(data: bytes) -> Image:
         if header.flags & ALLOC and header.size:
             name = file.section_name(number).decode("latin-1")
             contents = None if header.kind == NOBITS else data[header.offset:header.offset + header.size]
-            image.sections.append(Section(name, header.address, header.size, _load(header, segments), contents,
+            load = _load(header, segments, (mapped or {}).get((name, header.address, header.size), -1))
+            image.sections.append(Section(name, header.address, header.size, load, contents,
                                           bool(header.flags & EXECUTABLE)))
         if header.kind == 2:
             names = headers[header.link].offset
@@ -59,18 +72,21 @@ def read_image(data: bytes) -> Image:
     return image
 
 
-def _load(header: object, segments: list[tuple[int, ...]]) -> int:
+def _load(header: Header, segments: list[tuple[int, ...]], mapped: int) -> int:
     """The load address by the segment that has a section at its place in the file; without one, of what has no bytes,
-    by one that has its addresses."""
-    address, size = header.address, header.size  # type: ignore[attr-defined]
-    bits = header.kind != NOBITS  # type: ignore[attr-defined]
-    inside = [(load + address - start, header.offset - offset == address - start)  # type: ignore[attr-defined]
+    by one that has its addresses. Where several have these, GNU ld's map says which, as the place in its file of what
+    has no bytes says nothing: a segment of other sections may have it by chance."""
+    address, size, bits = header.address, header.size, header.kind != NOBITS
+    inside = [(load + address - start, header.offset - offset == address - start)
               for kind, _, offset, start, load, filed, memory, _ in segments
               if kind == 1 and start <= address and address + size <= start + (filed if bits else memory)]
     exact = [load for load, same in inside if same]
-    if exact or header.kind != NOBITS:  # type: ignore[attr-defined]
+    loads = {load for load, _ in inside}
+    if mapped in loads and not bits:
+        return mapped
+    if exact or bits:
         return exact[0] if exact else -1
-    return inside[0][0] if len({load for load, _ in inside}) == 1 else -1
+    return loads.pop() if len(loads) == 1 else -1
 
 
 def differences(gnu: Image, ldi: Image) -> list[str]:

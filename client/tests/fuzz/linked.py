@@ -15,7 +15,7 @@ from dataclasses import dataclass, field
 
 from client.ld.main import main as ld_ldi
 from client.tests.fuzz import objects
-from client.tests.fuzz.images import differences, read_image
+from client.tests.fuzz.images import differences, loads_of, read_image
 from client.tests.fuzz.scripts import Case, case
 
 SAME, CHANGED, REFUSED = "same", "changed, which is said", "refused"
@@ -24,7 +24,7 @@ LIMIT = 60.0
 """Seconds that a case may take."""
 GREATEST = 1 << 25
 """The bytes that a file may have: a case whose image has more is none."""
-GNU = ["ld.bfd", "-static", "--no-warn-rwx-segments", "--no-warn-execstack"]
+GNU = ["ld.bfd", "-static", "--no-warn-rwx-segments", "--no-warn-execstack", "-Map", "gnu.map"]
 
 
 @dataclass
@@ -75,8 +75,8 @@ def link(one: Case) -> Came:
         return Came(CRASHED, traceback.format_exc())
     if status:
         return Came(REFUSED, said)
-    with open("gnu.out", "rb") as file:
-        gnu = read_image(file.read())
+    with open("gnu.out", "rb") as file, open("gnu.map", encoding="latin-1") as mapped:
+        gnu = read_image(file.read(), loads_of(mapped.read()))
     with open("ldi.out", "rb") as file:
         found = differences(gnu, read_image(file.read()))
     if not found:
