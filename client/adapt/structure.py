@@ -6,7 +6,7 @@ from client.adapt.model import Model, blocks, commands
 from client.adapt.notes import CHANGED, DROPPED, LEFT, REWRITTEN, SEGMENTS
 from client.adapt.patterns import is_name
 from client.adapt.taking import all_sections, flags_of, inputs, is_outside, row, takes, taking, words
-from client.adapt.tree import Assert, Assign, Block, Command, Expr, Input, Node, Section
+from client.adapt.tree import Assert, Assign, Block, Command, Expr, Input, Node, Part, Section
 
 _PLAIN = {
     "TARGET": "there is one format",
@@ -232,7 +232,11 @@ class Structure:
         if self._left_out(section):
             model.dropped.add(id(section))
             model.gone.add(section.name)
-            model.edits.blank(section.start, section.end)
+            at = section.start
+            for node in _staying(section):
+                model.edits.replace(at, node.start, "" if at == section.start else " ")
+                at = node.end
+            model.edits.blank(at, section.end)
             return
         self._named(section)
         model.order.append(section)
@@ -262,7 +266,7 @@ class Structure:
     def _left_out(self, section: Section) -> bool:
         """Whether a section is dropped: it would take nothing that is linked, or its ONLY_IF does not hold."""
         model = self.model
-        constraint = section.part("ONLY_IF_RO") or section.part("ONLY_IF_RW")
+        constraint = _constraint(section)
         if constraint is not None and not self._holds(section, constraint.word):
             return True
         patterns = words(section)
@@ -282,8 +286,9 @@ class Structure:
             items = [item for item in model.objects.sections() if id(item) in own]
             writable = any(item.flags & 1 for item in items if any(takes(node, item) for node in inputs(section)))
             good = writable == (word == "ONLY_IF_RW")
-            model.note(REWRITTEN if good else DROPPED, section.start,
-                       f"{section.name} {word}: its input sections are {'writable' if writable else 'read-only'}")
+            stays = "; its assignments stay, which GNU ld makes all the same" if not good and _staying(section) else ""
+            model.note(REWRITTEN if good or stays else DROPPED, section.start, f"{section.name} {word}: its input "
+                       f"sections are {'writable' if writable else 'read-only'}{stays}")
             return good
         writable, _, _ = flags_of(model, section)
         others = [s for s in all_sections(self.nodes) if s.name == section.name and s is not section]
@@ -322,8 +327,11 @@ class Structure:
     def _step(self, node: Node, inside: bool, item: Node) -> None:
         model = self.model
         if id(node) in model.dropped:
-            if isinstance(node, Section):
+            if isinstance(node, Section) and _constraint(node) is None:
                 self.waiting = node
+            elif isinstance(node, Section):
+                for inner in _staying(node):
+                    self._step(inner, inside, inner)
             return
         if isinstance(node, Section):
             self._section_steps(node)
@@ -365,6 +373,18 @@ class Structure:
                             "before this though it is not loaded")
         if isinstance(node, Assign) and node.name == ".":
             self.waiting = None
+
+
+def _constraint(section: Section) -> Part | None:
+    """The ONLY_IF of a section."""
+    return section.part("ONLY_IF_RO") or section.part("ONLY_IF_RW")
+
+
+def _staying(section: Section) -> list[Node]:
+    """What GNU ld evaluates of a section that its ONLY_IF leaves out, as if it stood outside of one."""
+    if _constraint(section) is None:
+        return []
+    return [node for node in section.body if isinstance(node, Assert) or isinstance(node, Assign) and node.name != "."]
 
 
 def _uses_dot(node: Node) -> bool:

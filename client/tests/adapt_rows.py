@@ -133,6 +133,8 @@ HEADS = [
     _row("SUBALIGN", ".t : SUBALIGN(8) { *(.data) } REST " + TAIL, "c", different=("section", "symbol", "load")),
     _row("ONLY_IF_RO", ".x : ONLY_IF_RO { *(.rodata) } .x : ONLY_IF_RW { *(.rodata) q = .; } .y : ONLY_IF_RO { "
          "*(.data) } .y : ONLY_IF_RW { *(.data) r = .; } REST " + TAIL, "rd", known=True),
+    _row("assignments where ONLY_IF_RW does not hold", ".x : ONLY_IF_RW { *(.rodata) q = 0x30; v = . + 4; q += 1; } "
+         "a = ABSOLUTE(q + 2); .y : { *(.data) QUAD(q) } b = ABSOLUTE(v); REST " + TAIL, "r", known=True),
     _row("AT(ADDR(.own))", ".text : AT(ADDR(.text) - 0x300000) { *(.text) } .data : AT(ADDR(.data) - 0x300000) { "
          "*(.data) } .r : AT(ADDR(.r) - 0x200000) { *(.rodata) } a = LOADADDR(.data); b = LOADADDR(.r); REST " + TAIL),
     _row("AT(ABSOLUTE(ADDR(.own)))", "off = 0x300000; .text : AT(ABSOLUTE(ADDR(.text) - off)) { *(.text) } "

@@ -74,6 +74,9 @@ SCRIPTS = {
     "assignments in a section that is left out, which objects refer to":
         "sym_2 = 1; SECTIONS { . = 0x400000; REST .n : ONLY_IF_RW { PROVIDE_HIDDEN(provided_1 = 1); sym_1 = 5; sym_2 = "
         "sym_1 + 2; end = .; } }",
+    "PROVIDEs of both of two sections, of which one is left out":
+        "SECTIONS { . = 0x400000; .x : ONLY_IF_RO { PROVIDE(provided_1 = .); *(.data*) PROVIDE(provided_2 = .); } .x : "
+        "ONLY_IF_RW { PROVIDE(provided_1 = .); *(.data*) PROVIDE(provided_2 = .); } REST }",
     "no bytes between bytes, with a load address of their own":
         "SECTIONS { . = 0x400000; .a : { *(.text*) } .b : AT(0x230029) ALIGN(64) { . += 4; } .c : AT(ADDR(.c)) { "
         "*(.data*) } REST }",
