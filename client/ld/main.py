@@ -20,7 +20,7 @@ from client.ld.link import Opened, Result, options_of
 from client.ld.options import WordsRefused
 from client.ld.output import PROGRAM, TEXT
 from client.ld.page_size import PAGE, TooFar, with_pages
-from client.ld.phdrs import NotWritten, with_program_headers
+from client.ld.phdrs import NotWritten, outside, with_program_headers
 from client.ld.reports import memory_usage, removed_sections
 from client.ld.script import Script, Source, find_script
 from client.ld.valued import Valued, opened_beforehand
@@ -347,7 +347,10 @@ class Link:
         page = self.command.page_size or PAGE
         if script.segments is not None:
             try:
-                return with_program_headers(image, script.segments, page)
+                result = with_program_headers(image, script.segments, page)
+                for name in outside(image, script.segments):
+                    say(f"{script.path}: PHDRS: {name} is in no segment, so it is not loaded")
+                return result
             except NotWritten as fault:
                 say(f"{script.path}: PHDRS: {fault}: segments follow addresses, sizes and flags of the output sections")
         return with_pages(image, page, in_file_order=script.segments is not None)

@@ -87,6 +87,12 @@ def with_program_headers(image: bytes, segments: Segments, page: int) -> bytes:
     return _image(image, parts, entries, end)
 
 
+def outside(image: bytes, segments: Segments) -> list[str]:
+    """The sections that are not empty and that PHDRS and the `:NAME`s have in no segment."""
+    inside = {name for names in segments.members() for name in names}
+    return [part.name for part in parts_of(image) if part.header.size and part.name not in inside]
+
+
 def _entries(parts: list[Part], segments: Segments, page: int) -> list[Entry]:
     """The program headers with their sections that are not empty; what is no PT_LOAD has else its first one."""
     by_name = {part.name: part for part in parts}

@@ -131,6 +131,10 @@ class SameTest(unittest.TestCase):
                 self.assertEqual(self.came(script, *words, defsym, inner=inner), SAME)
 
     def test_what_is_said(self) -> None:
-        """What the image cannot be is said: sections that share addresses, bytes that are not loaded."""
+        """What the image cannot be is said: sections that share addresses, bytes that are not loaded, sections that are
+        in no segment of PHDRS."""
         script = "SECTIONS { . = 0x400000; .n (NOLOAD) : { *(.data*) } REST }"
+        self.assertEqual(self.came(script), CHANGED)
+        script = ("PHDRS { one PT_LOAD; two PT_LOAD; } SECTIONS { . = 0x400000; .a : { *(.text.*) } .b : { BYTE(1) } "
+                  ":two .c : { . += 4; } :one REST }")
         self.assertEqual(self.came(script), CHANGED)
