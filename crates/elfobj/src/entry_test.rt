@@ -20,8 +20,8 @@ use std::alloc::{AllocError, Global};
 
 /// The list for entries of which none is known to have passed.
 pub fn none_passed(alloc: Global, count: usize) -> Result<Vec<usize>, AllocError>
-    ensures long { IfOk result (λ v. length v.items ≡ count) }
-    ensures own { IfOk result (λ v. (k : ℕ) → k < count → get_or v.items k 0 ≡ k) }
+    ensures long { IfOk result (λ numbers. length numbers.items ≡ count) }
+    ensures own { IfOk result (λ numbers. (k : ℕ) → k < count → get_or numbers.items k 0 ≡ k) }
 {
     let mut past = Vec::with_capacity(alloc, count)?;
     for entry in 0..count {

@@ -22,8 +22,8 @@ pub fn is_outside(relocation: &Relocation, kind: SectionKind, size: u64) -> bool
 
 /// Where the field of a relocation ends, if it lies in a section of this kind and size.
 pub fn end_inside(relocation: &Relocation, kind: SectionKind, size: u64) -> Option<u64>
-    ensures end { IfSome result (λ e. e ≡ field_end relocation.now) }
-    ensures inside { IfSome result (λ e. is_outside kind size relocation.now ≡ false) }
+    ensures end { IfSome result (λ end. end ≡ field_end relocation.now) }
+    ensures inside { IfSome result (λ end. is_outside kind size relocation.now ≡ false) }
     ensures outside { IfNone result (is_outside kind size relocation.now ≡ true) }
 {
     let end = u128::from(relocation.offset) + u128::from(relocation.kind.width());
@@ -59,7 +59,7 @@ pub fn put_in_order(
     room: &mut Vec<Relocation>,
 ) -> Result<(), AllocError>
     ensures same { OnOk result (IsPermutation relocations.now room.new.items) }
-    ensures order { OnOk result (IsNonDecreasingBy (λ r. r.offset) room.new.items) }
+    ensures order { OnOk result (IsNonDecreasingBy (λ relocation. relocation.offset) room.new.items) }
 {
     room.clear();
     room.extend_from_slice(relocations)?;

@@ -116,9 +116,9 @@ pub fn is_any_shared(
     size: usize,
 ) -> Result<bool, AllocError>
     requires within { All (IsInside (length all.now)) spans.now }
-    requires order { IsNonDecreasingBy (λ s. s.start) spans.now }
-    requires fields { All (λ s. AreBelow all.now s.start s.end size) spans.now }
-    ensures { IfOk result (λ b. b ≡ list_any share_bytes (map (relocations_in all.now) spans.now)) }
+    requires order { IsNonDecreasingBy (λ span. span.start) spans.now }
+    requires fields { All (λ span. AreBelow all.now span.start span.end size) spans.now }
+    ensures { IfOk result (λ shared. shared ≡ list_any share_bytes (map (relocations_in all.now) spans.now)) }
 {
     let mut marks = vec![in alloc; false; size]?;
     Ok(is_any_met(all, spans, &mut marks))

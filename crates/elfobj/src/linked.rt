@@ -106,7 +106,8 @@ pub fn linked_sections(
     requires file { names.now.file.now ≡ bytes.now }
     requires headers { headers.now ≡ headers_of bytes.now }
     requires tests { PassesTests bytes.now }
-    ensures { IfOk result (λ l. AreRead bytes.now (sections_of bytes.now) l.sections.items l.places.items) }
+    ensures { IfOk result
+        (λ linked. AreRead bytes.now (sections_of bytes.now) linked.sections.items linked.places.items) }
 {
     let mut linked = LinkedSections::with_room(alloc, linked_count(headers))?;
     for (number, header) in headers.iter().enumerate() {
@@ -132,9 +133,10 @@ pub fn passing_sections(
     requires names { IsNameTable bytes.now names.now }
     requires headers { headers.now ≡ headers_of bytes.now }
     requires bounds { holds bytes.now SectionBounds ≡ false }
-    ensures passes { IfOk result (λ o. IfSome o (λ l. holds bytes.now SectionProfile ≡ false)) }
+    ensures passes { IfOk result (λ found. IfSome found (λ linked. holds bytes.now SectionProfile ≡ false)) }
     ensures read { IfOk result
-        (λ o. IfSome o (λ l. AreRead bytes.now (sections_of bytes.now) l.sections.items l.places.items)) }
+        (λ found. IfSome found (λ linked. AreRead bytes.now (sections_of bytes.now) linked.sections.items
+        linked.places.items)) }
 {
     let mut linked = LinkedSections::with_room(alloc, linked_count(headers))?;
     let mut left = bytes.len();

@@ -39,10 +39,10 @@ impl Model for Object {
 
     ghost Value = { ObjectData };
 
-    ghost view = { λ a. object_of a.bytes.items };
+    ghost view = { λ object. object_of object.bytes.items };
 
-    ghost invariant = { λ a. IsObject a.bytes.items a.sections.items a.places.items a.symbols.items a.names.items
-        a.relocations.items };
+    ghost invariant = { λ object. IsObject object.bytes.items object.sections.items object.places.items
+        object.symbols.items object.names.items object.relocations.items };
 }
 
 impl Object {
@@ -63,10 +63,10 @@ impl Object {
         bytes: Vec<u8>,
         meter: &mut Meter,
     ) -> Result<Object, (Vec<u8>, ObjectRefusal)>
-        ensures ok { IfOk result (λ o. (object_refusal bytes.items ≡ None) × (o ≡ object_of bytes.items)) }
-        ensures refused { IfErr result (λ e. (e.1 ≡ NoMemory) ⊎ (object_refusal bytes.items ≡ Some e.1)) }
-        ensures memory { IfErr result (λ e. e.1 ≡ NoMemory → find (holds bytes.items) header_refusals ≡ None) }
-        ensures bytes { IfErr result (λ e. e.0.items ≡ bytes.items) }
+        ensures ok { IfOk result (λ object. (object_refusal bytes.items ≡ None) × (object ≡ object_of bytes.items)) }
+        ensures refused { IfErr result (λ error. (error.1 ≡ NoMemory) ⊎ (object_refusal bytes.items ≡ Some error.1)) }
+        ensures memory { IfErr result (λ error. error.1 ≡ NoMemory → find (holds bytes.items) header_refusals ≡ None) }
+        ensures bytes { IfErr result (λ error. error.0.items ≡ bytes.items) }
         ensures counted { meter.new ≡ raised meter.old Objects 1 }
     {
         meter.raise(Count::Objects, 1);
@@ -103,7 +103,7 @@ impl Object {
     pub fn sections(&self) -> &[Section]
         ensures value { result.now ≡ map section_of self.now.sections }
         ensures limits { All IsSectionOfProfile self.now.sections }
-        ensures ascending { AllPairs (λ s t. s.number.0 < t.number.0) result.now }
+        ensures ascending { AllPairs (λ earlier later. earlier.number.0 < later.number.0) result.now }
     {
         &self.sections
     }
@@ -111,7 +111,8 @@ impl Object {
     /// The place in `sections` of the section with this header number, if it is a linked one.
     pub fn section_at(&self, number: SectionIndex) -> Option<LinkedIndex>
         ensures found { IfSome result (λ i. IsNumberedAt (map section_of self.now.sections) number i.0) }
-        ensures absent { IfNone result (All (λ s. s.number.0 ≢ number.0) (map section_of self.now.sections)) }
+        ensures absent { IfNone result
+            (All (λ section. section.number.0 ≢ number.0) (map section_of self.now.sections)) }
     {
         find_number(self.sections(), number)
     }
@@ -119,7 +120,7 @@ impl Object {
     /// The name of a section, 1 to 65,535 bytes from `!` to `~`.
     pub fn section_name(&self, section: LinkedIndex) -> &[u8]
         requires { section.0 < length self.now.sections }
-        ensures { slice_get (map (λ s. s.name) self.now.sections) section.0 ≡ Some result.now }
+        ensures { slice_get (map (λ entry. entry.name) self.now.sections) section.0 ≡ Some result.now }
     {
         let place = self.places[section.0];
         &self.bytes[place.name.start..place.name.end]
@@ -128,7 +129,8 @@ impl Object {
     /// Where the name of a section lies in the bytes that the object was read from. Sections may share it.
     pub fn section_name_place(&self, section: LinkedIndex) -> Span
         requires { section.0 < length self.now.sections }
-        ensures { slice_get (map (λ s. s.name) self.now.sections) section.0 ≡ Some (bytes_at self.now.text result) }
+        ensures { slice_get (map (λ entry. entry.name) self.now.sections) section.0
+            ≡ Some (bytes_at self.now.text result) }
     {
         self.places[section.0].name
     }
@@ -136,7 +138,7 @@ impl Object {
     /// The bytes of a section: as many as its size, but none for one that has no bytes in the file.
     pub fn section_bytes(&self, section: LinkedIndex) -> &[u8]
         requires { section.0 < length self.now.sections }
-        ensures { slice_get (map (λ s. s.bytes) self.now.sections) section.0 ≡ Some result.now }
+        ensures { slice_get (map (λ entry. entry.bytes) self.now.sections) section.0 ≡ Some result.now }
     {
         let place = self.places[section.0];
         &self.bytes[place.bytes.start..place.bytes.end]
@@ -145,9 +147,9 @@ impl Object {
     /// The entries of its symbol table, in the table's order; none without a symbol table. The first is a null entry, a
     /// local symbol that is not defined, so that the symbol of this index is the one that relocations number so.
     pub fn symbols(&self) -> &[Symbol]
-        ensures value { result.now ≡ map (λ s. s.symbol) self.now.symbols }
+        ensures value { result.now ≡ map (λ symbol. symbol.symbol) self.now.symbols }
         ensures limits { All IsSymbolOfProfile self.now.symbols }
-        ensures sections { All (λ s. IsSectionBelow (e_shnum self.now.text) s.symbol.place) self.now.symbols }
+        ensures sections { All (λ symbol. IsSectionBelow (e_shnum self.now.text) symbol.symbol.place) self.now.symbols }
         ensures few { length self.now.symbols < 2 ^ 32 }
     {
         &self.symbols
@@ -156,7 +158,7 @@ impl Object {
     /// The name of a symbol: 1 to 65,535 bytes from `!` to `~`, but none for a local one.
     pub fn name_of(&self, symbol: SymbolIndex) -> &[u8]
         requires { symbol.0 < length self.now.symbols }
-        ensures { slice_get (map (λ s. s.name) self.now.symbols) symbol.0 ≡ Some result.now }
+        ensures { slice_get (map (λ entry. entry.name) self.now.symbols) symbol.0 ≡ Some result.now }
     {
         let name = self.names[symbol.0 as usize];
         &self.bytes[name.start..name.end]
@@ -166,7 +168,8 @@ impl Object {
     /// may share it.
     pub fn name_place(&self, symbol: SymbolIndex) -> Span
         requires { symbol.0 < length self.now.symbols }
-        ensures { slice_get (map (λ s. s.name) self.now.symbols) symbol.0 ≡ Some (bytes_at self.now.text result) }
+        ensures { slice_get (map (λ entry. entry.name) self.now.symbols) symbol.0
+            ≡ Some (bytes_at self.now.text result) }
     {
         self.names[symbol.0 as usize]
     }
@@ -175,7 +178,7 @@ impl Object {
     /// and no two share a byte; a section without bytes has none.
     pub fn relocations(&self, section: LinkedIndex) -> &[Relocation]
         requires { section.0 < length self.now.sections }
-        ensures value { slice_get (map (λ s. s.relocations) self.now.sections) section.0 ≡ Some result.now }
+        ensures value { slice_get (map (λ entry. entry.relocations) self.now.sections) section.0 ≡ Some result.now }
         ensures limits { All (HasRelocationsOfProfile (length self.now.symbols)) self.now.sections }
     {
         let span = self.places[section.0].relocations;
@@ -198,9 +201,9 @@ impl Object {
     ) -> Result<(), AllocError>
         requires { section.0 < length self.now.sections }
         ensures same { OnOk result
-            (IsPermutation (unwrap_or (slice_get (map (λ s. s.relocations) self.now.sections) section.0) [])
+            (IsPermutation (unwrap_or (slice_get (map (λ entry. entry.relocations) self.now.sections) section.0) [])
             room.new.items) }
-        ensures order { OnOk result (IsNonDecreasingBy (λ r. r.offset) room.new.items) }
+        ensures order { OnOk result (IsNonDecreasingBy (λ relocation. relocation.offset) room.new.items) }
     {
         put_in_order(self.relocations(section), room)
     }

@@ -70,13 +70,15 @@ pub fn read_ordered(
 ) -> Result<Option<Relocations>, AllocError>
     requires { All (IsTableOf bytes.now) tables.now }
     ensures read { IfOk result
-        (λ o. IfSome o (λ r. AreRelocated
-        (map (λ s. relocations_at bytes.now s.number.0) (map (λ t. t.section) tables.now)) r.all.items r.spans.items)) }
+        (λ found. IfSome found (λ read. AreRelocated
+        (map (λ section. relocations_at bytes.now section.number.0) (map (λ table. table.section) tables.now))
+        read.all.items read.spans.items)) }
     ensures passes { IfOk result
-        (λ o. IfSome o (λ r. list_any (has_refused_entry Any bytes.now symbols)
-        (map (λ t. t.section) tables.now) ≡ false)) }
+        (λ found. IfSome found (λ read. list_any (has_refused_entry Any bytes.now symbols)
+        (map (λ table. table.section) tables.now) ≡ false)) }
     ensures apart { IfOk result
-        (λ o. IfSome o (λ r. list_any share_bytes (map (relocations_in r.all.items) r.spans.items) ≡ false)) }
+        (λ found. IfSome found (λ read.
+        list_any share_bytes (map (relocations_in read.all.items) read.spans.items) ≡ false)) }
 {
     let count = entry_count(tables);
     if bytes.len() / RELA_SIZE < count {

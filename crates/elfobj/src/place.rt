@@ -53,9 +53,9 @@ pub fn place_of(name: Span, header: &SectionHeader, kind: SectionKind, len: usiz
 /// Gives each place the stretch of its relocations.
 pub fn place_relocations(places: &mut [Place], spans: &[Span])
     requires { length spans.now ≡ length places.old }
-    ensures relocations { map (λ p. p.relocations) places.new ≡ spans.now }
-    ensures names { map (λ p. p.name) places.new ≡ map (λ p. p.name) places.old }
-    ensures bytes { map (λ p. p.bytes) places.new ≡ map (λ p. p.bytes) places.old }
+    ensures relocations { map (λ place. place.relocations) places.new ≡ spans.now }
+    ensures names { map (λ place. place.name) places.new ≡ map (λ place. place.name) places.old }
+    ensures bytes { map (λ place. place.bytes) places.new ≡ map (λ place. place.bytes) places.old }
 {
     for (at, place) in places.iter_mut().enumerate() {
         place.relocations = spans[at];

@@ -75,8 +75,8 @@ pub fn smallest_first(
     alloc: Global,
     tables: &[SectionTable],
 ) -> Result<Vec<SectionTable>, AllocError>
-    ensures same { IfOk result (λ v. IsPermutation tables.now v.items) }
-    ensures order { IfOk result (λ v. IsNonDecreasingBy (λ t. field_ends t.section) v.items) }
+    ensures same { IfOk result (λ ordered. IsPermutation tables.now ordered.items) }
+    ensures order { IfOk result (λ ordered. IsNonDecreasingBy (λ table. field_ends table.section) ordered.items) }
 {
     let mut sorted = tables.to_vec(alloc)?;
     sorted.sort_unstable_by_key(|t| t.field_ends());
@@ -148,9 +148,9 @@ pub fn is_any_refused(
 ) -> Result<bool, AllocError>
     requires long { 24 ≤ length bytes.now }
     requires tables { All (IsTableOf bytes.now) tables.now }
-    requires order { IsNonDecreasingBy (λ t. field_ends t.section) tables.now }
-    ensures { IfOk result (λ b. b ≡ list_any (has_refused_entry fault bytes.now symbols)
-        (map (λ t. t.section) tables.now)) }
+    requires order { IsNonDecreasingBy (λ table. field_ends table.section) tables.now }
+    ensures { IfOk result (λ refused. refused ≡ list_any (has_refused_entry fault bytes.now symbols)
+        (map (λ table. table.section) tables.now)) }
 {
     for class in 0..RELA_SIZE {
         if is_class_refused(alloc, bytes, tables, class, fault, symbols)? {

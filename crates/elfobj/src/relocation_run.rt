@@ -52,7 +52,7 @@ pub struct Relocations {
 pub fn class_range(tables: &[SectionTable], class: usize, len: usize) -> (usize, usize)
     requires class { class < 24 }
     requires long { 24 ≤ len }
-    requires within { All (λ t. t.start + 24 * t.count ≤ len) tables.now }
+    requires within { All (λ table. table.start + 24 * table.count ≤ len) tables.now }
     ensures order { result.0 ≤ result.1 }
     ensures end { 24 * result.1 + class ≤ len }
     ensures covers { All (IsCovered class result.0 result.1) tables.now }
@@ -169,8 +169,9 @@ pub fn read_tables(
 ) -> Result<Relocations, AllocError>
     requires long { 24 ≤ length bytes.now }
     requires tables { All (IsTableOf bytes.now) tables.now }
-    ensures { IfOk result (λ r. AreRelocated
-        (map (λ s. relocations_at bytes.now s.number.0) (map (λ t. t.section) tables.now)) r.all.items r.spans.items) }
+    ensures { IfOk result (λ read. AreRelocated
+        (map (λ section. relocations_at bytes.now section.number.0) (map (λ table. table.section) tables.now))
+        read.all.items read.spans.items) }
 {
     let (all, runs) = read_runs(alloc, bytes, tables)?;
     let spans = find_spans(alloc, bytes, tables, &all, &runs)?;

@@ -275,10 +275,12 @@ pub fn read_relocations(
     requires tests { PassesTests bytes.now }
     requires sections { sections.now ≡ linked_sections bytes.now }
     requires symbols { symbols ≡ length (symbols_of bytes.now) }
-    ensures ok { IfOk result (λ r. find (holds bytes.now) relocation_refusals ≡ None) }
+    ensures ok { IfOk result (λ read. find (holds bytes.now) relocation_refusals ≡ None) }
     ensures relocations { IfOk result
-        (λ r. AreRelocated (map (λ s. s.relocations) (sections_of bytes.now)) r.all.items r.spans.items) }
-    ensures refused { IfErr result (λ e. (e ≡ NoMemory) ⊎ (find (holds bytes.now) relocation_refusals ≡ Some e)) }
+        (λ read. AreRelocated (map (λ section. section.relocations) (sections_of bytes.now)) read.all.items
+        read.spans.items) }
+    ensures refused { IfErr result
+        (λ refusal. (refusal ≡ NoMemory) ⊎ (find (holds bytes.now) relocation_refusals ≡ Some refusal)) }
 {
     let changing = changing_tables(alloc, bytes, headers)?;
     let Ok(tables) = section_tables(alloc, bytes, sections, &changing) else {

@@ -8,9 +8,9 @@ pub use elfobj_file::section::{LinkedIndex, Section, SectionIndex, SectionKind};
 
 /// The place of the section with this number, by binary search.
 pub fn find_number(sections: &[Section], number: SectionIndex) -> Option<LinkedIndex>
-    requires { AllPairs (λ s t. s.number.0 < t.number.0) sections.now }
+    requires { AllPairs (λ earlier later. earlier.number.0 < later.number.0) sections.now }
     ensures found { IfSome result (λ i. IsNumberedAt sections.now number i.0) }
-    ensures absent { IfNone result (All (λ s. s.number.0 ≢ number.0) sections.now) }
+    ensures absent { IfNone result (All (λ section. section.number.0 ≢ number.0) sections.now) }
 {
     match sections.binary_search_by_key(&number.0, |s| s.number.0) {
         Ok(i) => Some(LinkedIndex(i)),

@@ -164,12 +164,12 @@ fn read_tables(
 
 /// Reads the parts of a file, or tells why it is no object.
 pub fn read_parts(alloc: Global, bytes: &[u8]) -> Result<Parts, ObjectRefusal>
-    ensures ok { IfOk result (λ p. object_refusal bytes.now ≡ None) }
+    ensures ok { IfOk result (λ parts. object_refusal bytes.now ≡ None) }
     ensures read { IfOk result
-        (λ p. ArePartsOf bytes.now p.linked.sections.items p.linked.places.items p.symbols.symbols.items
-        p.symbols.names.items p.relocations.items) }
-    ensures refused { IfErr result (λ e. (e ≡ NoMemory) ⊎ (object_refusal bytes.now ≡ Some e)) }
-    ensures memory { IfErr result (λ e. e ≡ NoMemory → find (holds bytes.now) header_refusals ≡ None) }
+        (λ parts. ArePartsOf bytes.now parts.linked.sections.items parts.linked.places.items parts.symbols.symbols.items
+        parts.symbols.names.items parts.relocations.items) }
+    ensures refused { IfErr result (λ refusal. (refusal ≡ NoMemory) ⊎ (object_refusal bytes.now ≡ Some refusal)) }
+    ensures memory { IfErr result (λ refusal. refusal ≡ NoMemory → find (holds bytes.now) header_refusals ≡ None) }
 {
     if let Some(refusal) = header_refusal(bytes) {
         return Err(refusal);

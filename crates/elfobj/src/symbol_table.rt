@@ -204,9 +204,11 @@ pub fn read_symbols(
     requires table { HasSectionTable bytes.now }
     requires headers { headers.now ≡ headers_of bytes.now }
     requires tests { PassesTests bytes.now }
-    ensures ok { IfOk result (λ s. find (holds bytes.now) symbol_refusals ≡ None) }
-    ensures symbols { IfOk result (λ s. AreNamed bytes.now (symbols_of bytes.now) s.symbols.items s.names.items) }
-    ensures refused { IfErr result (λ e. (e ≡ NoMemory) ⊎ (find (holds bytes.now) symbol_refusals ≡ Some e)) }
+    ensures ok { IfOk result (λ read. find (holds bytes.now) symbol_refusals ≡ None) }
+    ensures symbols { IfOk result
+        (λ read. AreNamed bytes.now (symbols_of bytes.now) read.symbols.items read.names.items) }
+    ensures refused { IfErr result
+        (λ refusal. (refusal ≡ NoMemory) ⊎ (find (holds bytes.now) symbol_refusals ≡ Some refusal)) }
 {
     if are_several(headers) {
         return Err(ObjectRefusal::SymbolTable);

@@ -37,7 +37,8 @@ const NULL_SYMBOL: Symbol = Symbol {
 impl Symbols {
     /// The null symbol alone, with room for this number of symbols.
     pub fn of_null(alloc: Global, count: usize) -> Result<Symbols, AllocError>
-        ensures { (file : List ℕ) → IfOk result (λ s. AreNamed file (null_symbol ∷ []) s.symbols.items s.names.items) }
+        ensures { (file : List ℕ)
+            → IfOk result (λ read. AreNamed file (null_symbol ∷ []) read.symbols.items read.names.items) }
     {
         let mut symbols = Symbols {
             symbols: Vec::with_capacity(alloc, count)?,
@@ -74,14 +75,14 @@ pub fn read_passing(
     requires within { table.now.sh_offset + table.now.sh_size ≤ length bytes.now }
     requires strings { strings.now.sh_offset + strings.now.sh_size ≤ length bytes.now }
     ensures placed { IfOk result
-        (λ o. IfSome o (λ s. has_misplaced_entry table.now (entries_of bytes.now table.now) ≡ false)) }
+        (λ found. IfSome found (λ read. has_misplaced_entry table.now (entries_of bytes.now table.now) ≡ false)) }
     ensures right { IfOk result
-        (λ o. IfSome o (λ s. list_any (is_wrong_symbol sections (file_bytes bytes.now strings.now))
+        (λ found. IfSome found (λ read. list_any (is_wrong_symbol sections (file_bytes bytes.now strings.now))
         (drop 1 (entries_of bytes.now table.now)) ≡ false)) }
     ensures symbols { IfOk result
-        (λ o. IfSome o (λ s. AreNamed bytes.now
-        (symbols_from (file_bytes bytes.now strings.now) (entries_of bytes.now table.now)) s.symbols.items
-        s.names.items)) }
+        (λ found. IfSome found (λ read. AreNamed bytes.now
+        (symbols_from (file_bytes bytes.now strings.now) (entries_of bytes.now table.now)) read.symbols.items
+        read.names.items)) }
 {
     let start = table.sh_offset as usize;
     let count = table.sh_size as usize / SYM_SIZE;

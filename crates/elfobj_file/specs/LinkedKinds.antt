@@ -7,7 +7,7 @@ use Rattle.elfobj_file.specs.declared.section.SectionKind.{SectionKind}
 use Rattle.elfobj_file.specs.declared.constants.TheConstants.{SHF_ALLOC}
 
 abbrev pub is_alloc : SectionHeader → Bool
-is_alloc h = not (bit_and h.sh_flags SHF_ALLOC == 0)
+is_alloc header = not (bit_and header.sh_flags SHF_ALLOC == 0)
 
 abbrev pub linked_kind : SectionHeader → Option SectionKind
-linked_kind h = if is_alloc h then kind_of h.sh_type else None
+linked_kind header = if is_alloc header then kind_of header.sh_type else None

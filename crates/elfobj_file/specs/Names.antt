@@ -6,11 +6,11 @@ use Rattle.std.specs.Option.{option_map}
 
 -- the string that begins at a place, if a zero byte ends it inside the table
 unfoldable pub string_at : List ℕ → ℕ → Option (List ℕ)
-string_at table at = option_map (λ n. take n (drop at table)) (position (λ b. b == 0) (drop at table))
+string_at table at = option_map (λ n. take n (drop at table)) (position (λ byte. byte == 0) (drop at table))
 
 -- a byte from `!` to `~`
 abbrev pub is_graphic : ℕ → Bool
-is_graphic b = nat_le 33 b && nat_le b 126
+is_graphic byte = nat_le 33 byte && nat_le byte 126
 
 -- 1 to 65,535 graphic bytes
 unfoldable pub is_name : List ℕ → Bool

@@ -29,27 +29,27 @@ use Rattle.elfobj_file.specs.declared.refusal.ObjectRefusal.TheVariants.{FieldOv
 
 -- headers of type NULL are not looked at
 abbrev pub is_looked_at : SectionHeader → Bool
-is_looked_at h = not (h.sh_type == SHT_NULL)
+is_looked_at header = not (header.sh_type == SHT_NULL)
 
 -- outside a file of n bytes, or too large, or with an alignment that is neither 0 nor a power of two
 abbrev pub is_out_of_bounds : ℕ → SectionHeader → Bool
-is_out_of_bounds n h =
-    is_looked_at h
-    && (((not (h.sh_type == SHT_NOBITS)) && nat_lt n (h.sh_offset + h.sh_size))
-    || nat_lt MAX_SECTION_SIZE h.sh_size
-    || ((not (h.sh_addralign == 0)) && (not (is_power_of_two h.sh_addralign))))
+is_out_of_bounds n header =
+    is_looked_at header
+    && (((not (header.sh_type == SHT_NOBITS)) && nat_lt n (header.sh_offset + header.sh_size))
+    || nat_lt MAX_SECTION_SIZE header.sh_size
+    || ((not (header.sh_addralign == 0)) && (not (is_power_of_two header.sh_addralign))))
 
 -- allocated, with a type that isn't linked, a flag outside the profile, or a name without an end in the table
 -- of names or outside the limits
 abbrev pub is_outside_profile_by : List ℕ → SectionHeader → Bool
-is_outside_profile_by table h =
-    is_looked_at h && is_alloc h
-    && ((not (is_some (kind_of h.sh_type)))
-    || (not (bit_or h.sh_flags PROFILE_FLAGS == PROFILE_FLAGS))
-    || (not (option_map_or is_name (string_at table h.sh_name) false)))
+is_outside_profile_by table header =
+    is_looked_at header && is_alloc header
+    && ((not (is_some (kind_of header.sh_type)))
+    || (not (bit_or header.sh_flags PROFILE_FLAGS == PROFILE_FLAGS))
+    || (not (option_map_or is_name (string_at table header.sh_name) false)))
 
 abbrev pub is_outside_profile : List ℕ → SectionHeader → Bool
-is_outside_profile bytes h = is_outside_profile_by (name_table bytes) h
+is_outside_profile bytes header = is_outside_profile_by (name_table bytes) header
 
 -- the condition of each refusal, and above it what bytes have that are not refused so
 unfoldable pub holds : List ℕ → ObjectRefusal → Bool

@@ -19,8 +19,8 @@ relocation_entries_below bytes start (suc n) =
 
 -- `ELF64_R_SYM` of r_info
 abbrev pub r_sym : RelocationEntry → ℕ
-r_sym e = e.r_info / 2 ^ 32
+r_sym entry = entry.r_info / 2 ^ 32
 
 -- `ELF64_R_TYPE` of r_info
 abbrev pub r_type : RelocationEntry → ℕ
-r_type e = e.r_info % 2 ^ 32
+r_type entry = entry.r_info % 2 ^ 32

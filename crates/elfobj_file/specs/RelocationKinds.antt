@@ -8,18 +8,18 @@ use Rattle.elfobj_file.specs.declared.relocation.RelocationKind.TheVariants as k
 
 -- the types of the profile
 unfoldable pub relocation_kind : ℕ → Option RelocationKind
-relocation_kind t =
-    if t == R_X86_64_NONE then Some kind.None
-    else (if t == R_X86_64_64 then Some kind.Abs64
-    else (if t == R_X86_64_PC32 then Some kind.Pc32
-    else (if t == R_X86_64_PLT32 then Some kind.Plt32
-    else (if t == R_X86_64_32 then Some kind.Abs32
-    else (if t == R_X86_64_32S then Some kind.Abs32Signed
-    else (if t == R_X86_64_16 then Some kind.Abs16
-    else (if t == R_X86_64_PC16 then Some kind.Pc16
-    else (if t == R_X86_64_8 then Some kind.Abs8
-    else (if t == R_X86_64_PC8 then Some kind.Pc8
-    else (if t == R_X86_64_PC64 then Some kind.Pc64
+relocation_kind number =
+    if number == R_X86_64_NONE then Some kind.None
+    else (if number == R_X86_64_64 then Some kind.Abs64
+    else (if number == R_X86_64_PC32 then Some kind.Pc32
+    else (if number == R_X86_64_PLT32 then Some kind.Plt32
+    else (if number == R_X86_64_32 then Some kind.Abs32
+    else (if number == R_X86_64_32S then Some kind.Abs32Signed
+    else (if number == R_X86_64_16 then Some kind.Abs16
+    else (if number == R_X86_64_PC16 then Some kind.Pc16
+    else (if number == R_X86_64_8 then Some kind.Abs8
+    else (if number == R_X86_64_PC8 then Some kind.Pc8
+    else (if number == R_X86_64_PC64 then Some kind.Pc64
     else None))))))))))
 
 -- how many bytes a relocation changes

@@ -36,7 +36,7 @@ null_header = record {
 -- header number k; number 0 counts as type NULL, whatever it says
 unfoldable pub header : List ℕ → ℕ → SectionHeader
 header bytes zero = null_header
-header bytes (suc k) = header_at bytes (e_shoff bytes + 64 * suc k)
+header bytes (suc index) = header_at bytes (e_shoff bytes + 64 * suc index)
 
 -- the first n headers
 abbrev pub headers_below : List ℕ → ℕ → List SectionHeader
@@ -49,4 +49,4 @@ headers bytes = headers_below bytes (e_shnum bytes)
 
 -- the bytes that a header names
 abbrev pub file_bytes : List ℕ → SectionHeader → List ℕ
-file_bytes bytes h = slice_range bytes h.sh_offset (h.sh_offset + h.sh_size)
+file_bytes bytes header = slice_range bytes header.sh_offset (header.sh_offset + header.sh_size)

@@ -25,40 +25,46 @@ pub record LinkedSection : Type 0 where
 
 -- what callers see without the name, the bytes and the relocations
 abbrev pub section_of : LinkedSection → Section
-section_of s = record { number = s.number; kind = s.kind; flags = s.flags; size = s.size; alignment = s.alignment }
+section_of section = record {
+  number = section.number;
+  kind = section.kind;
+  flags = section.flags;
+  size = section.size;
+  alignment = section.alignment;
+}
 
 -- the table that names of sections stand in
 unfoldable pub name_table : List ℕ → List ℕ
 name_table bytes = file_bytes bytes (header bytes (e_shstrndx bytes))
 
 abbrev pub name_of : List ℕ → SectionHeader → Option (List ℕ)
-name_of bytes h = string_at (name_table bytes) h.sh_name
+name_of bytes header = string_at (name_table bytes) header.sh_name
 
 -- the bytes of a linked section
 abbrev pub contents : List ℕ → SectionHeader → SectionKind → List ℕ
-contents bytes h Nobits = []
-contents bytes h _ = file_bytes bytes h
+contents bytes header Nobits = []
+contents bytes header _ = file_bytes bytes header
 
 -- the section of header number k, of a kind that is linked
 abbrev pub linked_as : List ℕ → ℕ → SectionHeader → SectionKind → LinkedSection
-linked_as bytes k h kind = record {
-  number = record { 0 = k };
-  name = unwrap_or (name_of bytes h) [];
+linked_as bytes index header kind = record {
+  number = record { 0 = index };
+  name = unwrap_or (name_of bytes header) [];
   kind = kind;
-  flags = h.sh_flags;
-  size = h.sh_size;
-  alignment = h.sh_addralign;
-  bytes = contents bytes h kind;
-  relocations = relocations_at bytes k;
+  flags = header.sh_flags;
+  size = header.sh_size;
+  alignment = header.sh_addralign;
+  bytes = contents bytes header kind;
+  relocations = relocations_at bytes index;
 }
 
 -- the section of header number k, if it is a linked one
 abbrev pub linked_section : List ℕ → ℕ → SectionHeader → Option SectionKind → Option LinkedSection
-linked_section bytes k h None = None
-linked_section bytes k h (Some kind) = Some (linked_as bytes k h kind)
+linked_section bytes index header None = None
+linked_section bytes index header (Some kind) = Some (linked_as bytes index header kind)
 
 abbrev pub linked_at : List ℕ → ℕ → Option LinkedSection
-linked_at bytes k = linked_section bytes k (header bytes k) (linked_kind (header bytes k))
+linked_at bytes index = linked_section bytes index (header bytes index) (linked_kind (header bytes index))
 
 -- the linked sections among the first n headers, in the table's order
 abbrev pub sections_below : List ℕ → ℕ → List LinkedSection

@@ -21,8 +21,8 @@ symbol_entries_below bytes start (suc n) =
 
 -- `ELF64_ST_BIND` of st_info
 abbrev pub st_bind : SymbolEntry → ℕ
-st_bind e = e.st_info / 16
+st_bind entry = entry.st_info / 16
 
 -- `ELF64_ST_TYPE` of st_info
 abbrev pub st_type : SymbolEntry → ℕ
-st_type e = e.st_info % 16
+st_type entry = entry.st_info % 16

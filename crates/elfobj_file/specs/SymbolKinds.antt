@@ -8,13 +8,16 @@ use Rattle.elfobj_file.specs.declared.symbol.SymbolKind.{SymbolKind}
 use Rattle.elfobj_file.specs.declared.symbol.SymbolKind.TheVariants as kind
 
 abbrev pub binding_of : ℕ → Binding
-binding_of n = if n == STB_LOCAL then binding.Local else (if n == STB_GLOBAL then binding.Global else binding.Weak)
+binding_of number =
+    if number == STB_LOCAL then binding.Local
+    else (if number == STB_GLOBAL then binding.Global
+    else binding.Weak)
 
 abbrev pub symbol_kind_of : ℕ → SymbolKind
-symbol_kind_of n =
-    if n == STT_NOTYPE then kind.NoType
-    else (if n == STT_OBJECT then kind.Object
-    else (if n == STT_FUNC then kind.Function
-    else (if n == STT_SECTION then kind.Section
-    else (if n == STT_FILE then kind.File
+symbol_kind_of number =
+    if number == STT_NOTYPE then kind.NoType
+    else (if number == STT_OBJECT then kind.Object
+    else (if number == STT_FUNC then kind.Function
+    else (if number == STT_SECTION then kind.Section
+    else (if number == STT_FILE then kind.File
     else kind.Common))))

@@ -20,7 +20,7 @@ pub record NamedSymbol : Type 0 where
   pub symbol : Symbol
 
 abbrev pub is_symbol_table : SectionHeader → Bool
-is_symbol_table h = h.sh_type == SHT_SYMTAB
+is_symbol_table header = header.sh_type == SHT_SYMTAB
 
 -- the number of the header of the symbol table, which is the only one (a second one is refused)
 unfoldable pub symbol_table_number : List ℕ → Option ℕ
@@ -38,27 +38,27 @@ abbrev pub strings_of : List ℕ → SectionHeader → List ℕ
 strings_of bytes table = file_bytes bytes (header bytes table.sh_link)
 
 abbrev pub symbol_place_of : ℕ → SymbolPlace
-symbol_place_of n =
-    if n == SHN_UNDEF then place.Undefined
-    else (if n == SHN_ABS then place.Absolute
-    else (if n == SHN_COMMON then place.Common
-    else place.Section (record { 0 = n })))
+symbol_place_of index =
+    if index == SHN_UNDEF then place.Undefined
+    else (if index == SHN_ABS then place.Absolute
+    else (if index == SHN_COMMON then place.Common
+    else place.Section (record { 0 = index })))
 
 unfoldable pub symbol_of : SymbolEntry → Symbol
-symbol_of e = record {
-  binding = binding_of (st_bind e);
-  kind = symbol_kind_of (st_type e);
-  place = symbol_place_of e.st_shndx;
-  value = e.st_value;
-  size = e.st_size;
+symbol_of entry = record {
+  binding = binding_of (st_bind entry);
+  kind = symbol_kind_of (st_type entry);
+  place = symbol_place_of entry.st_shndx;
+  value = entry.st_value;
+  size = entry.st_size;
 }
 
 -- names of local symbols are not looked at
 abbrev pub symbol_name : List ℕ → SymbolEntry → List ℕ
-symbol_name strings e = if st_bind e == STB_LOCAL then [] else unwrap_or (string_at strings e.st_name) []
+symbol_name strings entry = if st_bind entry == STB_LOCAL then [] else unwrap_or (string_at strings entry.st_name) []
 
 abbrev pub named_symbol : List ℕ → SymbolEntry → NamedSymbol
-named_symbol strings e = record { name = symbol_name strings e; symbol = symbol_of e }
+named_symbol strings entry = record { name = symbol_name strings entry; symbol = symbol_of entry }
 
 -- entry number 0 is a null entry, whatever it says
 abbrev pub null_symbol : NamedSymbol
@@ -69,7 +69,7 @@ null_symbol = record {
 
 abbrev pub symbols_from : List ℕ → List SymbolEntry → List NamedSymbol
 symbols_from strings [] = []
-symbols_from strings (e ∷ es) = null_symbol ∷ map (named_symbol strings) es
+symbols_from strings (first ∷ entries) = null_symbol ∷ map (named_symbol strings) entries
 
 abbrev pub symbols_in : List ℕ → Option SectionHeader → List NamedSymbol
 symbols_in bytes None = []

@@ -123,10 +123,10 @@ fn looked_length(table: &[u8], at: usize) -> Option<usize>
 pub fn looked_name(file: &[u8], header: &SectionHeader, at: u32) -> Option<Span>
     requires { header.now.sh_offset + header.now.sh_size ≤ length file.now }
     ensures within { IfSome result (IsInside (length file.now)) }
-    ensures name { IfSome result (λ s. bytes_at file.now s ≡ unwrap_or
+    ensures name { IfSome result (λ span. bytes_at file.now span ≡ unwrap_or
         (string_at (file_bytes file.now header.now) at) []) }
     ensures limits { IfSome result
-        (λ s. option_map_or is_name (string_at (file_bytes file.now header.now) at) false ≡ true) }
+        (λ span. option_map_or is_name (string_at (file_bytes file.now header.now) at) false ≡ true) }
 {
     let Some(length) = looked_length(header.file_bytes(file), at as usize) else {
         return None;
@@ -148,8 +148,8 @@ impl<'a> StringTable<'a> {
         header: &SectionHeader,
     ) -> Result<StringTable<'a>, AllocError>
         requires { header.now.sh_offset + header.now.sh_size ≤ length file.now }
-        ensures file { IfOk result (λ t. t.file.now ≡ file.now) }
-        ensures header { IfOk result (λ t. t.header ≡ header.now) }
+        ensures file { IfOk result (λ table. table.file.now ≡ file.now) }
+        ensures header { IfOk result (λ table. table.header ≡ header.now) }
     {
         let lengths = name_lengths(alloc, header.file_bytes(file))?;
         Ok(StringTable {

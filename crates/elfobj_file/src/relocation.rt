@@ -65,7 +65,7 @@ impl RelocationKind {
     #[tactic(auto, unfolding(crate::specs::RelocationKinds::relocation_kind))]
     pub fn number(self) -> u32
         ensures read { relocation_kind result ≡ Some self }
-        ensures only { (t : ℕ) → relocation_kind t ≡ Some self → t ≡ result }
+        ensures only { (number : ℕ) → relocation_kind number ≡ Some self → number ≡ result }
     {
         match self {
             RelocationKind::None => R_X86_64_NONE,

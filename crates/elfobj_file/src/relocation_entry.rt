@@ -51,9 +51,9 @@ impl RelocationEntry {
     /// The relocation as callers see it, if its symbol is one of this number of symbols and its type is of the profile.
     #[tactic(auto, unfolding(crate::specs::Relocations::relocation_of))]
     pub fn relocation_among(&self, symbols: usize) -> Option<Relocation>
-        ensures value { IfSome result (λ r. r ≡ relocation_of self.now) }
-        ensures symbol { IfSome result (λ r. names_no_symbol symbols self.now ≡ false) }
-        ensures kind { IfSome result (λ r. is_strange_type self.now ≡ false) }
+        ensures value { IfSome result (λ relocation. relocation ≡ relocation_of self.now) }
+        ensures symbol { IfSome result (λ relocation. names_no_symbol symbols self.now ≡ false) }
+        ensures kind { IfSome result (λ relocation. is_strange_type self.now ≡ false) }
     {
         if self.names_no_symbol(symbols) {
             return None;

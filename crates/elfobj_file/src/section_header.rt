@@ -130,11 +130,11 @@ impl SectionHeader {
     /// the table of names of this header. Each call looks through the name.
     pub fn looked_section(&self, file: &[u8], names: &SectionHeader) -> Option<(SectionKind, Span)>
         requires { names.now.sh_offset + names.now.sh_size ≤ length file.now }
-        ensures kind { IfSome result (λ s. linked_kind self.now ≡ Some s.0) }
-        ensures right { IfSome result (λ s. is_outside_profile_by
+        ensures kind { IfSome result (λ section. linked_kind self.now ≡ Some section.0) }
+        ensures right { IfSome result (λ section. is_outside_profile_by
             (file_bytes file.now names.now) self.now ≡ false) }
-        ensures within { IfSome result (λ s. IsInside (length file.now) s.1) }
-        ensures name { IfSome result (λ s. bytes_at file.now s.1 ≡ unwrap_or
+        ensures within { IfSome result (λ section. IsInside (length file.now) section.1) }
+        ensures name { IfSome result (λ section. bytes_at file.now section.1 ≡ unwrap_or
             (string_at (file_bytes file.now names.now) self.now.sh_name) []) }
     {
         let kind = self.linked_kind()?;
@@ -176,7 +176,7 @@ pub fn read_header(bytes: &[u8], at: usize) -> SectionHeader
 #[tactic(auto, using(crate::proofs::Headers::header_read), unfolding(crate::specs::SectionHeaders::header, crate::specs::SectionHeaders::headers))]
 pub fn read_headers(alloc: Global, bytes: &[u8]) -> Result<Vec<SectionHeader>, AllocError>
     requires { HasSectionTable bytes.now }
-    ensures { IfOk result (λ v. v.items ≡ headers bytes.now) }
+    ensures { IfOk result (λ all. all.items ≡ headers bytes.now) }
 {
     let start = section_table_offset(bytes) as usize;
     let count = usize::from(section_count(bytes));

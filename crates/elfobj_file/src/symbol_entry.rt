@@ -115,10 +115,10 @@ impl SymbolEntry {
     /// name.
     pub fn looked_name(&self, sections: u16, file: &[u8], strings: &SectionHeader) -> Option<Span>
         requires { strings.now.sh_offset + strings.now.sh_size ≤ length file.now }
-        ensures right { IfSome result (λ s. is_wrong_symbol sections
+        ensures right { IfSome result (λ span. is_wrong_symbol sections
             (file_bytes file.now strings.now) self.now ≡ false) }
         ensures within { IfSome result (IsInside (length file.now)) }
-        ensures name { IfSome result (λ s. bytes_at file.now s ≡ symbol_name
+        ensures name { IfSome result (λ span. bytes_at file.now span ≡ symbol_name
             (file_bytes file.now strings.now) self.now) }
     {
         if self.has_strange_info()

@@ -1,4 +1,4 @@
--- What is evaluated of a link beside an earlier one, of which input sections stayed.
+-- What is evaluated of a link beside a previous one, of which input sections stayed.
 use Rattle.std.specs.Prelude.{◌≡◌, ◌≤◌, ◌+◌, ℕ, Option, None, is_some, length}
 use Rattle.std.specs.List.{All}
 use Rattle.elfobj.specs.Raised.{raised}

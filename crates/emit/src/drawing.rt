@@ -136,35 +136,35 @@ pub fn draw_image<'a, E: PreviousLinkInfo>(
     indexed_layout: &'a IndexedLayout,
     values: &Values<'_>,
     relocated: &'a Relocated,
-    earlier: &E,
+    previous: &E,
     patches: &[Patch],
     meter: &mut Meter,
 ) -> Result<(), NoMemory>
     requires drawable { IsDrawable project.now indexed_layout.now values.now relocated.now
-        (λ k. is_some (E.range earlier.now k)) }
+        (λ key. is_some (E.range previous.now key)) }
     requires patches { (layout : Layout) → IsIndexedLayout project.now layout indexed_layout.now
         → All (EndsBy (image_length project.now layout)) patches.now }
     ensures image { OnOk result ((layout : Layout) (table : SymbolTableState)
         → IsDrawableAt project.now layout table indexed_layout.now values.now relocated.now
-        (λ k. is_some (E.range earlier.now k)) → ((k : SectionKey) → E.range earlier.now k ≡ None)
+        (λ key. is_some (E.range previous.now key)) → ((key : SectionKey) → E.range previous.now key ≡ None)
         → canvas.new.bytes ≡ definition.image project.now layout) }
     ensures redrawn { OnOk result ((old new : GoodLink) (table : SymbolTableState) → new.project ≡ project.now
         → IsDrawableAt project.now new.layout table indexed_layout.now values.now relocated.now
-        (λ k. is_some (E.range earlier.now k)) → IsGood old → IsGood new
-        → IsSound (E.range earlier.now) old (known_link new.project new.layout table)
+        (λ key. is_some (E.range previous.now key)) → IsGood old → IsGood new
+        → IsSound (E.range previous.now) old (known_link new.project new.layout table)
         → ArePatchesOf old new patches.now → canvas.old.bytes ≡ definition.image old.project old.layout
         → canvas.new.bytes ≡ definition.image new.project new.layout) }
     ensures work { OnOk result ((old new : GoodLink) (table : SymbolTableState) → new.project ≡ project.now
         → IsDrawableAt project.now new.layout table indexed_layout.now values.now relocated.now
-        (λ k. is_some (E.range earlier.now k)) → IsGood new
-        → IsComplete (E.range earlier.now) old (known_link new.project new.layout table)
+        (λ key. is_some (E.range previous.now key)) → IsGood new
+        → IsComplete (E.range previous.now) old (known_link new.project new.layout table)
         → patch_bytes patches.now ≤ retargeted_bytes old new → meter.new.bytes + bytes_stayed old new
         ≤ meter.old.bytes + (image_length new.project new.layout + retargeted_bytes old new)) }
     ensures spent { OnOk result ((old new : GoodLink) (table : SymbolTableState) → new.project ≡ project.now
         → IsDrawableAt project.now new.layout table indexed_layout.now values.now relocated.now
-        (λ k. is_some (E.range earlier.now k)) → IsGood new
-        → IsComplete (E.range earlier.now) old (known_link new.project new.layout table)
-        → IsSound (E.range earlier.now) old (known_link new.project new.layout table)
+        (λ key. is_some (E.range previous.now key)) → IsGood new
+        → IsComplete (E.range previous.now) old (known_link new.project new.layout table)
+        → IsSound (E.range previous.now) old (known_link new.project new.layout table)
         → meter.new ≡ raised meter.old counts.Bytes
         (patch_bytes patches.now + (image_length new.project new.layout - bytes_stayed old new))) }
     ensures counted { OnOk result ((n : ℕ) × (meter.new ≡ raised meter.old counts.Bytes n)) }
@@ -176,7 +176,7 @@ pub fn draw_image<'a, E: PreviousLinkInfo>(
         project,
         indexed_layout,
         relocated,
-        earlier,
+        previous,
     )?;
     let outputs = outputs(alloc, project, &indexed_layout.link_layout, &pieces)?;
     draw_outputs(

@@ -155,17 +155,17 @@ fn add_entry<'a, E: PreviousLinkInfo>(
     project: &'a ProjectView<'_>,
     relocated: &'a Relocated,
     indexed_layout: &IndexedLayout,
-    earlier: &E,
+    previous: &E,
     piece: &Piece,
     start: u64,
 ) -> Result<(), NoMemory>
     ensures { OnOk result ((link : KnownLink) (w : PlacedPiece) (whole : List Drawn) → link.project ≡ project.now
-        → AreSources link (λ k. is_some (E.range earlier.now k)) indexed_layout.now relocated.now
+        → AreSources link (λ k. is_some (E.range previous.now k)) indexed_layout.now relocated.now
         → IsPlacedAt project.now link.layout (piece_in project.now piece.now) start w → StandFor whole pieces.old.items
-        → (y : Drawn) × IsRowPiece link.project link.layout (λ k. is_some (E.range earlier.now k)) w y
+        → (y : Drawn) × IsRowPiece link.project link.layout (λ k. is_some (E.range previous.now k)) w y
         × StandFor (whole ++ y ∷ []) pieces.new.items) }
 {
-    match earlier.stayed(piece.section) {
+    match previous.stayed(piece.section) {
         Some(_) => add_kept(pieces, piece.size, start),
         None => {
             let drawn = drawn_piece(project, relocated, indexed_layout, piece, start)?;
@@ -181,14 +181,14 @@ fn image_row<'a, E: PreviousLinkInfo>(
     project: &'a ProjectView<'_>,
     relocated: &'a Relocated,
     indexed_layout: &IndexedLayout,
-    earlier: &E,
+    previous: &E,
     row: &[Piece],
     starts: &[u64],
 ) -> Result<Vec<ImagePiece<'a>>, NoMemory>
     ensures { IfOk result (λ v. (link : KnownLink) (output : PlacedOutput) → link.project ≡ project.now
-        → AreSources link (λ k. is_some (E.range earlier.now k)) indexed_layout.now relocated.now
+        → AreSources link (λ k. is_some (E.range previous.now k)) indexed_layout.now relocated.now
         → IsRowAt project.now link.layout (map (piece_in project.now) row.now) starts.now output
-        → IsJoinedRow link.project link.layout (λ k. is_some (E.range earlier.now k)) output v.items) }
+        → IsJoinedRow link.project link.layout (λ k. is_some (E.range previous.now k)) output v.items) }
 {
     let mut pieces = Vec::with_capacity(alloc, row.len())?;
     for (k, piece) in row.iter().enumerate() {
@@ -201,7 +201,7 @@ fn image_row<'a, E: PreviousLinkInfo>(
                     project,
                     relocated,
                     indexed_layout,
-                    earlier,
+                    previous,
                     piece,
                     *start,
                 )?;
@@ -217,13 +217,13 @@ fn image_rows<'a, E: PreviousLinkInfo>(
     project: &'a ProjectView<'_>,
     relocated: &'a Relocated,
     indexed_layout: &IndexedLayout,
-    earlier: &E,
+    previous: &E,
     starts: &[u64],
 ) -> Result<Vec<Vec<ImagePiece<'a>>>, NoMemory>
     ensures { IfOk result (λ v. (link : KnownLink) → link.project ≡ project.now
-        → AreSources link (λ k. is_some (E.range earlier.now k)) indexed_layout.now relocated.now
+        → AreSources link (λ k. is_some (E.range previous.now k)) indexed_layout.now relocated.now
         → AreRowsAt project.now link.layout (rows_in project.now indexed_layout.now.rows.items) starts.now
-        → AllZip (IsJoinedRow link.project link.layout (λ k. is_some (E.range earlier.now k))) link.layout.sections
+        → AllZip (IsJoinedRow link.project link.layout (λ k. is_some (E.range previous.now k))) link.layout.sections
         (map vec_items v.items)) }
 {
     let mut pieces = Vec::with_capacity(alloc, indexed_layout.rows.len())?;
@@ -239,7 +239,7 @@ fn image_rows<'a, E: PreviousLinkInfo>(
             project,
             relocated,
             indexed_layout,
-            earlier,
+            previous,
             row,
             &starts[at..],
         )?;
@@ -260,13 +260,13 @@ pub(crate) fn image_pieces<'a, E: PreviousLinkInfo>(
     project: &'a ProjectView<'_>,
     indexed_layout: &IndexedLayout,
     relocated: &'a Relocated,
-    earlier: &E,
+    previous: &E,
 ) -> Result<Vec<Vec<ImagePiece<'a>>>, NoMemory>
     ensures { IfOk result (λ v. (layout : Layout) (table : SymbolTableState)
         → IsIndexedLayout project.now layout indexed_layout.now
-        → AreRunsUnless (known_link project.now layout table) (λ k. is_some (E.range earlier.now k))
+        → AreRunsUnless (known_link project.now layout table) (λ k. is_some (E.range previous.now k))
         relocated.now.patches.items relocated.now.ends.items
-        → AllZip (IsJoinedRow project.now layout (λ k. is_some (E.range earlier.now k))) layout.sections
+        → AllZip (IsJoinedRow project.now layout (λ k. is_some (E.range previous.now k))) layout.sections
         (map vec_items v.items)) }
 {
     live_by_path();
@@ -275,5 +275,5 @@ pub(crate) fn image_pieces<'a, E: PreviousLinkInfo>(
     are_numbered(project);
     let _inputs = project.inputs();
     let starts = indexed_layout.link_layout.placement.pieces();
-    image_rows(alloc, project, relocated, indexed_layout, earlier, starts)
+    image_rows(alloc, project, relocated, indexed_layout, previous, starts)
 }

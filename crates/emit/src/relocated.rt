@@ -77,17 +77,17 @@ impl Relocated {
         alloc: Global,
         project: &ProjectView<'_>,
         link: &LinkView<'_, '_>,
-        earlier: &E,
+        previous: &E,
         values: &Values<'_>,
         symbols: &SymbolValues,
         meter: &mut Meter,
     ) -> Result<Relocated, NoMemory>
-        ensures { IfOk result (λ r. (layout : Layout) (table : SymbolTableState) (old : GoodLink)
+        ensures { IfOk result (λ relocated. (layout : Layout) (table : SymbolTableState) (old : GoodLink)
             → placement project.now.script (rows project.now) (provided project.now) ≡ Ok layout
             → IsLinkView (known_link project.now layout table) link.now → AreValues project.now layout table values.now
             → AreSymbolValues project.now layout symbols.now
-            → E.knows earlier.now old (known_link project.now layout table)
-            → IsRelocatedBeside old (E.range earlier.now) project.now layout table r meter.old meter.new) }
+            → E.knows previous.now old (known_link project.now layout table)
+            → IsRelocatedBeside old (E.range previous.now) project.now layout table relocated meter.old meter.new) }
     {
         sections_end_below();
         all_is_evaluated();
@@ -101,7 +101,7 @@ impl Relocated {
         fields_in_image();
         stayed_in_both();
         let keys = keys_of(alloc, project)?;
-        let fields = changed_fields(alloc, link, earlier, symbols, &keys, meter)?;
+        let fields = changed_fields(alloc, link, previous, symbols, &keys, meter)?;
         let ChangedFields {
             patches,
             ends,

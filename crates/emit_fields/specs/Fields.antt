@@ -18,7 +18,7 @@ modulo_64_bits (negsuc n) = 2 ^ 64 - 1 - n % 2 ^ 64
 
 -- a number below 2^64 read as a signed one, in two's complement
 abbrev pub signed : ℕ → ℤ
-signed v = cast_signed w64 v
+signed value = cast_signed w64 value
 
 -- column "Calculation" of the table, as an integer; in a static link PLT32 counts from the symbol itself, as PC32 does.
 -- NONE has none, and is never asked for
@@ -41,26 +41,26 @@ relocation_value relocation s p = modulo_64_bits (calculation relocation.kind (p
 
 -- read as a signed number, it is not below the first nor above the second
 abbrev pub is_between : ℤ → ℤ → ℕ → Bool
-is_between low high v = int_le low (signed v) && int_le (signed v) high
+is_between low high value = int_le low (signed value) && int_le (signed value) high
 
 -- whether a value is in its range. The psABI: 32 must zero-extend to the value, 32S sign-extend. It leaves the others
 -- open; here PC32, PLT32, PC16 and PC8 sign-extend too, and 16 and 8 do one of the two
 abbrev pub fits : RelocationKind → ℕ → Bool
-fits None v = true
-fits Abs64 v = true
-fits Pc32 v = is_between (neg_ℤ (pos (2 ^ 31))) (pos (2 ^ 31 - 1)) v
-fits Plt32 v = is_between (neg_ℤ (pos (2 ^ 31))) (pos (2 ^ 31 - 1)) v
-fits Abs32 v = nat_lt v (2 ^ 32)
-fits Abs32Signed v = is_between (neg_ℤ (pos (2 ^ 31))) (pos (2 ^ 31 - 1)) v
-fits Abs16 v = is_between (neg_ℤ (pos (2 ^ 15))) (pos (2 ^ 16 - 1)) v
-fits Pc16 v = is_between (neg_ℤ (pos (2 ^ 15))) (pos (2 ^ 15 - 1)) v
-fits Abs8 v = is_between (neg_ℤ (pos (2 ^ 7))) (pos (2 ^ 8 - 1)) v
-fits Pc8 v = is_between (neg_ℤ (pos (2 ^ 7))) (pos (2 ^ 7 - 1)) v
-fits Pc64 v = true
+fits None value = true
+fits Abs64 value = true
+fits Pc32 value = is_between (neg_ℤ (pos (2 ^ 31))) (pos (2 ^ 31 - 1)) value
+fits Plt32 value = is_between (neg_ℤ (pos (2 ^ 31))) (pos (2 ^ 31 - 1)) value
+fits Abs32 value = nat_lt value (2 ^ 32)
+fits Abs32Signed value = is_between (neg_ℤ (pos (2 ^ 31))) (pos (2 ^ 31 - 1)) value
+fits Abs16 value = is_between (neg_ℤ (pos (2 ^ 15))) (pos (2 ^ 16 - 1)) value
+fits Pc16 value = is_between (neg_ℤ (pos (2 ^ 15))) (pos (2 ^ 15 - 1)) value
+fits Abs8 value = is_between (neg_ℤ (pos (2 ^ 7))) (pos (2 ^ 8 - 1)) value
+fits Pc8 value = is_between (neg_ℤ (pos (2 ^ 7))) (pos (2 ^ 7 - 1)) value
+fits Pc64 value = true
 
 -- the lowest bytes of a value, as many as the kind's width, the lowest first; or the value, where it is out of range
 abbrev pub field_with : RelocationKind → ℕ → Result (List ℕ) Overflow
-field_with kind v = if fits kind v then Ok (little_bytes (width kind) v) else Err (record { value = v })
+field_with kind value = if fits kind value then Ok (little_bytes (width kind) value) else Err (record { value = value })
 
 -- the field of a relocation
 unfoldable pub field_of : Relocation → ℕ → ℕ → Result (List ℕ) Overflow

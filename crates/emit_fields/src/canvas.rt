@@ -94,9 +94,10 @@ impl Canvas {
     pub fn resize_reserved(&mut self, n: usize)
         requires { n ≤ self.old.room }
         ensures len { length self.new.bytes ≡ n }
-        ensures kept { (o : ℕ) → o < n → o < length self.old.bytes
-            → slice_index self.new.bytes o ≡ slice_index self.old.bytes o }
-        ensures zeros { (o : ℕ) → length self.old.bytes ≤ o → o < n → slice_index self.new.bytes o ≡ 0 }
+        ensures kept { (offset : ℕ) → offset < n → offset < length self.old.bytes
+            → slice_index self.new.bytes offset ≡ slice_index self.old.bytes offset }
+        ensures zeros { (offset : ℕ) → length self.old.bytes ≤ offset → offset < n
+            → slice_index self.new.bytes offset ≡ 0 }
         ensures room { self.old.room ≤ self.new.room }
     {
         self.bytes.resize(n, 0).unwrap();
@@ -108,9 +109,10 @@ impl Canvas {
         requires { at + length bytes.now ≤ length self.old.bytes }
         ensures written { (i : ℕ) → i < length bytes.now
             → slice_index self.new.bytes (at + i) ≡ slice_index bytes.now i }
-        ensures before { (o : ℕ) → o < at → slice_index self.new.bytes o ≡ slice_index self.old.bytes o }
-        ensures after { (o : ℕ) → at + length bytes.now ≤ o
-            → slice_index self.new.bytes o ≡ slice_index self.old.bytes o }
+        ensures before { (offset : ℕ) → offset < at
+            → slice_index self.new.bytes offset ≡ slice_index self.old.bytes offset }
+        ensures after { (offset : ℕ) → at + length bytes.now ≤ offset
+            → slice_index self.new.bytes offset ≡ slice_index self.old.bytes offset }
         ensures len { length self.new.bytes ≡ length self.old.bytes }
         ensures room { self.new.room ≡ self.old.room }
         ensures counted { meter.new ≡ raised meter.old Count.Bytes (length bytes.now) }

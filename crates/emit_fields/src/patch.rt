@@ -39,9 +39,9 @@ fn is_ascending(patches: &[Patch]) -> bool
 /// Where there is no memory for the sort.
 pub fn in_order(mut patches: Vec<Patch>) -> Result<Vec<Patch>, AllocError>
     requires { AreApart patches.items }
-    ensures order { IfOk result (λ v. (n : ℕ) → All (IsWithin n) patches.items → AreInOrder 0 n v.items) }
-    ensures same { IfOk result (λ v. (bytes : List ℕ) (i : ℕ)
-        → patched_byte bytes v.items i ≡ patched_byte bytes patches.items i) }
+    ensures order { IfOk result (λ ordered. (n : ℕ) → All (IsWithin n) patches.items → AreInOrder 0 n ordered.items) }
+    ensures same { IfOk result (λ ordered. (bytes : List ℕ) (i : ℕ)
+        → patched_byte bytes ordered.items i ≡ patched_byte bytes patches.items i) }
 {
     if !is_ascending(&patches) {
         patches.sort_by_key(|p| p.offset)?;
@@ -93,9 +93,10 @@ pub fn write_patched(
     requires order { AreInOrder 0 (length bytes.now) patches.now }
     ensures written { (i : ℕ) → i < length bytes.now
         → slice_index canvas.new.bytes (at + i) ≡ patched_byte bytes.now patches.now i }
-    ensures before { (o : ℕ) → o < at → slice_index canvas.new.bytes o ≡ slice_index canvas.old.bytes o }
-    ensures after { (o : ℕ) → at + length bytes.now ≤ o
-        → slice_index canvas.new.bytes o ≡ slice_index canvas.old.bytes o }
+    ensures before { (offset : ℕ) → offset < at
+        → slice_index canvas.new.bytes offset ≡ slice_index canvas.old.bytes offset }
+    ensures after { (offset : ℕ) → at + length bytes.now ≤ offset
+        → slice_index canvas.new.bytes offset ≡ slice_index canvas.old.bytes offset }
     ensures len { length canvas.new.bytes ≡ length canvas.old.bytes }
     ensures room { canvas.new.room ≡ canvas.old.room }
     ensures counted { meter.new ≡ raised meter.old Count.Bytes (length bytes.now) }

@@ -92,8 +92,10 @@ pub fn write_run(canvas: &mut Canvas, at: usize, n: usize, pattern: &[u8], meter
     requires most { length pattern.now ≤ 8 }
     ensures written { (i : ℕ) → i < n
         → slice_index canvas.new.bytes (at + i) ≡ slice_index pattern.now (i % length pattern.now) }
-    ensures before { (o : ℕ) → o < at → slice_index canvas.new.bytes o ≡ slice_index canvas.old.bytes o }
-    ensures after { (o : ℕ) → at + n ≤ o → slice_index canvas.new.bytes o ≡ slice_index canvas.old.bytes o }
+    ensures before { (offset : ℕ) → offset < at
+        → slice_index canvas.new.bytes offset ≡ slice_index canvas.old.bytes offset }
+    ensures after { (offset : ℕ) → at + n ≤ offset
+        → slice_index canvas.new.bytes offset ≡ slice_index canvas.old.bytes offset }
     ensures len { length canvas.new.bytes ≡ length canvas.old.bytes }
     ensures room { canvas.new.room ≡ canvas.old.room }
     ensures counted { meter.new ≡ raised meter.old Bytes n }

@@ -1,4 +1,4 @@
-//! The image of a link, over what the canvas holds of the image of an earlier one.
+//! The image of a link, over what the canvas holds of the image of a previous one.
 
 ghost use Rattle.std.specs.Prelude.{◌≡◌, ◌≤◌, ◌+◌, ◌-◌, All, OnErr, OnOk};
 ghost use Rattle.elfobj.specs.Raised.{raised};

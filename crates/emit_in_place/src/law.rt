@@ -18,12 +18,13 @@ ghost use Rattle.emit_in_place.specs.LocatedSections.{sites_of};
 /// The images have the same length, and the same byte at each offset that no input section of the object covers.
 /// Nothing meets in output sections, and these have different names.
 pub fn rewritten_image()
-    ensures byte { (project q : Project) (layout : Layout) (i : ℕ) (b : NamedObject) → DiffersInContents project q i
-        → HasSameFrame project q layout
-        → Each IsSpread layout.sections → AreNamed layout.sections → slice_get q.objects i ≡ Some b → (at : ℕ)
-        → ((piece : LinkedPiece) → Contains (linked_pieces q layout) piece → piece.object ≡ b.name
+    ensures byte { (project next : Project) (layout : Layout) (i : ℕ) (after : NamedObject)
+        → DiffersInContents project next i
+        → HasSameFrame project next layout
+        → Each IsSpread layout.sections → AreNamed layout.sections → slice_get next.objects i ≡ Some after → (at : ℕ)
+        → ((piece : LinkedPiece) → Contains (linked_pieces next layout) piece → piece.object ≡ after.name
         → IsOutside at piece.range)
-        → byte_at project layout at ≡ byte_at q layout at }
+        → byte_at project layout at ≡ byte_at next layout at }
     ensures length { (project q : Project) (layout : Layout) → HasSameFrame project q layout
         → image_length project layout ≡ image_length q layout }
 {}
@@ -31,9 +32,10 @@ pub fn rewritten_image()
 /// Where the first link has no faults of relocation, and each site of the object in the second has a field, neither has
 /// the second.
 pub fn rewritten_faults()
-    ensures { (project q : Project) (layout : Layout) (i : ℕ) (b : NamedObject) → DiffersInContents project q i
-        → HasSameFrame project q layout
-        → slice_get q.objects i ≡ Some b → relocation_faults project layout ≡ []
-        → ((site : Site) → Contains (sites_of layout b) site → result_err (site_field q layout site) ≡ None)
-        → relocation_faults q layout ≡ [] }
+    ensures { (project next : Project) (layout : Layout) (i : ℕ) (after : NamedObject)
+        → DiffersInContents project next i
+        → HasSameFrame project next layout
+        → slice_get next.objects i ≡ Some after → relocation_faults project layout ≡ []
+        → ((site : Site) → Contains (sites_of layout after) site → result_err (site_field next layout site) ≡ None)
+        → relocation_faults next layout ≡ [] }
 {}

@@ -41,26 +41,27 @@ pub fn rewrite_in_place(
     located: &[LocatedSection],
     meter: &mut Meter,
 ) -> Result<bool, NoMemory>
-    ensures image { IfOk result (λ done. done ≡ true → (old : Project) (link : KnownLink) (o : NamedObject)
-        → IsInPlaceRewrite old link key o → o.object ≡ object.now → IsRow link o values.now
-        → HasLocatedSections link.project link.layout o located.now → canvas.old.bytes ≡ image old link.layout
+    ensures image { IfOk result (λ done. done ≡ true → (old : Project) (link : KnownLink) (named : NamedObject)
+        → IsInPlaceRewrite old link key named → named.object ≡ object.now → IsRow link named values.now
+        → HasLocatedSections link.project link.layout named located.now → canvas.old.bytes ≡ image old link.layout
         → canvas.new.bytes ≡ image link.project link.layout) }
-    ensures faultless { IfOk result (λ done. done ≡ true → (old : Project) (link : KnownLink) (o : NamedObject)
-        → IsInPlaceRewrite old link key o → o.object ≡ object.now → IsRow link o values.now
-        → HasLocatedSections link.project link.layout o located.now → relocation_faults old link.layout ≡ []
+    ensures faultless { IfOk result (λ done. done ≡ true → (old : Project) (link : KnownLink) (named : NamedObject)
+        → IsInPlaceRewrite old link key named → named.object ≡ object.now → IsRow link named values.now
+        → HasLocatedSections link.project link.layout named located.now → relocation_faults old link.layout ≡ []
         → relocation_faults link.project link.layout ≡ []) }
-    ensures counted { IfOk result (λ done. done ≡ true → (link : KnownLink) (o : NamedObject)
-        → named_object link key ≡ Some o → o.object ≡ object.now → IsRow link o values.now
-        → HasLocatedSections link.project link.layout o located.now
-        → meter.new ≡ raised (raised meter.old Fields (evaluations link (sites_of link.layout o))) Bytes
+    ensures counted { IfOk result (λ done. done ≡ true → (link : KnownLink) (named : NamedObject)
+        → named_object link key ≡ Some named → named.object ≡ object.now → IsRow link named values.now
+        → HasLocatedSections link.project link.layout named located.now
+        → meter.new ≡ raised (raised meter.old Fields (evaluations link (sites_of link.layout named))) Bytes
         (sum_by (bytes_of object.now) located.now)) }
-    ensures counted_refused { IfOk result (λ done. done ≡ false → (link : KnownLink) (o : NamedObject)
-        → named_object link key ≡ Some o → o.object ≡ object.now → IsRow link o values.now
-        → HasLocatedSections link.project link.layout o located.now → (n : ℕ)
+    ensures counted_refused { IfOk result (λ done. done ≡ false → (link : KnownLink) (named : NamedObject)
+        → named_object link key ≡ Some named → named.object ≡ object.now → IsRow link named values.now
+        → HasLocatedSections link.project link.layout named located.now → (n : ℕ)
         × (meter.new ≡ raised meter.old Fields n)) }
-    ensures refused_faulty { IfOk result (λ done. done ≡ false → (link : KnownLink) (o : NamedObject)
-        → named_object link key ≡ Some o → o.object ≡ object.now → IsRow link o values.now
-        → HasLocatedSections link.project link.layout o located.now → relocation_faults link.project link.layout ≡ []
+    ensures refused_faulty { IfOk result (λ done. done ≡ false → (link : KnownLink) (named : NamedObject)
+        → named_object link key ≡ Some named → named.object ≡ object.now → IsRow link named values.now
+        → HasLocatedSections link.project link.layout named located.now
+        → relocation_faults link.project link.layout ≡ []
         → ⊥) }
     ensures refused { IfOk result (λ done. done ≡ false → canvas.new.bytes ≡ canvas.old.bytes) }
     ensures unchanged { OnErr result (canvas.new.bytes ≡ canvas.old.bytes) }

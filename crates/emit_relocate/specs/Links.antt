@@ -1,4 +1,4 @@
--- What the code has at hand where it goes over the input sections of a link: the link and an earlier one, and an input
+-- What the code has at hand where it goes over the input sections of a link: the link and a previous one, and an input
 -- section, before its place in the output is known, in its place, and beside the previous link.
 use Rattle.std.specs.Prelude.{◌≡◌, List, Option, None, Some, slice_get}
 use Rattle.elfobj.specs.declared.relocation.Relocation.{Relocation}
@@ -20,13 +20,14 @@ use Rattle.emit_relocate.specs.declared.input_section.InputSection.{InputSection
 use Rattle.emit_relocate.specs.declared.retargeted.StayedSection.{StayedSection}
 use Rattle.emit_relocate.specs.declared.site.PlacedInput.{PlacedInput}
 
--- these may be the links at hand, by what the linker knows of them: `knows` of `Known`, and that of `Earlier`
+-- these may be the links at hand, by what the linker knows of them: `knows` of `LinkInfo`, and that of
+-- `PreviousLinkInfo`
 pub record AreLinks {L E : Type 0} (knows : L → KnownLink → Type 0) (knows_both : E → GoodLink → KnownLink → Type 0)
     (m : Links L E) (old : GoodLink) (l : KnownLink) : Type 0 where
   -- the link whose relocations are evaluated
   pub link : knows m.link.now l
-  -- the earlier one beside it
-  pub earlier : knows_both m.earlier.now old l
+  -- the previous one beside it
+  pub previous : knows_both m.previous.now old l
   -- the values are those of the symbols of the link's objects
   pub symbols : HasSymbolValues l m.symbols.now
   -- its layout has no input section past the end of the address space
@@ -78,8 +79,8 @@ pub record IsStayedAt {E : Type 0} (knows_both : E → GoodLink → KnownLink �
     (range : E → SectionKey → Option FileRange) (m : StayedSection E) (old : GoodLink) (link : KnownLink)
     (s : ObjectSection) : Type 0 where
   -- the links
-  pub links : knows_both m.earlier.now old link
+  pub links : knows_both m.previous.now old link
   -- some section of its object is known to have stayed
-  pub kept : IsKept (range m.earlier.now) m.section.object
+  pub kept : IsKept (range m.previous.now) m.section.object
   -- the section in its place
   pub section_is : IsPlaced link m.section s.object s.section

@@ -46,8 +46,8 @@ pub struct ChangedFields {
 struct Links<'a, L, E> {
     /// The link.
     link: &'a L,
-    /// The earlier one.
-    earlier: &'a E,
+    /// The previous one.
+    previous: &'a E,
     /// The values of the symbols of the link's objects.
     symbols: &'a SymbolValues,
 }
@@ -93,20 +93,20 @@ impl<'a, L: LinkInfo, E: PreviousLinkInfo> Links<'a, L, E> {
     ) -> Result<(), NoMemory>
         ensures { OnOk result ((old : GoodLink) (link : KnownLink) (s : ObjectSection)
             → AreLinks L.knows E.knows self.now old link → IsAtHand link section.now s
-            → IsKeptAt old link (E.range self.now.earlier.now) (section_key section.now.key s) range
+            → IsKeptAt old link (E.range self.now.previous.now) (section_key section.now.key s) range
             → Adds link (IsRetained old link (section_key section.now.key s) range s) (results_of fields.old meter.old)
             (results_of fields.new meter.new)) }
     {
         // so that the range of the count is known
         let _fields = meter.fields();
-        if !self.earlier.is_dirty(section.key) {
+        if !self.previous.is_dirty(section.key) {
             return Ok(());
         }
         match section.placed(self.link) {
             None => Ok(()),
             Some(section) => {
                 let section = StayedSection {
-                    earlier: self.earlier,
+                    previous: self.previous,
                     section,
                     range,
                 };
@@ -126,7 +126,7 @@ impl<'a, L: LinkInfo, E: PreviousLinkInfo> Links<'a, L, E> {
     ) -> Result<(), NoMemory>
         ensures { OnOk result ((old : GoodLink) (link : KnownLink) (s : ObjectSection)
             → AreLinks L.knows E.knows self.now old link → IsAtHand link section.now s
-            → Adds link (IsEvaluatedOf old link (E.range self.now.earlier.now) s) (results_of fields.old meter.old)
+            → Adds link (IsEvaluatedOf old link (E.range self.now.previous.now) s) (results_of fields.old meter.old)
             (results_of fields.new meter.new)) }
     {
         // so that the range of the count is known
@@ -134,7 +134,7 @@ impl<'a, L: LinkInfo, E: PreviousLinkInfo> Links<'a, L, E> {
         if section.object.relocations(section.index).is_empty() {
             return Ok(());
         }
-        match self.earlier.stayed(section.section_key()) {
+        match self.previous.stayed(section.section_key()) {
             None => {
                 self.add_renewed(alloc, section, fields, meter)?;
                 Ok(())
@@ -156,7 +156,7 @@ impl<'a, L: LinkInfo, E: PreviousLinkInfo> Links<'a, L, E> {
     ) -> Result<(), NoMemory>
         ensures { OnOk result ((old : GoodLink) (link : KnownLink) (s : ObjectSection)
             → AreLinks L.knows E.knows self.now old link → IsAtHand link section.now s
-            → AreChanged old link (E.range self.now.earlier.now) (s ∷ []) (results_of fields.old meter.old)
+            → AreChanged old link (E.range self.now.previous.now) (s ∷ []) (results_of fields.old meter.old)
             (results_of fields.new meter.new)) }
     {
         self.add_evaluated(alloc, section, fields, meter)?;
@@ -176,7 +176,7 @@ impl<'a, L: LinkInfo, E: PreviousLinkInfo> Links<'a, L, E> {
     ) -> Result<(), NoMemory>
         ensures { OnOk result ((old : GoodLink) (link : KnownLink) (o : NamedObject)
             → AreLinks L.knows E.knows self.now old link → named_object link key ≡ Some o → o.object ≡ object.now
-            → AreChanged old link (E.range self.now.earlier.now) (sections_of o object.now.sections)
+            → AreChanged old link (E.range self.now.previous.now) (sections_of o object.now.sections)
             (results_of fields.old meter.old) (results_of fields.new meter.new)) }
     {
         // so that the range of the count is known
@@ -199,7 +199,7 @@ impl<'a, L: LinkInfo, E: PreviousLinkInfo> Links<'a, L, E> {
     ) -> Result<(), NoMemory>
         ensures { OnOk result ((old : GoodLink) (link : KnownLink) (object : NamedObject)
             → AreLinks L.knows E.knows self.now old link → named_object link key ≡ Some object
-            → AreChanged old link (E.range self.now.earlier.now) (sections_of object object.object.sections)
+            → AreChanged old link (E.range self.now.previous.now) (sections_of object object.object.sections)
             (results_of fields.old meter.old) (results_of fields.new meter.new)) }
     {
         match self.link.object(key) {
@@ -230,10 +230,10 @@ fn count_of_object<L: LinkInfo>(link: &L, key: ObjectPlace, object: &Object) -> 
 /// section would have to be asked once more whether it stayed, and the list may grow as well.
 fn count_fields<L: LinkInfo, E: PreviousLinkInfo>(
     link: &L,
-    earlier: &E,
+    previous: &E,
     objects: &[ObjectPlace],
 ) -> usize {
-    if !earlier.is_none() {
+    if !previous.is_none() {
         return 0;
     }
     let mut count: usize = 0;
@@ -267,27 +267,28 @@ fn count_sections<L: LinkInfo>(link: &L, objects: &[ObjectPlace]) -> usize {
 pub fn changed_fields<L: LinkInfo, E: PreviousLinkInfo>(
     alloc: Global,
     link: &L,
-    earlier: &E,
+    previous: &E,
     symbols: &SymbolValues,
     objects: &[ObjectPlace],
     meter: &mut Meter,
 ) -> Result<ChangedFields, NoMemory>
-    ensures { IfOk result (λ f. (old : GoodLink) (l : KnownLink) → L.knows link.now l → E.knows earlier.now old l
-        → HasSymbolValues l symbols.now → EndBelow l → IsOrder l objects.now
-        → AreChanged old l (E.range earlier.now) (sections_in l.project.objects) (no_results meter.old)
-        (results_of f meter.new)) }
+    ensures { IfOk result (λ fields. (old : GoodLink) (known : KnownLink) → L.knows link.now known
+        → E.knows previous.now old known
+        → HasSymbolValues known symbols.now → EndBelow known → IsOrder known objects.now
+        → AreChanged old known (E.range previous.now) (sections_in known.project.objects) (no_results meter.old)
+        (results_of fields meter.new)) }
 {
     // so that the range of the count is known
     let _fields = meter.fields();
     let mut fields = ChangedFields {
-        patches: Vec::with_capacity(alloc, count_fields(link, earlier, objects))?,
+        patches: Vec::with_capacity(alloc, count_fields(link, previous, objects))?,
         ends: Vec::with_capacity(alloc, count_sections(link, objects))?,
         retargeted: Vec::new(alloc),
         faults: Vec::new(alloc),
     };
     let links = Links {
         link,
-        earlier,
+        previous,
         symbols,
     };
     for key in objects {

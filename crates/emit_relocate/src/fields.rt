@@ -153,7 +153,7 @@ pub fn add_fields(
     meter: &mut Meter,
 ) -> Result<(), NoMemory>
     requires apart { AreApart section.now.relocations.now }
-    requires below { All (λ r. section.now.start + r.offset < 2 ^ 64) section.now.relocations.now }
+    requires below { All (λ relocation. section.now.start + relocation.offset < 2 ^ 64) section.now.relocations.now }
     ensures { OnOk result ((link : KnownLink) (object : NamedObject) (x : LinkedSection)
         → IsPlaced link section.now object x
         → IsAdded link object x section.now.start fields.old.items fields.new.items faults.old.items faults.new.items

@@ -183,7 +183,7 @@ fn reserve_object(
 impl Index {
     /// An index without sites.
     pub fn new(alloc: Global) -> Index
-        ensures { (t : ℕ) → sites_at result t ≡ [] }
+        ensures { (target : ℕ) → sites_at result target ≡ [] }
     {
         Index {
             alloc,
@@ -205,10 +205,10 @@ impl Index {
     /// Takes the sites of an object out. It takes no memory, and time in the number of these sites. What there was room
     /// for, of any object, there still is.
     pub fn drop_object(&mut self, object: ObjectPlace)
-        ensures sites { (t : ℕ) → sites_at self.new t
-            ≡ filter (λ s. not (is_of_object object s)) (sites_at self.old t) }
-        ensures rooms { (o : ObjectPlace) (sites : List TargetSite) → HasRoomFor self.old o sites
-            → HasRoomFor self.new o sites }
+        ensures sites { (target : ℕ) → sites_at self.new target
+            ≡ filter (λ site. not (is_of_object object site)) (sites_at self.old target) }
+        ensures rooms { (other : ObjectPlace) (sites : List TargetSite) → HasRoomFor self.old other sites
+            → HasRoomFor self.new other sites }
     {
         if object.0 >= self.objects.len() {
             return;
@@ -223,7 +223,7 @@ impl Index {
     ///
     /// Where memory runs out. All sites are then as they were.
     pub fn reserve(&mut self, object: ObjectPlace, sites: &[TargetSite]) -> Result<(), NoMemory>
-        ensures same { (t : ℕ) → sites_at self.new t ≡ sites_at self.old t }
+        ensures same { (target : ℕ) → sites_at self.new target ≡ sites_at self.old target }
         ensures room { OnOk result (HasRoomFor self.new object sites.now) }
     {
         reserve_targets(&mut self.targets, self.alloc, sites)?;
@@ -259,8 +259,8 @@ impl Index {
     /// Adds sites of an object, for which there is room. It takes no memory.
     pub fn add_reserved(&mut self, object: ObjectPlace, sites: &[TargetSite])
         requires { HasRoomFor self.old object sites.now }
-        ensures { (t : ℕ) → IsPermutation (sites_at self.old t
-            ++ map (site_of object) (filter (is_against t) sites.now)) (sites_at self.new t) }
+        ensures { (target : ℕ) → IsPermutation (sites_at self.old target
+            ++ map (site_of object) (filter (is_against target) sites.now)) (sites_at self.new target) }
     {
         for site in sites {
             self.add_one(object, *site);

@@ -42,9 +42,11 @@ impl<'a> InputSection<'a> {
         values: &'a [SymbolValue],
     ) -> InputSection<'a>
         requires { index.0 < length object.now.sections }
-        ensures { (link : KnownLink) (o : NamedObject) (section : LinkedSection) → named_object link key ≡ Some o
-            → o.object ≡ object.now → slice_get o.object.sections index.0 ≡ Some section → IsRow link o values.now
-            → IsAtHand link result (record { object = o; section = section }) }
+        ensures { (link : KnownLink) (named : NamedObject) (section : LinkedSection)
+            → named_object link key ≡ Some named
+            → named.object ≡ object.now → slice_get named.object.sections index.0 ≡ Some section
+            → IsRow link named values.now
+            → IsAtHand link result (record { object = named; section = section }) }
     {
         InputSection {
             key,
@@ -56,8 +58,8 @@ impl<'a> InputSection<'a> {
 
     /// Its key.
     pub fn section_key(&self) -> SectionKey
-        ensures { (link : KnownLink) (s : ObjectSection) → IsAtHand link self.now s → result
-            ≡ section_key self.now.key s }
+        ensures { (link : KnownLink) (section : ObjectSection) → IsAtHand link self.now section → result
+            ≡ section_key self.now.key section }
     {
         let section = self.object.sections()[self.index.0];
         SectionKey {
@@ -68,11 +70,13 @@ impl<'a> InputSection<'a> {
 
     /// Where it is in the output, if it is there.
     pub fn placed<L: LinkInfo>(&self, link: &L) -> Option<PlacedInput<'a>>
-        ensures key { IfSome result (λ m. m.object ≡ self.now.key) }
-        ensures apart { IfSome result (λ m. AreApart m.relocations.now) }
-        ensures below { IfSome result (λ m. All (λ r. m.start + r.offset < 2 ^ 64) m.relocations.now) }
-        ensures place { (l : KnownLink) (s : ObjectSection) → L.knows link.now l → EndBelow l → IsAtHand l self.now s
-            → IsPlaceOf l s result }
+        ensures key { IfSome result (λ placed. placed.object ≡ self.now.key) }
+        ensures apart { IfSome result (λ placed. AreApart placed.relocations.now) }
+        ensures below { IfSome result
+            (λ placed. All (λ relocation. placed.start + relocation.offset < 2 ^ 64) placed.relocations.now) }
+        ensures place { (known : KnownLink) (section : ObjectSection) → L.knows link.now known → EndBelow known
+            → IsAtHand known self.now section
+            → IsPlaceOf known section result }
     {
         let section = self.object.sections()[self.index.0];
         match link.start(self.section_key()) {

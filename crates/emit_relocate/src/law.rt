@@ -24,17 +24,17 @@ use ldmodel_laws::stayed::{
 
 /// Where nothing is known to have stayed all is evaluated, as without a previous link.
 pub fn all_is_evaluated()
-    ensures { (old : GoodLink) (link : KnownLink) (range : SectionKey → Option FileRange) (a b : Results)
-        → AreChanged old link range (sections_in link.project.objects) a b → ((key : SectionKey) → range key ≡ None)
-        → AreFilled link a b }
+    ensures { (old : GoodLink) (link : KnownLink) (range : SectionKey → Option FileRange) (before after : Results)
+        → AreChanged old link range (sections_in link.project.objects) before after
+        → ((key : SectionKey) → range key ≡ None) → AreFilled link before after }
 {}
 
 /// Beside a good link the faults that are found are those of all sites: what is not evaluated has none.
 pub fn no_fault_is_missed()
-    ensures { (old : GoodLink) (link : KnownLink) (range : SectionKey → Option FileRange) (a b : Results)
-        → AreChanged old link range (sections_in link.project.objects) a b → IsGood old → AreRead link.project
+    ensures { (old : GoodLink) (link : KnownLink) (range : SectionKey → Option FileRange) (before after : Results)
+        → AreChanged old link range (sections_in link.project.objects) before after → IsGood old → AreRead link.project
         → IsPlacedOnce link.project link.layout
-        → faults_of link b.faults ≡ faults_of link a.faults
+        → faults_of link after.faults ≡ faults_of link before.faults
         ++ filter_map (fault_at link) (sites link.project link.layout) }
 {
     unmoved_sites();
@@ -45,10 +45,11 @@ pub fn no_fault_is_missed()
 /// Between good links, where each section that stayed is known to have stayed, each site counts that lies outside of
 /// what stayed or whose symbol has another value, once, and no other.
 pub fn due_sites_count()
-    ensures { (old : GoodLink) (link : KnownLink) (range : SectionKey → Option FileRange) (a b : Results)
-        → AreChanged old link range (sections_in link.project.objects) a b → IsComplete range old link → IsGood old
+    ensures { (old : GoodLink) (link : KnownLink) (range : SectionKey → Option FileRange) (before after : Results)
+        → AreChanged old link range (sections_in link.project.objects) before after → IsComplete range old link
+        → IsGood old
         → IsGood (good_link link) → IsPlacedOnce link.project link.layout
-        → b.counts ≡ raised a.counts Fields
+        → after.counts ≡ raised before.counts Fields
         (length (sites_outside old (good_link link)) + length (retargeted old (good_link link))) }
 {
     sites_by_piece();
@@ -58,9 +59,10 @@ pub fn due_sites_count()
 
 /// Each patch is the field of a site of an input section that stayed, in its place in the file.
 pub fn patches_are_fields()
-    ensures { (old : GoodLink) (link : KnownLink) (range : SectionKey → Option FileRange) (a b : Results)
-        → AreChanged old link range (sections_in link.project.objects) a b → a.patches ≡ [] → AreOfProfile link.project
-        → IsPlacedOnce link.project link.layout → All (IsPatchOfSite old (good_link link)) b.patches }
+    ensures { (old : GoodLink) (link : KnownLink) (range : SectionKey → Option FileRange) (before after : Results)
+        → AreChanged old link range (sections_in link.project.objects) before after → before.patches ≡ []
+        → AreOfProfile link.project
+        → IsPlacedOnce link.project link.layout → All (IsPatchOfSite old (good_link link)) after.patches }
 {
     sites_by_piece();
     stayed_in_both();
@@ -69,14 +71,16 @@ pub fn patches_are_fields()
 /// Where each section that stayed is known to have stayed, each site in one whose symbol has another value has a patch,
 /// and no site has two.
 pub fn patches_are_those_retargeted()
-    ensures all { (old : GoodLink) (link : KnownLink) (range : SectionKey → Option FileRange) (a b : Results)
-        → AreChanged old link range (sections_in link.project.objects) a b → a.patches ≡ [] → IsComplete range old link
+    ensures all { (old : GoodLink) (link : KnownLink) (range : SectionKey → Option FileRange) (before after : Results)
+        → AreChanged old link range (sections_in link.project.objects) before after → before.patches ≡ []
+        → IsComplete range old link
         → AreOfProfile link.project → AreSized (good_link link) → IsPlacedOnce link.project link.layout
-        → AreAllPatched old (good_link link) b.patches }
-    ensures few { (old : GoodLink) (link : KnownLink) (range : SectionKey → Option FileRange) (a b : Results)
-        → AreChanged old link range (sections_in link.project.objects) a b → a.patches ≡ [] → IsComplete range old link
+        → AreAllPatched old (good_link link) after.patches }
+    ensures few { (old : GoodLink) (link : KnownLink) (range : SectionKey → Option FileRange) (before after : Results)
+        → AreChanged old link range (sections_in link.project.objects) before after → before.patches ≡ []
+        → IsComplete range old link
         → IsGood old → IsGood (good_link link) → IsPlacedOnce link.project link.layout
-        → AreFew old (good_link link) b.patches }
+        → AreFew old (good_link link) after.patches }
 {
     sites_by_piece();
     stayed_by_part();

@@ -1,7 +1,7 @@
 //! Values of symbols in the output, and the fields of relocations against them. Takes what a linker knows of a link,
-//! and perhaps of an earlier one; gives fields, or their faults.
+//! and perhaps of a previous one; gives fields, or their faults.
 //!
-//! - `link_info`, `previous_link_info`: what a linker says of its link and of an earlier one; `symbol`, `value`,
+//! - `link_info`, `previous_link_info`: what a linker says of its link and of a previous one; `symbol`, `value`,
 //!   `target`: values;
 //! - `symbol_values`: the values of the symbols of all objects, which evaluation reads;
 //! - `site`, `fields`, `retargeted`, `input_section`, `changed_fields`: fields, all of them or those that a previous

@@ -30,7 +30,7 @@ pub struct FileRange {
 /// were, and what symbols were worth. The keys are keys of the new link. What is said of two links holds of each two
 /// links that these may be.
 pub trait PreviousLinkInfo {
-    /// The links that these may be: the earlier one, and the new one with what its keys stand for.
+    /// The links that these may be: the previous one, and the new one with what its keys stand for.
     ghost knows: { Self → GoodLink → KnownLink → Type 0 };
 
     /// Which input sections stayed, as far as is known, and where their bytes stand in the file.

@@ -70,7 +70,7 @@ fn add_in_file(range: FileRange, field: Patch, patches: &mut Vec<Patch>) -> Resu
 #[derive_where(Clone, Copy)]
 pub struct StayedSection<'a, E> {
     /// The previous link.
-    pub earlier: &'a E,
+    pub previous: &'a E,
     /// The section in its place.
     pub section: PlacedInput<'a>,
     /// Where its bytes stand in the file.
@@ -87,7 +87,7 @@ impl<'a, E: PreviousLinkInfo> StayedSection<'a, E> {
         match self.section.symbols.get(symbol.0 as usize) {
             None => false,
             Some(entry) => {
-                let before = self.earlier.value(self.section.object, symbol, entry);
+                let before = self.previous.value(self.section.object, symbol, entry);
                 !is_same_value(before, site_value(&self.section, symbol))
             }
         }
@@ -170,11 +170,12 @@ impl<'a, E: PreviousLinkInfo> StayedSection<'a, E> {
         faults: &mut Vec<Fault>,
         meter: &mut Meter,
     ) -> Result<(), NoMemory>
-        requires { All (λ r. self.now.section.start + r.offset < 2 ^ 64) self.now.section.relocations.now }
-        ensures { OnOk result ((old : GoodLink) (link : KnownLink) (s : ObjectSection)
-            → IsStayedAt E.knows E.range self.now old link s
+        requires { All (λ relocation. self.now.section.start + relocation.offset < 2 ^ 64)
+            self.now.section.relocations.now }
+        ensures { OnOk result ((old : GoodLink) (link : KnownLink) (section : ObjectSection)
+            → IsStayedAt E.knows E.range self.now old link section
             → IsMoved old link self.now.range
-            (sites_at_hand self.now.section s self.now.section.relocations.now) patches.old.items
+            (sites_at_hand self.now.section section self.now.section.relocations.now) patches.old.items
             patches.new.items faults.old.items faults.new.items meter.old meter.new) }
     {
         // so that the range of the count is known

@@ -57,7 +57,7 @@ impl<'a> PlacedInput<'a> {
             → IsSectionOf object.now section key result }
         ensures apart { AreApart result.relocations.now }
         ensures ends { (section : LinkedSection) → slice_get object.now.sections index.0 ≡ Some section
-            → All (λ r. field_end r ≤ section.size) result.relocations.now }
+            → All (λ relocation. field_end relocation ≤ section.size) result.relocations.now }
     {
         let section = object.sections()[index.0];
         PlacedInput {

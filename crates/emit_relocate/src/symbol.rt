@@ -24,8 +24,8 @@ use std::alloc::Global;
 /// The value of a symbol of an object by its own entry (gABI, "Symbol Values"): an address in its section, its number,
 /// or 0 for the null entry.
 pub fn own_value<L: LinkInfo>(link: &L, object: ObjectPlace, symbol: &Symbol) -> SymbolValue
-    ensures { (l : KnownLink) → L.knows link.now l → value_of result
-        ≡ own_value l.layout (name_of_object l object) symbol.now.place symbol.now.value }
+    ensures { (known : KnownLink) → L.knows link.now known → value_of result
+        ≡ own_value known.layout (name_of_object known object) symbol.now.place symbol.now.value }
 {
     match symbol.place {
         SymbolPlace::Section(section) => {
@@ -88,8 +88,8 @@ fn decided_value<L: LinkInfo>(link: &L, case: Case, given: Option<u64>) -> Symbo
 /// The value of the entry symbol, `e_entry`: 0 where there is none. It stands for `case`, and the script gives it the
 /// value `given`, if any.
 pub fn entry_point<L: LinkInfo>(link: &L, case: Option<Case>, given: Option<u64>) -> SymbolValue
-    ensures { (l : KnownLink) → L.knows link.now l → IsEntryCase l case given → value_of result
-        ≡ entry_point l.project l.layout }
+    ensures { (known : KnownLink) → L.knows link.now known → IsEntryCase known case given → value_of result
+        ≡ entry_point known.project known.layout }
 {
     match case {
         None => SymbolValue::Number(0),
@@ -111,7 +111,7 @@ pub fn entry_fault(value: SymbolValue) -> Option<Fault>
 
 /// The value of the name of a key.
 pub fn name_value<L: LinkInfo>(link: &L, name: NameKey) -> SymbolValue
-    ensures { (l : KnownLink) → L.knows link.now l → IsNameValueOf l name (value_of result) }
+    ensures { (known : KnownLink) → L.knows link.now known → IsNameValueOf known name (value_of result) }
 {
     match link.case(name) {
         None => SymbolValue::NotDefined,
@@ -121,7 +121,7 @@ pub fn name_value<L: LinkInfo>(link: &L, name: NameKey) -> SymbolValue
 
 /// The values of all names, each under its key. What stands under a key of no name has no meaning.
 pub fn name_values<L: LinkInfo>(alloc: Global, link: &L) -> Result<Vec<SymbolValue>, NoMemory>
-    ensures { IfOk result (λ v. (l : KnownLink) → L.knows link.now l → AreNameValues l v.items) }
+    ensures { IfOk result (λ values. (known : KnownLink) → L.knows link.now known → AreNameValues known values.items) }
 {
     let limit = link.name_limit();
     let mut values = Vec::with_capacity(alloc, limit)?;

@@ -40,8 +40,9 @@ pub fn target_of<L: LinkInfo>(
     index: SymbolIndex,
     symbol: &Symbol,
 ) -> Target
-    ensures { (l : KnownLink) → L.knows link.now l → (o : NamedObject) (x : NamedSymbol)
-        → IsSymbolOf l object index symbol.now o x → named_target l result ≡ Some (target_of o x) }
+    ensures { (known : KnownLink) → L.knows link.now known → (named : NamedObject) (referenced : NamedSymbol)
+        → IsSymbolOf known object index symbol.now named referenced
+        → named_target known result ≡ Some (target_of named referenced) }
 {
     if !is_local(symbol.binding) {
         return Target::Name(link.name_key(object, index));
@@ -66,8 +67,9 @@ fn value_under(values: &[SymbolValue], name: NameKey) -> SymbolValue
 /// `values` are the values of all names. While the number of a target stays the same, so do the fields of all
 /// relocations against it.
 pub fn target_number<L: LinkInfo>(link: &L, values: &[SymbolValue], target: Target) -> u64
-    ensures { (l : KnownLink) → L.knows link.now l → AreNameValues l values.now → (t : model.Target)
-        → named_target l target ≡ Some t → result ≡ target_number l.project l.layout t }
+    ensures { (known : KnownLink) → L.knows link.now known → AreNameValues known values.now
+        → (referenced : model.Target)
+        → named_target known target ≡ Some referenced → result ≡ target_number known.project known.layout referenced }
 {
     match target {
         Target::Name(name) => value_under(values, name).number_or_0(),
@@ -87,8 +89,10 @@ pub fn referenced_value<L: LinkInfo>(
     index: SymbolIndex,
     symbol: &Symbol,
 ) -> SymbolValue
-    ensures { (l : KnownLink) → L.knows link.now l → AreNameValues l values.now → (o : NamedObject) (x : NamedSymbol)
-        → IsSymbolOf l object index symbol.now o x → value_of result ≡ referenced_value l.project l.layout o x }
+    ensures { (known : KnownLink) → L.knows link.now known → AreNameValues known values.now
+        → (named : NamedObject) (referenced : NamedSymbol)
+        → IsSymbolOf known object index symbol.now named referenced
+        → value_of result ≡ referenced_value known.project known.layout named referenced }
 {
     if is_local(symbol.binding) {
         return own_value(link, object, symbol);

@@ -45,7 +45,7 @@ pub fn assertions<'a>(
     alloc: Global,
     commands: &[DirectiveAt<'a>],
 ) -> Result<Vec<AssertionAt<'a>>, NoMemory>
-    ensures { IfOk result (λ v. shown_assertions v.items ≡ asserted_in (shown_directives commands.now)) }
+    ensures { IfOk result (λ found. shown_assertions found.items ≡ asserted_in (shown_directives commands.now)) }
 {
     let mut list = Vec::new(alloc);
     for command in commands {

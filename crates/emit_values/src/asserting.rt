@@ -75,10 +75,10 @@ pub fn assertion_faults(
     link_layout: &LinkLayout,
     values: &Values<'_>,
 ) -> Result<Vec<Fault>, NoMemory>
-    ensures { IfOk result (λ fs. (layout : Layout) (table : SymbolTableState)
+    ensures { IfOk result (λ faults. (layout : Layout) (table : SymbolTableState)
         → IsLinkLayout project.now layout link_layout.now
         → AreValues project.now layout table values.now
-        → faults_in project.now fs.items ≡ definition.assertion_faults project.now layout) }
+        → faults_in project.now faults.items ≡ definition.assertion_faults project.now layout) }
 {
     layout_by_effects();
     outputs_are_of_script();

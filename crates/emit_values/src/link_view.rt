@@ -42,9 +42,9 @@ impl<'a, 'p> LinkView<'a, 'p> {
         given: &GivenValues<'_>,
     ) -> Result<LinkView<'a, 'p>, NoMemory>
         requires { IsSymbolTable project.now symbol_table.now }
-        ensures { IfOk result (λ v. (layout : Layout) → AreScriptValues layout given.now.values
+        ensures { IfOk result (λ view. (layout : Layout) → AreScriptValues layout given.now.values
             → IsIndexedLayout project.now layout indexed_layout.now
-            → IsLinkView (known_link project.now layout symbol_table.now) v) }
+            → IsLinkView (known_link project.now layout symbol_table.now) view) }
     {
         let given = given_table(alloc, symbol_table, &given.values)?;
         Ok(LinkView {

@@ -60,7 +60,8 @@ impl<'a> ScriptValues<'a> {
         script: &'a Script,
         placement: &Placement,
     ) -> Result<ScriptValues<'a>, NoMemory>
-        ensures { IfOk result (λ v. (s : layout.Layout) → AreOf script.now s placement.now → AreScriptValues s v) }
+        ensures { IfOk result (λ values. (placed : layout.Layout) → AreOf script.now placed placement.now
+            → AreScriptValues placed values) }
     {
         let commands = script.all_directives(alloc)?;
         let mut values = vec![in alloc; None; commands.len()]?;

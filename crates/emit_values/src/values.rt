@@ -83,9 +83,9 @@ impl<'a> Values<'a> {
     ) -> Result<Values<'a>, NoMemory>
         requires symbol_table { IsSymbolTable project.now symbol_table.now }
         requires sorted { AreSorted symbol_table.now given.now.sorted.items }
-        ensures { IfOk result (λ v. (layout : Layout) → AreScriptValues layout given.now.values
+        ensures { IfOk result (λ values. (layout : Layout) → AreScriptValues layout given.now.values
             → IsLinkView (known_link project.now layout symbol_table.now) link.now
-            → AreValues project.now layout symbol_table.now v) }
+            → AreValues project.now layout symbol_table.now values) }
     {
         let script = project.script();
         let names = name_values(alloc, link)?;

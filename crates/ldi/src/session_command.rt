@@ -1,6 +1,6 @@
 //! A session: commands are read, edits made and linked, and each command answered.
 
-ghost use Rattle.std.specs.Prelude.{◌≡◌, List, [], ℕ, IfOk, IfSome};
+ghost use Rattle.std.specs.Prelude.{List, ℕ, IfOk, IfSome};
 ghost use Rattle.std.specs.Io.KnownBytes.{Appends};
 ghost use Rattle.ldmodel.specs.Answers.{Answers};
 ghost use Rattle.ldmodel.specs.Project.{Project, empty_project};
@@ -68,11 +68,10 @@ pub fn session<R: Read + Drop, W: Write + Drop>(
     writer: W,
     options: Options,
 ) -> Result<SessionEnd<R, W>, NoMemory>
-    // The answers are those of the definition, from the empty project with these options, and none is held back.
+    // The answers are those of the definition, from the empty project with these options, and the writer has got them.
     ensures answers { IfOk result (λ ended. IfOk ended.outcome (λ status. IfSome (R.remaining reader) (λ stream.
         (out : List ℕ) × (last : Project)
-        × Appends (W.contents writer) ended.sink.written out
-        × (ended.sink.held ≡ [])
+        × Appends (W.contents writer) ended.sink.sent out
         × Answers (empty_project options) stream out last (status_of status)))) }
     // What stands after each outcome.
     ensures ran { IfOk result (λ ended. Leaves (empty_project options) (R.remaining reader)

@@ -1,7 +1,7 @@
 -- What the steps of a run do, by cases on their results, over what the devices show and what the linker holds.
 use Rattle.std.specs.Prelude.{◌≡◌, ℕ, ◌<◌, ◌≤◌, ◌⊎◌, List, [], ◌∷◌, ◌++◌, length, take}
 use Rattle.std.specs.Prelude.{Option, Some, None, Result, Ok, Err, MatchResult}
-use Rattle.std.specs.Io.KnownBytes.{Consumes, Appends, Keeps, IsAtEnd}
+use Rattle.std.specs.Io.KnownBytes.{Consumes, Appends, Keeps, IsAtEnd, append_known}
 use Rattle.ldmodel.specs.Answers.{Reply, EditReply, stream_line}
 use Rattle.ldmodel.specs.Commands.{Command, IsCommand, HasNo, spelling}
 use Rattle.ldmodel.specs.Edits.{Change}
@@ -21,11 +21,15 @@ pub record ReaderState : Type 0 where
   pub rest : Option (List ℕ)
   pub failed : ℕ
 
--- what a writer has taken, what of it is still held back, and how many of its calls failed
+-- what the writer beneath has got, what is still held back from it, and how many of its calls failed
 pub record WriterState : Type 0 where
-  pub written : Option (List ℕ)
+  pub sent : Option (List ℕ)
   pub held : List ℕ
   pub failed : ℕ
+
+-- what was written: what is held back comes after what was sent
+abbrev pub written_in : WriterState → Option (List ℕ)
+written_in sink = append_known sink.sent sink.held
 
 -- each failed call raises the count by one, and no other changes it
 abbrev pub CountsFailure : {T E : Type 0} → ℕ → ℕ → Result T E → Type 0

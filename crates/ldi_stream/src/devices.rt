@@ -1,9 +1,9 @@
 //! Readers and writers that a stream is read from and its answers written to, and that count failed calls.
 
 ghost use Rattle.std.specs.Prelude.{◌≡◌, ◌≤◌, ◌<◌, ℕ, List, [], Option, length, IfOk, OnOk};
-ghost use Rattle.std.specs.Io.KnownBytes.{ReadConsumes, WriteAppends, Keeps, append_known};
-ghost use Rattle.std.specs.Io.Buffered.{reader_remaining, writer_contents, writer_buffer};
-ghost use Rattle.ldi_stream.specs.Stepped.{CountsFailure, ReaderState, WriterState};
+ghost use Rattle.std.specs.Io.KnownBytes.{ReadConsumes, WriteAppends, Keeps};
+ghost use Rattle.std.specs.Io.Buffered.{reader_remaining, writer_buffer, writer_inner};
+ghost use Rattle.ldi_stream.specs.Stepped.{CountsFailure, ReaderState, WriterState, written_in};
 
 use crate::fault::{ReadFault, WriteFault};
 use ldmodel::memory::NoMemory;
@@ -92,7 +92,7 @@ impl<R: Read + Drop> CommandReader<R> {
     /// Where there is no memory for the buffer.
     #[tactic(auto, using(crate::proofs::KnownBuffers::rest_of_new))]
     pub fn new(alloc: Global, reader: R) -> Result<CommandReader<R>, NoMemory>
-        ensures { IfOk result (λ s. s ≡ record { rest = R.remaining reader; failed = 0 }) }
+        ensures { IfOk result (λ input. input ≡ record { rest = R.remaining reader; failed = 0 }) }
     {
         match BufReader::new(alloc, reader) {
             Ok(reader) => Ok(CommandReader {
@@ -135,7 +135,7 @@ impl<W: Write + Drop> Model for AnswerWriter<W> {
     ghost Value = { WriterState };
 
     ghost view = { λ s. record {
-      written = writer_contents W.contents s.writer;
+      sent = W.contents (writer_inner s.writer);
       held = writer_buffer s.writer;
       failed = s.failures;
     } };
@@ -147,9 +147,8 @@ impl<W: Write + Drop> AnswerWriter<W> {
     /// # Errors
     ///
     /// Where there is no memory for the buffer.
-    #[tactic(auto, using(crate::proofs::KnownBuffers::written_of_new))]
     pub fn new(alloc: Global, writer: W) -> Result<AnswerWriter<W>, NoMemory>
-        ensures { IfOk result (λ s. s ≡ record { written = W.contents writer; held = []; failed = 0 }) }
+        ensures { IfOk result (λ output. output ≡ record { sent = W.contents writer; held = []; failed = 0 }) }
     {
         match BufWriter::new(alloc, writer) {
             Ok(writer) => Ok(AnswerWriter {
@@ -162,7 +161,7 @@ impl<W: Write + Drop> AnswerWriter<W> {
 
     /// The writer. What is held back is not sent on: after a failed call nothing more is written.
     pub fn into_writer(self) -> W
-        ensures { self.written ≡ append_known (W.contents result) self.held }
+        ensures { W.contents result ≡ self.sent }
     {
         let AnswerWriter {
             writer,
@@ -174,7 +173,7 @@ impl<W: Write + Drop> AnswerWriter<W> {
 }
 
 impl<W: Write + Drop> Sink for AnswerWriter<W> {
-    ghost written = { λ s. s.written };
+    ghost written = { written_in };
 
     ghost held = { λ s. s.held };
 

@@ -251,7 +251,7 @@ fn read_query(word: &[u8]) -> Option<Query>
 
 /// What a command's line says, without its line feed; none where it is no command's.
 pub fn read_head(line: &[u8]) -> Option<CommandHead<'_>>
-    ensures found { IfSome result (λ h. Says line.now h) }
+    ensures found { IfSome result (λ head. Says line.now head) }
     ensures none { IfNone result (SaysNothing line.now) }
 {
     if line.len() > MAX_LINE {

@@ -11,7 +11,7 @@ use clap::{Arg, ArgAction, Command};
 use std::alloc::{AllocError, Global};
 
 /// What `ldi --version` prints after the name.
-const VERSION: &str = "0.1.0";
+const VERSION: &str = "0.2.0";
 
 /// The values of `--orphan-handling`.
 static ORPHANS: [&str; 2] = ["error", "discard"];

@@ -13,11 +13,11 @@ answer_line word a b = word ++ 32 ∷ (decimal a ++ 32 ∷ (decimal b ++ 10 ∷ 
 
 -- `linked STATUS LENGTH`: the status of a link, and the length of its image
 abbrev pub linked_line : Link → List ℕ
-linked_line l = answer_line (codes "linked") l.status (length l.image)
+linked_line link = answer_line (codes "linked") link.status (length link.image)
 
 -- `refused N M`
 abbrev pub refused_line : Refusal → List ℕ
-refused_line r = answer_line (codes "refused") (edit_refusal_number r) (inner_number r)
+refused_line refusal = answer_line (codes "refused") (edit_refusal_number refusal) (inner_number refusal)
 
 -- `bytes LENGTH`, and the bytes right after the line feed
 unfoldable pub bytes_answer : List ℕ → List ℕ
@@ -35,14 +35,15 @@ MayLackMemory project (Remove name) = (next : Project) × After project (Remove 
 -- an accepted edit is answered by the link of the next project; a refused one leaves the project as it was
 pub data EditReply (project : Project) (change : Change) : List ℕ → Project → Type 0 where
   accepted : (next : Project) → After project change (Ok next) → EditReply project change (linked_line (link next)) next
-  refused : (r : Refusal) → After project change (Err r) → EditReply project change (refused_line r) project
+  refused : (refusal : Refusal) → After project change (Err refusal)
+      → EditReply project change (refused_line refusal) project
   out_of_memory : MayLackMemory project change → EditReply project change (refused_line NoMemory) project
 
 -- what a query asks of a link
 abbrev pub asked : Query → Link → List ℕ
-asked Image l = l.image
-asked Map l = l.map
-asked Faults l = l.faults
+asked Image link = link.image
+asked Map link = link.map
+asked Faults link = link.faults
 
 abbrev pub Reply : Project → Command → List ℕ → Project → Type 0
 Reply project (Edit change) answer next = EditReply project change answer next
@@ -51,9 +52,9 @@ Reply project (Ask query) answer next = (answer ≡ bytes_answer (asked query (l
 -- command by command, from one project to the last
 pub data Replies : Project → List Command → List ℕ → Project → Type 0 where
   none : {project : Project} → Replies project [] [] project
-  next : {project mid last : Project} {command : Command} {cs : List Command} (answer rest : List ℕ)
-      → Reply project command answer mid → Replies mid cs rest last
-      → Replies project (command ∷ cs) (answer ++ rest) last
+  next : {project mid last : Project} {command : Command} {commands : List Command} (answer rest : List ℕ)
+      → Reply project command answer mid → Replies mid commands rest last
+      → Replies project (command ∷ commands) (answer ++ rest) last
 
 -- how a session ends: with the status of the link at the end of the stream, or at bytes that no command begins
 pub data Status : Type 0 where

@@ -33,10 +33,10 @@ abbrev pub condition_holds : Project → Layout → Expr → Bool
 condition_holds project layout e = is_true_value (value (final_scope project layout) 0 e)
 
 abbrev pub fails : Project → Layout → AssertionAt → Bool
-fails project layout a = not (condition_holds project layout a.assertion.condition)
+fails project layout entry = not (condition_holds project layout entry.assertion.condition)
 
 -- the faults of ASSERTs, in the order of the text
 unfoldable pub assertion_faults : Project → Layout → List Fault
 assertion_faults project layout =
-    map (λ (a : AssertionAt). AssertionFailed a.line a.assertion.message)
+    map (λ (entry : AssertionAt). AssertionFailed entry.line entry.assertion.message)
     (filter (fails project layout) (asserts project.script))

@@ -53,7 +53,7 @@ spelling command = line command ++ 10 ∷ payload command
 -- bytes other than a given one
 abbrev pub HasNo : ℕ → List ℕ → Type 0
 HasNo byte [] = Unit {0}
-HasNo byte (b ∷ bs) = (b ≢ byte) × HasNo byte bs
+HasNo byte (first ∷ rest) = (first ≢ byte) × HasNo byte rest
 
 -- a nonempty run of bytes other than space and line feed
 pub record IsWord (word : List ℕ) : Type 0 where
@@ -86,7 +86,7 @@ pub record IsCommand (command : Command) : Type 0 where
 
 abbrev pub AreCommands : List Command → Type 0
 AreCommands [] = Unit {0}
-AreCommands (c ∷ cs) = IsCommand c × AreCommands cs
+AreCommands (command ∷ rest) = IsCommand command × AreCommands rest
 
 -- a command begins these bytes
 pub record BeginsCommand (bytes : List ℕ) : Type 0 where

@@ -127,38 +127,43 @@ with_objects project objects = record project { objects = objects }
 
 -- the next project, where no early refusal applies
 abbrev pub Accepts : Project → Change → Project → Type 0
-Accepts project (Add name at bytes) q =
-    (object_refusal bytes ≡ None) × (q ≡ with_objects project (insert project.objects at (new_object name bytes)))
-Accepts project (Replace name bytes) q =
+Accepts project (Add name at bytes) next =
+    (object_refusal bytes ≡ None) × (next ≡ with_objects project (insert project.objects at (new_object name bytes)))
+Accepts project (Replace name bytes) next =
     (object_refusal bytes ≡ None)
-    × (q ≡ with_objects project (replaced project.objects (new_object name bytes) (place_of project.objects name)))
-Accepts project (Move name to) q = q ≡ with_objects project (moved project.objects to (place_of project.objects name))
-Accepts project (Remove name) q = q ≡ with_objects project (removed project.objects (place_of project.objects name))
-Accepts project (SetScript text) q =
-    (statements : List Statement) × IsScript text statements × (q ≡ record project { script = statements })
+    × (next ≡ with_objects project (replaced project.objects (new_object name bytes) (place_of project.objects name)))
+Accepts project (Move name to) next =
+    next ≡ with_objects project (moved project.objects to (place_of project.objects name))
+Accepts project (Remove name) next =
+    next ≡ with_objects project (removed project.objects (place_of project.objects name))
+Accepts project (SetScript text) next =
+    (statements : List Statement) × IsScript text statements × (next ≡ record project { script = statements })
 
 -- bytes that are no object
 abbrev pub RefusesObject : List ℕ → Refusal → Type 0
-RefusesObject bytes r = (why : ObjectRefusal) × (object_refusal bytes ≡ Some why) × (r ≡ NotAnObject why)
+RefusesObject bytes refusal = (why : ObjectRefusal) × (object_refusal bytes ≡ Some why) × (refusal ≡ NotAnObject why)
 
 -- bytes that are no script; out of memory is no such refusal
 abbrev pub RefusesScript : List ℕ → Refusal → Type 0
-RefusesScript text r = (why : ScriptRefusal) × (why ≢ reader.NoMemory) × IsRefusal text why × (r ≡ NotAScript why)
+RefusesScript text refusal =
+    (why : ScriptRefusal) × (why ≢ reader.NoMemory) × IsRefusal text why × (refusal ≡ NotAScript why)
 
 -- what the readers refuse, where no early refusal applies
 abbrev pub Refuses : Project → Change → Refusal → Type 0
-Refuses project (Add name at bytes) r = RefusesObject bytes r
-Refuses project (Replace name bytes) r = RefusesObject bytes r
-Refuses project (Move name to) r = ⊥
-Refuses project (Remove name) r = ⊥
-Refuses project (SetScript text) r = RefusesScript text r
+Refuses project (Add name at bytes) refusal = RefusesObject bytes refusal
+Refuses project (Replace name bytes) refusal = RefusesObject bytes refusal
+Refuses project (Move name to) refusal = ⊥
+Refuses project (Remove name) refusal = ⊥
+Refuses project (SetScript text) refusal = RefusesScript text refusal
 
 -- the next project, or the refusal
 abbrev pub After : Project → Change → Result Project Refusal → Type 0
-After project change (Ok q) = (early_refusal project change ≡ None) × Accepts project change q
-After project change (Err r) =
-    (early_refusal project change ≡ Some r) ⊎ ((early_refusal project change ≡ None) × Refuses project change r)
+After project change (Ok next) = (early_refusal project change ≡ None) × Accepts project change next
+After project change (Err refusal) =
+    (early_refusal project change ≡ Some refusal)
+    ⊎ ((early_refusal project change ≡ None) × Refuses project change refusal)
 
 -- what a linker may answer: the refusal, or out of memory where no early refusal applies
 abbrev pub RefusedAs : Project → Change → Refusal → Type 0
-RefusedAs project change r = After project change (Err r) ⊎ ((early_refusal project change ≡ None) × (r ≡ NoMemory))
+RefusedAs project change refusal =
+    After project change (Err refusal) ⊎ ((early_refusal project change ≡ None) × (refusal ≡ NoMemory))

@@ -50,4 +50,4 @@ fault_words (fault.FieldOverflow object section offset kind value) =
 fault_words (fault.AssertionFailed line message) = codes "F15" ∷ decimal line ∷ message ∷ []
 
 unfoldable pub fault_text : List Fault → List ℕ
-fault_text faults = flat_map (λ f. line_of (fault_words f)) faults
+fault_text faults = flat_map (λ fault. line_of (fault_words fault)) faults

@@ -12,17 +12,17 @@ use Rattle.ldscript.specs.statements.declared.statement.Statement.{Statement}
 
 -- some pattern of these matches the name
 abbrev pub is_any_match : List (List pattern.Part) → List ℕ → Bool
-is_any_match patterns name = list_any (λ p. is_match p name) patterns
+is_any_match patterns name = list_any (λ parts. is_match parts name) patterns
 
 -- a word takes a section of its name, from a file that it doesn't exclude
 abbrev pub word_takes : (file section : List ℕ) → SectionWord → Bool
-word_takes file section w = is_match w.pattern section && not (is_any_match w.excluded file)
+word_takes file section word = is_match word.pattern section && not (is_any_match word.excluded file)
 
 -- the statement's file pattern matches the file, and one of its words takes the section
 abbrev pub takes : (file section : List ℕ) → Input → Bool
-takes file section i = is_match i.file file && list_any (word_takes file section) i.sections
+takes file section statement = is_match statement.file file && list_any (word_takes file section) statement.sections
 
 -- the least number of an input statement that takes a section of this name, of an object of this name
 unfoldable pub first_match : List Statement → (file section : List ℕ) → Option ℕ
 first_match script file section =
-    position (λ (i : InputStatementAt). takes file section i.input) (input_statements script)
+    position (λ (statement : InputStatementAt). takes file section statement.input) (input_statements script)

@@ -20,7 +20,7 @@ taken_by project section = option_and_then (slice_get (input_statements project.
     (first_match project.script section.object section.name)
 
 abbrev pub is_discard : InputPlace → Bool
-is_discard (InSection k) = false
+is_discard (InSection number) = false
 is_discard InDiscard = true
 
 abbrev pub are_discarded : Orphans → Bool
@@ -30,11 +30,11 @@ are_discarded Discard = true
 -- whether it is left out, by the statement that takes it
 abbrev pub is_out_under : Project → InputSection → Option InputStatementAt → Bool
 is_out_under project section None = (section.size == 0) || are_discarded project.options.orphans
-is_out_under project section (Some i) = is_discard i.place
+is_out_under project section (Some statement) = is_discard statement.place
 
 unfoldable pub is_discarded : Project → InputSection → Bool
 is_discarded project section = is_out_under project section (taken_by project section)
 
 -- the input sections that are not left out, in their order
 abbrev pub candidates : Project → List InputSection
-candidates project = filter (λ s. not (is_discarded project s)) (input_sections project)
+candidates project = filter (λ section. not (is_discarded project section)) (input_sections project)

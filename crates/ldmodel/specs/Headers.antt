@@ -24,7 +24,7 @@ elf_header entry program_headers section_headers_at section_headers names =
 
 -- PF_R, PF_W, PF_X: a segment may be read, and what its sections may
 abbrev pub segment_flags : Group → ℕ
-segment_flags g = 4 + (if g.first.writable then 2 else 0) + (if g.first.executable then 1 else 0)
+segment_flags group = 4 + (if group.first.writable then 2 else 0) + (if group.first.executable then 1 else 0)
 
 -- 56 bytes of a PT_LOAD: p_type, p_flags; p_offset, p_vaddr, p_paddr; p_filesz, p_memsz, p_align
 unfoldable pub program_header : Segment → List ℕ
@@ -36,7 +36,7 @@ program_header segment =
     ++ to_le_bytes w64 page_size
 
 abbrev pub ascending : List Segment → List Segment
-ascending gs = sort_by (λ (segment h : Segment). nat_lt (segment_start segment) (segment_start h)) gs
+ascending segments = sort_by (λ (one other : Segment). nat_lt (segment_start one) (segment_start other)) segments
 
 abbrev pub program_headers : List Segment → List ℕ
-program_headers gs = flat_map program_header (ascending gs)
+program_headers segments = flat_map program_header (ascending segments)

@@ -42,7 +42,7 @@ abbrev pub object_named : Project → List ℕ → Option NamedObject
 object_named project name = find (λ (object : NamedObject). bytes_eq object.name name) project.objects
 
 abbrev pub section_numbered : NamedObject → SectionIndex → Option LinkedSection
-section_numbered object k = find (λ (section : LinkedSection). section.number.0 == k.0) object.object.sections
+section_numbered object index = find (λ (section : LinkedSection). section.number.0 == index.0) object.object.sections
 
 -- the section of an object that an input section is, with its object; a common block is none
 abbrev pub linked_part : Project → List ℕ → Part → Option (NamedObject × LinkedSection)
@@ -58,31 +58,33 @@ section_of_piece project placed = linked_part project placed.piece.object placed
 -- byte i of a section, where a field covers it
 abbrev pub field_byte : List Patch → ℕ → Option ℕ
 field_byte fields i =
-    option_map (λ (f : Patch). slice_index f.field (i - f.offset)) (find (λ (f : Patch). patch_covers f i) fields)
+    option_map (λ (patch : Patch). slice_index patch.field (i - patch.offset))
+    (find (λ (patch : Patch). patch_covers patch i) fields)
 
 -- the byte of a field of an input section at an address
 abbrev pub piece_field_byte : Project → Layout → ℕ → PlacedPiece → Option ℕ
 piece_field_byte project layout at placed =
-    option_and_then (λ (z : NamedObject × LinkedSection). field_byte (fields_of project layout z.0 z.1 placed.start)
+    option_and_then (λ (found : NamedObject × LinkedSection).
+    field_byte (fields_of project layout found.0 found.1 placed.start)
     (at - placed.start))
     (section_of_piece project placed)
 
 -- the byte that an input section itself has at an address: 0 for NOBITS and for a common block
 abbrev pub own_byte : Project → ℕ → PlacedPiece → ℕ
 own_byte project at placed =
-    option_map_or (λ (z : NamedObject × LinkedSection). slice_index z.1.bytes (at - placed.start))
+    option_map_or (λ (found : NamedObject × LinkedSection). slice_index found.1.bytes (at - placed.start))
     (section_of_piece project placed) 0
 
 -- the byte of a data command at an address
 abbrev pub data_byte : ℕ → PlacedData → ℕ
-data_byte at d = slice_index d.bytes (at - d.start)
+data_byte at command = slice_index command.bytes (at - command.start)
 
 -- where the input sections of nonzero size and the data commands of an output section end
 abbrev pub ends_in : PlacedOutput → List ℕ
 ends_in output =
     map (λ (placed : PlacedPiece). placed.start + placed.piece.size)
     (filter (λ (placed : PlacedPiece). not (placed.piece.size == 0)) output.pieces)
-    ++ map (λ (d : PlacedData). d.start + length d.bytes) output.data_commands
+    ++ map (λ (command : PlacedData). command.start + length command.bytes) output.data_commands
 
 -- the gap at an address begins at the last of these ends before it, or where the output section starts
 abbrev pub gap_start : PlacedOutput → ℕ → ℕ
@@ -100,7 +102,8 @@ abbrev pub covering_piece : PlacedOutput → ℕ → Option PlacedPiece
 covering_piece output at = find (λ (placed : PlacedPiece). covers placed.start placed.piece.size at) output.pieces
 
 abbrev pub covering_data : PlacedOutput → ℕ → Option PlacedData
-covering_data output at = find (λ (d : PlacedData). covers d.start (length d.bytes) at) output.data_commands
+covering_data output at =
+    find (λ (command : PlacedData). covers command.start (length command.bytes) at) output.data_commands
 
 -- the cases of a byte of an output section, at an address
 abbrev pub field_case : Project → Layout → PlacedOutput → ℕ → Option ℕ
@@ -123,32 +126,33 @@ placed_byte project layout output at =
 
 -- the output section whose file bytes lie at an offset
 abbrev pub file_section_at : Layout → ℕ → Option SectionInFile
-file_section_at layout o =
-    find (λ (x : SectionInFile). x.section.has_file_bytes && covers x.offset x.section.size o)
+file_section_at layout at =
+    find (λ (x : SectionInFile). x.section.has_file_bytes && covers x.offset x.section.size at)
     (in_file (segments layout.sections))
 
 -- the part of the tail that lies there
 abbrev pub tail_at : Project → Layout → ℕ → Option FilePart
-tail_at project layout o = find (λ (x : FilePart). covers x.offset (length x.bytes) o) (tail project layout)
+tail_at project layout at = find (λ (x : FilePart). covers x.offset (length x.bytes) at) (tail project layout)
 
 -- the cases of a byte of the image, at an offset
 abbrev pub header_case : Project → Layout → ℕ → Option ℕ
-header_case project layout o =
-    if nat_lt o (length (file_headers project layout)) then Some (slice_index (file_headers project layout) o) else None
+header_case project layout at =
+    if nat_lt at (length (file_headers project layout))
+    then Some (slice_index (file_headers project layout) at) else None
 
 abbrev pub section_case : Project → Layout → ℕ → Option ℕ
-section_case project layout o =
-    option_map (λ (x : SectionInFile). placed_byte project layout x.section (x.section.start + (o - x.offset)))
-    (file_section_at layout o)
+section_case project layout at =
+    option_map (λ (x : SectionInFile). placed_byte project layout x.section (x.section.start + (at - x.offset)))
+    (file_section_at layout at)
 
 abbrev pub tail_case : Project → Layout → ℕ → Option ℕ
-tail_case project layout o =
-    option_map (λ (x : FilePart). slice_index x.bytes (o - x.offset)) (tail_at project layout o)
+tail_case project layout at =
+    option_map (λ (x : FilePart). slice_index x.bytes (at - x.offset)) (tail_at project layout at)
 
--- byte o of the image: of the header, the output section or the part of the tail there, else 0
+-- the byte of the image at an offset: of the header, the output section or the part of the tail there, else 0
 unfoldable pub byte_at : Project → Layout → ℕ → ℕ
-byte_at project layout o =
-    first_of (header_case project layout o ∷ section_case project layout o ∷ tail_case project layout o ∷ [])
+byte_at project layout at =
+    first_of (header_case project layout at ∷ section_case project layout at ∷ tail_case project layout at ∷ [])
 
 -- the bytes 0, 1, .. up to the length
 unfoldable pub image : Project → Layout → List ℕ

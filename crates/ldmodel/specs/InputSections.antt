@@ -16,15 +16,15 @@ use Rattle.ldmodel.specs.declared.sections.Part.TheVariants.{InTable, InCommon}
 
 -- a linked section of object number i
 abbrev pub linked_input : ℕ → NamedObject → LinkedSection → InputSection
-linked_input i object s = record {
-  id = record { object = i; part = InTable s.number };
+linked_input i object section = record {
+  id = record { object = i; part = InTable section.number };
   object = object.name;
-  name = s.name;
-  kind = s.kind;
-  flags = s.flags;
-  size = s.size;
-  alignment = s.alignment;
-  relocations = s.relocations;
+  name = section.name;
+  kind = section.kind;
+  flags = section.flags;
+  size = section.size;
+  alignment = section.alignment;
+  relocations = section.relocations;
 }
 
 -- the common block of an entry that owns one
@@ -51,7 +51,8 @@ block_of object entry _ = None
 
 -- that of an entry, if it owns one. A local entry, as the null entry is, owns none, since it declares no name
 abbrev pub block_at : Project → ℕ → NamedObject → ℕ × NamedSymbol → Option InputSection
-block_at project i object s = block_of object.name (record { object = i; symbol = s.0 }) (decision project s.1.name)
+block_at project i object numbered =
+    block_of object.name (record { object = i; symbol = numbered.0 }) (decision project numbered.1.name)
 
 -- the common blocks that object number i owns, in the order of its symbol table
 abbrev pub common_blocks : Project → ℕ → NamedObject → List InputSection
@@ -64,4 +65,5 @@ object_inputs project i object = map (linked_input i object) object.object.secti
 -- all input sections, in object order
 unfoldable pub input_sections : Project → List InputSection
 input_sections project =
-    flat_map (λ (o : ℕ × NamedObject). object_inputs project o.0 o.1) (enumerate_from 0 project.objects)
+    flat_map (λ (numbered : ℕ × NamedObject). object_inputs project numbered.0 numbered.1)
+    (enumerate_from 0 project.objects)

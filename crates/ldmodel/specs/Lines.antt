@@ -5,14 +5,14 @@ use Rattle.std.specs.Prelude.{ℕ, zero, suc, ◌+◌, ◌/◌, ◌%◌, ◌^◌
 -- a word, and each further one after a space
 abbrev pub spaced : List (List ℕ) → List ℕ
 spaced [] = []
-spaced (w ∷ ws) = w ++ flat_map (λ v. 32 ∷ v) ws
+spaced (word ∷ rest) = word ++ flat_map (λ next. 32 ∷ next) rest
 
 unfoldable pub line_of : List (List ℕ) → List ℕ
 line_of words = spaced words ++ 10 ∷ []
 
 -- `0` to `9` and `a` to `f`
 abbrev pub hex_digit : ℕ → ℕ
-hex_digit d = if nat_lt d 10 then 48 + d else (87 + d)
+hex_digit digit = if nat_lt digit 10 then 48 + digit else (87 + digit)
 
 -- the lowest hex digits of a number, the highest of them first
 abbrev pub hex_digits : ℕ → ℕ → List ℕ

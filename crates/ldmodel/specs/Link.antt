@@ -28,7 +28,7 @@ pub record Link : Type 0 where
   pub faults : List ℕ
 
 abbrev pub duplicate_fault : DuplicateDefinition → Fault
-duplicate_fault d = fault.DuplicateDefinition d.name d.object d.first
+duplicate_fault duplicate = fault.DuplicateDefinition duplicate.name duplicate.object duplicate.first
 
 -- names that are defined twice, then an entry symbol that nothing defines
 unfoldable pub name_faults : Project → List Fault
@@ -50,11 +50,11 @@ of_length length layout = if nat_lt max_image_length length then Err (ImageTooLo
 -- a layout in which no output sections meet
 abbrev pub without_overlaps : Project → Layout → List Fault → Result Layout (List Fault)
 without_overlaps project layout [] = of_length (image_length project layout) layout
-without_overlaps project layout (f ∷ fs) = Err (f ∷ fs)
+without_overlaps project layout (first ∷ rest) = Err (first ∷ rest)
 
 abbrev pub laid_out : Project → Result Layout Fault → Result Layout (List Fault)
-laid_out project (Err f) = Err (f ∷ [])
-laid_out project (Ok s) = without_overlaps project s (overlaps s.sections)
+laid_out project (Err fault) = Err (fault ∷ [])
+laid_out project (Ok layout) = without_overlaps project layout (overlaps layout.sections)
 
 -- the layout, or its faults: the first of the placement; else the output sections that meet; else the length
 unfoldable pub layout : Project → Result Layout (List Fault)
@@ -69,7 +69,7 @@ good project layout = record { status = 0; image = image project layout; map = m
 -- what comes next, unless a phase has faults
 abbrev pub unless : List Fault → Link → Link
 unless [] next = next
-unless (f ∷ fs) next = faulty (f ∷ fs)
+unless (first ∷ rest) next = faulty (first ∷ rest)
 
 abbrev pub relocated : Project → Layout → Link
 relocated project layout =
@@ -77,7 +77,7 @@ relocated project layout =
 
 abbrev pub placed : Project → Result Layout (List Fault) → Link
 placed project (Err faults) = faulty faults
-placed project (Ok s) = relocated project s
+placed project (Ok layout) = relocated project layout
 
 unfoldable pub link : Project → Link
 link project = unless (name_faults project) (unless (gathering_faults project) (placed project (layout project)))

@@ -17,7 +17,7 @@ pub record ObjectFile : Type 0 where
 -- the objects are added at the end, the first of these at a place
 abbrev pub additions : ℕ → List ObjectFile → List Change
 additions at [] = []
-additions at (o ∷ os) = Add o.word at o.bytes ∷ additions (at + 1) os
+additions at (file ∷ rest) = Add file.word at file.bytes ∷ additions (at + 1) rest
 
 -- the edits of a link of files
 abbrev pub link_edits : (script : List ℕ) → List ObjectFile → List Change
@@ -33,10 +33,11 @@ pub record RefusedEdit : Type 0 where
 -- is refused
 pub data Course : ℕ → Project → List Change → Result Project RefusedEdit → Type 0 where
   ended : {n : ℕ} {project : Project} → Course n project [] (Ok project)
-  refused : {n : ℕ} {project : Project} {change : Change} {cs : List Change} {why : Refusal}
-      → After project change (Err why) → Course n project (change ∷ cs) (Err (record { place = n; why = why }))
-  accepted : {n : ℕ} {project q : Project} {change : Change} {cs : List Change} {r : Result Project RefusedEdit}
-      → After project change (Ok q) → Course (suc n) q cs r → Course n project (change ∷ cs) r
+  refused : {n : ℕ} {project : Project} {change : Change} {changes : List Change} {why : Refusal}
+      → After project change (Err why) → Course n project (change ∷ changes) (Err (record { place = n; why = why }))
+  accepted : {n : ℕ} {project next : Project} {change : Change} {changes : List Change}
+      {result : Result Project RefusedEdit} → After project change (Ok next)
+      → Course (suc n) next changes result → Course n project (change ∷ changes) result
 
 -- what a link of files answers
 pub data LinkAnswer : Type 0 where
@@ -45,7 +46,7 @@ pub data LinkAnswer : Type 0 where
   NoMemory : LinkAnswer
 
 abbrev pub Linking : LinkOptions → (script : List ℕ) → List ObjectFile → Result Project RefusedEdit → Type 0
-Linking options script objects r = Course 0 (empty_project options) (link_edits script objects) r
+Linking options script objects result = Course 0 (empty_project options) (link_edits script objects) result
 
 -- the link of the project that the edits lead to, or the first refused edit. Out of memory says nothing of the files;
 -- that memory is short where this is answered is said by the contracts of the code
@@ -64,7 +65,8 @@ link_status NoMemory = 4
 
 -- the file that an edit is of: `script`, or the word of the object
 abbrev pub file_word : List ObjectFile → ℕ → List ℕ
-file_word objects place = unwrap_or (slice_get (codes "script" ∷ map (λ (o : ObjectFile). o.word) objects) place) []
+file_word objects place =
+    unwrap_or (slice_get (codes "script" ∷ map (λ (file : ObjectFile). file.word) objects) place) []
 
 -- what stands on standard error then: the fault lines of the link; or `NAME: refused N M`; or `memory`
 abbrev pub link_message : List ObjectFile → LinkAnswer → List ℕ

@@ -20,23 +20,23 @@ use Rattle.ldmodel.specs.declared.sections.Part.TheVariants.{InTable, InCommon}
 
 -- a symbol of object number i, by its number
 abbrev pub symbol_at : Project → ℕ → ℕ → Option NamedSymbol
-symbol_at project i k =
-    option_and_then (λ (object : NamedObject). slice_get object.object.symbols k) (slice_get project.objects i)
+symbol_at project i index =
+    option_and_then (λ (object : NamedObject). slice_get object.object.symbols index) (slice_get project.objects i)
 
 -- the section that a symbol of object number i is defined in
 abbrev pub section_of_place : ℕ → SymbolPlace → Option SectionId
-section_of_place i (place.Section k) = Some (record { object = i; part = InTable k })
+section_of_place i (place.Section index) = Some (record { object = i; part = InTable index })
 section_of_place i _ = None
 
 abbrev pub section_of_entry : Project → Entry → Option SectionId
-section_of_entry project e =
-    option_and_then (λ (symbol : NamedSymbol). section_of_place e.object symbol.symbol.place)
-    (symbol_at project e.object e.symbol)
+section_of_entry project entry =
+    option_and_then (λ (symbol : NamedSymbol). section_of_place entry.object symbol.symbol.place)
+    (symbol_at project entry.object entry.symbol)
 
 -- the section that a name is defined in; a number, as the script's, is in none
 abbrev pub section_of_decision : Project → Decision → Option SectionId
-section_of_decision project (Strong e) = section_of_entry project e
-section_of_decision project (Weak e) = section_of_entry project e
+section_of_decision project (Strong entry) = section_of_entry project entry
+section_of_decision project (Weak entry) = section_of_entry project entry
 section_of_decision project (Common owner size alignment) =
     Some (record { object = owner.object; part = InCommon (record { 0 = owner.symbol }) })
 section_of_decision project _ = None
@@ -62,7 +62,7 @@ abbrev pub is_section : Option SectionId → InputSection → Bool
 is_section id section = option_map_or (is_same section.id) id false
 
 abbrev pub is_kept : Option InputStatementAt → Bool
-is_kept i = option_map_or (λ (x : InputStatementAt). x.input.keep) i false
+is_kept statement = option_map_or (λ (taking : InputStatementAt). taking.input.keep) statement false
 
 -- where garbage collection starts
 abbrev pub is_root : Project → InputSection → Bool
@@ -70,7 +70,8 @@ is_root project section = is_section (entry_section project) section || is_kept 
 
 -- a relocation of one has its target in the other
 abbrev pub refers_to : Project → InputSection → InputSection → Bool
-refers_to project a b = list_any (λ r. is_section (target_section project a.id.object r) b) a.relocations
+refers_to project from to =
+    list_any (λ relocation. is_section (target_section project from.id.object relocation) to) from.relocations
 
 -- the live sections, in their order; on the way to one stands none that is left out
 unfoldable pub live : Project → List InputSection
@@ -79,4 +80,4 @@ live project = if project.options.gc then reached (is_root project) (refers_to p
 
 -- the live sections that no statement takes: a fault each
 unfoldable pub orphans : Project → List InputSection
-orphans project = filter (λ s. is_none (taken_by project s)) (live project)
+orphans project = filter (λ section. is_none (taken_by project section)) (live project)

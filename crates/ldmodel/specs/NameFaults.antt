@@ -30,25 +30,31 @@ abbrev pub strong_definitions : Project → List ℕ → List Declaration
 strong_definitions project name = filter is_strong (entries project.objects name)
 
 abbrev pub is_first_of : List Declaration → Declaration → Bool
-is_first_of [] d = false
-is_first_of (x ∷ xs) d = is_same_entry x.entry d.entry
+is_first_of [] declaration = false
+is_first_of (first ∷ rest) declaration = is_same_entry first.entry declaration.entry
 
 abbrev pub first_among : Project → List Declaration → Definer
 first_among project [] = ByScript
-first_among project (x ∷ xs) = ByObject (object_name project x.entry.object)
+first_among project (first ∷ rest) = ByObject (object_name project first.entry.object)
 
 -- a strong definition that isn't the first one of its name
 abbrev pub is_duplicate : Project → Declaration → Bool
-is_duplicate project d =
-    is_strong d && (is_assigned project.script d.name || not (is_first_of (strong_definitions project d.name) d))
+is_duplicate project declaration =
+    is_strong declaration
+    && (is_assigned project.script declaration.name
+    || not (is_first_of (strong_definitions project declaration.name) declaration))
 
 abbrev pub first_definer : Project → List ℕ → Definer
 first_definer project name =
     if is_assigned project.script name then ByScript else first_among project (strong_definitions project name)
 
 abbrev pub duplicate : Project → Declaration → DuplicateDefinition
-duplicate project d =
-    record { name = d.name; object = object_name project d.entry.object; first = first_definer project d.name }
+duplicate project declaration =
+    record {
+      name = declaration.name;
+      object = object_name project declaration.entry.object;
+      first = first_definer project declaration.name;
+    }
 
 -- in object order, then symbol order
 unfoldable pub duplicates : Project → List DuplicateDefinition

@@ -45,7 +45,11 @@ is_local Local = true
 is_local _ = false
 
 abbrev pub declaration : ℕ → ℕ × NamedSymbol → Declaration
-declaration object s = record { entry = record { object = object; symbol = s.0 }; name = s.1.name; symbol = s.1.symbol }
+declaration object numbered = record {
+  entry = record { object = object; symbol = numbered.0 };
+  name = numbered.1.name;
+  symbol = numbered.1.symbol;
+}
 
 -- the entries of a symbol table, that of the object of a number
 abbrev pub all_entries : ℕ × List NamedSymbol → List Declaration
@@ -53,7 +57,8 @@ all_entries table = map (declaration table.0) (enumerate_from 0 table.1)
 
 -- those that aren't local, in the order of the table
 abbrev pub declarations_in : ℕ × List NamedSymbol → List Declaration
-declarations_in table = filter (λ (d : Declaration). not (is_local d.symbol.binding)) (all_entries table)
+declarations_in table =
+    filter (λ (declaration : Declaration). not (is_local declaration.symbol.binding)) (all_entries table)
 
 -- those of all tables, in the order of the tables
 unfoldable pub declarations_of : List (ℕ × List NamedSymbol) → List Declaration
@@ -67,7 +72,7 @@ abbrev pub declarations : List NamedObject → List Declaration
 declarations objects = declarations_of (enumerate_from 0 (symbol_tables objects))
 
 abbrev pub is_of_name : List ℕ → Declaration → Bool
-is_of_name name d = bytes_eq name d.name
+is_of_name name declaration = bytes_eq name declaration.name
 
 -- the declarations of a name
 abbrev pub entries : List NamedObject → List ℕ → List Declaration
@@ -76,7 +81,7 @@ entries objects name = filter (is_of_name name) (declarations objects)
 -- defined in a section or as a number
 abbrev pub is_placed : SymbolPlace → Bool
 is_placed place.Absolute = true
-is_placed (place.Section k) = true
+is_placed (place.Section index) = true
 is_placed place.Undefined = false
 is_placed place.Common = false
 
@@ -98,45 +103,45 @@ is_undefined_place _ = false
 
 -- a global definition that isn't common
 abbrev pub is_strong : Declaration → Bool
-is_strong d = is_global d.symbol.binding && is_placed d.symbol.place
+is_strong declaration = is_global declaration.symbol.binding && is_placed declaration.symbol.place
 
 abbrev pub is_weak : Declaration → Bool
-is_weak d = is_weak_binding d.symbol.binding && is_placed d.symbol.place
+is_weak declaration = is_weak_binding declaration.symbol.binding && is_placed declaration.symbol.place
 
 abbrev pub is_common : Declaration → Bool
-is_common d = is_common_place d.symbol.place
+is_common declaration = is_common_place declaration.symbol.place
 
 abbrev pub is_undefined : Declaration → Bool
-is_undefined d = is_undefined_place d.symbol.place
+is_undefined declaration = is_undefined_place declaration.symbol.place
 
 abbrev pub greatest : (Declaration → ℕ) → List Declaration → ℕ
 greatest of [] = 0
-greatest of (d ∷ ds) = max (of d) (greatest of ds)
+greatest of (first ∷ rest) = max (of first) (greatest of rest)
 
 -- for a common symbol st_value is its alignment
 abbrev pub common_size : Declaration → ℕ
-common_size d = d.symbol.size
+common_size declaration = declaration.symbol.size
 
 abbrev pub common_alignment : Declaration → ℕ
-common_alignment d = d.symbol.value
+common_alignment declaration = declaration.symbol.value
 
 -- a case for the entry of the first of these, or else another
 abbrev pub for_first : List Declaration → (Entry → Decision) → Decision → Decision
 for_first [] here otherwise = otherwise
-for_first (d ∷ ds) here otherwise = here d.entry
+for_first (first ∷ rest) here otherwise = here first.entry
 
 -- the first case that holds, where the script assigns the name, or provides it, and these declare it: 1 two or more
 -- strong definitions, the assignment counted; 2 a strong one; 3 the assignment; 4 common ones; 5 weak ones; 6 a PROVIDE
 -- and an undefined entry; 7 nothing
 unfoldable pub decided : (by_script by_provide : Bool) → List Declaration → Decision
-decided by_script by_provide ds =
-    let commons : List Declaration = filter is_common ds in
-    if nat_lt 1 (length (filter is_strong ds) + (if by_script then 1 else 0)) then Duplicate else
-    for_first (filter is_strong ds) Strong (
+decided by_script by_provide declarations =
+    let commons : List Declaration = filter is_common declarations in
+    if nat_lt 1 (length (filter is_strong declarations) + (if by_script then 1 else 0)) then Duplicate else
+    for_first (filter is_strong declarations) Strong (
     if by_script then Script else
     for_first commons (λ owner. Common owner (greatest common_size commons) (greatest common_alignment commons)) (
-    for_first (filter is_weak ds) Weak (
-    if by_provide && list_any is_undefined ds then Provided else
+    for_first (filter is_weak declarations) Weak (
+    if by_provide && list_any is_undefined declarations then Provided else
     Undefined)))
 
 -- what a name stands for
@@ -163,7 +168,7 @@ distinct [] = []
 distinct (x ∷ xs) = x ∷ filter (λ y. not (bytes_eq x y)) (distinct xs)
 
 abbrev pub names_in_objects : List NamedObject → List (List ℕ)
-names_in_objects objects = map (λ (d : Declaration). d.name) (declarations objects)
+names_in_objects objects = map (λ (declaration : Declaration). declaration.name) (declarations objects)
 
 -- the names that objects declare or that the script assigns or provides, each once
 unfoldable pub declared_names : Project → List (List ℕ)

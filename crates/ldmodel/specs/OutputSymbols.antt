@@ -40,7 +40,7 @@ output_symbols project layout =
 
 -- the object that a name's definition stands in, or `script`
 abbrev pub owner : Project → Decision → List ℕ
-owner project (Strong e) = object_name project e.object
-owner project (Weak e) = object_name project e.object
-owner project (Common e size alignment) = object_name project e.object
+owner project (Strong entry) = object_name project entry.object
+owner project (Weak entry) = object_name project entry.object
+owner project (Common entry size alignment) = object_name project entry.object
 owner project _ = codes "script"

@@ -9,14 +9,14 @@ abbrev pub ranges_meet : ℕ → ℕ → ℕ → ℕ → Bool
 ranges_meet a n b m = not (n == 0) && not (m == 0) && nat_lt a (b + m) && nat_lt b (a + n)
 
 abbrev pub addresses_meet : PlacedOutput → PlacedOutput → Bool
-addresses_meet output p = ranges_meet output.start output.size p.start p.size
+addresses_meet output other = ranges_meet output.start output.size other.start other.size
 
 abbrev pub load_addresses_meet : PlacedOutput → PlacedOutput → Bool
-load_addresses_meet output p = ranges_meet output.load output.load_size p.load p.load_size
+load_addresses_meet output other = ranges_meet output.load output.load_size other.load other.load_size
 
 abbrev pub met : (List ℕ → List ℕ → Fault) → PlacedOutput → Option PlacedOutput → List Fault
 met fault output None = []
-met fault output (Some p) = fault output.name p.name ∷ []
+met fault output (Some other) = fault output.name other.name ∷ []
 
 -- for each section that meets an earlier one a fault with the first that it meets, in the order of the script
 abbrev pub meetings : (PlacedOutput → PlacedOutput → Bool) → (List ℕ → List ℕ → Fault) → List PlacedOutput

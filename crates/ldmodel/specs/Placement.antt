@@ -56,16 +56,17 @@ use Rattle.ldmodel.specs.Rows.{Piece, piece_alignment}
 
 -- NAME = e
 abbrev pub assigned : Layout → ℕ → Assignment → Result Layout Fault
-assigned layout line a = and_then (number layout line a.value) (λ x. Ok (with_symbol layout a.name x))
+assigned layout line assignment =
+    and_then (number layout line assignment.value) (λ x. Ok (with_symbol layout assignment.name x))
 
 -- NAME = e; PROVIDE(NAME = e), which does nothing where it is not in force; ASSERT, which is tested at the end of the
 -- link
 unfoldable pub directive_step : List (List ℕ) → Layout → ℕ → Directive → Result Layout Fault
-directive_step provided layout line (directive.Assign a) = assigned layout line a
-directive_step provided layout line (directive.Provide a) =
-    if list_any (bytes_eq a.name) provided then assigned layout line a
+directive_step provided layout line (directive.Assign assignment) = assigned layout line assignment
+directive_step provided layout line (directive.Provide assignment) =
+    if list_any (bytes_eq assignment.name) provided then assigned layout line assignment
     else Ok layout
-directive_step provided layout line (directive.Assert a) = Ok layout
+directive_step provided layout line (directive.Assert assertion) = Ok layout
 
 -- THE HEAD of an output section: its alignment, start and load address (GNU ld manual, "Output Section Address",
 -- "Output Section LMA" and "Forced Output Alignment"). In its expressions `.` is the value before the section. That an
@@ -93,12 +94,12 @@ number_if_given layout line (Some e) = and_then (number layout line e) (λ x. Ok
 abbrev pub given_load : Load → Option Expr
 given_load Unstated = None
 given_load (At e) = Some e
-given_load (InRegion r) = None
+given_load (InRegion region) = None
 
 -- ALIGN(e): a power of two; without one it is 1
 abbrev pub given_alignment : ℕ → Option ℕ → Result ℕ Fault
 given_alignment line None = Ok 1
-given_alignment line (Some a) = if is_power_of_two a then Ok a else Err (NoValue line)
+given_alignment line (Some alignment) = if is_power_of_two alignment then Ok alignment else Err (NoValue line)
 
 -- the expressions of a head, in the order of the text
 unfoldable pub given : Layout → ℕ → OutputSection → Result Given Fault
@@ -111,17 +112,17 @@ given layout line o =
 
 -- the greatest of a number and the alignments of a row
 abbrev pub widest : ℕ → List Piece → ℕ
-widest a [] = a
-widest a (p ∷ row) = widest (max a (piece_alignment p)) row
+widest alignment [] = alignment
+widest alignment (piece ∷ row) = widest (max alignment (piece_alignment piece)) row
 
 -- the next free address of a region
 abbrev pub next_free : Layout → List ℕ → ℕ
-next_free layout r = option_map_or (λ (x : MemoryRegion). x.next) (region_named layout.regions r) 0
+next_free layout name = option_map_or (λ (region : MemoryRegion). region.next) (region_named layout.regions name) 0
 
 -- where a section without an address may begin: at the next free address of its region, or at `.`
 abbrev pub first_free : Layout → Option (List ℕ) → ℕ
 first_free layout None = layout.dot
-first_free layout (Some r) = next_free layout r
+first_free layout (Some name) = next_free layout name
 
 -- an address that is given is taken as it is
 unfoldable pub section_start : Layout → ℕ → Option (List ℕ) → Option ℕ → ℕ → Result ℕ Fault
@@ -130,7 +131,7 @@ section_start layout line region None alignment = address line (next_multiple_of
 
 abbrev pub same_region : Option (List ℕ) → Option (List ℕ) → Bool
 same_region None None = true
-same_region (Some r) (Some t) = bytes_eq r t
+same_region (Some one) (Some other) = bytes_eq one other
 same_region _ _ = false
 
 -- start less load address, modulo 2^64
@@ -150,19 +151,19 @@ unstated_load layout region (Some x) start = start
 unstated_load layout region None start = minus_modulo start (difference_in layout.sections region)
 
 unfoldable pub load_address : Layout → ℕ → OutputSection → Given → ℕ → ℕ → Result ℕ Fault
-load_address layout line o g alignment start = load_by o.load g.load where
+load_address layout line output stated alignment start = load_by output.load stated.load where
   load_by : Load → Option ℕ → Result ℕ Fault
-  load_by (InRegion r) load = address line (next_multiple_of (next_free layout r) alignment)
-  load_by l (Some x) = Ok x
-  load_by l None = Ok (unstated_load layout o.region g.address start)
+  load_by (InRegion region) load = address line (next_multiple_of (next_free layout region) alignment)
+  load_by rule (Some x) = Ok x
+  load_by rule None = Ok (unstated_load layout output.region stated.address start)
 
 -- faults come in this order: the expressions, the start, the load address
 unfoldable pub head_of : Layout → List Piece → ℕ → OutputSection → Result Head Fault
-head_of layout row line o =
-    and_then (given layout line o) (λ g.
-    let alignment : ℕ = widest g.alignment row in
-    and_then (section_start layout line o.region g.address alignment) (λ start.
-    and_then (load_address layout line o g alignment start) (λ load.
+head_of layout row line output =
+    and_then (given layout line output) (λ stated.
+    let alignment : ℕ = widest stated.alignment row in
+    and_then (section_start layout line output.region stated.address alignment) (λ start.
+    and_then (load_address layout line output stated alignment start) (λ load.
     Ok (record { alignment = alignment; start = start; load = load }))))
 
 -- THE BODY of an output section (GNU ld manual, "Output Section Description", "Output Section Data" and "The Location
@@ -186,27 +187,32 @@ with_dot body x = record body { layout = record body.layout { dot = x } }
 
 -- the least multiple of its alignment not below `.`
 abbrev pub piece_start : ℕ → Piece → ℕ
-piece_start dot p = next_multiple_of dot (piece_alignment p)
+piece_start dot piece = next_multiple_of dot (piece_alignment piece)
 
 -- the next entry of the row takes its place
 unfoldable pub piece_placed : ℕ → Body → Piece → List Piece → Result Body Fault
-piece_placed line body p rest =
-    let start : ℕ = piece_start body.layout.dot p in
-    and_then (address line (start + p.size)) (λ end.
-    Ok (record (with_dot body end) { rest = rest; pieces = body.pieces ++ record { start = start; piece = p } ∷ [] }))
+piece_placed line body piece rest =
+    let start : ℕ = piece_start body.layout.dot piece in
+    and_then (address line (start + piece.size)) (λ end.
+    Ok (record (with_dot body end) {
+      rest = rest;
+      pieces = body.pieces ++ record { start = start; piece = piece } ∷ [];
+    }))
 
 -- the entries of input statement number n: those with this number that the row begins with. In the rows of `Rows` these
 -- are all entries of the statement, since a row goes statement by statement
 unfoldable pub pieces_placed : ℕ → ℕ → Body → List Piece → Result Body Fault
 pieces_placed line n body [] = Ok body
-pieces_placed line n body (p ∷ rest) =
-    if p.statement == n then and_then (piece_placed line body p rest) (λ c. pieces_placed line n c rest) else Ok body
+pieces_placed line n body (piece ∷ rest) =
+    if piece.statement == n
+    then and_then (piece_placed line body piece rest) (λ next. pieces_placed line n next rest)
+    else Ok body
 
 -- an input statement; input statements are numbered from 0 in the order of the script
 abbrev pub input_step : ℕ → Body → Result Body Fault
 input_step line body =
-    and_then (pieces_placed line body.layout.inputs body body.rest) (λ c.
-    Ok (record c { layout = record c.layout { inputs = body.layout.inputs + 1 } }))
+    and_then (pieces_placed line body.layout.inputs body body.rest) (λ next.
+    Ok (record next { layout = record next.layout { inputs = body.layout.inputs + 1 } }))
 
 abbrev pub with_data : Body → List ℕ → Body
 with_data body bytes =
@@ -214,10 +220,10 @@ with_data body bytes =
 
 -- BYTE, SHORT, LONG, QUAD: the lowest bytes of a number, the lowest of them first, where `.` stands
 abbrev pub data_step : ℕ → Body → Width → Expr → Result Body Fault
-data_step line body w e =
+data_step line body width e =
     and_then (number body.layout line e) (λ x.
-    and_then (address line (body.layout.dot + byte_count w)) (λ end.
-    Ok (with_dot (with_data body (little_bytes (byte_count w) x)) end)))
+    and_then (address line (body.layout.dot + byte_count width)) (λ end.
+    Ok (with_dot (with_data body (little_bytes (byte_count width) x)) end)))
 
 -- `.` goes on to a whole number, and not back
 abbrev pub moved_on : ℕ → Body → ℕ → Result Body Fault
@@ -242,15 +248,16 @@ dot_step line body (Add e) = advanced line body e
 dot_step line body (Set e) = set_to line body (dot_form e)
 
 unfoldable pub body_command_step : List (List ℕ) → ℕ → Body → BodyCommand → Result Body Fault
-body_command_step provided line b (body.Dot c) = dot_step line b c
-body_command_step provided line b (body.Directive c) =
-    and_then (directive_step provided b.layout line c) (λ s. Ok (record b { layout = s }))
-body_command_step provided line b (body.Data w e) = data_step line b w e
-body_command_step provided line b (body.Input i) = input_step line b
+body_command_step provided line state (body.Dot command) = dot_step line state command
+body_command_step provided line state (body.Directive command) =
+    and_then (directive_step provided state.layout line command) (λ layout. Ok (record state { layout = layout }))
+body_command_step provided line state (body.Data width e) = data_step line state width e
+body_command_step provided line state (body.Input input) = input_step line state
 
 -- a statement of the body
 abbrev pub body_step : List (List ℕ) → Body → BodyStatement → Result Body Fault
-body_step provided body s = body_command_step provided s.line (record body { layout = noted body.layout }) s.command
+body_step provided body statement =
+    body_command_step provided statement.line (record body { layout = noted body.layout }) statement.command
 
 -- THE END of an output section: its size, load size and flags, whether its memory regions have room for it, and where
 -- they go on (GNU ld manual, "Output Section Region"; gABI, "Sections": SHF_WRITE and SHF_EXECINSTR). That a region
@@ -307,16 +314,17 @@ is_within region at size =
 -- a section, where the region that it names, if any, has room for a range
 abbrev pub with_room : Option MemoryRegion → ℕ → ℕ → PlacedOutput → Result PlacedOutput Fault
 with_room None at size output = Ok output
-with_room (Some r) at size output = if is_within r at size then Ok output else Err (RegionFull output.name r.name)
+with_room (Some region) at size output =
+    if is_within region at size then Ok output else Err (RegionFull output.name region.name)
 
 -- the region of AT>region
 abbrev pub load_region : Load → Option (List ℕ)
 load_region Unstated = None
 load_region (At e) = None
-load_region (InRegion r) = Some r
+load_region (InRegion region) = Some region
 
 abbrev pub find_region : Layout → Option (List ℕ) → Option MemoryRegion
-find_region layout r = option_and_then (region_named layout.regions) r
+find_region layout name = option_and_then (region_named layout.regions) name
 
 -- a region's next free address, where it is the one that is named
 abbrev pub freed_from : Option (List ℕ) → ℕ → List MemoryRegion → List MemoryRegion
@@ -326,20 +334,20 @@ freed_from (Some name) next regions =
 
 -- after a section its region goes on at its end, then that of AT>region at its load end
 abbrev pub with_section : Layout → OutputSection → PlacedOutput → Layout
-with_section layout o output = record layout {
-  regions = freed_from (load_region o.load) (output.load + output.load_size)
-      (freed_from o.region (output.start + output.size) layout.regions);
+with_section layout section output = record layout {
+  regions = freed_from (load_region section.load) (output.load + output.load_size)
+      (freed_from section.region (output.start + output.size) layout.regions);
   sections = layout.sections ++ output ∷ [];
 }
 
 -- faults come in this order: the region, the region of load addresses, the load end
 unfoldable pub section_end : ℕ → OutputSection → Head → Body → Result Layout Fault
-section_end line o h body =
-    let q : PlacedOutput = placed_section o h body in
-    and_then (with_room (find_region body.layout o.region) q.start q.size q) (λ _.
-    and_then (with_room (find_region body.layout (load_region o.load)) q.load q.load_size q) (λ _.
-    and_then (address line (q.load + q.load_size)) (λ _.
-    Ok (with_section body.layout o q))))
+section_end line section head body =
+    let output : PlacedOutput = placed_section section head body in
+    and_then (with_room (find_region body.layout section.region) output.start output.size output) (λ _.
+    and_then (with_room (find_region body.layout (load_region section.load)) output.load output.load_size output) (λ _.
+    and_then (address line (output.load + output.load_size)) (λ _.
+    Ok (with_section body.layout section output))))
 
 -- THE WHOLE (GNU ld manual, "SECTIONS Command", "MEMORY Command" and "The Location Counter"). What `.` is after each
 -- statement is this project's own where the manual leaves it open.
@@ -353,10 +361,10 @@ with_region layout name origin extent =
 
 -- a region of MEMORY, whose next free address is at first where it begins
 unfoldable pub region_step : Layout → Region → Result Layout Fault
-region_step layout r =
-    and_then (number layout r.line r.origin) (λ origin.
-    and_then (number layout r.line r.extent) (λ extent.
-    Ok (with_region layout r.name origin extent)))
+region_step layout region =
+    and_then (number layout region.line region.origin) (λ origin.
+    and_then (number layout region.line region.extent) (λ extent.
+    Ok (with_region layout region.name origin extent)))
 
 -- outside output sections `.` may go back, and a sum is one of expressions, modulo 2^64
 abbrev pub free_dot_step : Layout → ℕ → DotCommand → Result Layout Fault
@@ -366,9 +374,9 @@ free_dot_step layout line (Add e) =
 
 -- a section begins to be placed
 abbrev pub opened : Layout → List Piece → Head → Body
-opened layout row h = record {
-  layout = record layout { dot = h.start };
-  start = h.start;
+opened layout row head = record {
+  layout = record layout { dot = head.start };
+  start = head.start;
   rest = row;
   pieces = [];
   data_commands = [];
@@ -376,10 +384,10 @@ opened layout row h = record {
 
 -- head, body and end of an output section; after it `.` is its end
 unfoldable pub section_step : List (List ℕ) → List Piece → Layout → ℕ → OutputSection → Result Layout Fault
-section_step provided row layout line o =
-    and_then (head_of layout row line o) (λ h.
-    and_then (run (body_step provided) (opened layout row h) o.body) (λ b.
-    section_end line o h b))
+section_step provided row layout line section =
+    and_then (head_of layout row line section) (λ head.
+    and_then (run (body_step provided) (opened layout row head) section.body) (λ body.
+    section_end line section head body))
 
 -- the row of the next output section: its number is how many sections are complete, since each output section statement
 -- adds one, and `/DISCARD/` none and has no row
@@ -387,26 +395,26 @@ abbrev pub next_row : List (List Piece) → Layout → List Piece
 next_row rows layout = slice_index_or rows (length layout.sections) []
 
 unfoldable pub item_command_step : List (List Piece) → List (List ℕ) → ℕ → Layout → ItemCommand → Result Layout Fault
-item_command_step rows provided line layout (item.Dot c) = free_dot_step layout line c
-item_command_step rows provided line layout (item.Directive c) = directive_step provided layout line c
-item_command_step rows provided line layout (item.Section o) =
-    section_step provided (next_row rows layout) layout line o
+item_command_step rows provided line layout (item.Dot command) = free_dot_step layout line command
+item_command_step rows provided line layout (item.Directive command) = directive_step provided layout line command
+item_command_step rows provided line layout (item.Section section) =
+    section_step provided (next_row rows layout) layout line section
 item_command_step rows provided line layout (item.Discard inputs) =
     Ok (record layout { inputs = layout.inputs + length inputs })
 
 -- a statement of SECTIONS
 abbrev pub item_step : List (List Piece) → List (List ℕ) → Layout → Item → Result Layout Fault
-item_step rows provided layout i = item_command_step rows provided i.line (noted layout) i.command
+item_step rows provided layout entry = item_command_step rows provided entry.line (noted layout) entry.command
 
 unfoldable pub command_step : List (List Piece) → List (List ℕ) → ℕ → Layout → Command → Result Layout Fault
 command_step rows provided line layout (top.Entry name) = Ok layout
 command_step rows provided line layout (top.Memory regions) = run region_step layout regions
 command_step rows provided line layout (top.Sections items) = run (item_step rows provided) layout items
-command_step rows provided line layout (top.Directive c) = directive_step provided layout line c
+command_step rows provided line layout (top.Directive command) = directive_step provided layout line command
 
 -- a statement of the script
 abbrev pub statement_step : List (List Piece) → List (List ℕ) → Layout → Statement → Result Layout Fault
-statement_step rows provided layout x = command_step rows provided x.line layout x.command
+statement_step rows provided layout statement = command_step rows provided statement.line layout statement.command
 
 -- the layout of a script with these rows, in which the PROVIDEs of these names are in force; or its first fault
 unfoldable pub placement : List Statement → List (List Piece) → List (List ℕ) → Result Layout Fault

@@ -34,13 +34,13 @@ is_evaluated _ = true
 -- the sites of a section that starts at an address, in the order of its table
 abbrev pub sites_at : NamedObject → LinkedSection → ℕ → List Site
 sites_at object section start =
-    map (λ r. record { object = object; section = section; start = start; relocation = r })
+    map (λ relocation. record { object = object; section = section; start = start; relocation = relocation })
     (filter (λ (relocation : Relocation). is_evaluated relocation.kind) section.relocations)
 
 -- those of a section, none where it is not in the output
 abbrev pub sites_of_section : Layout → NamedObject → LinkedSection → List Site
 sites_of_section layout object section =
-    option_map_or (λ (y : PlacedPiece). sites_at object section y.start)
+    option_map_or (λ (placed : PlacedPiece). sites_at object section placed.start)
     (placed_part layout object.name (InTable section.number)) []
 
 -- all sites by their place: object by object, section by section, in the order of the tables
@@ -88,14 +88,14 @@ entry_fault _ = []
 -- the faults of relocation: first that of the entry symbol, then those of the sites in their order
 unfoldable pub relocation_faults : Project → Layout → List Fault
 relocation_faults project layout = entry_fault (entry_point project layout)
-    ++ filter_map (λ t. result_err (site_field project layout t)) (sites project layout)
+    ++ filter_map (λ site. result_err (site_field project layout site)) (sites project layout)
 
 -- a field in its place in its section
 abbrev pub patch_of : Site → Result (List ℕ) Fault → Option Patch
 patch_of site (Ok field) = Some (record { offset = site.relocation.offset; field = field })
-patch_of site (Err f) = None
+patch_of site (Err fault) = None
 
 -- the fields of a section that starts at an address
 abbrev pub fields_of : Project → Layout → NamedObject → LinkedSection → ℕ → List Patch
 fields_of project layout object section start =
-    filter_map (λ t. patch_of t (site_field project layout t)) (sites_at object section start)
+    filter_map (λ site. patch_of site (site_field project layout site)) (sites_at object section start)

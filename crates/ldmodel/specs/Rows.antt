@@ -49,7 +49,7 @@ piece_of n section = record {
 
 abbrev pub is_taken_by : Project → ℕ → InputSection → Bool
 is_taken_by project n section =
-    option_map_or (λ k. k == n) (first_match project.script section.object section.name) false
+    option_map_or (λ number. number == n) (first_match project.script section.object section.name) false
 
 -- the live sections that input statement number n takes
 abbrev pub taken : Project → ℕ → List Piece
@@ -57,7 +57,7 @@ taken project n = map (piece_of n) (filter (is_taken_by project n) (live project
 
 -- the alignment of a piece: 0 counts as 1
 abbrev pub piece_alignment : Piece → ℕ
-piece_alignment x = max 1 x.alignment
+piece_alignment piece = max 1 piece.alignment
 
 -- which of two pieces a sort puts first
 abbrev pub below : Option Sort → Piece → Piece → Bool
@@ -66,16 +66,17 @@ below (Some ByName) a b = is_lt (slice_cmp nat_cmp a.name b.name)
 below (Some ByAlignment) a b = nat_lt (piece_alignment b) (piece_alignment a)
 
 abbrev pub is_in_section : ℕ → InputPlace → Bool
-is_in_section k (InSection n) = n == k
-is_in_section k InDiscard = false
+is_in_section number (InSection other) = other == number
+is_in_section number InDiscard = false
 
 -- the pieces of an input statement, in the order of its sort
 abbrev pub sorted_pieces : Project → ℕ → InputStatementAt → List Piece
-sorted_pieces project n i = sort_by (below i.input.sort) (taken project n)
+sorted_pieces project n statement = sort_by (below statement.input.sort) (taken project n)
 
 -- those of an input statement, with its number, where it stands in output section number k
 abbrev pub pieces_in : Project → ℕ → ℕ × InputStatementAt → List Piece
-pieces_in project k i = if is_in_section k i.1.place then sorted_pieces project i.0 i.1 else []
+pieces_in project k numbered =
+    if is_in_section k numbered.1.place then sorted_pieces project numbered.0 numbered.1 else []
 
 -- the row of output section number k, statement by statement
 abbrev pub row : Project → ℕ → List Piece

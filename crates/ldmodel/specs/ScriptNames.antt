@@ -28,8 +28,8 @@ is_provided script name = is_provision (given_by script name)
 
 -- the names that are assigned, in the order of the text
 unfoldable pub assigned_names : List Statement → List (List ℕ)
-assigned_names script = map (λ (a : AssignmentAt). a.assignment.name) (assignments script)
+assigned_names script = map (λ (entry : AssignmentAt). entry.assignment.name) (assignments script)
 
 -- the names that are provided, in the order of the text
 unfoldable pub provided_names : List Statement → List (List ℕ)
-provided_names script = map (λ (a : AssignmentAt). a.assignment.name) (provides script)
+provided_names script = map (λ (entry : AssignmentAt). entry.assignment.name) (provides script)

@@ -83,16 +83,16 @@ stated_alignment output = if output.start % output.alignment == 0 then output.al
 -- the header of output section number i. sh_offset has 64 bits: it is modulo 2^64. In a link without faults only that
 -- of a section without file bytes can be as great, since an image has its limit
 abbrev pub output_header : Layout → List Segment → ℕ × PlacedOutput → SectionHeader
-output_header layout gs x = record {
-  name = name_offset (header_names layout) x.0;
-  type = if x.1.has_file_bytes then SHT_PROGBITS else SHT_NOBITS;
-  flags = section_flags x.1;
-  address = x.1.start;
-  offset = file_offset gs x.1 % 2 ^ 64;
-  size = x.1.size;
+output_header layout segments numbered = record {
+  name = name_offset (header_names layout) numbered.0;
+  type = if numbered.1.has_file_bytes then SHT_PROGBITS else SHT_NOBITS;
+  flags = section_flags numbered.1;
+  address = numbered.1.start;
+  offset = file_offset segments numbered.1 % 2 ^ 64;
+  size = numbered.1.size;
   link = 0;
   info = 0;
-  alignment = stated_alignment x.1;
+  alignment = stated_alignment numbered.1;
   entry_size = 0;
 }
 
@@ -113,10 +113,10 @@ table_header name type part link info alignment entry_size = record {
 -- those of the tables, where k output sections stand before; sh_link of `.symtab` is its string table, and sh_info the
 -- number of its first symbol that isn't local
 abbrev pub table_headers : ℕ → List (List ℕ) → Tables → List SectionHeader
-table_headers k names t =
-    table_header (name_offset names k) SHT_SYMTAB t.symbols (k + 2) 1 8 24
-    ∷ table_header (name_offset names (k + 1)) SHT_STRTAB t.symbol_names 0 0 1 0
-    ∷ table_header (name_offset names (k + 2)) SHT_STRTAB t.header_names 0 0 1 0
+table_headers k names tables =
+    table_header (name_offset names k) SHT_SYMTAB tables.symbols (k + 2) 1 8 24
+    ∷ table_header (name_offset names (k + 1)) SHT_STRTAB tables.symbol_names 0 0 1 0
+    ∷ table_header (name_offset names (k + 2)) SHT_STRTAB tables.header_names 0 0 1 0
     ∷ []
 
 -- all headers, the null header first

@@ -25,8 +25,8 @@ pub record InputSection : Type 0 where
   pub relocations : List Relocation
 
 abbrev pub is_same_part : Part → Part → Bool
-is_same_part (InTable k) (InTable n) = k.0 == n.0
-is_same_part (InCommon s) (InCommon t) = s.0 == t.0
+is_same_part (InTable one) (InTable other) = one.0 == other.0
+is_same_part (InCommon one) (InCommon other) = one.0 == other.0
 is_same_part _ _ = false
 
 abbrev pub is_same : SectionId → SectionId → Bool

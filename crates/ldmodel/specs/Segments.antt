@@ -32,19 +32,19 @@ pub record Group : Type 0 where
   pub others : List PlacedOutput
 
 abbrev pub group_sections : Group → List PlacedOutput
-group_sections g = g.first ∷ g.others
+group_sections group = group.first ∷ group.others
 
 -- a section before the groups of those after it
 abbrev pub with_front : PlacedOutput → List Group → List Group
 with_front output [] = record { first = output; others = [] } ∷ []
-with_front output (g ∷ gs) =
-    if shares_segment output g.first then record { first = output; others = group_sections g } ∷ gs
-    else (record { first = output; others = [] } ∷ g ∷ gs)
+with_front output (group ∷ rest) =
+    if shares_segment output group.first then record { first = output; others = group_sections group } ∷ rest
+    else (record { first = output; others = [] } ∷ group ∷ rest)
 
 -- neighbours that share a segment stand in one group
 unfoldable pub groups : List PlacedOutput → List Group
 groups [] = []
-groups (q ∷ qs) = with_front q (groups qs)
+groups (first ∷ rest) = with_front first (groups rest)
 
 -- a group, and where it begins in the file
 pub record Segment : Type 0 where
@@ -60,16 +60,16 @@ segment_load segment = segment.group.first.load
 
 -- the end of a section, counted from the segment's start
 abbrev pub reach : Group → PlacedOutput → ℕ
-reach g output = end_of output - g.first.start
+reach group output = end_of output - group.first.start
 
 -- p_filesz: up to the end of the last section with file bytes, 0 without one
 abbrev pub file_size : Group → ℕ
-file_size g =
-    fold (λ n (output : PlacedOutput). if output.has_file_bytes then reach g output else n) 0 (group_sections g)
+file_size group =
+    fold (λ n (output : PlacedOutput). if output.has_file_bytes then reach group output else n) 0 (group_sections group)
 
 -- p_memsz: up to the end of the last section
 abbrev pub memory_size : Group → ℕ
-memory_size g = fold (λ n (output : PlacedOutput). reach g output) 0 (group_sections g)
+memory_size group = fold (λ n (output : PlacedOutput). reach group output) 0 (group_sections group)
 
 -- the least number not below an end that is congruent to an address modulo the page size
 abbrev pub congruent : ℕ → ℕ → ℕ
@@ -77,7 +77,7 @@ congruent end at = end + (at % page_size + (page_size - end % page_size)) % page
 
 -- a segment that begins at the first place past an end
 abbrev pub begun : ℕ → Group → Segment
-begun end g = record { offset = congruent end g.first.start; group = g }
+begun end group = record { offset = congruent end group.first.start; group = group }
 
 -- the end of the last file bytes so far
 abbrev pub file_end : ℕ → Segment → ℕ
@@ -86,7 +86,7 @@ file_end end segment = if file_size segment.group == 0 then end else segment.off
 -- segments one after the other, the first past an end
 abbrev pub begun_from : ℕ → List Group → List Segment
 begun_from end [] = []
-begun_from end (g ∷ gs) = begun end g ∷ begun_from (file_end end (begun end g)) gs
+begun_from end (group ∷ rest) = begun end group ∷ begun_from (file_end end (begun end group)) rest
 
 -- where the headers end: the ELF header's 64 bytes, and 56 for each program header
 abbrev pub headers_end : ℕ → ℕ
@@ -100,7 +100,7 @@ segments sections = let gs : List Group = groups (nonempty sections) in begun_fr
 
 -- where the loaded part of the file ends: at the end of the last file bytes, or of the headers
 abbrev pub loaded_end : List Segment → ℕ
-loaded_end gs = fold file_end (headers_end (length gs)) gs
+loaded_end segments = fold file_end (headers_end (length segments)) segments
 
 -- an output section, and where it begins in the file
 pub record SectionInFile : Type 0 where
@@ -113,10 +113,10 @@ in_segment segment output =
 
 -- the output sections of nonzero size in the file
 abbrev pub in_file : List Segment → List SectionInFile
-in_file gs = flat_map (λ (segment : Segment). map (in_segment segment) (group_sections segment.group)) gs
+in_file segments = flat_map (λ (segment : Segment). map (in_segment segment) (group_sections segment.group)) segments
 
 -- where an output section begins in the file; 0 where its size is 0
 abbrev pub file_offset : List Segment → PlacedOutput → ℕ
-file_offset gs output =
+file_offset segments output =
     option_map_or (λ (x : SectionInFile). x.offset)
-    (find (λ (x : SectionInFile). bytes_eq x.section.name output.name) (in_file gs)) 0
+    (find (λ (x : SectionInFile). bytes_eq x.section.name output.name) (in_file segments)) 0

@@ -38,19 +38,19 @@ names_of project object =
 
 -- the symbols that an expression names
 abbrev pub symbols_named : Expr → List (List ℕ)
-symbols_named (Number n) = []
+symbols_named (Number value) = []
 symbols_named Dot = []
-symbols_named (Name n) = n ∷ []
-symbols_named (Unary o a) = symbols_named a
-symbols_named (Binary o a b) = symbols_named a ++ symbols_named b
-symbols_named (Choice t a b) = symbols_named t ++ symbols_named a ++ symbols_named b
-symbols_named (OfRegion q n) = []
-symbols_named (OfSection q n) = []
+symbols_named (Name name) = name ∷ []
+symbols_named (Unary operator a) = symbols_named a
+symbols_named (Binary operator a b) = symbols_named a ++ symbols_named b
+symbols_named (Choice test a b) = symbols_named test ++ symbols_named a ++ symbols_named b
+symbols_named (OfRegion query name) = []
+symbols_named (OfSection query name) = []
 symbols_named (AlignDot a) = symbols_named a
 symbols_named (Align a b) = symbols_named a ++ symbols_named b
 
 abbrev pub asserted_names : List Statement → List (List ℕ)
-asserted_names script = flat_map (λ (a : AssertionAt). symbols_named a.assertion.condition) (asserts script)
+asserted_names script = flat_map (λ (entry : AssertionAt). symbols_named entry.assertion.condition) (asserts script)
 
 -- the names that a script assigns, provides or names in an ASSERT, and the entry symbol
 abbrev pub names_by_script : Project → List (List ℕ)
@@ -61,15 +61,16 @@ names_by_script project =
 -- the names that an edit touches: those that the object declares before it and after it; for a script those of all
 -- objects and of both scripts
 abbrev pub named_by : Project → Change → Project → List (List ℕ)
-named_by project (Add name at bytes) q = names_of project name ++ names_of q name
-named_by project (Replace name bytes) q = names_of project name ++ names_of q name
-named_by project (Move name to) q = names_of project name ++ names_of q name
-named_by project (Remove name) q = names_of project name ++ names_of q name
-named_by project (SetScript text) q = names_in_objects project.objects ++ names_by_script project ++ names_by_script q
+named_by project (Add name at bytes) next = names_of project name ++ names_of next name
+named_by project (Replace name bytes) next = names_of project name ++ names_of next name
+named_by project (Move name to) next = names_of project name ++ names_of next name
+named_by project (Remove name) next = names_of project name ++ names_of next name
+named_by project (SetScript text) next =
+    names_in_objects project.objects ++ names_by_script project ++ names_by_script next
 
 -- each of them once
 unfoldable pub touched_names : Project → Change → Project → List (List ℕ)
-touched_names project change q = distinct (named_by project change q)
+touched_names project change next = distinct (named_by project change next)
 
 -- the entries of rows from a row on
 abbrev pub entries_from : ℕ → List (List Piece) → ℕ
@@ -87,10 +88,11 @@ kind_place Unwind = 6
 
 -- two entries of rows are the same
 abbrev pub same_entry : Piece → Piece → Bool
-same_entry x y =
-    (x.statement == y.statement) && bytes_eq x.object y.object && is_same_part x.part y.part && bytes_eq x.name y.name
-    && (kind_place x.kind == kind_place y.kind) && (x.flags == y.flags) && (x.size == y.size)
-    && (x.alignment == y.alignment)
+same_entry one other =
+    (one.statement == other.statement) && bytes_eq one.object other.object && is_same_part one.part other.part
+    && bytes_eq one.name other.name
+    && (kind_place one.kind == kind_place other.kind) && (one.flags == other.flags) && (one.size == other.size)
+    && (one.alignment == other.alignment)
 
 abbrev pub same_row : List Piece → List Piece → Bool
 same_row [] [] = true
@@ -133,6 +135,7 @@ pub record IsWork (old : GoodLink) (change : Change) (new : GoodLink) (before af
 
 -- the bound of an incremental linker: where either link has faults, it says nothing
 abbrev pub IsSessionWork : Project → Change → Project → Counts → Counts → Type 0
-IsSessionWork project change q before after =
-    (s t : Layout) → (link project).status ≡ 0 → (link q).status ≡ 0 → layout project ≡ Ok s → layout q ≡ Ok t
-    → IsWork (record { project = project; layout = s }) change (record { project = q; layout = t }) before after
+IsSessionWork project change next before after =
+    (old new : Layout) → (link project).status ≡ 0 → (link next).status ≡ 0 → layout project ≡ Ok old
+    → layout next ≡ Ok new
+    → IsWork (record { project = project; layout = old }) change (record { project = next; layout = new }) before after

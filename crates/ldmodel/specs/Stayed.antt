@@ -33,22 +33,22 @@ pub record LinkedPiece : Type 0 where
 
 -- no bytes, where the output section has none in the file
 abbrev pub range_in : List Segment → PlacedOutput → PlacedPiece → FileRange
-range_in gs output placed =
+range_in segments output placed =
     if output.has_file_bytes && not (placed.piece.size == 0)
-    then record { offset = file_offset gs output + (placed.start - output.start); length = placed.piece.size }
+    then record { offset = file_offset segments output + (placed.start - output.start); length = placed.piece.size }
     else record { offset = 0; length = 0 }
 
 abbrev pub text_of : Project → List ℕ → List ℕ
 text_of project object = option_map_or (λ (object : NamedObject). object.object.text) (object_named project object) []
 
 abbrev pub linked_piece : Project → List Segment → PlacedOutput → PlacedPiece → LinkedPiece
-linked_piece project gs output placed = record {
+linked_piece project segments output placed = record {
   object = placed.piece.object;
   text = text_of project placed.piece.object;
   part = placed.piece.part;
   start = placed.start;
   size = placed.piece.size;
-  range = range_in gs output placed;
+  range = range_in segments output placed;
 }
 
 -- the input sections in the output, in their order
@@ -83,14 +83,14 @@ stayed old new = filter (has_stayed old) (link_pieces new)
 
 abbrev pub sites_in_section : NamedObject → LinkedPiece → Option LinkedSection → List Site
 sites_in_section object piece None = []
-sites_in_section object piece (Some y) = sites_at object y piece.start
+sites_in_section object piece (Some section) = sites_at object section piece.start
 
 -- the sites of an input section; a common block has none
 abbrev pub sites_in_part : Project → LinkedPiece → Part → List Site
-sites_in_part project piece (InTable k) =
-    option_map_or (λ (object : NamedObject). sites_in_section object piece (section_numbered object k))
+sites_in_part project piece (InTable index) =
+    option_map_or (λ (object : NamedObject). sites_in_section object piece (section_numbered object index))
     (object_named project piece.object) []
-sites_in_part project piece (InCommon k) = []
+sites_in_part project piece (InCommon index) = []
 
 abbrev pub sites_in : Project → LinkedPiece → List Site
 sites_in project piece = sites_in_part project piece piece.part

@@ -44,14 +44,15 @@ address_in (Some x) offset = Number (plus_modulo x.start offset)
 -- the value of a symbol by its own entry; entry number 0 of a table has the value 0. The object reader leaves no other
 -- entry that is looked up here undefined, and none common
 abbrev pub own_value : Layout → List ℕ → SymbolPlace → ℕ → SymbolValue
-own_value layout object (place.Section k) value = address_in (placed_part layout object (InTable k)) value
+own_value layout object (place.Section index) value = address_in (placed_part layout object (InTable index)) value
 own_value layout object place.Absolute value = Number value
 own_value layout object place.Undefined value = Number 0
 own_value layout object place.Common value = NotDefined
 
 -- the symbol of an entry
 abbrev pub symbol_of_entry : Project → Entry → Option Symbol
-symbol_of_entry project e = option_map (λ (symbol : NamedSymbol). symbol.symbol) (symbol_at project e.object e.symbol)
+symbol_of_entry project entry =
+    option_map (λ (symbol : NamedSymbol). symbol.symbol) (symbol_at project entry.object entry.symbol)
 
 abbrev pub entry_value : Project → Layout → Entry → SymbolValue
 entry_value project layout e =
@@ -60,7 +61,7 @@ entry_value project layout e =
 
 -- the number of the symbol of an entry
 abbrev pub symbol_index : Entry → SymbolIndex
-symbol_index e = record { 0 = e.symbol }
+symbol_index entry = record { 0 = entry.symbol }
 
 abbrev pub value_or_undefined : Option ℕ → SymbolValue
 value_or_undefined None = NotDefined
@@ -69,8 +70,8 @@ value_or_undefined (Some x) = Number x
 -- the value of a name, by what it stands for: that of its definition, the address of its common block, or the number
 -- that the script gives it
 abbrev pub decided_value : Project → Layout → List ℕ → Decision → SymbolValue
-decided_value project layout name (Strong e) = entry_value project layout e
-decided_value project layout name (Weak e) = entry_value project layout e
+decided_value project layout name (Strong entry) = entry_value project layout entry
+decided_value project layout name (Weak entry) = entry_value project layout entry
 decided_value project layout name (Common owner size alignment) =
     address_in (placed_part layout (object_name project owner.object) (InCommon (symbol_index owner))) 0
 decided_value project layout name Script = value_or_undefined (script_value layout name)

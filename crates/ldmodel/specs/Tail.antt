@@ -47,7 +47,7 @@ symbol_bytes x =
 
 -- a weak definition stays weak, any other symbol is global
 abbrev pub st_binding : Decision → ℕ
-st_binding (Weak e) = STB_WEAK
+st_binding (Weak entry) = STB_WEAK
 st_binding _ = STB_GLOBAL
 
 -- the type of an object's own symbol; the output has no common ones, so they are data
@@ -60,20 +60,20 @@ kind_number kind.File = STT_FILE
 kind_number kind.Common = STT_OBJECT
 
 abbrev pub entry_type : Project → Entry → ℕ
-entry_type project e = option_map_or (λ (x : Symbol). kind_number x.kind) (symbol_of_entry project e) STT_NOTYPE
+entry_type project entry = option_map_or (λ (x : Symbol). kind_number x.kind) (symbol_of_entry project entry) STT_NOTYPE
 
 abbrev pub st_type_of : Project → Decision → ℕ
-st_type_of project (Strong e) = entry_type project e
-st_type_of project (Weak e) = entry_type project e
+st_type_of project (Strong entry) = entry_type project entry
+st_type_of project (Weak entry) = entry_type project entry
 st_type_of project (Common owner size alignment) = STT_OBJECT
 st_type_of project _ = STT_NOTYPE
 
 abbrev pub entry_size : Project → Entry → ℕ
-entry_size project e = option_map_or (λ (x : Symbol). x.size) (symbol_of_entry project e) 0
+entry_size project entry = option_map_or (λ (x : Symbol). x.size) (symbol_of_entry project entry) 0
 
 abbrev pub st_size : Project → Decision → ℕ
-st_size project (Strong e) = entry_size project e
-st_size project (Weak e) = entry_size project e
+st_size project (Strong entry) = entry_size project entry
+st_size project (Weak entry) = entry_size project entry
 st_size project (Common owner size alignment) = size
 st_size project _ = 0
 
@@ -85,7 +85,7 @@ header_of_part layout object part =
     (position (λ (output : PlacedOutput). list_any (is_part object part) output.pieces) layout.sections) SHN_ABS
 
 abbrev pub header_of_place : Layout → List ℕ → SymbolPlace → ℕ
-header_of_place layout object (place.Section k) = header_of_part layout object (InTable k)
+header_of_place layout object (place.Section index) = header_of_part layout object (InTable index)
 header_of_place layout object _ = SHN_ABS
 
 abbrev pub entry_header : Project → Layout → Entry → ℕ
@@ -95,8 +95,8 @@ entry_header project layout e =
 
 -- SHN_ABS for a number of an object or of the script
 abbrev pub st_shndx : Project → Layout → Decision → ℕ
-st_shndx project layout (Strong e) = entry_header project layout e
-st_shndx project layout (Weak e) = entry_header project layout e
+st_shndx project layout (Strong entry) = entry_header project layout entry
+st_shndx project layout (Weak entry) = entry_header project layout entry
 st_shndx project layout (Common owner size alignment) =
     header_of_part layout (object_name project owner.object) (InCommon (symbol_index owner))
 st_shndx project layout _ = SHN_ABS
@@ -108,7 +108,7 @@ pub record ValuedSymbol : Type 0 where
   pub value : ℕ
 
 abbrev pub with_value : OutputSymbol → SymbolValue → Option ValuedSymbol
-with_value symbol (Number v) = Some (record { name = symbol.name; decision = symbol.decision; value = v })
+with_value symbol (Number value) = Some (record { name = symbol.name; decision = symbol.decision; value = value })
 with_value symbol NotDefined = None
 with_value symbol NotInOutput = None
 

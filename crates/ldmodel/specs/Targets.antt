@@ -17,7 +17,7 @@ use Rattle.ldmodel.specs.declared.sections.Part.TheVariants.{InTable}
 -- 0 for an undefined name that a symbol names weakly
 abbrev pub or_weak : Bool → SymbolValue → SymbolValue
 or_weak weak NotDefined = if weak then symbol.Number 0 else NotDefined
-or_weak weak v = v
+or_weak weak value = value
 
 -- S: the value of a symbol that a relocation of an object names
 unfoldable pub referenced_value : Project → Layout → NamedObject → NamedSymbol → SymbolValue
@@ -32,7 +32,7 @@ pub data Target : Type 0 where
   Fixed : Target
 
 abbrev pub local_target : List ℕ → SymbolPlace → Target
-local_target object (place.Section k) = Section object k
+local_target object (place.Section index) = Section object index
 local_target object _ = Fixed
 
 abbrev pub target_of : NamedObject → NamedSymbol → Target

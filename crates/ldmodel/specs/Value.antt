@@ -46,13 +46,13 @@ named name (Some x) = Ok x
 named name None = Err (NotReady name)
 
 abbrev pub asked_of_region : RegionQuery → RegionNumbers → ℕ
-asked_of_region region.Origin r = r.origin
-asked_of_region region.Length r = r.extent
+asked_of_region region.Origin numbers = numbers.origin
+asked_of_region region.Length numbers = numbers.extent
 
 abbrev pub asked_of_section : SectionQuery → SectionNumbers → ℕ
-asked_of_section section.Address q = q.start
-asked_of_section section.LoadAddress q = q.load
-asked_of_section section.Size q = q.size
+asked_of_section section.Address numbers = numbers.start
+asked_of_section section.LoadAddress numbers = numbers.load
+asked_of_section section.Size numbers = numbers.size
 
 -- 1 where it holds, else 0
 abbrev pub truth : Bool → ℕ
@@ -103,17 +103,19 @@ aligned x a = if is_power_of_two a then Ok (next_multiple_of x a % 2 ^ 64) else 
 
 -- the value of an expression with `.` at a number; operands are evaluated from left to right
 unfoldable pub value : Scope → ℕ → Expr → Result ℕ ValueFault
-value s dot (expression.Number n) = Ok n
-value s dot expression.Dot = Ok dot
-value s dot (expression.Name n) = named n (s.symbol n)
-value s dot (expression.Unary o a) = and_then (value s dot a) (λ x. Ok (unary_value o x))
-value s dot (expression.Binary o a b) =
-    and_then (value s dot a) (λ x.
-    if decides_alone o x then binary_value o x 0
-    else and_then (value s dot b) (λ y. binary_value o x y))
-value s dot (expression.Choice t a b) =
-    and_then (value s dot t) (λ x. if is_true x then value s dot a else value s dot b)
-value s dot (expression.OfRegion q n) = named n (option_map (asked_of_region q) (s.region n))
-value s dot (expression.OfSection q n) = named n (option_map (asked_of_section q) (s.section n))
-value s dot (expression.AlignDot a) = and_then (value s dot a) (λ x. aligned dot x)
-value s dot (expression.Align a b) = and_then (value s dot a) (λ x. and_then (value s dot b) (λ y. aligned x y))
+value scope dot (expression.Number number) = Ok number
+value scope dot expression.Dot = Ok dot
+value scope dot (expression.Name name) = named name (scope.symbol name)
+value scope dot (expression.Unary operator a) = and_then (value scope dot a) (λ x. Ok (unary_value operator x))
+value scope dot (expression.Binary operator a b) =
+    and_then (value scope dot a) (λ x.
+    if decides_alone operator x then binary_value operator x 0
+    else and_then (value scope dot b) (λ y. binary_value operator x y))
+value scope dot (expression.Choice test a b) =
+    and_then (value scope dot test) (λ x. if is_true x then value scope dot a else value scope dot b)
+value scope dot (expression.OfRegion query name) = named name (option_map (asked_of_region query) (scope.region name))
+value scope dot (expression.OfSection query name) =
+    named name (option_map (asked_of_section query) (scope.section name))
+value scope dot (expression.AlignDot a) = and_then (value scope dot a) (λ x. aligned dot x)
+value scope dot (expression.Align a b) =
+    and_then (value scope dot a) (λ x. and_then (value scope dot b) (λ y. aligned x y))

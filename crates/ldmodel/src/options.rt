@@ -49,7 +49,7 @@ impl Options {
     /// Options that collect sections which the program cannot reach if `gc`, that start the program at the symbol
     /// `entry`, if any, whatever the script's ENTRY names, and that treat orphans as `orphans` says.
     pub fn new(gc: bool, entry: Option<Vec<u8>>, orphans: Orphans) -> Options
-        ensures { result ≡ record { gc = gc; entry = option_map (λ v. v.items) entry; orphans = orphans } }
+        ensures { result ≡ record { gc = gc; entry = option_map (λ name. name.items) entry; orphans = orphans } }
     {
         Options { gc, entry, orphans }
     }

@@ -27,10 +27,10 @@ pub fn carried_bytes()
 /// A relocation of such an input section that has the value that it had, and whose symbol has one, has a field: it need
 /// not be evaluated, and has no fault.
 pub fn carried_sites()
-    ensures { (old new : GoodLink) → IsGood old → AreRead new.project → (piece y : LinkedPiece)
-        → IsCarried old new piece y
-        → (site : Site) → Contains (sites_in new.project y) site → has_changed old new piece.start site ≡ false
-        → (v : ℕ) → site_value new.project new.layout site ≡ Number v → HasField new site }
+    ensures { (old new : GoodLink) → IsGood old → AreRead new.project → (piece carried : LinkedPiece)
+        → IsCarried old new piece carried
+        → (site : Site) → Contains (sites_in new.project carried) site → has_changed old new piece.start site ≡ false
+        → (value : ℕ) → site_value new.project new.layout site ≡ Number value → HasField new site }
 {}
 
 /// A gap that begins where an input section ends has the same bytes wherever the section stands, where the fill is the

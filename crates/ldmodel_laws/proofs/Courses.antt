@@ -19,11 +19,11 @@ module _ (one : OneOutcome) where
   one_course n p [] x y ended ended = refl
   one_course n p (c ∷ cs) x y (refused {why = a} h) (refused {why = b} k) = let same : Err a ≡ Err b =
       one p c (Err a) (Err b) h k in let why : a ≡ b = cc in ap (λ w. Err (at n w)) why
-  one_course n p (c ∷ cs) x y (refused {why = a} h) (accepted {q = q} k more) = let same : Err a ≡ Ok q =
+  one_course n p (c ∷ cs) x y (refused {why = a} h) (accepted {next = q} k more) = let same : Err a ≡ Ok q =
       one p c (Err a) (Ok q) h k in absurd (let none : ⊥ = cc in none)
-  one_course n p (c ∷ cs) x y (accepted {q = q} k more) (refused {why = a} h) = let same : Ok q ≡ Err a =
+  one_course n p (c ∷ cs) x y (accepted {next = q} k more) (refused {why = a} h) = let same : Ok q ≡ Err a =
       one p c (Ok q) (Err a) k h in absurd (let none : ⊥ = cc in none)
-  one_course n p (c ∷ cs) x y (accepted {q = q} h rest) (accepted {q = r} k others) =
+  one_course n p (c ∷ cs) x y (accepted {next = q} h rest) (accepted {next = r} k others) =
       let same : Ok q ≡ Ok r = one p c (Ok q) (Ok r) h k in
       let next : q ≡ r = cc in
       one_course (suc n) r cs x y (subst (λ s. Course (suc n) s cs x) next rest) others
@@ -62,5 +62,5 @@ pub stay_distinct : ((p q : Project) (c : Change) → AreNamesDistinct p.objects
     → (n : ℕ) (p q : Project) (cs : List Change) → AreNamesDistinct p.objects → Course n p cs (Ok q)
     → AreNamesDistinct q.objects
 stay_distinct keeps n p q [] d ended = d
-stay_distinct keeps n p q (c ∷ cs) d (accepted {q = r} h rest) =
+stay_distinct keeps n p q (c ∷ cs) d (accepted {next = r} h rest) =
     stay_distinct keeps (suc n) r q cs (keeps p r c d h) rest

@@ -41,12 +41,12 @@ pub fn some_outcome()
 /// No edit comes to 'out of memory': the definitions refuse an edit with numbers 1 to 6, an object with inner numbers 1
 /// to 13 and a script with 1 to 5.
 pub fn memory_is_no_outcome()
-    ensures outer { (project : Project) (change : Change) (r : Refusal) → After project change (Err r)
-        → edit_refusal_number r ≤ 6 }
-    ensures object { (project : Project) (change : Change) (w : ObjectRefusal)
-        → After project change (Err (NotAnObject w))
-        → object.refusal_number w ≤ 13 }
-    ensures script { (project : Project) (change : Change) (w : ScriptRefusal)
-        → After project change (Err (NotAScript w))
-        → script_refusal_number w ≤ 5 }
+    ensures outer { (project : Project) (change : Change) (refusal : Refusal) → After project change (Err refusal)
+        → edit_refusal_number refusal ≤ 6 }
+    ensures object { (project : Project) (change : Change) (why : ObjectRefusal)
+        → After project change (Err (NotAnObject why))
+        → object.refusal_number why ≤ 13 }
+    ensures script { (project : Project) (change : Change) (why : ScriptRefusal)
+        → After project change (Err (NotAScript why))
+        → script_refusal_number why ≤ 5 }
 {}

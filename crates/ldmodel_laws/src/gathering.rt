@@ -52,5 +52,5 @@ pub fn row_by_order()
 /// different numbers, as the object reader gives them.
 pub fn once_in_rows()
     ensures { (project : Project) → AreNamesDistinct project.objects → AreNumbered project
-        → EachLater Differ (flat_map (λ r. r) (rows project)) }
+        → EachLater Differ (flat_map (λ row. row) (rows project)) }
 {}

@@ -29,8 +29,8 @@ pub fn gap_is_longest_run()
 /// The fields of an input section share no byte, where its relocations do not, as the object reader has found; and each
 /// field has a byte and ends in the section, where the relocations do.
 pub fn fields_are_apart()
-    ensures apart { (project : Project) (layout : Layout) (o : NamedObject) (section : LinkedSection) (start : ℕ)
-        → object.AreApart section.relocations → patches.AreApart (fields_of project layout o section start) }
+    ensures apart { (project : Project) (layout : Layout) (named : NamedObject) (section : LinkedSection) (start : ℕ)
+        → object.AreApart section.relocations → patches.AreApart (fields_of project layout named section start) }
     ensures within { (project : Project) (layout : Layout) (object : NamedObject) (section : LinkedSection) (start : ℕ)
         → All (λ (relocation : Relocation). field_end relocation ≤ section.size) section.relocations
         → All (IsWithin section.size) (fields_of project layout object section start) }

@@ -54,16 +54,17 @@ pub fn placed_are_rows()
 pub fn dots_by_statement()
     ensures counted { (script : List Statement) (rows : List (List Piece)) (provided : List (List ℕ)) (layout : Layout)
         → placement script rows provided ≡ Ok layout → length layout.dots ≡ dots_in script }
-    ensures of_item { (rows : List (List Piece)) (provided : List (List ℕ)) (layout : Layout) (i : Item) (t : Layout)
-        → item_step rows provided layout i ≡ Ok t → Notes (dots_of i) layout t }
-    ensures of_body { (provided : List (List ℕ)) (body : Body) (x : BodyStatement) (c : Body)
-        → body_step provided body x ≡ Ok c → c.layout.dots ≡ body.layout.dots ++ body.layout.dot ∷ [] }
+    ensures of_item { (rows : List (List Piece)) (provided : List (List ℕ)) (layout : Layout) (statement : Item)
+        (next : Layout)
+        → item_step rows provided layout statement ≡ Ok next → Notes (dots_of statement) layout next }
+    ensures of_body { (provided : List (List ℕ)) (body : Body) (statement : BodyStatement) (next : Body)
+        → body_step provided body statement ≡ Ok next → next.layout.dots ≡ body.layout.dots ++ body.layout.dot ∷ [] }
 {}
 
 /// An output section has file bytes exactly where it is loaded: one of size 0 has none.
 pub fn loaded_with_file_bytes()
-    ensures { (o : OutputSection) (h : Head) (body : Body)
-        → (placed_section o h body).has_file_bytes ≡ not ((placed_section o h body).load_size == 0) }
+    ensures { (section : OutputSection) (head : Head) (body : Body)
+        → (placed_section section head body).has_file_bytes ≡ not ((placed_section section head body).load_size == 0) }
 {}
 
 /// In an output section of a placement nothing meets: its input sections and its data commands lie from its start up to

@@ -19,10 +19,10 @@ pub fn one_link_answer()
 
 /// Edits one after the other lead to one project, or to one first refusal, and keep names distinct.
 pub fn one_course()
-    ensures one { (n : ℕ) (project : Project) (cs : List Change) (x y : Result Project RefusedEdit)
-        → Course n project cs x → Course n project cs y → x ≡ y }
-    ensures distinct { (n : ℕ) (project q : Project) (cs : List Change)
-        → AreNamesDistinct project.objects → Course n project cs (Ok q) → AreNamesDistinct q.objects }
+    ensures one { (n : ℕ) (project : Project) (changes : List Change) (x y : Result Project RefusedEdit)
+        → Course n project changes x → Course n project changes y → x ≡ y }
+    ensures distinct { (n : ℕ) (project next : Project) (changes : List Change)
+        → AreNamesDistinct project.objects → Course n project changes (Ok next) → AreNamesDistinct next.objects }
 {
     one_outcome();
     names_stay_distinct();

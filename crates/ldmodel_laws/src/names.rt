@@ -9,9 +9,9 @@ ghost use Rattle.ldmodel_laws.specs.Renumbering.{AreTablesOf, renumbered, renumb
 
 /// What a name stands for doesn't depend on how objects are numbered, by their places or by keys.
 pub fn decided_renumbered()
-    ensures { (number : ℕ → ℕ) (is_assigned is_provided : Bool) (ds : List Declaration)
-        → decided is_assigned is_provided (map (renumbered number) ds)
-        ≡ renumbered_decision number (decided is_assigned is_provided ds) }
+    ensures { (number : ℕ → ℕ) (is_assigned is_provided : Bool) (declarations : List Declaration)
+        → decided is_assigned is_provided (map (renumbered number) declarations)
+        ≡ renumbered_decision number (decided is_assigned is_provided declarations) }
 {}
 
 /// What a name stands for may as well be decided over the symbol tables of the objects under keys, in the order of the

@@ -12,8 +12,8 @@ ghost use Rattle.ldmodel_laws.specs.ImageBytes.{AreNamed};
 /// its address modulo the page size.
 pub fn segments_by_neighbours()
     ensures is { (sections : List PlacedOutput) → IsFileLayout sections (segments sections) }
-    ensures one { (sections : List PlacedOutput) (gs : List Segment)
-        → IsFileLayout sections gs → gs ≡ segments sections }
+    ensures one { (sections : List PlacedOutput) (placed : List Segment)
+        → IsFileLayout sections placed → placed ≡ segments sections }
 {}
 
 /// Output sections with file bytes do not meet in the image: they lie past the headers and up to the end of its loaded

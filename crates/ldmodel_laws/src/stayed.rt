@@ -35,9 +35,9 @@ pub fn untouched_bytes()
 /// whose number is another in the two links; so an index from targets to sites has it under such a target.
 pub fn retargeted_by_target()
     ensures { (old new : GoodLink) → IsGood old → IsGood new
-        → (site : Site) (a : NamedSymbol) → Contains (retargeted old new) site → site_symbol site ≡ Some a
-        → target_number old.project old.layout (target_of site.object a)
-        ≢ target_number new.project new.layout (target_of site.object a) }
+        → (site : Site) (symbol : NamedSymbol) → Contains (retargeted old new) site → site_symbol site ≡ Some symbol
+        → target_number old.project old.layout (target_of site.object symbol)
+        ≢ target_number new.project new.layout (target_of site.object symbol) }
 {}
 
 /// A link without faults is good: what `untouched_bytes` and `retargeted_by_target` ask of it holds.
@@ -48,9 +48,10 @@ pub fn faultless_is_good()
 /// An input section in an output section is one of the link; and those that stayed are those of the new link that the
 /// old one has too.
 pub fn stayed_in_both()
-    ensures linked { (link : GoodLink) (output : PlacedOutput) (z : PlacedPiece) → Contains link.layout.sections output
-        → Contains output.pieces z
-        → Contains (link_pieces link) (linked_piece link.project (segments link.layout.sections) output z) }
+    ensures linked { (link : GoodLink) (output : PlacedOutput) (placed : PlacedPiece)
+        → Contains link.layout.sections output
+        → Contains output.pieces placed
+        → Contains (link_pieces link) (linked_piece link.project (segments link.layout.sections) output placed) }
     ensures stayed { (old new : GoodLink) (piece : LinkedPiece)
         → Contains (stayed old new) piece ↔ (Contains (link_pieces new) piece × (has_stayed old piece ≡ true)) }
 {}
@@ -129,15 +130,15 @@ pub fn stayed_by_part()
         → Contains (sites new.project new.layout) site → lies_in_stayed old new site ≡ true
         → (piece : LinkedPiece) × Contains (stayed old new) piece × Contains (sites_in new.project piece) site }
     ensures moved { (old new : GoodLink) → IsPlacedOnce new.project new.layout
-        → IsPermutation (filter (λ t. lies_in_stayed old new t && is_moved old new t)
+        → IsPermutation (filter (λ site. lies_in_stayed old new site && is_moved old new site)
         (sites new.project new.layout)) (retargeted old new) }
     ensures valued { (old new : GoodLink) → IsPlacedOnce new.project new.layout → IsGood old → IsGood new
         → (test : Site → Bool) → ((site : Site) → Contains (sites new.project new.layout) site
         → lies_in_stayed old new site ≡ true → (test site ≡ false) ↔ HasSameValue old new site)
-        → IsPermutation (filter (λ t. lies_in_stayed old new t && test t) (sites new.project new.layout))
+        → IsPermutation (filter (λ site. lies_in_stayed old new site && test site) (sites new.project new.layout))
         (retargeted old new) }
     ensures outside { (old new : GoodLink) → IsPlacedOnce new.project new.layout
-        → IsPermutation (filter (λ t. not (lies_in_stayed old new t)) (sites new.project new.layout))
+        → IsPermutation (filter (λ site. not (lies_in_stayed old new site)) (sites new.project new.layout))
         (sites_outside old new) }
 {}
 

@@ -11,14 +11,14 @@ pub fn lines_without_feed()
 /// No spelling of a command begins another: a text that begins with two commands begins with one, and what follows it
 /// is the same.
 pub fn one_first_command()
-    ensures { (command d : Command) (x y : List ℕ) → IsCommand command → IsCommand d
-        → spelling command ++ x ≡ spelling d ++ y → (command ≡ d) × (x ≡ y) }
+    ensures { (command other : Command) (x y : List ℕ) → IsCommand command → IsCommand other
+        → spelling command ++ x ≡ spelling other ++ y → (command ≡ other) × (x ≡ y) }
 {}
 
 /// No stream is cut into commands in two ways: where no command begins what is left, the commands are the same and so
 /// is what is left.
 pub fn one_cutting()
-    ensures { (cs ds : List Command) (tail rest : List ℕ) → AreCommands cs → AreCommands ds
+    ensures { (ones others : List Command) (tail rest : List ℕ) → AreCommands ones → AreCommands others
         → (BeginsCommand tail → ⊥) → (BeginsCommand rest → ⊥)
-        → flat_map spelling cs ++ tail ≡ flat_map spelling ds ++ rest → (cs ≡ ds) × (tail ≡ rest) }
+        → flat_map spelling ones ++ tail ≡ flat_map spelling others ++ rest → (ones ≡ others) × (tail ≡ rest) }
 {}

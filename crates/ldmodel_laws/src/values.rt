@@ -7,13 +7,15 @@ ghost use Rattle.ldmodel_laws.specs.Bounds.{DoAgree, HasSmallNumbers, IsSmallSco
 
 /// The value of an expression is below 2^64, where its numbers, `.` and the numbers that its scope gives are.
 pub fn value_is_small()
-    ensures { (s : Scope) (dot : ℕ) (e : Expr) (x : ℕ) → IsSmallScope s → dot < 2 ^ 64 → HasSmallNumbers e
-        → value s dot e ≡ Ok x → x < 2 ^ 64 }
+    ensures { (scope : Scope) (dot : ℕ) (expression : Expr) (x : ℕ) → IsSmallScope scope → dot < 2 ^ 64
+        → HasSmallNumbers expression
+        → value scope dot expression ≡ Ok x → x < 2 ^ 64 }
 {}
 
 /// Where an expression has a value in two scopes that agree on what both have, it is the same one: so a layout in which
 /// another PROVIDE is in force stands where it stood, as long as it has no fault.
 pub fn values_agree()
-    ensures { (s t : Scope) (dot : ℕ) (e : Expr) (x y : ℕ) → DoAgree s t → value s dot e ≡ Ok x → value t dot e ≡ Ok y
+    ensures { (one other : Scope) (dot : ℕ) (expression : Expr) (x y : ℕ) → DoAgree one other
+        → value one dot expression ≡ Ok x → value other dot expression ≡ Ok y
         → x ≡ y }
 {}

@@ -39,10 +39,10 @@ pub fn rewritten_values()
     ensures entry { (project q : Project) (i : ℕ) → DiffersInContents project q i → (layout : Layout)
         → entry_point project layout
         ≡ entry_point q layout }
-    ensures references { (project q : Project) (i : ℕ) → DiffersInContents project q i
-        → (layout : Layout) (j : ℕ) (a b : NamedObject)
-        → slice_get project.objects j ≡ Some a → slice_get q.objects j ≡ Some b → (symbol : NamedSymbol)
-        → referenced_value project layout a symbol ≡ referenced_value q layout b symbol }
+    ensures references { (project next : Project) (i : ℕ) → DiffersInContents project next i
+        → (layout : Layout) (j : ℕ) (before after : NamedObject)
+        → slice_get project.objects j ≡ Some before → slice_get next.objects j ≡ Some after → (symbol : NamedSymbol)
+        → referenced_value project layout before symbol ≡ referenced_value next layout after symbol }
 {}
 
 /// The map is the same, and so are the headers and the tail of the image, and the assertions that fail.
@@ -68,6 +68,7 @@ pub fn rewritten_layout()
 
 /// Where the first link has no faults, and no relocation of the second project is a fault, neither has the second link.
 pub fn rewritten_link()
-    ensures { (project q : Project) (i : ℕ) → DiffersInContents project q i → (s : Layout) → layout project ≡ Ok s
-        → (link project).status ≡ 0 → relocation_faults q s ≡ [] → link q ≡ good q s }
+    ensures { (project next : Project) (i : ℕ) → DiffersInContents project next i → (placed : Layout)
+        → layout project ≡ Ok placed
+        → (link project).status ≡ 0 → relocation_faults next placed ≡ [] → link next ≡ good next placed }
 {}

@@ -14,22 +14,22 @@ ghost use Rattle.ldmodel_project.specs.declared.staged.StagedObjects.{StagedObje
 /// Symbol tables under keys follow an edit: before it and after it they are the tables of the other objects, and among
 /// them, where the touched object stands, the table of that.
 pub fn tables_follow()
-    ensures before { (entries : List Listed) (s : StagedObjects) (key : ℕ) → ChangesOneObject entries s
-        → edited_key s.step ≡ Some key
-        → HasTableAt key (symbols_under entries key) s.places.before (without_table key (tables_under entries))
+    ensures before { (entries : List Listed) (staged : StagedObjects) (key : ℕ) → ChangesOneObject entries staged
+        → edited_key staged.step ≡ Some key
+        → HasTableAt key (symbols_under entries key) staged.places.before (without_table key (tables_under entries))
         (tables_under entries) }
-    ensures after { (entries : List Listed) (s : StagedObjects) (key : ℕ) → ChangesOneObject entries s
-        → edited_key s.step ≡ Some key
-        → HasTableAt key (symbols_under (next_entries entries s) key) s.places.after
-        (without_table key (tables_under entries)) (tables_under (next_entries entries s)) }
+    ensures after { (entries : List Listed) (staged : StagedObjects) (key : ℕ) → ChangesOneObject entries staged
+        → edited_key staged.step ≡ Some key
+        → HasTableAt key (symbols_under (next_entries entries staged) key) staged.places.after
+        (without_table key (tables_under entries)) (tables_under (next_entries entries staged)) }
 {}
 
 /// Symbol tables under keys are the tables of the objects under their places, where a place stands for each key.
 pub fn tables_by_place()
     ensures { (keys : List ℕ) (objects : List NamedObject) (tables : List (ℕ × List NamedSymbol))
-        → AreKeysDistinct keys → map (λ (t : ℕ × List NamedSymbol). t.0) tables ≡ keys
-        → map (λ (t : ℕ × List NamedSymbol). t.1) tables ≡ symbol_tables objects
-        → map (λ (t : ℕ × List NamedSymbol). (place_or_0 keys t.0, t.1)) tables
+        → AreKeysDistinct keys → map (λ (table : ℕ × List NamedSymbol). table.0) tables ≡ keys
+        → map (λ (table : ℕ × List NamedSymbol). table.1) tables ≡ symbol_tables objects
+        → map (λ (table : ℕ × List NamedSymbol). (place_or_0 keys table.0, table.1)) tables
         ≡ enumerate_from 0 (symbol_tables objects) }
 {}
 

@@ -35,7 +35,7 @@ impl NamedObject {
     /// Where memory runs out.
     pub fn new(alloc: Global, name: &[u8], object: Object) -> Result<NamedObject, NoMemory>
         requires { 0 < length name.now }
-        ensures { IfOk result (λ o. o ≡ record { name = name.now; object = object }) }
+        ensures { IfOk result (λ named. named ≡ record { name = name.now; object = object }) }
     {
         let name = Vec::from_slice(alloc, name)?;
         Ok(NamedObject { name, object })

@@ -53,7 +53,7 @@ fn note_place(places: &mut Vec<Option<usize>>, key: usize, place: usize) -> Resu
 /// Where memory runs out: it takes some for each number up to the greatest key.
 pub fn places_of(alloc: Global, keys: &[usize]) -> Result<Vec<Option<usize>>, NoMemory>
     requires { AreKeysDistinct keys.now }
-    ensures { IfOk result (λ v. HasPlaces keys.now v.items) }
+    ensures { IfOk result (λ places. HasPlaces keys.now places.items) }
 {
     let mut places = Vec::with_capacity(alloc, keys.len())?;
     for (place, key) in keys.iter().enumerate() {
@@ -70,7 +70,7 @@ impl Order {
     /// Where memory runs out: it takes some for each key and for each number up to the greatest key.
     pub fn of(alloc: Global, keys: &[usize]) -> Result<Order, NoMemory>
         requires { AreKeysDistinct keys.now }
-        ensures { IfOk result (λ o. o ≡ keys.now) }
+        ensures { IfOk result (λ order. order ≡ keys.now) }
     {
         let places = places_of(alloc, keys)?;
         let keys = Vec::from_slice(alloc, keys)?;
@@ -103,7 +103,7 @@ impl Order {
 
     /// The key at a place, from 0.
     pub fn key_of(&self, place: usize) -> Option<ObjectKey>
-        ensures { option_map (λ (k : ObjectKey). k.0) result ≡ slice_get self.now place }
+        ensures { option_map (λ (key : ObjectKey). key.0) result ≡ slice_get self.now place }
     {
         match self.keys.get(place) {
             Some(key) => Some(ObjectKey(*key)),

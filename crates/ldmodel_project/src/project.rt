@@ -97,7 +97,8 @@ impl Project {
     /// Where `stage` fails, and as it does. The project is then as it was.
     pub fn edit(&mut self, edit: Edit<'_>) -> Result<(), EditRefusal>
         ensures accepted { OnOk result (After (held self.old) (change_of edit.entry) (Ok (held self.new))) }
-        ensures refused { IfErr result (λ r. RefusedAs (held self.old) (change_of edit.entry) (refusal_of r)) }
+        ensures refused { IfErr result
+            (λ refused. RefusedAs (held self.old) (change_of edit.entry) (refusal_of refused)) }
         ensures unchanged { OnErr result (held self.new ≡ held self.old) }
     {
         match self.stage(edit, &mut Meter::new()) {
@@ -169,7 +170,7 @@ impl<'a> Next<'a> {
     ///
     /// Where memory runs out.
     pub fn inputs(&self, alloc: Global) -> Result<Vec<InputObject<'a>>, NoMemory>
-        ensures { IfOk result (λ v. shown_inputs v.items ≡ objects_of self.now.entries) }
+        ensures { IfOk result (λ found. shown_inputs found.items ≡ objects_of self.now.entries) }
     {
         let mut inputs = Vec::with_capacity(alloc, self.len())?;
         for at in 0..self.len() {

@@ -82,9 +82,9 @@ impl StagedObjects {
 impl Staged {
     /// The object that the edit puts, and the key under which it does.
     pub fn put(&self) -> Option<(ObjectKey, &NamedObject)>
-        ensures some { IfSome result (λ p. put_under self.now.objects.step p.0.0 ≡ Some p.1.now) }
+        ensures some { IfSome result (λ put. put_under self.now.objects.step put.0.0 ≡ Some put.1.now) }
         ensures none { IfNone result ((key : ℕ) → put_under self.now.objects.step key ≡ None) }
-        ensures edited { IfSome result (λ p. edited_key self.now.objects.step ≡ Some p.0.0) }
+        ensures edited { IfSome result (λ put. edited_key self.now.objects.step ≡ Some put.0.0) }
     {
         match &self.objects.step {
             Step::Put { key, named } => Some((ObjectKey(*key), named)),
@@ -94,8 +94,8 @@ impl Staged {
 
     /// The key that the edit removes.
     pub fn removed(&self) -> Option<ObjectKey>
-        ensures removed { option_map (λ (k : ObjectKey). k.0) result ≡ removed_key self.now.objects.step }
-        ensures edited { IfSome result (λ k. edited_key self.now.objects.step ≡ Some k.0) }
+        ensures removed { option_map (λ (key : ObjectKey). key.0) result ≡ removed_key self.now.objects.step }
+        ensures edited { IfSome result (λ key. edited_key self.now.objects.step ≡ Some key.0) }
     {
         match &self.objects.step {
             Step::Remove { key } => Some(ObjectKey(*key)),
@@ -105,7 +105,7 @@ impl Staged {
 
     /// The key of the object that the edit puts, removes or moves; none for an edit of the script.
     pub fn edited(&self) -> Option<ObjectKey>
-        ensures { option_map (λ (k : ObjectKey). k.0) result ≡ edited_key self.now.objects.step }
+        ensures { option_map (λ (key : ObjectKey). key.0) result ≡ edited_key self.now.objects.step }
     {
         match &self.objects.step {
             Step::Put { key, .. } => Some(ObjectKey(*key)),

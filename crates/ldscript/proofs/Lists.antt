@@ -21,7 +21,7 @@ pub record Listed {A : Type 0} (Stop : List Lexeme → Type 0) (c : Rule) (p : A
 split_semicolons : (ts r : List Lexeme) → Semicolons ts r
     → (ts ≡ r) ⊎ ((us : List Lexeme) × mark Semicolon ts us × Semicolons us r)
 split_semicolons ts r none = inl refl
-split_semicolons ts r (one {us = us} m d) = inr (us, m, d)
+split_semicolons ts r (one {middle = us} m d) = inr (us, m, d)
 
 module _ {A : Type 0} {Stop : List Lexeme → Type 0} {c : Rule} {p : A → Rule} where
   -- one `;` less
@@ -80,7 +80,7 @@ module _ {A : Type 0} {Stop : List Lexeme → Type 0} {c : Rule} {p : A → Rule
   pub behind_semicolons : Listed Stop c p → (ts us : List Lexeme) → Semicolons ts us → (ys : List A) (r : List Lexeme)
       → (statements p ys ▸ c) ts r → (statements p ys ▸ c) us r
   behind_semicolons l ts us none ys r d = d
-  behind_semicolons l ts us (one {us = vs} m s) ys r d = behind_semicolons l vs us s ys r
+  behind_semicolons l ts us (one {middle = vs} m s) ys r d = behind_semicolons l vs us s ys r
       (behind_semicolon l ts vs m ys r d)
 
   -- no tokens are two closed lists

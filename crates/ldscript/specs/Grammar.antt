@@ -66,29 +66,30 @@ sort ByAlignment = key Pattern (codes "SORT_BY_ALIGNMENT")
 
 -- EXCLUDE_FILE "(" WORD {WORD} ")"
 abbrev pub exclusion : List (List patterns.Part) → Rule
-exclusion ps = key Pattern (codes "EXCLUDE_FILE") ▸ mark OpenParenthesis ▸ some pattern ps ▸ mark CloseParenthesis
+exclusion files = key Pattern (codes "EXCLUDE_FILE") ▸ mark OpenParenthesis ▸ some pattern files ▸ mark CloseParenthesis
 
 -- [EXCLUDE_FILE "(" WORD {WORD} ")"]: the list is empty where none is written
 abbrev pub excluded : List (List patterns.Part) → Rule
 excluded [] = nothing
-excluded (p ∷ ps) = exclusion (p ∷ ps)
+excluded (first ∷ rest) = exclusion (first ∷ rest)
 
 -- one = [EXCLUDE_FILE "(" WORD {WORD} ")"] WORD
 abbrev pub one : SectionWord → Rule
-one w = excluded w.excluded ▸ pattern w.pattern
+one word = excluded word.excluded ▸ pattern word.pattern
 
 -- WORD, which leaves no file out
 abbrev pub bare : SectionWord → Rule
-bare w ts rest = (w.excluded ≡ []) × pattern w.pattern ts rest
+bare word lexemes rest = (word.excluded ≡ []) × pattern word.pattern lexemes rest
 
 -- what the parentheses of an input statement hold
 abbrev pub selection : Option Sort → List SectionWord → Rule
-selection None ws = some one ws
-selection (Some s) ws = sort s ▸ mark OpenParenthesis ▸ some bare ws ▸ mark CloseParenthesis
+selection None words = some one words
+selection (Some order) words = sort order ▸ mark OpenParenthesis ▸ some bare words ▸ mark CloseParenthesis
 
 -- plain = WORD "(" one {one} ")" | WORD "(" sort "(" WORD {WORD} ")" ")"
 abbrev pub plain : Input → Rule
-plain i = pattern i.file ▸ mark OpenParenthesis ▸ selection i.sort i.sections ▸ mark CloseParenthesis
+plain statement =
+    pattern statement.file ▸ mark OpenParenthesis ▸ selection statement.sort statement.sections ▸ mark CloseParenthesis
 
 -- in KEEP ( ), or not
 abbrev pub kept : Bool → Rule → Rule
@@ -97,57 +98,57 @@ kept true p = key Pattern (codes "KEEP") ▸ mark OpenParenthesis ▸ p ▸ mark
 
 -- input = plain | KEEP "(" plain ")"
 abbrev pub input : Input → Rule
-input i = kept i.keep (plain i)
+input statement = kept statement.keep (plain statement)
 
 -- an expression and the mark after it
 abbrev pub ended : Mark → Expr → Rule
-ended m e = expression e ▸ mark m
+ended last value = expression value ▸ mark last
 
 -- "=" e ";"
 abbrev pub dot_set_to : Expr → Rule
-dot_set_to e = mark Assign ▸ ended Semicolon e
+dot_set_to value = mark Assign ▸ ended Semicolon value
 
 -- "+=" e ";"
 abbrev pub add_to : Expr → Rule
-add_to e = mark AddAssign ▸ ended Semicolon e
+add_to value = mark AddAssign ▸ ended Semicolon value
 
 abbrev pub dot_change : DotCommand → Rule
-dot_change (Set e) = dot_set_to e
-dot_change (Add e) = add_to e
+dot_change (Set value) = dot_set_to value
+dot_change (Add value) = add_to value
 
 -- "." "=" e ";" | "." "+=" e ";"
 abbrev pub dot_command : Mode → DotCommand → Rule
-dot_command mode c = key mode (codes ".") ▸ dot_change c
+dot_command mode command = key mode (codes ".") ▸ dot_change command
 
 -- NAME "=" e ";"
 abbrev pub assign : Mode → Assignment → Rule
-assign mode a = name_in mode a.name ▸ dot_set_to a.value
+assign mode assignment = name_in mode assignment.name ▸ dot_set_to assignment.value
 
 -- "(" NAME "="
 abbrev pub provided_name : List ℕ → Rule
-provided_name n = mark OpenParenthesis ▸ name n ▸ mark Assign
+provided_name spelled = mark OpenParenthesis ▸ name spelled ▸ mark Assign
 
 -- "(" NAME "=" e ")"
 abbrev pub provided_assignment : Assignment → Rule
-provided_assignment a = provided_name a.name ▸ ended CloseParenthesis a.value
+provided_assignment assignment = provided_name assignment.name ▸ ended CloseParenthesis assignment.value
 
 -- provide = PROVIDE "(" NAME "=" e ")"
 abbrev pub provide : Mode → Assignment → Rule
-provide mode a = key mode (codes "PROVIDE") ▸ provided_assignment a
+provide mode assignment = key mode (codes "PROVIDE") ▸ provided_assignment assignment
 
 -- "(" e "," STRING ")"
 abbrev pub asserted : Assertion → Rule
-asserted a = mark OpenParenthesis ▸ ended Comma a.condition ▸ string a.message ▸ mark CloseParenthesis
+asserted stated = mark OpenParenthesis ▸ ended Comma stated.condition ▸ string stated.message ▸ mark CloseParenthesis
 
 -- assert = ASSERT "(" e "," STRING ")"
 abbrev pub assertion : Mode → Assertion → Rule
-assertion mode a = key mode (codes "ASSERT") ▸ asserted a
+assertion mode stated = key mode (codes "ASSERT") ▸ asserted stated
 
 -- NAME "=" e ";" | provide | assert
 abbrev pub directive : Mode → Directive → Rule
-directive mode (directives.Assign a) = assign mode a
-directive mode (directives.Provide a) = provide mode a
-directive mode (directives.Assert a) = assertion mode a
+directive mode (directives.Assign assignment) = assign mode assignment
+directive mode (directives.Provide assignment) = provide mode assignment
+directive mode (directives.Assert stated) = assertion mode stated
 
 -- data = BYTE | SHORT | LONG | QUAD
 abbrev pub width_word : Width → List ℕ
@@ -158,47 +159,47 @@ width_word Quad = codes "QUAD"
 
 -- "(" e ")"
 abbrev pub in_parentheses : Expr → Rule
-in_parentheses e = mark OpenParenthesis ▸ ended CloseParenthesis e
+in_parentheses value = mark OpenParenthesis ▸ ended CloseParenthesis value
 
 -- body = ";" | "." "=" e ";" | "." "+=" e ";" | NAME "=" e ";" | provide | assert | data "(" e ")" | input
 abbrev pub body_command : BodyCommand → Rule
-body_command (body.Dot c) = dot_command Pattern c
-body_command (body.Directive c) = directive Pattern c
-body_command (body.Data w e) = key Pattern (width_word w) ▸ in_parentheses e
-body_command (body.Input i) = input i
+body_command (body.Dot command) = dot_command Pattern command
+body_command (body.Directive command) = directive Pattern command
+body_command (body.Data width value) = key Pattern (width_word width) ▸ in_parentheses value
+body_command (body.Input statement) = input statement
 
 abbrev pub body_statement : BodyStatement → Rule
-body_statement s = on_line s.line (body_command s.command)
+body_statement statement = on_line statement.line (body_command statement.command)
 
 -- fill: `0x` and an even number of 2 to 16 hex digits, no suffix
 abbrev pub fill : List ℕ → Rule
-fill bytes ts rest = (spelled : List ℕ) × (fill_of spelled ≡ Some bytes) × token (Number spelled) ts rest
+fill bytes lexemes rest = (spelled : List ℕ) × (fill_of spelled ≡ Some bytes) × token (Number spelled) lexemes rest
 
 -- AT "(" e ")"
 abbrev pub at_address : Expr → Rule
-at_address e = key Expression (codes "AT") ▸ in_parentheses e
+at_address value = key Expression (codes "AT") ▸ in_parentheses value
 
 abbrev pub load_in_head : Load → Option Expr
 load_in_head Unstated = None
-load_in_head (At e) = Some e
-load_in_head (InRegion r) = None
+load_in_head (At address) = Some address
+load_in_head (InRegion region) = None
 
 -- AT ">" NAME
 abbrev pub at_region : List ℕ → Rule
-at_region r = key Expression (codes "AT") ▸ mark Greater ▸ name r
+at_region spelled = key Expression (codes "AT") ▸ mark Greater ▸ name spelled
 
 abbrev pub load_in_tail : Load → Option (List ℕ)
 load_in_tail Unstated = None
-load_in_tail (At e) = None
-load_in_tail (InRegion r) = Some r
+load_in_tail (At address) = None
+load_in_tail (InRegion region) = Some region
 
 -- ALIGN "(" e ")"
 abbrev pub alignment : Expr → Rule
-alignment e = key Expression (codes "ALIGN") ▸ in_parentheses e
+alignment value = key Expression (codes "ALIGN") ▸ in_parentheses value
 
 -- ">" NAME
 abbrev pub in_region : List ℕ → Rule
-in_region r = mark Greater ▸ name r
+in_region spelled = mark Greater ▸ name spelled
 
 -- "=" fill
 abbrev pub filled : List ℕ → Rule
@@ -207,23 +208,24 @@ filled bytes = mark Assign ▸ fill bytes
 -- [e] ":"
 abbrev pub stated_address : Option Expr → Rule
 stated_address None = mark Colon
-stated_address (Some e) = ended Colon e
+stated_address (Some value) = ended Colon value
 
 -- NAME [e] ":" [AT "(" e ")"] [ALIGN "(" e ")"] "{"
 abbrev pub section_head : OutputSection → Rule
-section_head s = name s.name ▸ stated_address s.address ▸ optional at_address
-    (load_in_head s.load) ▸ optional alignment s.alignment ▸ mark OpenBrace
+section_head output = name output.name ▸ stated_address output.address ▸ optional at_address
+    (load_in_head output.load) ▸ optional alignment output.alignment ▸ mark OpenBrace
 
 -- [">" NAME] [AT ">" NAME] ["=" fill]
 abbrev pub section_tail : OutputSection → Rule
-section_tail s = optional in_region s.region ▸ optional at_region (load_in_tail s.load) ▸ optional filled s.fill
+section_tail output =
+    optional in_region output.region ▸ optional at_region (load_in_tail output.load) ▸ optional filled output.fill
 
 -- section = NAME [e] ":" [AT "(" e ")"] [ALIGN "(" e ")"] "{" {body} "}" [">" NAME] [AT ">" NAME] ["=" fill]
 abbrev pub section : OutputSection → Rule
-section s = section_head s ▸ statements body_statement s.body ▸ mark CloseBrace ▸ section_tail s
+section output = section_head output ▸ statements body_statement output.body ▸ mark CloseBrace ▸ section_tail output
 
 abbrev pub input_statement : InputStatement → Rule
-input_statement s = on_line s.line (input s.input)
+input_statement statement = on_line statement.line (input statement.input)
 
 -- ":" "{" {";" | input} "}"
 abbrev pub discarded : List InputStatement → Rule
@@ -235,17 +237,17 @@ discard inputs = token Discard ▸ discarded inputs
 
 -- item = ";" | "." "=" e ";" | "." "+=" e ";" | NAME "=" e ";" | provide | assert | section
 abbrev pub item_command : ItemCommand → Rule
-item_command (item.Dot c) = dot_command Expression c
-item_command (item.Directive c) = directive Expression c
-item_command (item.Section s) = section s
+item_command (item.Dot command) = dot_command Expression command
+item_command (item.Directive command) = directive Expression command
+item_command (item.Section output) = section output
 item_command (item.Discard inputs) = discard inputs
 
 abbrev pub item_statement : Item → Rule
-item_statement s = on_line s.line (item_command s.command)
+item_statement statement = on_line statement.line (item_command statement.command)
 
 -- NAME ":" ORIGIN "="
 abbrev pub region_head : List ℕ → Rule
-region_head n = name n ▸ mark Colon ▸ key Expression (codes "ORIGIN") ▸ mark Assign
+region_head spelled = name spelled ▸ mark Colon ▸ key Expression (codes "ORIGIN") ▸ mark Assign
 
 -- LENGTH "="
 abbrev pub region_middle : Rule
@@ -253,11 +255,12 @@ region_middle = key Expression (codes "LENGTH") ▸ mark Assign
 
 -- region = NAME ":" ORIGIN "=" e "," LENGTH "=" e
 abbrev pub region : Region → Rule
-region r = on_line r.line (region_head r.name ▸ ended Comma r.origin ▸ region_middle ▸ expression r.extent)
+region stated =
+    on_line stated.line (region_head stated.name ▸ ended Comma stated.origin ▸ region_middle ▸ expression stated.extent)
 
 -- ENTRY "(" NAME ")"
 abbrev pub entry : List ℕ → Rule
-entry n = key Expression (codes "ENTRY") ▸ mark OpenParenthesis ▸ name n ▸ mark CloseParenthesis
+entry spelled = key Expression (codes "ENTRY") ▸ mark OpenParenthesis ▸ name spelled ▸ mark CloseParenthesis
 
 -- MEMORY "{" {region} "}"
 abbrev pub memory : List Region → Rule
@@ -270,14 +273,14 @@ sections items = key Expression (codes "SECTIONS") ▸ mark OpenBrace ▸ statem
 -- top = ";" | ENTRY "(" NAME ")" | MEMORY "{" {region} "}" | SECTIONS "{" {item} "}" | NAME "=" e ";" | provide |
 -- assert
 abbrev pub top_command : Command → Rule
-top_command (top.Entry n) = entry n
+top_command (top.Entry spelled) = entry spelled
 top_command (top.Memory regions) = memory regions
 top_command (top.Sections items) = sections items
-top_command (top.Directive c) = directive Expression c
+top_command (top.Directive command) = directive Expression command
 
 abbrev pub top_statement : Statement → Rule
-top_statement s = on_line s.line (top_command s.command)
+top_statement statement = on_line statement.line (top_command statement.command)
 
 -- script = {top}, all of the tokens
 abbrev pub script : List Statement → List Lexeme → Type 0
-script s ts = statements top_statement s ts []
+script tree lexemes = statements top_statement tree lexemes []

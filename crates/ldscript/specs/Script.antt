@@ -12,27 +12,27 @@ use Rattle.ldscript.specs.declared.refusal.ScriptRefusal.TheVariants.{NotTokens,
 use Rattle.ldscript.specs.declared.refusal.ScriptRefusal.TheVariants.{Limit, NoMemory}
 
 -- the tokens of the text are those that the tree stands for
-pub record IsTree (text : List ℕ) (s : List Statement) : Type 0 where
+pub record IsTree (text : List ℕ) (statements : List Statement) : Type 0 where
   pub lexemes : List Lexeme
   pub tokens : IsTokens text lexemes
-  pub spelled : script s lexemes
+  pub spelled : script statements lexemes
 
 -- nothing clashes, and no `.` is misplaced
-pub record IsSound (s : List Statement) : Type 0 where
-  pub no_clash : HasClash s → ⊥
-  pub no_misplaced_dot : has_misplaced_dot s ≡ false
+pub record IsSound (statements : List Statement) : Type 0 where
+  pub no_clash : HasClash statements → ⊥
+  pub no_misplaced_dot : has_misplaced_dot statements ≡ false
 
 -- a script of the profile
-pub record IsScript (text : List ℕ) (s : List Statement) : Type 0 where
-  pub tree : IsTree text s
-  pub no_clash : HasClash s → ⊥
-  pub no_misplaced_dot : has_misplaced_dot s ≡ false
+pub record IsScript (text : List ℕ) (statements : List Statement) : Type 0 where
+  pub tree : IsTree text statements
+  pub no_clash : HasClash statements → ⊥
+  pub no_misplaced_dot : has_misplaced_dot statements ≡ false
 
 -- tokens for which no tree stands
 pub record IsNoTree (text : List ℕ) : Type 0 where
   pub lexemes : List Lexeme
   pub tokens : IsTokens text lexemes
-  pub none : (s : List Statement) → script s lexemes → ⊥
+  pub none : (statements : List Statement) → script statements lexemes → ⊥
 
 -- a tree in which something clashes
 pub record IsClashing (text : List ℕ) : Type 0 where

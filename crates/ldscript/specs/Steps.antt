@@ -21,16 +21,16 @@ Rule = List Lexeme → List Lexeme → Type 0
 -- one after the other
 infixr 5 ◌▸◌
 abbrev pub ◌▸◌ : Rule → Rule → Rule
-(p ▸ q) ts rest = (us : List Lexeme) × p ts us × q us rest
+(p ▸ q) lexemes rest = (middle : List Lexeme) × p lexemes middle × q middle rest
 
 -- one or the other
 infixr 4 ◌or◌
 abbrev pub ◌or◌ : Rule → Rule → Rule
-(p or q) ts rest = p ts rest ⊎ q ts rest
+(p or q) lexemes rest = p lexemes rest ⊎ q lexemes rest
 
 -- nothing at all
 abbrev pub nothing : Rule
-nothing ts rest = ts ≡ rest
+nothing lexemes rest = lexemes ≡ rest
 
 -- what may stand there or not
 abbrev pub optional : {A : Type 0} → (A → Rule) → Option A → Rule
@@ -44,20 +44,21 @@ each p (x ∷ xs) = p x ▸ each p xs
 
 -- one or more of these
 abbrev pub some : {A : Type 0} → (A → Rule) → List A → Rule
-some p [] ts rest = ⊥
-some p (x ∷ xs) ts rest = (p x ▸ each p xs) ts rest
+some p [] lexemes rest = ⊥
+some p (x ∷ xs) lexemes rest = (p x ▸ each p xs) lexemes rest
 
 -- this token, on any line
 abbrev pub token : Token → Rule
-token t ts rest = (line : ℕ) × (ts ≡ lexeme t line ∷ rest)
+token wanted lexemes rest = (line : ℕ) × (lexemes ≡ lexeme wanted line ∷ rest)
 
 abbrev pub mark : Mark → Rule
-mark m = token (Punctuation m)
+mark wanted = token (Punctuation wanted)
 
 -- any number of `;`
 pub data Semicolons : List Lexeme → List Lexeme → Type 0 where
-  none : {ts : List Lexeme} → Semicolons ts ts
-  one : {ts us rest : List Lexeme} → mark Semicolon ts us → Semicolons us rest → Semicolons ts rest
+  none : {lexemes : List Lexeme} → Semicolons lexemes lexemes
+  one : {lexemes middle rest : List Lexeme} → mark Semicolon lexemes middle → Semicolons middle rest
+      → Semicolons lexemes rest
 
 -- any number of these, with any number of `;` before, between and after them
 abbrev pub statements : {A : Type 0} → (A → Rule) → List A → Rule
@@ -66,44 +67,45 @@ statements p (x ∷ xs) = Semicolons ▸ p x ▸ statements p xs
 
 -- a statement keeps the line of its first token
 abbrev pub on_line : ℕ → Rule → Rule
-on_line line p ts rest = (line ≡ first_line ts) × p ts rest
+on_line line p lexemes rest = (line ≡ first_line lexemes) × p lexemes rest
 
 -- a word in the mode in which a statement begins: a name token, or inside an output section a word token
 abbrev pub word_in : Mode → List ℕ → Token
-word_in Expression w = Name w
-word_in Pattern w = Word w
+word_in Expression word = Name word
+word_in Pattern word = Word word
 
 -- this very word
 abbrev pub key : Mode → List ℕ → Rule
-key mode w = token (word_in mode w)
+key mode word = token (word_in mode word)
 
 -- spelled as a NAME token is: a letter, `_` or `.`, then letters, digits, `_ . $ -`, and no `.-` in front
 unfoldable pub is_name_spelling : List ℕ → Bool
-is_name_spelling w =
-    if is_name_start (slice_index w 0)
-    then (if (slice_index w 0 == 46) && (slice_index w 1 == 45) then false else list_all is_name_byte w)
+is_name_spelling word =
+    if is_name_start (slice_index word 0)
+    then (if (slice_index word 0 == 46) && (slice_index word 1 == 45) then false else list_all is_name_byte word)
     else false
 
 abbrev pub is_name_in : Mode → List ℕ → Bool
-is_name_in Expression n = is_free_name n
-is_name_in Pattern n = is_free_name n && is_name_spelling n
+is_name_in Expression name = is_free_name name
+is_name_in Pattern name = is_free_name name && is_name_spelling name
 
 -- NAME in a mode: inside an output section, at the front of a statement, it is a word token
 abbrev pub name_in : Mode → List ℕ → Rule
-name_in mode n ts rest = IsTrue (is_name_in mode n) × token (word_in mode n) ts rest
+name_in mode name lexemes rest = IsTrue (is_name_in mode name) × token (word_in mode name) lexemes rest
 
 -- NAME among tokens of expression mode
 abbrev pub name : List ℕ → Rule
-name n = name_in Expression n
+name spelled = name_in Expression spelled
 
 -- STRING
 abbrev pub string : List ℕ → Rule
-string s = token (Text s)
+string content = token (Text content)
 
 -- e
 abbrev pub expression : Expr → Rule
-expression e = Spells Whole e
+expression wanted = Spells Whole wanted
 
 -- WORD, which must spell a pattern
 abbrev pub pattern : List patterns.Part → Rule
-pattern p ts rest = (w : List ℕ) × IsTrue (is_free_word w) × spelling.SpellsPattern p w × token (Word w) ts rest
+pattern parts lexemes rest =
+    (word : List ℕ) × IsTrue (is_free_word word) × spelling.SpellsPattern parts word × token (Word word) lexemes rest

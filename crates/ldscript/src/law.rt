@@ -8,7 +8,7 @@ use ldscript_tokens::laws::one_cut;
 
 /// No text has two trees.
 pub fn one_tree()
-    ensures { (text : List ℕ) (s t : List Statement) → IsTree text s → IsTree text t → s ≡ t }
+    ensures { (text : List ℕ) (one other : List Statement) → IsTree text one → IsTree text other → one ≡ other }
 {
     one_cut();
 }

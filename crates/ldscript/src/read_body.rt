@@ -68,7 +68,7 @@ fn body_command<'a>(alloc: Global, tokens: Cursor<'a>) -> Parsed<'a, BodyCommand
 
 /// {body} `}`
 pub fn body<'a>(alloc: Global, tokens: Cursor<'a>) -> Parsed<'a, Sequence<BodyStatement>>
-    ensures { Reads (λ ss. statements body_statement ss ▸ mark Mark.CloseBrace) tokens.entry (λ x. x.0)
+    ensures { Reads (λ block. statements body_statement block ▸ mark Mark.CloseBrace) tokens.entry (λ x. x.0)
         (λ x. x.1) result }
 {
     let mut body = Sequence::new(alloc);

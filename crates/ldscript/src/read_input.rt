@@ -244,7 +244,7 @@ pub fn input<'a>(alloc: Global, tokens: Cursor<'a>) -> Parsed<'a, Input>
 
 /// {`;` | input} `}`
 pub fn inputs<'a>(alloc: Global, tokens: Cursor<'a>) -> Parsed<'a, Sequence<InputStatement>>
-    ensures { Reads (λ ss. statements input_statement ss ▸ mark Mark.CloseBrace) tokens.entry (λ x. x.0)
+    ensures { Reads (λ inputs. statements input_statement inputs ▸ mark Mark.CloseBrace) tokens.entry (λ x. x.0)
         (λ x. x.1) result }
 {
     let mut inputs = Sequence::new(alloc);

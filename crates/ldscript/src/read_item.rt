@@ -72,7 +72,7 @@ fn item_command<'a>(alloc: Global, tokens: Cursor<'a>) -> Parsed<'a, ItemCommand
 
 /// {item} `}`
 pub fn items<'a>(alloc: Global, tokens: Cursor<'a>) -> Parsed<'a, Sequence<Item>>
-    ensures { Reads (λ ss. statements item_statement ss ▸ mark Mark.CloseBrace) tokens.entry (λ x. x.0)
+    ensures { Reads (λ items. statements item_statement items ▸ mark Mark.CloseBrace) tokens.entry (λ x. x.0)
         (λ x. x.1) result }
 {
     let mut items = Sequence::new(alloc);

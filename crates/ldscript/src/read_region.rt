@@ -75,7 +75,8 @@ fn region<'a>(alloc: Global, tokens: Cursor<'a>) -> Parsed<'a, Region>
 
 /// {region} `}`
 pub fn regions<'a>(alloc: Global, tokens: Cursor<'a>) -> Parsed<'a, Sequence<Region>>
-    ensures { Reads (λ rs. each region_part rs ▸ mark Mark.CloseBrace) tokens.entry (λ x. x.0) (λ x. x.1) result }
+    ensures { Reads (λ regions. each region_part regions ▸ mark Mark.CloseBrace) tokens.entry (λ x. x.0)
+        (λ x. x.1) result }
 {
     let mut regions = Sequence::new(alloc);
     let mut rest = tokens;

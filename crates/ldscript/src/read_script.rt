@@ -83,8 +83,8 @@ pub fn statements_of(
     alloc: Global,
     tokens: Cursor<'_>,
 ) -> Result<Option<Sequence<Statement>>, AllocError>
-    ensures { IfOk result (λ found. MatchOption found ((s : List Statement) → script s tokens.entry → ⊥)
-        (λ s. script s tokens.entry)) }
+    ensures { IfOk result (λ found. MatchOption found ((tree : List Statement) → script tree tokens.entry → ⊥)
+        (λ tree. script tree tokens.entry)) }
 {
     let mut statements = Sequence::new(alloc);
     let mut rest = tokens;

@@ -45,9 +45,9 @@ impl Model for Script {
     ghost use Rattle.ldscript.specs.Script.{IsSound};
     ghost use Rattle.ldscript_statements.specs.Tables.{IsTablesOf};
 
-    ghost view = { λ s. s.statements };
+    ghost view = { λ script. script.statements };
 
-    ghost invariant = { λ s. IsSound s.statements × IsTablesOf s.statements s.tables };
+    ghost invariant = { λ script. IsSound script.statements × IsTablesOf script.statements script.tables };
 }
 
 /// The tree of a text. Its tokens are let go before anything else takes memory.
@@ -118,14 +118,14 @@ impl Script {
 
     /// The output sections in the order of the text, `/DISCARD/` not among them.
     pub fn output_sections(&self, alloc: Global) -> Result<Vec<OutputSectionAt<'_>>, AllocError>
-        ensures { IfOk result (λ v. shown_sections v.items ≡ output_sections self.now) }
+        ensures { IfOk result (λ found. shown_sections found.items ≡ output_sections self.now) }
     {
         numbering::output_sections(alloc, self.statements.as_slice())
     }
 
     /// The input statements in the order of the text, those of `/DISCARD/` among them.
     pub fn input_statements(&self, alloc: Global) -> Result<Vec<InputStatementAt<'_>>, AllocError>
-        ensures { IfOk result (λ v. shown_inputs v.items ≡ input_statements self.now) }
+        ensures { IfOk result (λ found. shown_inputs found.items ≡ input_statements self.now) }
     {
         numbering::input_statements(alloc, self.statements.as_slice())
     }
@@ -133,14 +133,14 @@ impl Script {
     /// The assignments of symbols, `PROVIDE`s and `ASSERT`s in the order of the text: outside of `SECTIONS`, in it, and
     /// in output sections.
     pub fn all_directives(&self, alloc: Global) -> Result<Vec<DirectiveAt<'_>>, AllocError>
-        ensures { IfOk result (λ v. shown_directives v.items ≡ all_directives self.now) }
+        ensures { IfOk result (λ found. shown_directives found.items ≡ all_directives self.now) }
     {
         numbering::all_directives(alloc, self.statements.as_slice())
     }
 
     /// The memory regions in the order of the text.
     pub fn regions(&self, alloc: Global) -> Result<Vec<&Region>, AllocError>
-        ensures { IfOk result (λ v. shown_regions v.items ≡ regions self.now) }
+        ensures { IfOk result (λ found. shown_regions found.items ≡ regions self.now) }
     {
         numbering::regions(alloc, self.statements.as_slice())
     }
@@ -151,8 +151,8 @@ impl Script {
     ///
     /// The first refusal that applies, or `NoMemory` where memory runs out.
     pub fn read(alloc: Global, text: &[u8]) -> Result<Script, ScriptRefusal>
-        ensures read { IfOk result (λ s. IsScript text.now s) }
-        ensures refused { IfErr result (λ r. IsRefusal text.now r) }
+        ensures read { IfOk result (λ script. IsScript text.now script) }
+        ensures refused { IfErr result (λ refusal. IsRefusal text.now refusal) }
     {
         let statements = read_tree(alloc, text)?;
         match has_clash(alloc, statements.as_slice()) {

@@ -20,56 +20,56 @@ use Rattle.ldscript_statements.specs.declared.statement.Statement.{Statement}
 
 -- `.`, or an ALIGN of one argument, which stands for one with `.`
 abbrev pub uses_dot : Expr → Bool
-uses_dot e = has_dot e || has_align_dot e
+uses_dot expression = has_dot expression || has_align_dot expression
 
 -- a `.` or such an ALIGN in an ASSERT
 abbrev pub assert_misplaces : Directive → Bool
-assert_misplaces (directives.Assign a) = false
-assert_misplaces (directives.Provide a) = false
-assert_misplaces (directives.Assert a) = uses_dot a.condition
+assert_misplaces (directives.Assign assignment) = false
+assert_misplaces (directives.Provide assignment) = false
+assert_misplaces (directives.Assert assertion) = uses_dot assertion.condition
 
 -- a `.` or such an ALIGN in the expression of a command
 abbrev pub directive_uses_dot : Directive → Bool
-directive_uses_dot (directives.Assign a) = uses_dot a.value
-directive_uses_dot (directives.Provide a) = uses_dot a.value
-directive_uses_dot (directives.Assert a) = uses_dot a.condition
+directive_uses_dot (directives.Assign assignment) = uses_dot assignment.value
+directive_uses_dot (directives.Provide assignment) = uses_dot assignment.value
+directive_uses_dot (directives.Assert assertion) = uses_dot assertion.condition
 
 -- `.` is set to what it may not be set to in an output section
 abbrev pub dot_misplaces : DotCommand → Bool
-dot_misplaces (Set e) = is_none (dot_form e)
-dot_misplaces (Add e) = false
+dot_misplaces (Set expression) = is_none (dot_form expression)
+dot_misplaces (Add expression) = false
 
 abbrev pub body_command_misplaces : BodyCommand → Bool
-body_command_misplaces (body.Dot c) = dot_misplaces c
-body_command_misplaces (body.Directive c) = assert_misplaces c
-body_command_misplaces (body.Data w e) = false
-body_command_misplaces (body.Input i) = false
+body_command_misplaces (body.Dot command) = dot_misplaces command
+body_command_misplaces (body.Directive directive) = assert_misplaces directive
+body_command_misplaces (body.Data width expression) = false
+body_command_misplaces (body.Input input) = false
 
 abbrev pub body_misplaces : BodyStatement → Bool
-body_misplaces s = body_command_misplaces s.command
+body_misplaces statement = body_command_misplaces statement.command
 
 abbrev pub item_command_misplaces : ItemCommand → Bool
-item_command_misplaces (item.Dot c) = false
-item_command_misplaces (item.Directive c) = assert_misplaces c
-item_command_misplaces (item.Section o) = list_any body_misplaces o.body
+item_command_misplaces (item.Dot command) = false
+item_command_misplaces (item.Directive directive) = assert_misplaces directive
+item_command_misplaces (item.Section section) = list_any body_misplaces section.body
 item_command_misplaces (item.Discard inputs) = false
 
 abbrev pub item_misplaces : Item → Bool
-item_misplaces s = item_command_misplaces s.command
+item_misplaces entry = item_command_misplaces entry.command
 
 -- a `.` or such an ALIGN in a region
 abbrev pub region_misplaces : Region → Bool
-region_misplaces r = uses_dot r.origin || uses_dot r.extent
+region_misplaces region = uses_dot region.origin || uses_dot region.extent
 
 abbrev pub top_command_misplaces : Command → Bool
-top_command_misplaces (top.Entry n) = false
+top_command_misplaces (top.Entry name) = false
 top_command_misplaces (top.Memory regions) = list_any region_misplaces regions
 top_command_misplaces (top.Sections items) = list_any item_misplaces items
-top_command_misplaces (top.Directive c) = directive_uses_dot c
+top_command_misplaces (top.Directive directive) = directive_uses_dot directive
 
 abbrev pub top_misplaces : Statement → Bool
-top_misplaces s = top_command_misplaces s.command
+top_misplaces statement = top_command_misplaces statement.command
 
 -- a use of `.` that the profile does not have
 abbrev pub has_misplaced_dot : List Statement → Bool
-has_misplaced_dot s = list_any top_misplaces s
+has_misplaced_dot statements = list_any top_misplaces statements

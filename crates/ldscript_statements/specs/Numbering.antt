@@ -29,7 +29,7 @@ items_of _ = []
 
 abbrev pub items : List Statement → List Item
 items [] = []
-items (s ∷ ss) = items_of s.command ++ items ss
+items (statement ∷ rest) = items_of statement.command ++ items rest
 
 -- an output section and the line of its name
 pub record OutputSectionAt : Type 0 where
@@ -37,16 +37,16 @@ pub record OutputSectionAt : Type 0 where
   pub section : OutputSection
 
 abbrev pub item_sections : ℕ → ItemCommand → List OutputSectionAt
-item_sections line (item.Section s) = (record { line = line; section = s }) ∷ []
+item_sections line (item.Section section) = (record { line = line; section = section }) ∷ []
 item_sections line _ = []
 
 abbrev pub sections_in : List Item → List OutputSectionAt
 sections_in [] = []
-sections_in (i ∷ is) = item_sections i.line i.command ++ sections_in is
+sections_in (first ∷ rest) = item_sections first.line first.command ++ sections_in rest
 
 -- the output sections
 abbrev pub output_sections : List Statement → List OutputSectionAt
-output_sections s = sections_in (items s)
+output_sections statements = sections_in (items statements)
 
 -- an input statement, the line of its first token (that of KEEP, where it has one), and where it stands: in the output
 -- section of a number, or in /DISCARD/
@@ -56,31 +56,35 @@ pub record InputStatementAt : Type 0 where
   pub input : Input
 
 abbrev pub inputs_of : InputPlace → ℕ → BodyCommand → List InputStatementAt
-inputs_of place line (body.Input i) = (record { line = line; place = place; input = i }) ∷ []
+inputs_of place line (body.Input input) = (record { line = line; place = place; input = input }) ∷ []
 inputs_of place line _ = []
 
 abbrev pub inputs_in : InputPlace → List BodyStatement → List InputStatementAt
 inputs_in place [] = []
-inputs_in place (s ∷ ss) = inputs_of place s.line s.command ++ inputs_in place ss
+inputs_in place (statement ∷ rest) = inputs_of place statement.line statement.command ++ inputs_in place rest
 
 abbrev pub discarded_inputs : List InputStatement → List InputStatementAt
 discarded_inputs inputs =
-    map (λ (s : InputStatement). record { line = s.line; place = InDiscard; input = s.input }) inputs
+    map (λ (statement : InputStatement). record {
+      line = statement.line;
+      place = InDiscard;
+      input = statement.input;
+    }) inputs
 
 -- those of a statement of SECTIONS, where number is that of the next output section
 abbrev pub item_inputs : ℕ → ItemCommand → List InputStatementAt
-item_inputs number (item.Section s) = inputs_in (InSection number) s.body
+item_inputs number (item.Section section) = inputs_in (InSection number) section.body
 item_inputs number (item.Discard inputs) = discarded_inputs inputs
 item_inputs number _ = []
 
 abbrev pub inputs_from : ℕ → List Item → List InputStatementAt
 inputs_from number [] = []
-inputs_from number (i ∷ is) = item_inputs number i.command ++ inputs_from
-    (number + length (item_sections i.line i.command)) is
+inputs_from number (first ∷ rest) = item_inputs number first.command ++ inputs_from
+    (number + length (item_sections first.line first.command)) rest
 
 -- the input statements
 abbrev pub input_statements : List Statement → List InputStatementAt
-input_statements s = inputs_from 0 (items s)
+input_statements statements = inputs_from 0 (items statements)
 
 -- an assignment of a symbol, a PROVIDE or an ASSERT, and its line
 pub record DirectiveAt : Type 0 where
@@ -88,31 +92,31 @@ pub record DirectiveAt : Type 0 where
   pub command : Directive
 
 abbrev pub directives_of : ℕ → BodyCommand → List DirectiveAt
-directives_of line (body.Directive c) = (record { line = line; command = c }) ∷ []
+directives_of line (body.Directive directive) = (record { line = line; command = directive }) ∷ []
 directives_of line _ = []
 
 abbrev pub directives_in : List BodyStatement → List DirectiveAt
 directives_in [] = []
-directives_in (s ∷ ss) = directives_of s.line s.command ++ directives_in ss
+directives_in (statement ∷ rest) = directives_of statement.line statement.command ++ directives_in rest
 
 abbrev pub item_directives : ℕ → ItemCommand → List DirectiveAt
-item_directives line (item.Directive c) = (record { line = line; command = c }) ∷ []
-item_directives line (item.Section s) = directives_in s.body
+item_directives line (item.Directive directive) = (record { line = line; command = directive }) ∷ []
+item_directives line (item.Section section) = directives_in section.body
 item_directives line _ = []
 
 abbrev pub items_directives : List Item → List DirectiveAt
 items_directives [] = []
-items_directives (i ∷ is) = item_directives i.line i.command ++ items_directives is
+items_directives (first ∷ rest) = item_directives first.line first.command ++ items_directives rest
 
 abbrev pub top_directives : ℕ → Command → List DirectiveAt
-top_directives line (top.Directive c) = (record { line = line; command = c }) ∷ []
+top_directives line (top.Directive directive) = (record { line = line; command = directive }) ∷ []
 top_directives line (top.Sections items) = items_directives items
 top_directives line _ = []
 
 -- all assignments of symbols, PROVIDEs and ASSERTs: outside of SECTIONS, in it, and in output sections
 abbrev pub all_directives : List Statement → List DirectiveAt
 all_directives [] = []
-all_directives (s ∷ ss) = top_directives s.line s.command ++ all_directives ss
+all_directives (statement ∷ rest) = top_directives statement.line statement.command ++ all_directives rest
 
 -- NAME = e or PROVIDE(NAME = e), and its line
 pub record AssignmentAt : Type 0 where
@@ -120,28 +124,28 @@ pub record AssignmentAt : Type 0 where
   pub assignment : Assignment
 
 abbrev pub assigned_by : ℕ → Directive → List AssignmentAt
-assigned_by line (directives.Assign a) = (record { line = line; assignment = a }) ∷ []
+assigned_by line (directives.Assign assignment) = (record { line = line; assignment = assignment }) ∷ []
 assigned_by line _ = []
 
 abbrev pub assigned_in : List DirectiveAt → List AssignmentAt
 assigned_in [] = []
-assigned_in (c ∷ cs) = assigned_by c.line c.command ++ assigned_in cs
+assigned_in (directive ∷ rest) = assigned_by directive.line directive.command ++ assigned_in rest
 
 -- the assignments of symbols
 abbrev pub assignments : List Statement → List AssignmentAt
-assignments s = assigned_in (all_directives s)
+assignments statements = assigned_in (all_directives statements)
 
 abbrev pub provided_by : ℕ → Directive → List AssignmentAt
-provided_by line (directives.Provide a) = (record { line = line; assignment = a }) ∷ []
+provided_by line (directives.Provide assignment) = (record { line = line; assignment = assignment }) ∷ []
 provided_by line _ = []
 
 abbrev pub provided_in : List DirectiveAt → List AssignmentAt
 provided_in [] = []
-provided_in (c ∷ cs) = provided_by c.line c.command ++ provided_in cs
+provided_in (directive ∷ rest) = provided_by directive.line directive.command ++ provided_in rest
 
 -- the PROVIDEs
 abbrev pub provides : List Statement → List AssignmentAt
-provides s = provided_in (all_directives s)
+provides statements = provided_in (all_directives statements)
 
 -- ASSERT(e, "message"), and its line
 pub record AssertionAt : Type 0 where
@@ -149,16 +153,16 @@ pub record AssertionAt : Type 0 where
   pub assertion : Assertion
 
 abbrev pub asserted_by : ℕ → Directive → List AssertionAt
-asserted_by line (directives.Assert a) = (record { line = line; assertion = a }) ∷ []
+asserted_by line (directives.Assert assertion) = (record { line = line; assertion = assertion }) ∷ []
 asserted_by line _ = []
 
 abbrev pub asserted_in : List DirectiveAt → List AssertionAt
 asserted_in [] = []
-asserted_in (c ∷ cs) = asserted_by c.line c.command ++ asserted_in cs
+asserted_in (directive ∷ rest) = asserted_by directive.line directive.command ++ asserted_in rest
 
 -- the ASSERTs
 abbrev pub asserts : List Statement → List AssertionAt
-asserts s = asserted_in (all_directives s)
+asserts statements = asserted_in (all_directives statements)
 
 -- the memory regions
 abbrev pub regions_in : Command → List Region
@@ -167,7 +171,7 @@ regions_in _ = []
 
 abbrev pub regions : List Statement → List Region
 regions [] = []
-regions (s ∷ ss) = regions_in s.command ++ regions ss
+regions (statement ∷ rest) = regions_in statement.command ++ regions rest
 
 abbrev pub or_later : Command → Option (List ℕ) → Option (List ℕ)
 or_later (top.Entry name) later = Some name
@@ -176,4 +180,4 @@ or_later _ later = later
 -- the name that ENTRY gives, the first one
 abbrev pub entry_of : List Statement → Option (List ℕ)
 entry_of [] = None
-entry_of (s ∷ ss) = or_later s.command (entry_of ss)
+entry_of (statement ∷ rest) = or_later statement.command (entry_of rest)

@@ -21,9 +21,9 @@ impl Model for Fill {
 
     ghost Value = { List ℕ };
 
-    ghost view = { λ f. f.bytes.items };
+    ghost view = { λ fill. fill.bytes.items };
 
-    ghost invariant = { λ f. (0 < length f.bytes.items) × (length f.bytes.items ≤ 8) };
+    ghost invariant = { λ fill. (0 < length fill.bytes.items) × (length fill.bytes.items ≤ 8) };
 }
 
 /// The value of a hex digit.
@@ -79,7 +79,7 @@ impl Fill {
     /// number spells none: that is `0x`, an even number of 2 to 16 hex digits, and no suffix.
     #[tactic(auto, unfolding(crate::specs::Fill::fill_of))]
     pub fn read(alloc: Global, spelled: &[u8]) -> Result<Option<Fill>, AllocError>
-        ensures { IfOk result (λ r. r ≡ fill_of spelled.now) }
+        ensures { IfOk result (λ found. found ≡ fill_of spelled.now) }
     {
         if byte_at(spelled, 0) != b'0' || byte_at(spelled, 1) != b'x' {
             return Ok(None);

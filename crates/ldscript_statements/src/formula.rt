@@ -24,7 +24,7 @@ impl Model for Formula {
 
     ghost coded = { code_by (List Instruction) (Prim.hlevel codes) to_instructions from_instructions from_to };
 
-    ghost view = { λ f. expr_of f.expr };
+    ghost view = { λ formula. expr_of formula.expr };
 }
 
 impl Formula {

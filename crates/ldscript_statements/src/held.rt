@@ -15,7 +15,7 @@ pub struct Held<T> {
 impl<T> Model for Held<T> {
     ghost Value = { T };
 
-    ghost view = { λ h. h.part.value };
+    ghost view = { λ held. held.part.value };
 }
 
 impl<T> Held<T> {
@@ -34,7 +34,7 @@ impl<T: Drop> Held<T> {
     ///
     /// Where memory runs out. The part is then dropped.
     pub fn new(alloc: Global, part: T) -> Result<Held<T>, AllocError>
-        ensures { IfOk result (λ h. h ≡ part) }
+        ensures { IfOk result (λ held. held ≡ part) }
     {
         let part = Box::new(alloc, part)?;
         Ok(Held { part })

@@ -36,7 +36,7 @@ fn any_clashes(alloc: Global, mentions: &[Mention]) -> Result<bool, NoRoom>
 
 /// Whether something is given twice, or a memory region is named before it is declared.
 pub fn has_clash(alloc: Global, statements: &[Statement]) -> Result<bool, NoRoom>
-    ensures { IfOk result (λ b. MatchBool b (HasClash statements.now) (HasClash statements.now → ⊥)) }
+    ensures { IfOk result (λ clashes. MatchBool clashes (HasClash statements.now) (HasClash statements.now → ⊥)) }
 {
     let mut list = Vec::new(alloc);
     note_statements(&mut list, statements)?;

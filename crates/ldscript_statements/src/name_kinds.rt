@@ -21,15 +21,15 @@ pub struct NameKinds {
 impl NameKinds {
     /// Of none.
     pub fn none() -> NameKinds
-        ensures { (q : List ℕ) → has_kind result q ≡ false }
+        ensures { (name : List ℕ) → has_kind result name ≡ false }
     {
         NameKinds { bits: 0 }
     }
 
     /// Notes that a table has a name.
     pub fn note(&mut self, name: &[u8])
-        ensures name { (q : List ℕ) → has_kind self.new q ≡ false → q ≢ name.now }
-        ensures others { (q : List ℕ) → has_kind self.new q ≡ false → has_kind self.old q ≡ false }
+        ensures name { (other : List ℕ) → has_kind self.new other ≡ false → other ≢ name.now }
+        ensures others { (other : List ℕ) → has_kind self.new other ≡ false → has_kind self.old other ≡ false }
     {
         self.bits |= 1 << kind_of(name);
     }

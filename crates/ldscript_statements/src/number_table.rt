@@ -17,7 +17,8 @@ pub struct NumberTable {
     numbers: BTreeMap<Vec<u8>, usize>,
     /// Of its names: most that are looked for are of none of these.
     kinds: NameKinds,
-    ghost known: { AreKindsOf kinds (λ name. is_some (get_by (λ k. slice_cmp nat_cmp name (vec_items k)) numbers)) },
+    ghost known: { AreKindsOf kinds
+        (λ name. is_some (get_by (λ key. slice_cmp nat_cmp name (vec_items key)) numbers)) },
 }
 
 impl NumberTable {

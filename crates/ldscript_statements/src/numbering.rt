@@ -114,7 +114,7 @@ pub fn output_sections<'a>(
     alloc: Global,
     statements: &'a [Statement],
 ) -> Result<Vec<OutputSectionAt<'a>>, AllocError>
-    ensures { IfOk result (λ v. shown_sections v.items ≡ output_sections statements.now) }
+    ensures { IfOk result (λ found. shown_sections found.items ≡ output_sections statements.now) }
 {
     let items = items(alloc, statements)?;
     sections_of_items(alloc, &items)
@@ -217,7 +217,7 @@ pub fn input_statements<'a>(
     alloc: Global,
     statements: &'a [Statement],
 ) -> Result<Vec<InputStatementAt<'a>>, AllocError>
-    ensures { IfOk result (λ v. shown_inputs v.items ≡ input_statements statements.now) }
+    ensures { IfOk result (λ found. shown_inputs found.items ≡ input_statements statements.now) }
 {
     let items = items(alloc, statements)?;
     inputs_of_items(alloc, &items)
@@ -306,7 +306,7 @@ pub fn all_directives<'a>(
     alloc: Global,
     statements: &'a [Statement],
 ) -> Result<Vec<DirectiveAt<'a>>, AllocError>
-    ensures { IfOk result (λ v. shown_directives v.items ≡ all_directives statements.now) }
+    ensures { IfOk result (λ found. shown_directives found.items ≡ all_directives statements.now) }
 {
     let mut list = Vec::new(alloc);
     for statement in statements {
@@ -341,7 +341,7 @@ pub fn regions<'a>(
     alloc: Global,
     statements: &'a [Statement],
 ) -> Result<Vec<&'a Region>, AllocError>
-    ensures { IfOk result (λ v. shown_regions v.items ≡ regions statements.now) }
+    ensures { IfOk result (λ found. shown_regions found.items ≡ regions statements.now) }
 {
     let mut list = Vec::new(alloc);
     for statement in statements {

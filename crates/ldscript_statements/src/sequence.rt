@@ -16,7 +16,7 @@ impl<T> Model for Sequence<T> {
 
     ghost Value = { List T };
 
-    ghost view = { λ s. s.elements.items };
+    ghost view = { λ sequence. sequence.elements.items };
 }
 
 impl<T> Sequence<T> {

@@ -119,7 +119,7 @@ impl Tables {
 
     /// The tables of these statements.
     pub fn of(alloc: Global, statements: &[Statement]) -> Result<Tables, AllocError>
-        ensures { IfOk result (λ t. IsTablesOf statements.now t) }
+        ensures { IfOk result (λ tables. IsTablesOf statements.now tables) }
     {
         let directives = all_directives(alloc, statements)?;
         let assigned = assigned_names(alloc, &directives)?;

@@ -14,13 +14,13 @@ use Rattle.ldscript_terms.proofs.Fronts.{front_same, front_of_spelled, spelled_a
 
 pub none_left : {word : List ℕ} {ps : List Part} → word ≡ [] → SpellsPattern ps word → ps ≡ []
 none_left e nothing = refl
-none_left e (part {p = p} bytes more s eq others) = absurd (nothing_in_front bytes more p s (sym e ∙ eq))
+none_left e (part {first = p} bytes more s eq others) = absurd (nothing_in_front bytes more p s (sym e ∙ eq))
 
 first_of : {word : List ℕ} {ps : List Part} (p : Part) (n : ℕ) → front word ≡ front_part p n → SpellsPattern ps word
     → (0 < length word)
     → (qs : List Part) × (ps ≡ p ∷ qs) × SpellsPattern qs (drop n word)
 first_of p n e nothing some = absurd (omega arith)
-first_of p n e (part {p = q} {ps = qs} {word = word} bytes more s eq others) some =
+first_of p n e (part {first = q} {parts = qs} {word = word} bytes more s eq others) some =
     let f : front word ≡ front_part q (length bytes) = ap front eq ∙ front_of_spelled q bytes more s in
     let h = front_same p q n (length bytes) (sym e ∙ f) in
     let d : more ≡ drop n word = sym
@@ -29,7 +29,7 @@ first_of p n e (part {p = q} {ps = qs} {word = word} bytes more s eq others) som
 
 no_first : {word : List ℕ} {ps : List Part} → front word ≡ None → 0 < length word → SpellsPattern ps word → ⊥
 no_first e some nothing = omega arith
-no_first e some (part {p = q} {word = word} bytes more s eq others) =
+no_first e some (part {first = q} {word = word} bytes more s eq others) =
     let f : front word ≡ front_part q (length bytes) = ap front eq ∙ front_of_spelled q bytes more s in
     cc
 

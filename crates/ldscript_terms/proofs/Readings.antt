@@ -298,7 +298,7 @@ tail_end_more (longer o2 s2 t) o s = longer o2 s2 (tail_end_more t o s)
 -- an expression of a level is its first operand and a tail
 pub level_tail : {n : ℕ} {e : Expr} {ts rest : List Lexeme} → Spells (Within (suc n)) e ts rest
     → (a : Expr) × (us : List Lexeme) × Spells (Within n) a ts us × Tail n a us e rest
-level_tail (operand {e = e} {rest = rest} d) = (e, rest, d, done)
+level_tail (operand {expression = e} {rest = rest} d) = (e, rest, d, done)
 level_tail (binary d o s) = let h = level_tail d in (h.0, h.1, h.2, tail_end_more h.3 o s)
 
 pub tail_stops : {n : ℕ} {a f : Expr} {us rest : List Lexeme} → Tail n a us f rest → Stops (Within (suc n)) rest

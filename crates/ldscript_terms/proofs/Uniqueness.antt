@@ -45,10 +45,11 @@ known (two_arguments b d m d2 c) =
     two_reading b (known d (whole_stops_before m tt)) m (known d2 (whole_stops_before c tt)) c
 known (primary d) = primary_reading (λ op us b. primary_begins_no_unary b d) (known d)
 known (unary b d) = unary_reading b (known d)
-known (operand {n = n} {e = e} {ts = ts} {rest = rest} d) = λ s. level_start (reading_within n e ts rest (known d) s)
+known (operand {n = n} {expression = e} {ts = ts} {rest = rest} d) =
+    λ s. level_start (reading_within n e ts rest (known d) s)
 known (binary {n = n} {b = e} {vs = vs} {rest = rest} d o d2) = λ s. level_step (known d (operator_stops o)) o
     (reading_within n e vs rest (known d2) s)
-known (operators {e = e} {ts = ts} {rest = rest} d) = λ s. operators_reading
+known (operators {expression = e} {ts = ts} {rest = rest} d) = λ s. operators_reading
     (reading_within 9 e ts rest (known d) (whole_stops 9 rest s)) (lacks_question rest s)
 known (choice {test = e} {ts = ts} {us = us} d q d2 c d3) = λ s. choice_reading
     (reading_within 9 e ts us (known d) (within_stops_at 9 q tt)) q (known d2 (whole_stops_before c tt)) c (known d3 s)

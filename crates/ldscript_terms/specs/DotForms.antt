@@ -5,12 +5,12 @@ use Rattle.ldscript_terms.specs.Expressions.{Expr, Dot, Binary, AlignDot, has_do
 
 -- `.` goes on by e; `.` is aligned to e; `.` is the section's start and e
 pub data DotForm : Type 0 where
-  Advance : (e : Expr) → DotForm
-  Align : (e : Expr) → DotForm
-  Offset : (e : Expr) → DotForm
+  Advance : (expression : Expr) → DotForm
+  Align : (expression : Expr) → DotForm
+  Offset : (expression : Expr) → DotForm
 
 -- `. + e`; `ALIGN(e)` where `.` is not in e; an expression with neither `.` nor ALIGN
 abbrev pub dot_form : Expr → Option DotForm
-dot_form (Binary Add Dot e) = Some (Advance e)
-dot_form (AlignDot e) = if has_dot e then None else Some (Align e)
-dot_form e = if has_dot e || has_align e then None else Some (Offset e)
+dot_form (Binary Add Dot expression) = Some (Advance expression)
+dot_form (AlignDot expression) = if has_dot expression then None else Some (Align expression)
+dot_form expression = if has_dot expression || has_align expression then None else Some (Offset expression)

@@ -21,39 +21,39 @@ pub data Expr : Type 0 where
 
 -- the token `.` is in it
 abbrev pub has_dot : Expr → Bool
-has_dot (Number n) = false
+has_dot (Number value) = false
 has_dot Dot = true
-has_dot (Name n) = false
-has_dot (Unary o a) = has_dot a
-has_dot (Binary o a b) = has_dot a || has_dot b
-has_dot (Choice t a b) = has_dot t || has_dot a || has_dot b
-has_dot (OfRegion q n) = false
-has_dot (OfSection q n) = false
+has_dot (Name name) = false
+has_dot (Unary operator a) = has_dot a
+has_dot (Binary operator a b) = has_dot a || has_dot b
+has_dot (Choice test a b) = has_dot test || has_dot a || has_dot b
+has_dot (OfRegion query name) = false
+has_dot (OfSection query name) = false
 has_dot (AlignDot a) = has_dot a
 has_dot (Align a b) = has_dot a || has_dot b
 
 -- an ALIGN of one argument is in it
 abbrev pub has_align_dot : Expr → Bool
-has_align_dot (Number n) = false
+has_align_dot (Number value) = false
 has_align_dot Dot = false
-has_align_dot (Name n) = false
-has_align_dot (Unary o a) = has_align_dot a
-has_align_dot (Binary o a b) = has_align_dot a || has_align_dot b
-has_align_dot (Choice t a b) = has_align_dot t || has_align_dot a || has_align_dot b
-has_align_dot (OfRegion q n) = false
-has_align_dot (OfSection q n) = false
+has_align_dot (Name name) = false
+has_align_dot (Unary operator a) = has_align_dot a
+has_align_dot (Binary operator a b) = has_align_dot a || has_align_dot b
+has_align_dot (Choice test a b) = has_align_dot test || has_align_dot a || has_align_dot b
+has_align_dot (OfRegion query name) = false
+has_align_dot (OfSection query name) = false
 has_align_dot (AlignDot a) = true
 has_align_dot (Align a b) = has_align_dot a || has_align_dot b
 
 -- an ALIGN of one or two arguments is in it
 abbrev pub has_align : Expr → Bool
-has_align (Number n) = false
+has_align (Number value) = false
 has_align Dot = false
-has_align (Name n) = false
-has_align (Unary o a) = has_align a
-has_align (Binary o a b) = has_align a || has_align b
-has_align (Choice t a b) = has_align t || has_align a || has_align b
-has_align (OfRegion q n) = false
-has_align (OfSection q n) = false
+has_align (Name name) = false
+has_align (Unary operator a) = has_align a
+has_align (Binary operator a b) = has_align a || has_align b
+has_align (Choice test a b) = has_align test || has_align a || has_align b
+has_align (OfRegion query name) = false
+has_align (OfSection query name) = false
 has_align (AlignDot a) = true
 has_align (Align a b) = true

@@ -61,29 +61,30 @@ terminal_of (token.Punctuation mark) = Sign mark
 terminal_of _ = Other
 
 -- the tokens begin with a terminal, and these follow
-pub record Begins (ts : List Lexeme) (t : Terminal) (rest : List Lexeme) : Type 0 where
+pub record Begins (lexemes : List Lexeme) (terminal : Terminal) (rest : List Lexeme) : Type 0 where
   pub first : Lexeme
-  pub split : ts ≡ first ∷ rest
-  pub kind : terminal_of first.token ≡ t
+  pub split : lexemes ≡ first ∷ rest
+  pub kind : terminal_of first.token ≡ terminal
 
 -- the tokens begin with an operator that stands before its operand
-pub record BeginsUnary (ts : List Lexeme) (op : UnaryOperator) (rest : List Lexeme) : Type 0 where
+pub record BeginsUnary (lexemes : List Lexeme) (operator : UnaryOperator) (rest : List Lexeme) : Type 0 where
   pub mark : Mark
-  pub begins : Begins ts (Sign mark) rest
-  pub spells : unary_of mark ≡ Some op
+  pub begins : Begins lexemes (Sign mark) rest
+  pub spells : unary_of mark ≡ Some operator
 
 -- the tokens begin with an operator of this level
-pub record BeginsBinary (level : ℕ) (ts : List Lexeme) (op : BinaryOperator) (rest : List Lexeme) : Type 0 where
+pub record BeginsBinary (level : ℕ) (lexemes : List Lexeme) (operator : BinaryOperator)
+    (rest : List Lexeme) : Type 0 where
   pub mark : Mark
-  pub begins : Begins ts (Sign mark) rest
-  pub spells : binary_of mark ≡ Some op
-  pub binds : level_of op ≡ level
+  pub begins : Begins lexemes (Sign mark) rest
+  pub spells : binary_of mark ≡ Some operator
+  pub binds : level_of operator ≡ level
 
 -- the tokens begin with a NAME in parentheses
-pub record BeginsNamed (ts : List Lexeme) (name : List ℕ) (rest : List Lexeme) : Type 0 where
+pub record BeginsNamed (lexemes : List Lexeme) (name : List ℕ) (rest : List Lexeme) : Type 0 where
   pub inner : List Lexeme
   pub outer : List Lexeme
-  pub opens : Begins ts (Sign OpenParenthesis) inner
+  pub opens : Begins lexemes (Sign OpenParenthesis) inner
   pub names : Begins inner (Worded (Free name)) outer
   pub closes : Begins outer (Sign CloseParenthesis) rest
 
@@ -101,26 +102,32 @@ pub data Spells : Level → Expr → List Lexeme → List Lexeme → Type 0 wher
   dot : {ts rest : List Lexeme} → Begins ts (Worded Point) rest → Spells Primary Dot ts rest
   name : {name : List ℕ} {ts rest : List Lexeme} → Begins ts (Worded (Free name)) rest
       → Spells Primary (Name name) ts rest
-  group : {e : Expr} {ts us vs rest : List Lexeme} → Begins ts (Sign OpenParenthesis) us → Spells Whole e us vs
-      → Begins vs (Sign CloseParenthesis) rest → Spells Primary e ts rest
-  of_region : {q : RegionQuery} {name : List ℕ} {ts us rest : List Lexeme} → Begins ts (Worded (AsksRegion q)) us
-      → BeginsNamed us name rest → Spells Primary (OfRegion q name) ts rest
-  of_section : {q : SectionQuery} {name : List ℕ} {ts us rest : List Lexeme} → Begins ts (Worded (AsksSection q)) us
-      → BeginsNamed us name rest → Spells Primary (OfSection q name) ts rest
-  align : {e : Expr} {ts us rest : List Lexeme} → Begins ts (Worded Aligns) us → Spells Arguments e us rest
-      → Spells Primary e ts rest
+  group : {expression : Expr} {ts us vs rest : List Lexeme} → Begins ts (Sign OpenParenthesis) us
+      → Spells Whole expression us vs → Begins vs (Sign CloseParenthesis) rest → Spells Primary expression ts rest
+  of_region : {query : RegionQuery} {name : List ℕ} {ts us rest : List Lexeme}
+      → Begins ts (Worded (AsksRegion query)) us → BeginsNamed us name rest
+      → Spells Primary (OfRegion query name) ts rest
+  of_section : {query : SectionQuery} {name : List ℕ} {ts us rest : List Lexeme}
+      → Begins ts (Worded (AsksSection query)) us → BeginsNamed us name rest
+      → Spells Primary (OfSection query name) ts rest
+  align : {expression : Expr} {ts us rest : List Lexeme} → Begins ts (Worded Aligns) us
+      → Spells Arguments expression us rest → Spells Primary expression ts rest
   one_argument : {a : Expr} {ts us vs rest : List Lexeme} → Begins ts (Sign OpenParenthesis) us → Spells Whole a us vs
       → Begins vs (Sign CloseParenthesis) rest → Spells Arguments (AlignDot a) ts rest
   two_arguments : {a b : Expr} {ts us vs ws xs rest : List Lexeme} → Begins ts (Sign OpenParenthesis) us
       → Spells Whole a us vs → Begins vs (Sign Comma) ws → Spells Whole b ws xs → Begins xs (Sign CloseParenthesis) rest
       → Spells Arguments (Align a b) ts rest
-  primary : {e : Expr} {ts rest : List Lexeme} → Spells Primary e ts rest → Spells (Within 0) e ts rest
-  unary : {op : UnaryOperator} {a : Expr} {ts us rest : List Lexeme} → BeginsUnary ts op us
-      → Spells (Within 0) a us rest → Spells (Within 0) (Unary op a) ts rest
-  operand : {n : ℕ} {e : Expr} {ts rest : List Lexeme} → Spells (Within n) e ts rest → Spells (Within (suc n)) e ts rest
-  binary : {n : ℕ} {op : BinaryOperator} {a b : Expr} {ts us vs rest : List Lexeme} → Spells (Within (suc n)) a ts us
-      → BeginsBinary (suc n) us op vs → Spells (Within n) b vs rest → Spells (Within (suc n)) (Binary op a b) ts rest
-  operators : {e : Expr} {ts rest : List Lexeme} → Spells (Within 9) e ts rest → Spells Whole e ts rest
+  primary : {expression : Expr} {ts rest : List Lexeme} → Spells Primary expression ts rest
+      → Spells (Within 0) expression ts rest
+  unary : {operator : UnaryOperator} {a : Expr} {ts us rest : List Lexeme} → BeginsUnary ts operator us
+      → Spells (Within 0) a us rest → Spells (Within 0) (Unary operator a) ts rest
+  operand : {n : ℕ} {expression : Expr} {ts rest : List Lexeme} → Spells (Within n) expression ts rest
+      → Spells (Within (suc n)) expression ts rest
+  binary : {n : ℕ} {operator : BinaryOperator} {a b : Expr} {ts us vs rest : List Lexeme}
+      → Spells (Within (suc n)) a ts us → BeginsBinary (suc n) us operator vs → Spells (Within n) b vs rest
+      → Spells (Within (suc n)) (Binary operator a b) ts rest
+  operators : {expression : Expr} {ts rest : List Lexeme} → Spells (Within 9) expression ts rest
+      → Spells Whole expression ts rest
   choice : {test a b : Expr} {ts us vs ws xs rest : List Lexeme} → Spells (Within 9) test ts us
       → Begins us (Sign Question) vs → Spells Whole a vs ws → Begins ws (Sign Colon) xs → Spells Whole b xs rest
       → Spells Whole (Choice test a b) ts rest

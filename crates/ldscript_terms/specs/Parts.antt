@@ -11,11 +11,11 @@ pub data Part : Type 0 where
   OneOf : (ranges : List ByteRange) → Part
 
 abbrev pub range : ℕ → ℕ → ByteRange
-range x y = record { from = x; to = y }
+range from to = record { from = from; to = to }
 
 -- the bytes from one to another, with both ends; none where the second is below the first
 abbrev pub is_in : ℕ → ByteRange → Bool
-is_in byte r = nat_le r.from byte && nat_le byte r.to
+is_in byte range = nat_le range.from byte && nat_le byte range.to
 
 abbrev pub is_in_any : ℕ → List ByteRange → Bool
 is_in_any byte ranges = list_any (is_in byte) ranges
@@ -23,6 +23,8 @@ is_in_any byte ranges = list_any (is_in byte) ranges
 -- the ranges of a set, read from the left: `x-y` is a range, and any other byte is itself
 abbrev pub ranges_of : List ℕ → List ByteRange
 ranges_of [] = []
-ranges_of (x ∷ []) = range x x ∷ []
-ranges_of (x ∷ m ∷ []) = range x x ∷ range m m ∷ []
-ranges_of (x ∷ m ∷ y ∷ bytes) = if m == 45 then range x y ∷ ranges_of bytes else range x x ∷ ranges_of (m ∷ y ∷ bytes)
+ranges_of (first ∷ []) = range first first ∷ []
+ranges_of (first ∷ second ∷ []) = range first first ∷ range second second ∷ []
+ranges_of (first ∷ second ∷ third ∷ bytes) =
+    if second == 45 then range first third ∷ ranges_of bytes
+    else range first first ∷ ranges_of (second ∷ third ∷ bytes)

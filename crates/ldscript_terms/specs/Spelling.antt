@@ -7,13 +7,13 @@ use Rattle.ldscript_terms.specs.Parts.{Part, AnyRun, AnyByte, Byte, OneOf, range
 
 -- A-Z a-z 0-9 _ . $ / -
 abbrev pub is_plain : ℕ → Bool
-is_plain b =
-    (nat_le 65 b && nat_le b 90) || (nat_le 97 b && nat_le b 122) || (nat_le 48 b && nat_le b 57)
-    || (b == 95) || (b == 46) || (b == 36) || (b == 47) || (b == 45)
+is_plain byte =
+    (nat_le 65 byte && nat_le byte 90) || (nat_le 97 byte && nat_le byte 122) || (nat_le 48 byte && nat_le byte 57)
+    || (byte == 95) || (byte == 46) || (byte == 36) || (byte == 47) || (byte == 45)
 
 -- those, and * ?
 abbrev pub is_set_byte : ℕ → Bool
-is_set_byte b = is_plain b || (b == 42) || (b == 63)
+is_set_byte byte = is_plain byte || (byte == 42) || (byte == 63)
 
 -- what stands between `[` and `]`: one or more bytes of a set
 abbrev pub IsSetBody : List ℕ → Type 0
@@ -23,17 +23,18 @@ IsSetBody body = (body ≢ []) × (list_all is_set_byte body ≡ true)
 abbrev pub SpellsPart : Part → List ℕ → Type 0
 SpellsPart AnyRun bytes = bytes ≡ 42 ∷ []
 SpellsPart AnyByte bytes = bytes ≡ 63 ∷ []
-SpellsPart (Byte b) bytes = ((is_plain b ≡ true) × (bytes ≡ b ∷ [])) ⊎ ((is_escapable b ≡ true) × (bytes ≡ 92 ∷ b ∷ []))
+SpellsPart (Byte byte) bytes =
+    ((is_plain byte ≡ true) × (bytes ≡ byte ∷ [])) ⊎ ((is_escapable byte ≡ true) × (bytes ≡ 92 ∷ byte ∷ []))
 SpellsPart (OneOf ranges) bytes =
     (body : List ℕ) × IsSetBody body × (ranges ≡ ranges_of body) × (bytes ≡ 91 ∷ (body ++ 93 ∷ []))
 
 -- part by part, and nothing else
 pub data SpellsPattern : List Part → List ℕ → Type 0 where
   nothing : SpellsPattern [] []
-  part : {p : Part} {ps : List Part} {word : List ℕ} (bytes rest : List ℕ) → SpellsPart p bytes → word ≡ bytes ++ rest
-      → SpellsPattern ps rest → SpellsPattern (p ∷ ps) word
+  part : {first : Part} {parts : List Part} {word : List ℕ} (bytes rest : List ℕ) → SpellsPart first bytes
+      → word ≡ bytes ++ rest → SpellsPattern parts rest → SpellsPattern (first ∷ parts) word
 
 -- a word spells this pattern and no other
-pub record IsPatternOf (word : List ℕ) (ps : List Part) : Type 0 where
-  pub spelled : SpellsPattern ps word
-  pub only : (qs : List Part) → SpellsPattern qs word → qs ≡ ps
+pub record IsPatternOf (word : List ℕ) (parts : List Part) : Type 0 where
+  pub spelled : SpellsPattern parts word
+  pub only : (others : List Part) → SpellsPattern others word → others ≡ parts

@@ -92,7 +92,7 @@ pub fn read_head<'a>(tokens: &Cursor<'a>) -> Option<(Head<'a>, Cursor<'a>)>
 
 /// The mark that comes next, and what follows it.
 pub fn sign<'a>(tokens: &Cursor<'a>) -> Option<(Mark, Cursor<'a>)>
-    ensures { MatchOption result ((m : Mark) (r : List Lexeme) → Begins tokens.now (Sign m) r → ⊥)
+    ensures { MatchOption result ((mark : Mark) (rest : List Lexeme) → Begins tokens.now (Sign mark) rest → ⊥)
         (λ x. Begins tokens.now (Sign x.0) x.1) }
 {
     let Some((kind, _, _, rest)) = tokens.copy().next() else {
@@ -106,7 +106,7 @@ pub fn sign<'a>(tokens: &Cursor<'a>) -> Option<(Mark, Cursor<'a>)>
 
 /// What follows this mark, if it comes next.
 pub fn after<'a>(tokens: &Cursor<'a>, wanted: Mark) -> Option<Cursor<'a>>
-    ensures { MatchOption result ((r : List Lexeme) → Begins tokens.now (Sign wanted) r → ⊥)
+    ensures { MatchOption result ((rest : List Lexeme) → Begins tokens.now (Sign wanted) rest → ⊥)
         (λ rest. Begins tokens.now (Sign wanted) rest) }
 {
     let Some((mark, rest)) = sign(tokens) else {
@@ -117,7 +117,8 @@ pub fn after<'a>(tokens: &Cursor<'a>, wanted: Mark) -> Option<Cursor<'a>>
 
 /// The operator before an operand that comes next, and what follows it.
 pub fn unary_ahead<'a>(tokens: &Cursor<'a>) -> Option<(UnaryOperator, Cursor<'a>)>
-    ensures { MatchOption result ((op : UnaryOperator) (r : List Lexeme) → BeginsUnary tokens.now op r → ⊥)
+    ensures { MatchOption result
+        ((operator : UnaryOperator) (rest : List Lexeme) → BeginsUnary tokens.now operator rest → ⊥)
         (λ x. BeginsUnary tokens.now x.0 x.1) }
 {
     let Some((mark, rest)) = sign(tokens) else {
@@ -132,8 +133,9 @@ pub fn unary_ahead<'a>(tokens: &Cursor<'a>) -> Option<(UnaryOperator, Cursor<'a>
 /// The operator of the level above `below` that comes next, and what follows it.
 pub fn binary_ahead<'a>(below: u8, tokens: &Cursor<'a>) -> Option<(BinaryOperator, Cursor<'a>)>
     requires { below < 9 }
-    ensures { MatchOption result ((op : BinaryOperator) (r : List Lexeme) → BeginsBinary (suc below) tokens.now op r
-        → ⊥) (λ x. BeginsBinary (suc below) tokens.now x.0 x.1) }
+    ensures { MatchOption result
+        ((operator : BinaryOperator) (rest : List Lexeme) → BeginsBinary (suc below) tokens.now operator rest → ⊥)
+        (λ x. BeginsBinary (suc below) tokens.now x.0 x.1) }
 {
     let Some((mark, rest)) = sign(tokens) else {
         return None;
@@ -164,7 +166,7 @@ fn free_name<'a>(tokens: &Cursor<'a>) -> Option<(&'a [u8], Cursor<'a>)>
 
 /// The name in parentheses that comes next, and what follows it.
 pub fn name_in_parentheses<'a>(tokens: &Cursor<'a>) -> Option<(&'a [u8], Cursor<'a>)>
-    ensures { MatchOption result ((n : List ℕ) (r : List Lexeme) → BeginsNamed tokens.now n r → ⊥)
+    ensures { MatchOption result ((name : List ℕ) (rest : List Lexeme) → BeginsNamed tokens.now name rest → ⊥)
         (λ x. BeginsNamed tokens.now x.0.now x.1) }
 {
     let Some(inner) = after(tokens, Mark::OpenParenthesis) else {

@@ -107,7 +107,7 @@ fn matches_behind_star(word: &[u8], name: &[u8]) -> bool
 
 /// Whether the parts that a word spells match the whole name.
 pub fn matches_word(word: &[u8], name: &[u8]) -> bool
-    ensures { (ps : List Part) → SpellsPattern ps word.now → IsTrue result ↔ Matches ps name.now }
+    ensures { (parts : List Part) → SpellsPattern parts word.now → IsTrue result ↔ Matches parts name.now }
 {
     match try_front(word, name) {
         Tried::Whole => true,

@@ -38,9 +38,9 @@ impl Model for Pattern {
 
     ghost Value = { List Part };
 
-    ghost view = { λ p. parts_in p.form };
+    ghost view = { λ pattern. parts_in pattern.form };
 
-    ghost invariant = { λ p. IsForm p.form };
+    ghost invariant = { λ pattern. IsForm pattern.form };
 }
 
 /// What is kept of the pattern that a word spells.
@@ -63,8 +63,8 @@ impl Pattern {
     ///
     /// Where memory runs out.
     pub fn read(alloc: Global, word: &[u8]) -> Result<Option<Pattern>, AllocError>
-        ensures { IfOk result (λ r. MatchOption r ((ps : List Part) → SpellsPattern ps word.now → ⊥)
-            (λ p. IsPatternOf word.now p)) }
+        ensures { IfOk result (λ found. MatchOption found ((parts : List Part) → SpellsPattern parts word.now → ⊥)
+            (λ parts. IsPatternOf word.now parts)) }
     {
         if !is_spelled(word) {
             return Ok(None);

@@ -68,8 +68,8 @@ pub fn is_spelled(word: &[u8]) -> bool
 
 /// The bytes of the pattern that a word spells, if it has bytes alone.
 pub fn exact_bytes(alloc: Global, word: &[u8]) -> Result<Option<Vec<u8>>, AllocError>
-    ensures { IfOk result (λ r. (ps : List Part) → SpellsPattern ps word.now
-        → option_map (λ v. v.items) r ≡ exact_name ps) }
+    ensures { IfOk result (λ found. (parts : List Part) → SpellsPattern parts word.now
+        → option_map (λ bytes. bytes.items) found ≡ exact_name parts) }
 {
     let mut bytes = Vec::new(alloc);
     let mut rest = word;

@@ -42,7 +42,7 @@ pub cut_token : {text : List ℕ} {at n : ℕ} {p : LexState} {t : Token} {ls : 
     → (rest : List Lexeme) × (ls ≡ lexeme t (line_at text at) ∷ rest) × IsCutFrom text (at + n) (state_after p t) rest
 cut_token h (ended e) = absurd (cc)
 cut_token h (blank e r) = absurd (cc)
-cut_token {text} {at} {n} {p} {t} h (token {n = m} {t = u} {ls = rest} e r) =
+cut_token {text} {at} {n} {p} {t} h (token {n = m} {token = u} {lexemes = rest} e r) =
     let a : u ≡ t = cc in
     let b : m ≡ n = cc in (
       rest,
@@ -55,7 +55,7 @@ pub one_cut : {text : List ℕ} {at : ℕ} {p : LexState} {ls ms : List Lexeme} 
     → IsCutFrom text at p ms → ms ≡ ls
 one_cut (ended e) other = cut_end e other
 one_cut (blank e rest) other = one_cut rest (cut_blank e other)
-one_cut {text} {at} (token {t = t} e rest) other = let o = cut_token e other in o.1
+one_cut {text} {at} (token {token = t} e rest) other = let o = cut_token e other in o.1
     ∙ ap (λ v. lexeme t (line_at text at) ∷ v) (one_cut rest o.2)
 
 -- so far these tokens are cut, and what the text has from an index on goes on from them

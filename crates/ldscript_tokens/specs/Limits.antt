@@ -39,23 +39,24 @@ pub record ModedToken : Type 0 where
 
 -- the `(` that begins a stretch belongs to it, and so counts as one of expression mode
 abbrev pub counted_mode : LexState → Token → Mode
-counted_mode p t = mode_in (mode_of p) p.stretch t where
+counted_mode state token = mode_in (mode_of state) state.stretch token where
   mode_in : Mode → ExpressionStretch → Token → Mode
   mode_in mode Awaited (Punctuation OpenParenthesis) = Expression
-  mode_in mode s t = mode
+  mode_in mode stretch token = mode
 
 -- tokens that stand from a place on, each with the mode in which it counts
 abbrev pub moded : LexState → List Token → List ModedToken
-moded p [] = []
-moded p (t ∷ ts) = record { token = t; mode = counted_mode p t } ∷ moded (state_after p t) ts
+moded state [] = []
+moded state (token ∷ tokens) =
+    record { token = token; mode = counted_mode state token } ∷ moded (state_after state token) tokens
 
 -- what no run goes through: a token of pattern mode, `;`, `{` and `}`
 abbrev pub is_break : Mode → Token → Bool
-is_break Pattern t = true
+is_break Pattern token = true
 is_break Expression (Punctuation Semicolon) = true
 is_break Expression (Punctuation OpenBrace) = true
 is_break Expression (Punctuation CloseBrace) = true
-is_break Expression t = false
+is_break Expression token = false
 
 -- ( ! - ~ * / % + << >> < <= > >= == != & && | || ?
 abbrev pub is_sign_mark : Mark → Bool
@@ -83,30 +84,30 @@ is_sign_mark Question = true
 is_sign_mark _ = false
 
 abbrev pub is_sign : Token → Bool
-is_sign (Punctuation m) = is_sign_mark m
+is_sign (Punctuation mark) = is_sign_mark mark
 is_sign _ = false
 
 -- each run without a break has at most 64 signs
 abbrev pub HasShortRuns : List ModedToken → Type 0
-HasShortRuns ms =
-    (before run after : List ModedToken) → ms ≡ before ++ (run ++ after)
-    → list_any (λ m. is_break m.mode m.token) run ≡ false
-    → count_by (λ m. is_sign m.token) run ≤ 64
+HasShortRuns tokens =
+    (before run after : List ModedToken) → tokens ≡ before ++ (run ++ after)
+    → list_any (λ token. is_break token.mode token.token) run ≡ false
+    → count_by (λ token. is_sign token.token) run ≤ 64
 
 -- the limits on the tokens of a whole text
-pub record IsWithinLimits (ts : List Token) : Type 0 where
-  pub spellings : All HasShortSpelling ts
-  pub braces : count_by is_open_brace ts ≤ 4096
-  pub runs : HasShortRuns (moded at_start ts)
+pub record IsWithinLimits (tokens : List Token) : Type 0 where
+  pub spellings : All HasShortSpelling tokens
+  pub braces : count_by is_open_brace tokens ≤ 4096
+  pub runs : HasShortRuns (moded at_start tokens)
 
 abbrev pub tokens_of : List Lexeme → List Token
-tokens_of ls = map (λ l. l.token) ls
+tokens_of lexemes = map (λ lexeme. lexeme.token) lexemes
 
 -- the tokens of a script: those of a text of at most 2^20 bytes, within the limits
-pub record IsTokens (text : List ℕ) (ls : List Lexeme) : Type 0 where
+pub record IsTokens (text : List ℕ) (lexemes : List Lexeme) : Type 0 where
   pub short : length text ≤ 2 ^ 20
-  pub cut : IsCut text ls
-  pub limits : IsWithinLimits (tokens_of ls)
+  pub cut : IsCut text lexemes
+  pub limits : IsWithinLimits (tokens_of lexemes)
 
 -- tokens past a limit
 pub record IsPastLimits (text : List ℕ) : Type 0 where
@@ -117,5 +118,5 @@ pub record IsPastLimits (text : List ℕ) : Type 0 where
 -- why a text has no tokens of a script; out of memory says nothing of it
 abbrev pub IsTokenRefusal : List ℕ → TokenRefusal → Type 0
 IsTokenRefusal text Limit = (2 ^ 20 < length text) ⊎ IsPastLimits text
-IsTokenRefusal text NotAToken = (length text ≤ 2 ^ 20) × ((ls : List Lexeme) → IsCut text ls → ⊥)
+IsTokenRefusal text NotAToken = (length text ≤ 2 ^ 20) × ((lexemes : List Lexeme) → IsCut text lexemes → ⊥)
 IsTokenRefusal text NoMemory = Unit {0}

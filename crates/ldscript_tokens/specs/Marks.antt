@@ -21,7 +21,7 @@ pub record MarkRow : Type 0 where
   pub mark : Mark
 
 abbrev pub mark_row : List ℕ → Mark → MarkRow
-mark_row bytes m = record { spelled = bytes; mark = m }
+mark_row bytes mark = record { spelled = bytes; mark = mark }
 
 -- the marks of the language
 abbrev pub marks : List MarkRow
@@ -69,16 +69,16 @@ is_pattern_mark AddAssign = true
 is_pattern_mark _ = false
 
 abbrev pub is_mark_in : Mode → Mark → Bool
-is_mark_in Expression m = true
-is_mark_in Pattern m = is_pattern_mark m
+is_mark_in Expression mark = true
+is_mark_in Pattern mark = is_pattern_mark mark
 
 -- the row of the mark that is spelled so
 unfoldable pub spelled_row : List ℕ → Option MarkRow
-spelled_row bytes = find (λ r. bytes_eq r.spelled bytes) marks
+spelled_row bytes = find (λ row. bytes_eq row.spelled bytes) marks
 
 abbrev pub row_in : Mode → Option MarkRow → Option MarkRow
 row_in mode None = None
-row_in mode (Some r) = cond (is_mark_in mode r.mark) (Some r) None
+row_in mode (Some row) = cond (is_mark_in mode row.mark) (Some row) None
 
 -- the longest mark of a mode, of at most this number of bytes, that stands at the front of a text
 abbrev pub longest_within : ℕ → Mode → List ℕ → Option MarkRow
@@ -88,7 +88,7 @@ longest_within (suc n) mode text =
 
 -- the number of bytes of the longest mark of all
 abbrev pub longest_spelling : ℕ
-longest_spelling = fold (λ n r. max n (length r.spelled)) 0 marks
+longest_spelling = fold (λ n row. max n (length row.spelled)) 0 marks
 
 -- the longest mark of a mode that stands at the front of a text
 unfoldable pub longest_mark : Mode → List ℕ → Option MarkRow

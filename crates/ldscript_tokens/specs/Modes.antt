@@ -21,7 +21,7 @@ mode_at depth ToSemicolon = Expression
 mode_at depth (ToParenthesis n) = Expression
 
 abbrev pub mode_of : LexState → Mode
-mode_of p = mode_at p.depth p.stretch
+mode_of state = mode_at state.depth state.stretch
 
 -- the number of `{` less that of `}`, which stops at 0 at each `}`
 abbrev pub depth_after : ℕ → Token → ℕ
@@ -34,17 +34,17 @@ abbrev pub stretch_words : List (List ℕ)
 stretch_words = codes "BYTE" ∷ codes "SHORT" ∷ codes "LONG" ∷ codes "QUAD" ∷ codes "PROVIDE" ∷ codes "ASSERT" ∷ []
 
 unfoldable pub is_stretch_word : List ℕ → Bool
-is_stretch_word word = list_any (λ w. bytes_eq w word) stretch_words
+is_stretch_word word = list_any (λ listed. bytes_eq listed word) stretch_words
 
 -- after a token read in pattern mode (a `(` that begins a stretch belongs to it, and is the same token in both
 -- modes): `=` and `+=` begin a stretch to the next `;`, and so does a `(` right after
 -- a word of those to the `)` that matches it
 abbrev pub stretch_opened : ExpressionStretch → Token → ExpressionStretch
-stretch_opened s (Punctuation Assign) = ToSemicolon
-stretch_opened s (Punctuation AddAssign) = ToSemicolon
+stretch_opened stretch (Punctuation Assign) = ToSemicolon
+stretch_opened stretch (Punctuation AddAssign) = ToSemicolon
 stretch_opened Awaited (Punctuation OpenParenthesis) = ToParenthesis 1
-stretch_opened s (Word w) = if is_stretch_word w then Awaited else Closed
-stretch_opened s _ = Closed
+stretch_opened stretch (Word word) = if is_stretch_word word then Awaited else Closed
+stretch_opened stretch _ = Closed
 
 -- after a token read in expression mode
 abbrev pub stretch_closed : ExpressionStretch → Token → ExpressionStretch
@@ -57,18 +57,21 @@ stretch_closed Closed _ = Closed
 stretch_closed Awaited _ = Closed
 
 abbrev pub stretch_after : Mode → ExpressionStretch → Token → ExpressionStretch
-stretch_after Expression s t = stretch_closed s t
-stretch_after Pattern s t = stretch_opened s t
+stretch_after Expression stretch token = stretch_closed stretch token
+stretch_after Pattern stretch token = stretch_opened stretch token
 
 -- where the text stands after a token
 unfoldable pub state_after : LexState → Token → LexState
-state_after p t = record { depth = depth_after p.depth t; stretch = stretch_after (mode_of p) p.stretch t }
+state_after state token = record {
+  depth = depth_after state.depth token;
+  stretch = stretch_after (mode_of state) state.stretch token;
+}
 
 abbrev pub at_start : LexState
 at_start = record { depth = 0; stretch = Closed }
 
 abbrev pub line_feeds : List ℕ → ℕ
-line_feeds bytes = count_by (λ b. b == 10) bytes
+line_feeds bytes = count_by (λ byte. byte == 10) bytes
 
 -- the line of a byte: one more than the line feeds before it
 abbrev pub line_at : List ℕ → ℕ → ℕ
@@ -76,12 +79,14 @@ line_at text at = 1 + line_feeds (take at text)
 
 -- these are the tokens of a text from an index on, with their lines
 pub data IsCutFrom (text : List ℕ) : ℕ → LexState → List Lexeme → Type 0 where
-  ended : {at : ℕ} {p : LexState} → front (mode_of p) (drop at text) ≡ End → IsCutFrom text at p []
-  blank : {at n : ℕ} {p : LexState} {ls : List Lexeme} → front (mode_of p) (drop at text) ≡ Blank n
-      → IsCutFrom text (at + n) p ls → IsCutFrom text at p ls
-  token : {at n : ℕ} {p : LexState} {t : Token} {ls : List Lexeme} → front (mode_of p) (drop at text) ≡ Begins t n
-      → IsCutFrom text (at + n) (state_after p t) ls → IsCutFrom text at p (lexeme t (line_at text at) ∷ ls)
+  ended : {at : ℕ} {state : LexState} → front (mode_of state) (drop at text) ≡ End → IsCutFrom text at state []
+  blank : {at n : ℕ} {state : LexState} {lexemes : List Lexeme} → front (mode_of state) (drop at text) ≡ Blank n
+      → IsCutFrom text (at + n) state lexemes → IsCutFrom text at state lexemes
+  token : {at n : ℕ} {state : LexState} {token : Token} {lexemes : List Lexeme}
+      → front (mode_of state) (drop at text) ≡ Begins token n
+      → IsCutFrom text (at + n) (state_after state token) lexemes
+      → IsCutFrom text at state (lexeme token (line_at text at) ∷ lexemes)
 
 -- these are the tokens of a text, with their lines
 abbrev pub IsCut : List ℕ → List Lexeme → Type 0
-IsCut text ls = IsCutFrom text 0 at_start ls
+IsCut text lexemes = IsCutFrom text 0 at_start lexemes

@@ -5,14 +5,14 @@ use Rattle.ldscript_tokens.specs.Tokens.{is_hex, digits_length}
 
 -- 0 to 9, then A to F and a to f
 abbrev pub digit_value : ℕ → ℕ
-digit_value b = if is_decimal_digit b then b - 48 else (if nat_le b 70 then b - 55 else b - 87)
+digit_value byte = if is_decimal_digit byte then byte - 48 else (if nat_le byte 70 then byte - 55 else byte - 87)
 
 abbrev pub value_in : ℕ → List ℕ → ℕ
-value_in base digits = fold (λ v d. v * base + digit_value d) 0 digits
+value_in base digits = fold (λ value digit. value * base + digit_value digit) 0 digits
 
 -- K is times 2^10, M times 2^20
 abbrev pub scale_of : ℕ → ℕ
-scale_of b = if b == 75 then 1024 else (if b == 77 then 1048576 else 1)
+scale_of byte = if byte == 75 then 1024 else (if byte == 77 then 1048576 else 1)
 
 -- the value of a NUMBER as it is spelled
 unfoldable pub number_value : List ℕ → ℕ

@@ -26,12 +26,12 @@ pub record Lexeme : Type 0 where
   pub line : ℕ
 
 abbrev pub lexeme : Token → ℕ → Lexeme
-lexeme t n = record { token = t; line = n }
+lexeme token line = record { token = token; line = line }
 
 -- the line of the first of these, 0 where there is none
 abbrev pub first_line : List Lexeme → ℕ
 first_line [] = 0
-first_line (l ∷ ls) = l.line
+first_line (first ∷ rest) = first.line
 
 -- what stands at the front of a text: its end, a number of bytes of white space or comment, a token of some length
 -- bytes, or nothing that the language has
@@ -48,7 +48,8 @@ is_comment text = (slice_index text 0 == 47) && (slice_index text 1 == 42)
 -- the number of bytes before the first `*/`
 abbrev pub star_slash : List ℕ → Option ℕ
 star_slash [] = None
-star_slash (b ∷ bs) = if (b == 42) && (slice_index bs 0 == 47) then Some 0 else option_map (λ n. n + 1) (star_slash bs)
+star_slash (byte ∷ rest) =
+    if (byte == 42) && (slice_index rest 0 == 47) then Some 0 else option_map (λ n. n + 1) (star_slash rest)
 
 abbrev pub comment_to : Option ℕ → Front
 comment_to None = Nothing
@@ -80,7 +81,7 @@ digits_length text =
 
 -- then perhaps K or M
 abbrev pub is_suffix : ℕ → Bool
-is_suffix b = (b == 75) || (b == 77)
+is_suffix byte = (byte == 75) || (byte == 77)
 
 abbrev pub number_length : List ℕ → ℕ
 number_length text = let n = digits_length text in if is_suffix (slice_index text n) then n + 1 else n
@@ -101,7 +102,7 @@ text_front text =
 -- the mark that stands there, or else this
 abbrev pub mark_or : Front → Option MarkRow → Front
 mark_or other None = other
-mark_or other (Some r) = Begins (Punctuation r.mark) (length r.spelled)
+mark_or other (Some row) = Begins (Punctuation row.mark) (length row.spelled)
 
 unfoldable pub mark_front : List ℕ → Front
 mark_front text = mark_or Nothing (longest_mark Expression text)
@@ -112,20 +113,20 @@ discard_spelling = codes "/DISCARD/"
 -- expression mode
 unfoldable pub expression_front : List ℕ → Front
 expression_front text =
-    let b = slice_index text 0 in
-    if is_name_start b then name_front text
-    else (if is_decimal_digit b then number_front text
-    else (if b == 34 then text_front text
+    let byte = slice_index text 0 in
+    if is_name_start byte then name_front text
+    else (if is_decimal_digit byte then number_front text
+    else (if byte == 34 then text_front text
     else (if bytes_eq discard_spelling (take 9 text) then Begins Discard 9
     else mark_front text)))
 
 -- WORD: a longest run of word bytes and of pairs of `\` with a byte from `!` to `~`
 abbrev pub word_length : List ℕ → ℕ
 word_length [] = 0
-word_length (b ∷ []) = if is_word_byte b then 1 else 0
-word_length (b ∷ c ∷ cs) =
-    if is_word_byte b then 1 + word_length (c ∷ cs)
-    else (if (b == 92) && is_escapable c then 2 + word_length cs else 0)
+word_length (byte ∷ []) = if is_word_byte byte then 1 else 0
+word_length (byte ∷ next ∷ rest) =
+    if is_word_byte byte then 1 + word_length (next ∷ rest)
+    else (if (byte == 92) && is_escapable next then 2 + word_length rest else 0)
 
 unfoldable pub word_front : List ℕ → Front
 word_front text = let n = word_length text in if n == 0 then Nothing else Begins (Word (take n text)) n
@@ -141,7 +142,7 @@ token_front Pattern text = pattern_front text
 -- what stands at the front of a text that is read in a mode
 unfoldable pub front : Mode → List ℕ → Front
 front mode [] = End
-front mode (b ∷ bs) =
-    if is_space b then Blank 1
-    else (if is_comment (b ∷ bs) then comment_front (b ∷ bs)
-    else token_front mode (b ∷ bs))
+front mode (byte ∷ rest) =
+    if is_space byte then Blank 1
+    else (if is_comment (byte ∷ rest) then comment_front (byte ∷ rest)
+    else token_front mode (byte ∷ rest))

@@ -14,7 +14,7 @@ reserved_words =
     ∷ codes "NOLOAD" ∷ codes "SIZEOF_HEADERS" ∷ codes "FILL" ∷ codes "SQUAD" ∷ codes "INPUT_SECTION_FLAGS" ∷ []
 
 unfoldable pub is_reserved : List ℕ → Bool
-is_reserved word = list_any (λ w. bytes_eq w word) reserved_words
+is_reserved word = list_any (λ listed. bytes_eq listed word) reserved_words
 
 -- a NAME of the grammar: not `.`, not reserved
 unfoldable pub is_free_name : List ℕ → Bool

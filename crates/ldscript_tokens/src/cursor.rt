@@ -29,9 +29,9 @@ impl<'a> Model for Cursor<'a> {
 
     ghost Value = { List Lexeme };
 
-    ghost view = { λ c. map (lexeme_of c.text.now) c.rest.now };
+    ghost view = { λ cursor. map (lexeme_of cursor.text.now) cursor.rest.now };
 
-    ghost invariant = { λ c. All (IsPlace (length c.text.now)) c.rest.now };
+    ghost invariant = { λ cursor. All (IsPlace (length cursor.text.now)) cursor.rest.now };
 }
 
 impl<'a> Cursor<'a> {
@@ -96,8 +96,9 @@ impl<'a> Cursor<'a> {
 
     /// What follows a mark, if that comes next.
     pub fn mark(self, mark: Mark) -> Option<Cursor<'a>>
-        ensures { MatchOption result ((n : ℕ) (r : List Lexeme) → self.entry ≡ lexeme (Punctuation mark) n ∷ r → ⊥)
-            (λ rest. (n : ℕ) × (self.entry ≡ lexeme (Punctuation mark) n ∷ rest)) }
+        ensures { MatchOption result
+            ((line : ℕ) (rest : List Lexeme) → self.entry ≡ lexeme (Punctuation mark) line ∷ rest → ⊥)
+            (λ rest. (line : ℕ) × (self.entry ≡ lexeme (Punctuation mark) line ∷ rest)) }
     {
         let (kind, _, _, rest) = self.next()?;
         if kind == TokenKind::Punctuation(mark) {
@@ -109,8 +110,9 @@ impl<'a> Cursor<'a> {
 
     /// A number as it is spelled, and what follows it, if one comes next.
     pub fn number(self) -> Option<(&'a [u8], Cursor<'a>)>
-        ensures { MatchOption result ((s : List ℕ) (n : ℕ) (r : List Lexeme) → self.entry ≡ lexeme (Number s) n ∷ r → ⊥)
-            (λ x. (n : ℕ) × (self.entry ≡ lexeme (Number x.0.now) n ∷ x.1)) }
+        ensures { MatchOption result
+            ((spelled : List ℕ) (line : ℕ) (rest : List Lexeme) → self.entry ≡ lexeme (Number spelled) line ∷ rest → ⊥)
+            (λ x. (line : ℕ) × (self.entry ≡ lexeme (Number x.0.now) line ∷ x.1)) }
     {
         match self.next()? {
             (TokenKind::Number, number, _, rest) => Some((number, rest)),
@@ -120,8 +122,9 @@ impl<'a> Cursor<'a> {
 
     /// A name or `.`, and what follows it, if one comes next.
     pub fn name(self) -> Option<(&'a [u8], Cursor<'a>)>
-        ensures { MatchOption result ((s : List ℕ) (n : ℕ) (r : List Lexeme) → self.entry ≡ lexeme (Name s) n ∷ r → ⊥)
-            (λ x. (n : ℕ) × (self.entry ≡ lexeme (Name x.0.now) n ∷ x.1)) }
+        ensures { MatchOption result
+            ((spelled : List ℕ) (line : ℕ) (rest : List Lexeme) → self.entry ≡ lexeme (Name spelled) line ∷ rest → ⊥)
+            (λ x. (line : ℕ) × (self.entry ≡ lexeme (Name x.0.now) line ∷ x.1)) }
     {
         match self.next()? {
             (TokenKind::Name, name, _, rest) => Some((name, rest)),
@@ -131,8 +134,9 @@ impl<'a> Cursor<'a> {
 
     /// A word, and what follows it, if one comes next.
     pub fn word(self) -> Option<(&'a [u8], Cursor<'a>)>
-        ensures { MatchOption result ((s : List ℕ) (n : ℕ) (r : List Lexeme) → self.entry ≡ lexeme (Word s) n ∷ r → ⊥)
-            (λ x. (n : ℕ) × (self.entry ≡ lexeme (Word x.0.now) n ∷ x.1)) }
+        ensures { MatchOption result
+            ((spelled : List ℕ) (line : ℕ) (rest : List Lexeme) → self.entry ≡ lexeme (Word spelled) line ∷ rest → ⊥)
+            (λ x. (line : ℕ) × (self.entry ≡ lexeme (Word x.0.now) line ∷ x.1)) }
     {
         match self.next()? {
             (TokenKind::Word, word, _, rest) => Some((word, rest)),
@@ -142,8 +146,9 @@ impl<'a> Cursor<'a> {
 
     /// The bytes between double quotes, and what follows them, if a text in quotes comes next.
     pub fn text_in_quotes(self) -> Option<(&'a [u8], Cursor<'a>)>
-        ensures { MatchOption result ((s : List ℕ) (n : ℕ) (r : List Lexeme) → self.entry ≡ lexeme (Text s) n ∷ r → ⊥)
-            (λ x. (n : ℕ) × (self.entry ≡ lexeme (Text x.0.now) n ∷ x.1)) }
+        ensures { MatchOption result
+            ((content : List ℕ) (line : ℕ) (rest : List Lexeme) → self.entry ≡ lexeme (Text content) line ∷ rest → ⊥)
+            (λ x. (line : ℕ) × (self.entry ≡ lexeme (Text x.0.now) line ∷ x.1)) }
     {
         match self.next()? {
             (TokenKind::Text, text, _, rest) => Some((text, rest)),
@@ -153,8 +158,9 @@ impl<'a> Cursor<'a> {
 
     /// What follows this very name, if that comes next.
     pub fn this_name(self, wanted: &[u8]) -> Option<Cursor<'a>>
-        ensures { MatchOption result ((n : ℕ) (r : List Lexeme) → self.entry ≡ lexeme (Name wanted.now) n ∷ r → ⊥)
-            (λ rest. (n : ℕ) × (self.entry ≡ lexeme (Name wanted.now) n ∷ rest)) }
+        ensures { MatchOption result
+            ((line : ℕ) (rest : List Lexeme) → self.entry ≡ lexeme (Name wanted.now) line ∷ rest → ⊥)
+            (λ rest. (line : ℕ) × (self.entry ≡ lexeme (Name wanted.now) line ∷ rest)) }
     {
         let (name, rest) = self.name()?;
         if name == wanted { Some(rest) } else { None }
@@ -162,8 +168,9 @@ impl<'a> Cursor<'a> {
 
     /// What follows this very word, if that comes next.
     pub fn this_word(self, wanted: &[u8]) -> Option<Cursor<'a>>
-        ensures { MatchOption result ((n : ℕ) (r : List Lexeme) → self.entry ≡ lexeme (Word wanted.now) n ∷ r → ⊥)
-            (λ rest. (n : ℕ) × (self.entry ≡ lexeme (Word wanted.now) n ∷ rest)) }
+        ensures { MatchOption result
+            ((line : ℕ) (rest : List Lexeme) → self.entry ≡ lexeme (Word wanted.now) line ∷ rest → ⊥)
+            (λ rest. (line : ℕ) × (self.entry ≡ lexeme (Word wanted.now) line ∷ rest)) }
     {
         let (word, rest) = self.word()?;
         if word == wanted { Some(rest) } else { None }

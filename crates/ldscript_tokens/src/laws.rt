@@ -7,5 +7,5 @@ ghost use Rattle.ldscript_tokens.specs.Modes.{IsCut};
 /// No text has two cuts.
 #[tactic(auto, using(crate::proofs::Cut::one_cut))]
 pub fn one_cut()
-    ensures { (text : List ℕ) (ls ms : List Lexeme) → IsCut text ls → IsCut text ms → ls ≡ ms }
+    ensures { (text : List ℕ) (one other : List Lexeme) → IsCut text one → IsCut text other → one ≡ other }
 {}

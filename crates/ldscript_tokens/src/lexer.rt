@@ -99,9 +99,9 @@ fn cut(alloc: Global, text: &[u8]) -> Result<Vec<CodeToken>, TokenRefusal>
 /// `Limit` where the tokens are past a limit: a number of 2^64 or more, a name or word over 255 bytes, more than
 /// 4,096 `{`, or a run with more than 64 signs.
 pub fn tokens(alloc: Global, text: &[u8]) -> Result<Vec<CodeToken>, TokenRefusal>
-    ensures tokens { IfOk result (λ v. IsTokens text.now (map (lexeme_of text.now) v.items)) }
-    ensures places { IfOk result (λ v. All (IsPlace (length text.now)) v.items) }
-    ensures few { IfOk result (λ v. length v.items ≤ length text.now) }
+    ensures tokens { IfOk result (λ tokens. IsTokens text.now (map (lexeme_of text.now) tokens.items)) }
+    ensures places { IfOk result (λ tokens. All (IsPlace (length text.now)) tokens.items) }
+    ensures few { IfOk result (λ tokens. length tokens.items ≤ length text.now) }
     ensures refused { IfErr result (IsTokenRefusal text.now) }
 {
     if text.len() > MAX_TEXT {

@@ -89,8 +89,9 @@ fn is_mark_in(mode: Mode, mark: Mark) -> bool
 #[tactic(auto, using(crate::proofs::Longest::longest_by_bytes))]
 pub fn longest_mark(mode: Mode, text: &[u8]) -> Option<MarkAhead>
     requires { 0 < length text.now }
-    ensures value { longest_mark mode text.now ≡ option_map (λ m. mark_row (take m.length text.now) m.mark) result }
-    ensures within { IfSome result (λ m. (0 < m.length) × (m.length ≤ length text.now)) }
+    ensures value { longest_mark mode text.now
+        ≡ option_map (λ found. mark_row (take found.length text.now) found.mark) result }
+    ensures within { IfSome result (λ found. (0 < found.length) × (found.length ≤ length text.now)) }
 {
     let first = byte_at(text, 0);
     if let Some(mark) = mark_of_two(first, byte_at(text, 1)) {

@@ -31,9 +31,9 @@ impl Model for ScriptName {
 
     ghost Value = { List ℕ };
 
-    ghost view = { λ n. kept n.bytes };
+    ghost view = { λ name. kept name.bytes };
 
-    ghost invariant = { λ n. IsKept n.bytes };
+    ghost invariant = { λ name. IsKept name.bytes };
 }
 
 /// The bytes, in a value of their own.

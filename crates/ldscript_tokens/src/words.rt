@@ -42,7 +42,7 @@ const RESERVED: [&[u8]; 32] = [
 
 /// Whether a word is one of these.
 pub fn is_one_of(words: &[&[u8]], word: &[u8]) -> bool
-    ensures { result ≡ list_any (λ w. bytes_eq w.now word.now) words.now }
+    ensures { result ≡ list_any (λ listed. bytes_eq listed.now word.now) words.now }
 {
     words.iter().any(|w| *w == word)
 }

@@ -115,7 +115,7 @@ impl LinkLayout {
     /// as placed.
     ///
     /// With `kept`, a previous placement of the script and the number of a row before which no row differs from the
-    /// earlier ones, the layout is the same, and the entries of the rows from that one on are counted.
+    /// previous ones, the layout is the same, and the entries of the rows from that one on are counted.
     ///
     /// # Errors
     ///

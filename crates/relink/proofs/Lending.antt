@@ -228,7 +228,7 @@ module _ (h : ProjectState) (s : Staged) (same : Bool) (bytes : List ℕ) (a : L
         image = kept.image;
       }
 
-  -- it stays the last one after an edit to a link with faults
+  -- it stays the previous link after an edit to a link with faults
   pub kept_after_fault : (previous after : Option PreviousLink) (known : Bool) → e.known ≡ known
       → IsPreviousLink (listing_of h) bytes a previous → IsEffect h s same a previous e
       → IsAfterFault known e.gone e.same_script previous after → IfSome after (IsOfGoodLink (next_listing h s) bytes)
@@ -253,9 +253,9 @@ module _ (h : ProjectState) (s : Staged) (same : Bool) (bytes : List ℕ) (a : L
         image = kept.image;
       }
 
--- what a link without faults leaves is the last one
+-- what a link without faults leaves is the previous link
 pub followed_good : (l : Listing) (p : Project) (keys : List ℕ) (bytes : List ℕ) (x : PreviousLink) (m : List ℕ)
-    → p ≡ project_of l → keys ≡ keys_of l.entries → AreKeysDistinct keys → IsGoodOutcome true p bytes x.good m
+    → p ≡ project_of l → keys ≡ keys_of l.entries → AreKeysDistinct keys → IsGoodOutcome true p bytes x.snapshot m
     → x.names.names ≡ map (λ (o : NamedObject). o.name) p.objects
     → HasPlaces keys x.origins.items
     → ((key : ℕ) → is_some (position (nat_eq key) (keys_of l.entries)) ≡ is_some (found_under l.entries key))
@@ -293,7 +293,7 @@ followed_again l p keys state bytes origins is keys_are distinct end places foun
       (subst (λ (ks : List ℕ). HasPlaces ks origins) keys_are places) found;
 }
 
--- what is answered is the link, and the last one is kept
+-- what is answered is the link, and the previous one is kept
 pub ended : (l : Listing) (state : Option PreviousState) (old new : List ℕ) (f : UpdateOutcome) (e : EditEffect)
     (previous after : Option PreviousLink) (b a : LinkOutcome) → HasUpdateOutcome l state old new f
     → IsRecorded f e previous after b a
@@ -346,7 +346,7 @@ renewed_with h s same bytes new (outcome.Good m) e x y u v edit are is effect fr
     ap (λ (k : Link). k.map) (answers ∙ ap link (sym is.project) ∙ is.kept.table.link)
     ∙ sym (by.end.map old of_last) in
     let made : List ℕ → List ℕ → Link = λ i t. record { status = 0; image = i; map = t; faults = [] } in
-    let good_is : y.good ≡ by.end.before.good = renewed.0 ∙ ap (λ (z : PreviousState). z.good) lent_is in (
+    let good_is : y.snapshot ≡ by.end.before.snapshot = renewed.0 ∙ ap (λ (z : PreviousState). z.snapshot) lent_is in (
       ap (λ i. made i m.items) by.end.image ∙ ap (made (image q by.end.layout)) map_is ∙ sym by.end.link,
       record {
         kept = record {

@@ -106,7 +106,7 @@ none_of old names x place same named other = λ y c n t. (
     subst (λ (p : Option ℕ). IfSome p (λ j. (y : NamedObject) → slice_get old j ≡ Some y
     → y.object.text ≡ x.object.text → ⊥)) at other y here t)
 
--- where the clause holds of any link before, it holds of the one that is known
+-- where the clause holds of any previous link, it holds of the one that is known
 pub of_one : (old : List NamedObject) (origin : ℕ → Option ℕ) (es : List Listed) (x : NamedObject) (place : Option ℕ)
     → IfSome place (λ j. (old : List NamedObject) (y : NamedObject) → IsSince old origin es → slice_get old j ≡ Some y
     → y.object.text ≡ x.object.text → ⊥) → IsSince old origin es

@@ -46,7 +46,7 @@ pub record IsSince (old : List NamedObject) (origin : ℕ → Option ℕ) (es : 
 -- the script, where it is said to be the same
 pub record IsOfGoodLink (l : Listing) (bytes : List ℕ) (x : PreviousLink) : Type 0 where
   pub old : GoodLink
-  pub table : IsLinkSnapshot old x.good
+  pub table : IsLinkSnapshot old x.snapshot
   pub names : x.names.names ≡ map (λ (object : NamedObject). object.name) old.project.objects
   pub since : IsSince old.project.objects (origin_of x.origins.items) l.entries
   pub options : old.project.options ≡ l.options
@@ -59,7 +59,7 @@ pub record IsCurrent (l : Listing) (bytes : List ℕ) (x : PreviousLink) : Type 
   pub project : kept.old.project ≡ project_of l
   pub script : x.same_script ≡ true
 
--- where the answer is a link without faults, the last one is that; else there may be one, of an earlier project
+-- where the answer is a link without faults, the previous one is that; else there may be one, of an earlier project
 abbrev pub IsPreviousLink : Listing → List ℕ → LinkOutcome → Option PreviousLink → Type 0
 IsPreviousLink l bytes (outcome.Good map) None = ⊥
 IsPreviousLink l bytes (outcome.Good map) (Some x) = IsCurrent l bytes x
@@ -114,7 +114,7 @@ pub record IsRewrittenBy (l : Listing) (previous : Option PreviousState) (bytes 
   pub end : IsInPlaceOutcome (project_of l) previous bytes
   pub since : IsSince (objects_of l.entries) (origin_of origins) l.entries
 
--- what a link over the last one leads to: the last one stays, or this one takes its place, or it is this one but for
+-- what a link over the previous one leads to: that stays, or this one takes its place, or it is this one but for
 -- the image
 abbrev pub HasUpdateOutcome : Listing → Option PreviousState → (old new : List ℕ) → UpdateOutcome → Type 0
 HasUpdateOutcome l previous old new (Faulty text) =
@@ -168,7 +168,7 @@ replaced_in origin es Stay after = None
 abbrev pub previous_view_with : PreviousLink → List (Option ℕ) → EditEffect → List Listed → StagedObjects
     → PreviousState
 previous_view_with x from e es s = record {
-  good = x.good;
+  snapshot = x.snapshot;
   objects = length x.names.names;
   from = from;
   same_script = x.same_script && e.same_script;
@@ -201,7 +201,7 @@ IsAfterFault true lost same_script None None = ⊤
 IsAfterFault true lost same_script None (Some y) = ⊥
 IsAfterFault true lost same_script (Some x) None = ⊥
 IsAfterFault true lost same_script (Some x) (Some y) =
-    (y.good ≡ x.good) × (y.names ≡ x.names) × (y.same_script ≡ (x.same_script && same_script))
+    (y.snapshot ≡ x.snapshot) × (y.names ≡ x.names) × (y.same_script ≡ (x.same_script && same_script))
     × ((key : ℕ) → origin_of y.origins.items key ≡ without (origin_of x.origins.items) lost key)
 
 -- the previous link stays, if there is one, and its objects have these origins
@@ -210,9 +210,9 @@ AreOriginsRefreshed v None None = ⊤
 AreOriginsRefreshed v None (Some y) = ⊥
 AreOriginsRefreshed v (Some x) None = ⊥
 AreOriginsRefreshed v (Some x) (Some y) =
-    (y.good ≡ x.good) × (y.names ≡ x.names) × (y.same_script ≡ true) × (y.origins ≡ v)
+    (y.snapshot ≡ x.snapshot) × (y.names ≡ x.names) × (y.same_script ≡ true) × (y.origins ≡ v)
 
--- what is answered of a link over the last one, and which one is the last now
+-- what is answered of a link over the previous one, and which one is the previous one now
 abbrev pub IsRecorded : UpdateOutcome → EditEffect → (old new : Option PreviousLink) → (before after : LinkOutcome)
     → Type 0
 IsRecorded (Faulty text) e old new b a =

@@ -25,7 +25,7 @@ pub record Decides (old new : Counts) (decided : List (List ℕ)) : Type 0 where
   pub fields : old.fields ≤ new.fields
   pub bytes : old.bytes ≤ new.bytes
 
--- a link over the last one places, evaluates and writes what it has to beside it, and counts exactly that
+-- a link over the previous one places, evaluates and writes what it has to beside it, and counts exactly that
 abbrev pub HasWorked : Project → Option PreviousState → Counts → Counts → UpdateOutcome → Type 0
 HasWorked project previous before after (Faulty text) = ⊤
 HasWorked project previous before after (Good x m) = IsWorkBeside project previous before after

@@ -27,7 +27,7 @@ use std::alloc::Global;
 #[derive(Drop)]
 pub(crate) struct PreviousLink {
     /// The state of that link.
-    pub good: LinkSnapshot,
+    pub snapshot: LinkSnapshot,
     /// At which place of that link each object stood that is still there with the same bytes, under the object's key.
     pub origins: Vec<Option<usize>>,
     /// The names of the objects of that link, by their places.
@@ -49,7 +49,7 @@ pub(crate) struct EditEffect {
     pub is_current: bool,
 }
 
-/// What a link over the last one leads to.
+/// What a link over the previous one leads to.
 #[derive(Drop)]
 pub(crate) enum UpdateOutcome {
     /// These fault lines.
@@ -194,7 +194,7 @@ impl PreviousLink {
 
     /// Notes that the object under a key is no object of the previous link any more, if there is a key.
     fn forget(&mut self, key: Option<usize>)
-        ensures good { self.new.good ≡ self.old.good }
+        ensures snapshot { self.new.snapshot ≡ self.old.snapshot }
         ensures names { self.new.names ≡ self.old.names }
         ensures script { self.new.same_script ≡ self.old.same_script }
         ensures origins { (k : ℕ) → origin_of self.new.origins.items k
@@ -303,7 +303,7 @@ pub(crate) fn view_previous<'a>(
         Some(previous) => match from {
             None => None,
             Some(from) => Some(PreviousView {
-                good: &previous.good,
+                snapshot: &previous.snapshot,
                 objects: previous.names.len(),
                 from,
                 same_script: previous.same_script && effect.same_script,
@@ -339,7 +339,7 @@ fn refresh_origins(previous: &mut Option<PreviousLink>, origins: Vec<Option<usiz
     }
 }
 
-/// Answers a link over the last one, which stays the last one where the link has faults. The answer stays where only
+/// Answers a link over the previous one, which stays that where the link has faults. The answer stays where only
 /// the image is another.
 pub(crate) fn record_outcome(
     updated: UpdateOutcome,

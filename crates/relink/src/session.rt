@@ -33,7 +33,7 @@ use symres::decisions::law::{distinct_more, names_of_objects};
 /// A linker that keeps what names stand for, which statements take the input sections of each object, and the previous
 /// link without faults. An edit of an object reads at most that object, and decides its names alone. Where the link
 /// before it has no faults, input sections are placed only from the first output section on that changed, and the image
-/// is drawn over the last one, but for the input sections that stayed.
+/// is drawn over the previous one, but for the input sections that stayed.
 #[derive(Drop)]
 pub struct Session {
     alloc: Global,
@@ -91,7 +91,7 @@ impl Session {
     ///
     /// Where memory runs out.
     pub fn new(alloc: Global, seed: RandomState, options: Options) -> Result<Session, NoMemory>
-        ensures { IfOk result (λ s. s ≡ empty_project options) }
+        ensures { IfOk result (λ session. session ≡ empty_project options) }
     {
         let project = Project::new(alloc, options);
         let kept = tables_of_empty(alloc, seed, &project)?;

@@ -63,9 +63,9 @@ fn link_keyed(
         Err(refused) => Err(refused),
         Ok(RelinkOutcome::Faulty(text)) => Ok(UpdateOutcome::Faulty(text)),
         Ok(RelinkOutcome::RewrittenInPlace) => Ok(UpdateOutcome::RewrittenInPlace(origins)),
-        Ok(RelinkOutcome::Good(good, map)) => Ok(UpdateOutcome::Good(
+        Ok(RelinkOutcome::Good(snapshot, map)) => Ok(UpdateOutcome::Good(
             PreviousLink {
-                good,
+                snapshot,
                 origins,
                 names: names_in_room(names, inputs),
                 same_script: true,
@@ -113,7 +113,7 @@ pub(crate) fn link_next(
     )
 }
 
-/// Links a project over what is kept of it, where there is no link before it.
+/// Links a project over what is kept of it, where there is no previous link.
 ///
 /// # Errors
 ///

@@ -1,4 +1,4 @@
--- A link beside an earlier one, if there is one.
+-- A link beside a previous one, if there is one.
 use Rattle.std.proofs.Common.{◌≡◌, ◌∙◌, ◌<◌, ◌^◌, ◌⊎◌, ℕ, inl, inr, refl, subst, sym, List}
 use Rattle.std.specs.Prelude.{IfSome, IsSome, Ok, Option, Some, None, is_some}
 use Rattle.std.specs.List.{All}
@@ -51,7 +51,7 @@ pub has_old : (p : Project) (bytes : List ℕ) (previous : Option PreviousState)
 has_old p bytes None h = tt
 has_old p bytes (Some x) h = record { old = h.old; is = h.is }
 
--- some link that the earlier one may be: a good one, if there is one
+-- some link that the previous one may be: a good one, if there is one
 record Candidate (p : Project) (previous : Option PreviousView) : Type 0 where
   old : GoodLink
   is : IfSome (previous_of previous) (IsPreviousOf old p)
@@ -71,7 +71,7 @@ pub record IsKnownBeside (p : Project) (s : Layout) (a : SymbolTableState) (y : 
   pub counted : AreEvaluated p s y r before after
   pub reads : ReadsNothing before after
 
--- the new link, and the earlier one
+-- the new link, and the previous one
 are_stays : (p : Project) (l : LinkLayout) (y : StayedSections) (w : LinkView) (v : Values) (is : IsShort p l w v)
     → AreBeside p is.placed.known.layout y → AreNamesDistinct p.objects → (old : GoodLink)
     → IfSome (previous_of y.previous) (IsPreviousOf old p)
@@ -199,7 +199,7 @@ drawable_at p y v r f = record {
   short = f.short.length;
 }
 
--- and its tables are those of the new link beside each that the earlier one may be
+-- and its tables are those of the new link beside each that the previous one may be
 pub stays_of : (p : Project) (y : StayedSections) (v : Values) (r : Relocated) (f : IsFilled p y v r) (old : GoodLink)
     → IfSome (previous_of y.previous) (IsPreviousOf old p)
     → AreStayedSections y old (known_link p f.short.placed.known.layout f.short.placed.symbol_table)

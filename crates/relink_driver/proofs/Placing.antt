@@ -1,4 +1,4 @@
--- Input sections that a link places beside an earlier one.
+-- Input sections that a link places beside a previous one.
 use Rattle.std.proofs.Common.{◌≡◌, ◌∙◌, ℕ, zero, suc, false, List, [], ◌∷◌, length, map, Option, None, Some}
 use Rattle.std.proofs.Common.{ap, arith, refl}
 use Rattle.std.specs.List.{flat_map}
@@ -21,7 +21,7 @@ use Rattle.place.specs.sections.Counted.{first_of, placed_from}
 use Rattle.relink_driver.specs.Counted.{ArePlaced}
 use Rattle.relink_driver.specs.Phases.{HasPreviousLink}
 
--- some link that the earlier one may be
+-- some link that the previous one may be
 pub any_last : (p : Project) (previous : Option PreviousState) → IfSome previous (HasPreviousLink p)
     → (old : GoodLink) × IfSome previous (IsPreviousOf old p)
 any_last p None h = (new_link p nothing_placed, tt)

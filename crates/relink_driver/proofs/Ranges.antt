@@ -92,7 +92,7 @@ module _ (old : GoodLink) (l : KnownLink) (keys : (k : ℕ) → l.number k ≡ k
       unfolding previous_location
       sound_one r h =
           let w = then_some (standing_from y key.part) (last_place y key.object) h.old h.was in
-          let before = stood old.project old.layout y.good.indexed_layout previous.table.indexed_layout
+          let before = stood old.project old.layout y.snapshot.indexed_layout previous.table.indexed_layout
           (at_place w.0) h.old w.2 in
           let now = (shows l.project l.layout t indexed_layout key k q z at among (sym object)
           (sym part)).is h.new h.is
@@ -129,7 +129,7 @@ module _ (old : GoodLink) (l : KnownLink) (keys : (k : ℕ) → l.number k ≡ k
               → option_and_then (standing_from y key.part) m ≡ previous_location y key
               → kept_at (previous_location y key) (location_in t key) ≡ None → ⊥
           stands None e g h =
-              let o = owned old.project old.layout y.good.indexed_layout previous.table.indexed_layout
+              let o = owned old.project old.layout y.snapshot.indexed_layout previous.table.indexed_layout
               there.number there.section there.piece there.at there.among in
               same.not_fresh old l.project y.from previous.origins previous.table.names names key.object.0 x object refl
               some v
@@ -139,7 +139,7 @@ module _ (old : GoodLink) (l : KnownLink) (keys : (k : ℕ) → l.number k ≡ k
               same.old_name old l.project y.from previous.origins previous.table.names names key.object.0 x object refl
               some v
               refl same_v j e in
-              let was = shows old.project old.layout y.good.indexed_layout previous.table.indexed_layout
+              let was = shows old.project old.layout y.snapshot.indexed_layout previous.table.indexed_layout
               (at_place j) there.number there.section there.piece there.at there.among name (sym part ∙ same_v.part) in
               let now = shows l.project l.layout t indexed_layout key k q z at among (sym object) (sym part) in
               let b = was.some (subst (λ n. n < 2 ^ 64) same_v.offset low) in

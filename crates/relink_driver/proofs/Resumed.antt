@@ -1,4 +1,4 @@
--- A link over an earlier one may take the previous layout over, up to the first row that differs.
+-- A link over a previous one may take the previous layout over, up to the first row that differs.
 use Rattle.std.proofs.Common.{◌≡◌, ◌≤◌, ℕ, true, sym, ap, List, [], map, flat_map, take, subst, ◌∙◌}
 use Rattle.std.specs.Global.{Vec}
 use Rattle.std.specs.List.{slice_index_or}
@@ -24,21 +24,23 @@ module _ (old : GoodLink) (new : Project) (x : PreviousState) (previous : IsPrev
     (rows : List (Vec Piece))
     (are : rows_in new rows ≡ model.rows new) where
   abbrev first : ℕ
-  first = first_changed x new x.good.indexed_layout.rows.items rows
+  first = first_changed x new x.snapshot.indexed_layout.rows.items rows
 
   pub are_same : AreSameBefore old.project new first
   are_same k below =
       ap (λ (r : List (List model.Piece)). slice_index_or r k []) (sym previous.table.indexed_layout.rows)
-      ∙ same_before old.project new x previous.origins previous.replaced x.good.indexed_layout.rows.items rows k below
+      ∙ same_before old.project new x previous.origins previous.replaced x.snapshot.indexed_layout.rows.items rows k
+      below
       ∙ ap (λ (r : List (List model.Piece)). slice_index_or r k []) are
 
   pub is_kept : x.same_script ≡ true → IsKept new.script
-      (model.rows new) x.good.indexed_layout.link_layout.placement first
+      (model.rows new) x.snapshot.indexed_layout.link_layout.placement first
   is_kept same = record {
     earlier = model.rows old.project;
     earlier_provided = provided old.project;
     placed = subst (λ (script : List Statement).
-        IsPlacement script (model.rows old.project) (provided old.project) x.good.indexed_layout.link_layout.placement)
+        IsPlacement script (model.rows old.project) (provided old.project)
+        x.snapshot.indexed_layout.link_layout.placement)
         (previous.script same)
         previous.table.indexed_layout.link_layout.kept;
     same = are_same;
@@ -47,7 +49,7 @@ module _ (old : GoodLink) (new : Project) (x : PreviousState) (previous : IsPrev
   module _ (next : IsNext old.project new x) (placed : map entries_in old.layout.sections ≡ model.rows old.project)
     where
       owned : Each (IsOwned old.project)
-          (flat_map (λ (row : List model.Piece). row) (rows_in old.project x.good.indexed_layout.rows.items))
+          (flat_map (λ (row : List model.Piece). row) (rows_in old.project x.snapshot.indexed_layout.rows.items))
       owned =
           subst (λ (r : List (List model.Piece)).
           Each (IsOwned old.project) (flat_map (λ (row : List model.Piece). row) r)) (placed
@@ -58,5 +60,5 @@ module _ (old : GoodLink) (new : Project) (x : PreviousState) (previous : IsPrev
       is_first n same =
           subst (λ (r : List (List model.Piece)). entries_from first r ≤ entries_from n r) are
           (fewest old.project new x previous.origins previous.replaced previous.table.names next.known
-          x.good.indexed_layout.rows.items rows n
+          x.snapshot.indexed_layout.rows.items rows n
           (ap (take n) previous.table.indexed_layout.rows ∙ same ∙ ap (take n) (sym are)) owned)

@@ -1,4 +1,4 @@
--- A link whose project differs from that of an earlier one in what the input sections of one object hold: what is kept
+-- A link whose project differs from that of a previous one in what the input sections of one object hold: what is kept
 -- of the previous link is right for it.
 use Rattle.std.proofs.Common.{◌≡◌, ◌∙◌, ◌⊎◌, inl, inr, ◌<◌, ◌≤◌, ℕ, ◌==◌, Bool, true, false, cond, List, [], ◌∷◌}
 use Rattle.std.proofs.Common.{Option, Some}
@@ -48,7 +48,7 @@ use Rattle.relink_driver.proofs.Outlines.{same_at}
 use Rattle.relink_driver.proofs.Outlined.{input_before, outline_at, outlines_at, same_linked, same_names, same_owned}
 use Rattle.relink_driver.proofs.Outlined.{same_rows_in}
 
--- ---- the project follows the earlier one
+-- ---- the project follows the previous one
 
 beside_other : (place i : ℕ) → (i ≡ place → ⊥) → origin_beside place i ≡ Some i
 beside_other place i other = ap (λ b. cond b None (Some i)) (ne_eqb i place other)

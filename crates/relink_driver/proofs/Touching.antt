@@ -236,8 +236,9 @@ module _ (p : Project) (x : PreviousState) (r : ReplacedObjectState) (f : IsNext
     pub laid : model.layout p ≡ Ok s
     laid = sym kept.layout ∙ is.table.layout
 
-    pub indexed_layout : IsIndexedLayout p s x.good.indexed_layout
-    indexed_layout = same_arranged old.project p place rewritten s kept x.good.indexed_layout is.table.indexed_layout
+    pub indexed_layout : IsIndexedLayout p s x.snapshot.indexed_layout
+    indexed_layout = same_arranged old.project p place rewritten s kept x.snapshot.indexed_layout
+        is.table.indexed_layout
 
     pub short : image_length p s ≤ max_image_length
     short = short_layout p s indexed_layout.link_layout.layout laid
@@ -246,10 +247,10 @@ module _ (p : Project) (x : PreviousState) (r : ReplacedObjectState) (f : IsNext
     before_faultless = faultless old.project s is.table.layout is.table.link
 
     pub values : (count : ℕ) (row : List code.SymbolValue) → count ≡ length f.after.object.symbols
-        → row ≡ row_at x.good.symbols place count → IsRow (link_at s) f.after row
+        → row ≡ row_at x.snapshot.symbols place count → IsRow (link_at s) f.after row
     values count row many row_is =
-        row_values (link_at s) x.good.symbols place f.after count row
-        (same_symbols old.project p place rewritten s kept x.good.symbols is.table.symbols) f.at many row_is
+        row_values (link_at s) x.snapshot.symbols place f.after count row
+        (same_symbols old.project p place rewritten s kept x.snapshot.symbols is.table.symbols) f.at many row_is
 
     pub rewriting_of : All IsBare r.object.sections → IsInPlaceRewrite old.project (link_at s) r.new f.after
     rewriting_of bare = record {
@@ -269,11 +270,11 @@ module _ (p : Project) (x : PreviousState) (r : ReplacedObjectState) (f : IsNext
         → (all : map (λ (v : SectionInFile). v.section) (in_file (segments s.sections)) ≡ nonempty s.sections)
         → (offset_is : (v : SectionInFile) → Contains (in_file (segments s.sections)) v
         → file_offset (segments s.sections) v.section ≡ v.offset)
-        → HasLocatedSections p s f.after (spots_below x.good.indexed_layout r.new
+        → HasLocatedSections p s f.after (spots_below x.snapshot.indexed_layout r.new
         (map section_of f.after.object.sections)
         (length f.after.object.sections))
     locate_sections order all offset_is =
-        has_spots p s x.good.indexed_layout indexed_layout r.new f.after f.at short order all offset_is
+        has_spots p s x.snapshot.indexed_layout indexed_layout r.new f.after f.at short order all offset_is
 
     pub same_layout_as : (t : Layout) → model.layout p ≡ Ok t → t ≡ s
     same_layout_as t e =
@@ -296,7 +297,7 @@ module _ (p : Project) (x : PreviousState) (r : ReplacedObjectState) (f : IsNext
         rewritten = λ o h. rewritten o h;
         layout = old.layout;
         link = link;
-        table = table_of old.project p place (rewritten old is) old.layout k x.good is.table names good link;
+        table = table_of old.project p place (rewritten old is) old.layout k x.snapshot is.table names good link;
         names = λ o h. sym (names_of o.project p place (rewritten o h));
         map = λ o h. (
             let same = same_layout_as old is o.layout (laid o h) in
@@ -319,7 +320,7 @@ module _ (p : Project) (x : PreviousState) (r : ReplacedObjectState) (f : IsNext
       → file_offset (segments old.layout.sections) v.section ≡ v.offset)
       → (before after : Counts)
       → after ≡ raised (raised before Fields (evaluations (link_at old.layout) (sites_of old.layout f.after))) Bytes
-      (sum_by (bytes_of f.after.object) (spots_below x.good.indexed_layout r.new
+      (sum_by (bytes_of f.after.object) (spots_below x.snapshot.indexed_layout r.new
       (map section_of f.after.object.sections)
       (length f.after.object.sections)))
       → IsTouchedCount old (new_link p old.layout) place before after
@@ -344,12 +345,12 @@ module _ (p : Project) (x : PreviousState) (r : ReplacedObjectState) (f : IsNext
       (λ t c. all_fields p s none t (own_sites p s b (got p.objects place b f.at) t c)) in
       let sites = touched_sites old.project p s place ret k.frame names a b (was old p x r is f) f.at name fresh k.worth
       (piece once) (permuted once) in
-      let bytes = spots_bytes p s x.good.indexed_layout (indexed_layout old is) r.new b f.at
+      let bytes = spots_bytes p s x.snapshot.indexed_layout (indexed_layout old is) r.new b f.at
       (short old is) order all offset_is in
       record {
         counted = counted
             ∙ ap (λ n. raised (raised before Fields n) Bytes (sum_by (bytes_of b.object)
-            (spots_below x.good.indexed_layout r.new (map section_of b.object.sections)
+            (spots_below x.snapshot.indexed_layout r.new (map section_of b.object.sections)
             (length b.object.sections)))) (fields ∙ sym sites)
             ∙ ap (raised (raised before Fields _) Bytes) bytes;
         few = subst (λ n. n ≤ bytes_to_write old (new_link p s)) (sym (ap (λ m. option_map_or (λ (o : NamedObject).

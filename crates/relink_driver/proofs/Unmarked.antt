@@ -32,10 +32,10 @@ in_row t place count n l =
 -- an object whose row is that of the previous link
 pub unmarked_by_rows : (x : PreviousState) (symbols : SymbolValues) (place from count : ℕ)
     → last_place x (record { 0 = place }) ≡ Some from
-    → ((n : ℕ) → slice_index_or (row_at x.good.symbols from count) n NotDefined
+    → ((n : ℕ) → slice_index_or (row_at x.snapshot.symbols from count) n NotDefined
     ≡ slice_index_or (row_at symbols place count) n NotDefined) → IsCleanObject (Some x) symbols place count
 unmarked_by_rows x symbols place from count at same =
-    (from, at, λ n l. sym (in_row x.good.symbols from count n l) ∙ (same n ∙ in_row symbols place count n l))
+    (from, at, λ n l. sym (in_row x.snapshot.symbols from count n l) ∙ (same n ∙ in_row symbols place count n l))
 
 -- the marks of the first objects
 pub record MarksSoFar (previous : Option PreviousState) (symbols : SymbolValues) (objects : List NamedObject) (n : ℕ)

@@ -1,4 +1,4 @@
--- What a link over an earlier one counts.
+-- What a link over a previous one counts.
 use Rattle.std.proofs.Common.{◌≡◌, ◌∙◌, ◌≤◌, ℕ, Bool, true, false, cond, List, [], ◌∷◌}
 use Rattle.std.proofs.Common.{ap, arith, inl, refl, subst, sym}
 use Rattle.std.specs.Prelude.{IfSome, IsSome, Option, None, Some, Ok, Err, nat_lt}

@@ -9,4 +9,4 @@ abbrev pub IsCleanObject : Option PreviousState → SymbolValues → (place coun
 IsCleanObject None symbols place count = ⊥
 IsCleanObject (Some x) symbols place count =
     (from : ℕ) × (last_place x (record { 0 = place }) ≡ Some from)
-    × ((n : ℕ) → n < count → value_at x.good.symbols from n ≡ value_at symbols place n)
+    × ((n : ℕ) → n < count → value_at x.snapshot.symbols from n ≡ value_at symbols place n)

@@ -1,4 +1,4 @@
--- What the phases of a link count, beside an earlier one.
+-- What the phases of a link count, beside a previous one.
 use Rattle.std.specs.Prelude.{◌≡◌, ◌≤◌, ◌⊎◌, ◌+◌, ◌-◌, ℕ, false, IfSome, IsSome, Option, Some, Ok, length}
 use Rattle.elfobj.specs.Counts.{Counts, capped}
 use Rattle.elfobj.specs.Raised.{raised}
@@ -75,15 +75,15 @@ HasWritten project stayed r before after =
     (layout : Layout) → IsLinkLayout project layout stayed.indexed_layout.now.link_layout
     → IsWritten project layout stayed r before after
 
--- the bytes of an image that is drawn over the earlier one: those outside of what stayed, with those of fields in it of
--- symbols of another value
+-- the bytes of an image that is drawn over the previous one: those outside of what stayed, with those of fields in it
+-- of symbols of another value
 pub record IsDrawnCount (old new : GoodLink) (written : ℕ) : Type 0 where
   pub patched : ℕ
   pub few : patched ≤ retargeted_bytes old new
   pub is : written ≡ patched + (image_length new.project new.layout - bytes_stayed old new)
 
--- the bytes of an image that differs from the earlier one in what the input sections of one object hold: those of these
--- sections
+-- the bytes of an image that differs from the previous one in what the input sections of one object hold: those of
+-- these sections
 pub record IsInPlaceCount (old new : GoodLink) (written : ℕ) : Type 0 where
   pub place : ℕ
   pub rewritten : DiffersInContents old.project new.project place

@@ -1,4 +1,4 @@
--- A link whose project differs from that of an earlier one in what the input sections of one object hold.
+-- A link whose project differs from that of a previous one in what the input sections of one object hold.
 use Rattle.std.specs.Prelude.{◌≡◌, ◌<◌, ◌==◌, ℕ, true, List, Option, Some, None, length, map, slice_get}
 use Rattle.std.specs.Prelude.{[], Ok, find, if◌then◌else◌, slice_index_or, sum_by}
 use Rattle.std.specs.Option.{option_map_or}
@@ -62,7 +62,7 @@ pub record IsInPlaceOutcome (project : Project) (previous : Option PreviousState
   pub rewritten : (old : GoodLink) → IsPreviousOf old project before → DiffersInContents old.project project place
   pub layout : Layout
   pub link : model.link project ≡ model.good project layout
-  pub table : IsLinkSnapshot (record { project = project; layout = layout }) before.good
+  pub table : IsLinkSnapshot (record { project = project; layout = layout }) before.snapshot
   pub names : (old : GoodLink) → IsPreviousOf old project before
       → map (λ (object : NamedObject). object.name) project.objects
       ≡ map (λ (object : NamedObject). object.name) old.project.objects

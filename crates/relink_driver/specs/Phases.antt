@@ -60,7 +60,7 @@ pub record IsShort (project : Project) (l : LinkLayout) (w : LinkView) (v : Valu
   pub length : image_length project placed.known.layout ≤ max_image_length
   pub rest : link project ≡ model.relocated project placed.known.layout
 
--- the tables of a link at a layout beside those of the earlier one, if there is one
+-- the tables of a link at a layout beside those of the previous one, if there is one
 pub record AreBeside (project : Project) (layout : Layout) (stayed : StayedSections) : Type 0 where
   pub indexed_layout : IsIndexedLayout project layout stayed.indexed_layout.now
   pub previous : IfSome (previous_of stayed.previous) (HasPreviousLink project)

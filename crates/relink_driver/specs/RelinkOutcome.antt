@@ -1,4 +1,4 @@
--- How a link over an earlier one ends.
+-- How a link over a previous one ends.
 use Rattle.std.specs.Prelude.{◌≡◌, ℕ, List, [], Ok, Option, Bool, true}
 use Rattle.place.specs.LinkLayout.{IsLinkLayout}
 use Rattle.place.specs.declared.indexed_layout.IndexedLayout.{IndexedLayout}

@@ -1,4 +1,4 @@
--- The first row of a link that differs from those of an earlier one.
+-- The first row of a link that differs from those of a previous one.
 use Rattle.std.specs.Prelude.{◌≡◌, ◌<◌, ◌≤◌, ℕ, true, [], Option, Some, None, Contains, slice_get, slice_index_or, take}
 use Rattle.ldmodel.specs.Project.{NamedObject, Project}
 use Rattle.ldmodel.specs.Rows.{rows}
@@ -10,8 +10,8 @@ abbrev pub HasReplaced : Option ReplacedObjectState → ℕ → Type 0
 HasReplaced None i = ⊥
 HasReplaced (Some r) i = r.new.0 ≡ i
 
--- the new project follows the earlier one at once: its script is known to be the same, and each of its objects that is
--- none of the earlier ones, but has the name of one, is known to have come in its place
+-- the new project follows the previous one at once: its script is known to be the same, and each of its objects that is
+-- none of the previous ones, but has the name of one, is known to have come in its place
 pub record IsNext (old new : Project) (previous : PreviousState) : Type 0 where
   pub script : previous.same_script ≡ true
   pub known : (i : ℕ) (object y : NamedObject) → slice_get new.objects i ≡ Some object

@@ -1,4 +1,4 @@
--- Which input sections of a link are those of an earlier one, as the code finds them.
+-- Which input sections of a link are those of a previous one, as the code finds them.
 use Rattle.std.specs.Prelude.{ℕ, Bool, false, not, List, [], codes, find, length, zip, bytes_eq, slice_get, Option}
 use Rattle.std.specs.Prelude.{Some, None, ◌==◌, ◌&&◌}
 use Rattle.std.specs.List.{list_all, position_or_len}
@@ -34,8 +34,8 @@ part_name o (InCommon x) = codes "COMMON"
 abbrev pub has_same_name : ObjectData → Part → NamedObject → Bool
 has_same_name a part b = bytes_eq (part_name a part) (part_name b.object part)
 
--- the object of a section came in the place of that of the earlier one, and the earlier one's part has the same name in
--- both
+-- the object of a section came in the place of that of the previous link's section, and the part of the latter has the
+-- same name in both
 abbrev pub came_for : ReplacedObjectState → Project → SectionKey → SectionKey → Bool
 came_for r project a b =
     (r.old.0 == a.object.0)
@@ -48,7 +48,7 @@ is_of_same_object previous project a b (Some i) = i == a.object.0
 is_of_same_object previous project a b None =
     option_map_or (λ (r : ReplacedObjectState). came_for r project a b) previous.replaced false
 
--- a section of the new link is that of the earlier one
+-- a section of the new link is the previous link's
 abbrev pub is_same_section : PreviousState → Project → SectionKey → SectionKey → Bool
 is_same_section previous project a b =
     is_same_part a.part b.part && is_of_same_object previous project a b (last_place previous b.object)
@@ -77,7 +77,7 @@ are_same_pieces previous project before now =
 abbrev pub is_same_row : PreviousState → Project → List Piece → List Piece → Bool
 is_same_row previous project before now = (length before == length now) && are_same_pieces previous project before now
 
--- a row and the earlier one of its number
+-- a row and the previous link's of its number
 abbrev pub is_changed : PreviousState → Project → Vec Piece × Vec Piece → Bool
 is_changed previous project rows = not (is_same_row previous project (vec_items rows.0) (vec_items rows.1))
 

@@ -43,7 +43,7 @@ replaced_state x = record { old = x.old; object = x.object.now; new = x.new }
 -- a previous link without faults, how many objects it has, which of them are still there, which one was replaced, and
 -- whether it is the one that is answered
 pub record PreviousState : Type 0 where
-  pub good : LinkSnapshot
+  pub snapshot : LinkSnapshot
   pub objects : ℕ
   pub from : List (Option ℕ)
   pub same_script : Bool
@@ -52,7 +52,7 @@ pub record PreviousState : Type 0 where
 
 abbrev pub previous_state : PreviousView → PreviousState
 previous_state x = record {
-  good = x.good.now;
+  snapshot = x.snapshot.now;
   objects = x.objects;
   from = x.from.now;
   same_script = x.same_script;
@@ -70,7 +70,7 @@ last_place previous k = slice_index_or previous.from k.0 None
 -- where an input section did
 abbrev pub standing_from : PreviousState → Part → ℕ → Option SectionLocation
 standing_from previous part i =
-    location_in previous.good.indexed_layout (record { object = record { 0 = i }; part = part })
+    location_in previous.snapshot.indexed_layout (record { object = record { 0 = i }; part = part })
 
 unfoldable pub previous_location : PreviousState → SectionKey → Option SectionLocation
 previous_location previous k = option_and_then (standing_from previous k.part) (last_place previous k.object)
@@ -78,7 +78,7 @@ previous_location previous k = option_and_then (standing_from previous k.part) (
 -- what a symbol of an object was worth in it
 abbrev pub value_from : PreviousState → SymbolIndex → Option ℕ → SymbolValue
 value_from previous index None = NotDefined
-value_from previous index (Some i) = value_at previous.good.symbols i index.0
+value_from previous index (Some i) = value_at previous.snapshot.symbols i index.0
 
 abbrev pub previous_value : PreviousState → ObjectPlace → SymbolIndex → SymbolValue
 previous_value previous k index = value_from previous index (last_place previous k)
@@ -97,7 +97,7 @@ kept_range (Some x) now k = kept_at (previous_location x k) (location_in now k)
 abbrev pub range_of : StayedSections → SectionKey → Option FileRange
 range_of s k = kept_range (previous_of s.previous) s.indexed_layout.now k
 
--- this object of the earlier project was replaced by that of the new one which has its name
+-- this object of the previous project was replaced by that of the new one which has its name
 pub record IsReplaced (project q : Project) (r : ReplacedObjectState) : Type 0 where
   pub before : NamedObject
   pub after : NamedObject
@@ -109,14 +109,14 @@ pub record IsReplaced (project q : Project) (r : ReplacedObjectState) : Type 0 w
 -- the previous link is this one, with this number of objects, which are those of the next project as its origins say;
 -- its options are the same, and so is its script where it is said to be
 pub record IsPreviousOf (old : GoodLink) (new : Project) (previous : PreviousState) : Type 0 where
-  pub table : IsLinkSnapshot old previous.good
+  pub table : IsLinkSnapshot old previous.snapshot
   pub objects : previous.objects ≡ length old.project.objects
   pub options : old.project.options ≡ new.options
   pub origins : AreOrigins old.project new previous.from
   pub script : previous.same_script ≡ true → old.project.script ≡ new.script
   pub replaced : IfSome previous.replaced (IsReplaced old.project new)
 
--- the new link, at a layout whose image is not too long, and the earlier one, if there is one
+-- the new link, at a layout whose image is not too long, and the previous one, if there is one
 pub record AreStayedSections (s : StayedSections) (old : GoodLink) (l : KnownLink) : Type 0 where
   pub symbol_table : SymbolTableState
   pub link : l ≡ known_link l.project l.layout symbol_table

@@ -26,13 +26,13 @@ pub record IsTouchedCount (old new : GoodLink) (place : ℕ) (before after : Cou
 abbrev pub HasFault : Project → Type 0
 HasFault project = (s : Layout) → layout project ≡ Ok s → relocation_faults project s ≡ [] → ⊥
 
--- so it is beside each link that the earlier one may be
+-- so it is beside each link that the previous one may be
 abbrev pub IsTouchedWork : Project → PreviousState → (place : ℕ) → Counts → Counts → Type 0
 IsTouchedWork project previous place before after =
     (old : GoodLink) (s : Layout) → IsPreviousOf old project previous → layout project ≡ Ok s
     → IsTouchedCount old (new_link project s) place before after
 
--- the link is the earlier one with another image; or the canvas is as it was, and nothing is counted unless a
+-- the link is the previous one with another image; or the canvas is as it was, and nothing is counted unless a
 -- relocation has a fault
 abbrev pub HasTouched : Project → Option PreviousState → (old new : List ℕ) → Counts → Counts → Bool → Type 0
 HasTouched project previous old new before after true =

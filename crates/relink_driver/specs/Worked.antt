@@ -1,4 +1,4 @@
--- What a link over an earlier one counts, where it has no faults: exactly what its calls worked out.
+-- What a link over a previous one counts, where it has no faults: exactly what its calls worked out.
 use Rattle.std.specs.Prelude.{◌≡◌, ⊤, ℕ, false, Option, Some, Ok}
 use Rattle.elfobj.specs.Counts.{Counts, capped}
 use Rattle.relink_driver.specs.Resume.{AreSameBefore, IsFirstChanged, IsNext}
@@ -14,7 +14,7 @@ use Rattle.relink_driver.specs.declared.driver.RelinkOutcome.{RelinkOutcome}
 use Rattle.relink_driver.specs.declared.driver.RelinkOutcome.TheVariants as ended
 
 -- the entries of the rows from this one on are placed, before which no row differs; where the project follows the
--- earlier one at once, it is the first that does; and where the script is another, it is the first of all
+-- previous one at once, it is the first that does; and where the script is another, it is the first of all
 pub record IsLinkWork (old new : GoodLink) (previous : PreviousState) (before after : Counts) : Type 0 where
   pub first : ℕ
   pub pieces : after.pieces ≡ capped before.pieces (entries_from first (rows new.project))

@@ -32,7 +32,7 @@ fn have_same_values(old: &[SymbolValue], new: &[SymbolValue]) -> bool
     true
 }
 
-/// Whether an object of a link, which has `count` symbols, is no object of the last one, or one of its symbols had
+/// Whether an object of a link, which has `count` symbols, is no object of the previous one, or one of its symbols had
 /// another value there.
 #[tactic(auto, using(crate::proofs::Unmarked::unmarked_by_rows))]
 fn is_dirty(
@@ -49,13 +49,13 @@ fn is_dirty(
     let Some(from) = previous.place(ObjectPlace(place)) else {
         return true;
     };
-    let before = previous.good.symbols.row(ObjectPlace(from), count);
+    let before = previous.snapshot.symbols.row(ObjectPlace(from), count);
     let now = symbols.row(ObjectPlace(place), count);
     !have_same_values(before, now)
 }
 
-/// Which objects of a link, by their places, are no objects of the last one, or have a symbol that had another value
-/// there. `symbols` has the values of the link. Values are compared as what they are, not by their numbers: what
+/// Which objects of a link, by their places, are no objects of the previous one, or have a symbol that had another
+/// value there. `symbols` has the values of the link. Values are compared as what they are, not by their numbers: what
 /// nothing defines counts as 0 to a weak reference, and is another value than the number 0 to others.
 ///
 /// # Errors

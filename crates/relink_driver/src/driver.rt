@@ -43,7 +43,7 @@ use place::indexed_layout::IndexedLayout;
 use std::alloc::{AllocError, Global};
 use symres::SymbolTable;
 
-/// How a link over an earlier one ends.
+/// How a link over a previous one ends.
 #[derive(Drop)]
 pub enum RelinkOutcome {
     /// The project has faults, and these are their lines.
@@ -137,7 +137,7 @@ fn emit_output(
     Ok(map)
 }
 
-/// The passes of a link over an earlier one, in their order.
+/// The passes of a link over a previous one, in their order.
 fn run_passes(
     context: PassContext<'_, '_>,
     canvas: &mut Canvas,

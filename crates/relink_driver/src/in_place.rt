@@ -1,4 +1,4 @@
-//! Links whose project differs from that of an earlier one in what the input sections of one object hold.
+//! Links whose project differs from that of a previous one in what the input sections of one object hold.
 
 ghost use Rattle.std.specs.Prelude.{◌≡◌, ◌<◌, ℕ, IfOk, IfSome, None, OnErr, OnOk, Some, false, slice_index_or, true};
 ghost use Rattle.ldmodel.specs.Project.{Project};
@@ -75,7 +75,7 @@ fn find_replaced<'a>(
     Some(replaced)
 }
 
-/// What the laws on projects whose objects have the same outlines say of a link beside an earlier one. The call does
+/// What the laws on projects whose objects have the same outlines say of a link beside a previous one. The call does
 /// nothing.
 fn outlines_decide()
     ensures { (old : GoodLink) (project : Project) (i : ℕ) → DiffersInContents old.project project i
@@ -125,7 +125,7 @@ fn rewrite_object(
     are_numbered(context.project);
     // so that what a project says of its objects is known
     let _inputs = context.project.inputs();
-    let indexed_layout = &previous.good.indexed_layout;
+    let indexed_layout = &previous.snapshot.indexed_layout;
     is_good(context.project, &indexed_layout.link_layout);
     let Some(object) = context.project.object(replaced.new) else {
         // the object in whose place it came was compared with it
@@ -133,7 +133,7 @@ fn rewrite_object(
     };
     let located = locate_sections(context.alloc, indexed_layout, replaced.new, object)?;
     let values = previous
-        .good
+        .snapshot
         .symbols
         .row(replaced.new, object.symbols().len());
     rewrite_in_place(
@@ -147,7 +147,7 @@ fn rewrite_object(
     )
 }
 
-/// Where the project follows the earlier one by an object that differs in what its sections hold alone, writes these
+/// Where the project follows the previous one by an object that differs in what its sections hold alone, writes these
 /// sections over the previous image. Answers whether it did: not where a relocation has a fault. Then the canvas is as
 /// it was.
 ///

@@ -6,7 +6,7 @@
 //! - `link_snapshot`: what is kept of a link; `stayed_sections`: which input sections stayed where it has them, as
 //!   `emit_relocate` asks it; `resume` over `row_changes` and `section_names`: the first row that differs; `dirty`:
 //!   objects with a symbol of another value;
-//! - `in_place` over `outline`, `located`: a link that differs from the earlier one in what the input sections of one
+//! - `in_place` over `outline`, `located`: a link that differs from the previous one in what the input sections of one
 //!   object hold;
 //! - `name_faults`: the lines of a link that ends with its names;
 //! - `symbol_values`, `section_location`: what symbols are worth, and where a section stands in memory and in the file;

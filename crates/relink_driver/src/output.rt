@@ -49,7 +49,7 @@ impl Output {
         project: &ProjectView<'_>,
         meter: &mut Meter,
     ) -> Result<Output, NoMemory>
-        ensures { IfOk result (λ o. o ≡ link project.now) }
+        ensures { IfOk result (λ output. output ≡ link project.now) }
     {
         link(alloc, seed, project, true, meter)
     }
@@ -66,7 +66,7 @@ impl Output {
         project: &ProjectView<'_>,
         meter: &mut Meter,
     ) -> Result<Output, NoMemory>
-        ensures { IfOk result (λ o. o ≡ without_map (link project.now)) }
+        ensures { IfOk result (λ output. output ≡ without_map (link project.now)) }
     {
         link(alloc, seed, project, false, meter)
     }

@@ -86,7 +86,7 @@ impl Plain {
     ///
     /// Where memory runs out.
     pub fn new(alloc: Global, seed: RandomState, options: Options) -> Result<Plain, NoMemory>
-        ensures { IfOk result (λ s. s ≡ empty_project options) }
+        ensures { IfOk result (λ session. session ≡ empty_project options) }
     {
         let project = Project::new(alloc, options);
         let output = link_kept(alloc, seed, &project)?;

@@ -1,4 +1,4 @@
-//! The first row of a link that differs from those of an earlier one.
+//! The first row of a link that differs from those of a previous one.
 
 ghost use Rattle.std.specs.Prelude.{◌≡◌, IfSome, IsNone, IsSome, Some, false};
 ghost use Rattle.relink_driver.specs.Resume.{AreSameBefore, IsFirstChanged, IsNext};
@@ -24,10 +24,10 @@ pub fn resume_point<'a>(
 ) -> Option<(&'a Placement, usize)>
     requires rows { rows_in project.now rows.now ≡ model.rows project.now }
     ensures kept { (old : GoodLink) → IfSome (previous_of previous.entry) (IsPreviousOf old project.now)
-        → IfSome result (λ k. IsKept project.now.script (model.rows project.now) k.0.now k.1) }
+        → IfSome result (λ point. IsKept project.now.script (model.rows project.now) point.0.now point.1) }
     ensures same { (old : GoodLink) (x : PreviousState) → previous_of previous.entry ≡ Some x
         → IsPreviousOf old project.now x
-        → IfSome result (λ k. AreSameBefore old.project project.now k.1) }
+        → IfSome result (λ point. AreSameBefore old.project project.now point.1) }
     ensures some { (old : GoodLink) (x : PreviousState) → previous_of previous.entry ≡ Some x
         → IsPreviousOf old project.now x
         → IsNext old.project project.now x → IsSome result }
@@ -35,14 +35,14 @@ pub fn resume_point<'a>(
     ensures first { (old : GoodLink) (x : PreviousState) → previous_of previous.entry ≡ Some x
         → IsPreviousOf old project.now x
         → IsNext old.project project.now x
-        → IfSome result (λ k. IsFirstChanged old.project project.now k.1) }
+        → IfSome result (λ point. IsFirstChanged old.project project.now point.1) }
 {
     placed_are_rows();
     let previous = previous?;
     if !previous.same_script {
         return None;
     }
-    let before = &previous.good.indexed_layout;
+    let before = &previous.snapshot.indexed_layout;
     let first = first_changed(&previous, project, &before.rows, rows);
     Some((&before.link_layout.placement, first))
 }

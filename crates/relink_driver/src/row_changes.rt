@@ -1,4 +1,4 @@
-//! Which input sections of a link are those of an earlier one.
+//! Which input sections of a link are those of a previous one.
 
 ghost use Rattle.std.specs.Prelude.{◌≡◌, ◌==◌, position, zip};
 ghost use Rattle.relink_driver.specs.SameRows.{are_same_pieces, came_for, first_changed, is_changed, is_of_same_object};
@@ -27,7 +27,7 @@ fn is_same_kind(before: SectionKind, now: SectionKind) -> bool
     before == now
 }
 
-/// Whether the object of a section came in the place of the earlier section's object, and the earlier section's part
+/// Whether the object of a section came in the place of that of the previous link's section, and the part of the latter
 /// has the same name in both.
 fn came_for(
     replaced: &ReplacedObject<'_>,
@@ -46,8 +46,8 @@ fn came_for(
     }
 }
 
-/// Whether the object of a section is the earlier section's object, or came in its place and has the part by the same
-/// name.
+/// Whether the object of a section is that of the previous link's section, or came in its place and has the part by the
+/// same name.
 fn is_of_same_object(
     previous: &PreviousView<'_>,
     project: &ProjectView<'_>,
@@ -67,7 +67,7 @@ fn is_of_same_object(
     }
 }
 
-/// Whether a section is the earlier one.
+/// Whether a section is the previous link's.
 fn is_same_section(
     previous: &PreviousView<'_>,
     project: &ProjectView<'_>,
@@ -79,7 +79,7 @@ fn is_same_section(
     is_same_part(before.part, now.part) && is_of_same_object(previous, project, before, now)
 }
 
-/// Whether an entry of a row is the earlier one.
+/// Whether an entry of a row is the previous link's.
 fn is_same_piece(
     previous: &PreviousView<'_>,
     project: &ProjectView<'_>,
@@ -96,7 +96,7 @@ fn is_same_piece(
         && before.alignment == now.alignment
 }
 
-/// Whether the entries of a row are the earlier row's, as far as both go.
+/// Whether the entries of a row are those of the previous link's row, as far as both go.
 fn are_same_pieces(
     previous: &PreviousView<'_>,
     project: &ProjectView<'_>,
@@ -108,7 +108,7 @@ fn are_same_pieces(
     before.iter().zip(now).all(|(before, now)| is_same_piece(previous, project, before, now))
 }
 
-/// Whether a row is the earlier one.
+/// Whether a row is the previous link's.
 fn is_same_row(
     previous: &PreviousView<'_>,
     project: &ProjectView<'_>,
@@ -120,7 +120,7 @@ fn is_same_row(
     before.len() == now.len() && are_same_pieces(previous, project, before, now)
 }
 
-/// The number of the first row that differs from the earlier one, among those that both links have.
+/// The number of the first row that differs from the previous link's, among those that both links have.
 fn find_changed(
     previous: &PreviousView<'_>,
     project: &ProjectView<'_>,

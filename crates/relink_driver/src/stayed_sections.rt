@@ -35,10 +35,10 @@ pub struct ReplacedObject<'a> {
 #[derive(Clone, Copy)]
 pub struct PreviousView<'a> {
     /// What is kept of that link.
-    pub good: &'a LinkSnapshot,
+    pub snapshot: &'a LinkSnapshot,
     /// How many objects it has.
     pub objects: usize,
-    /// For each object of the new link, by its place, the place in the earlier one.
+    /// For each object of the new link, by its place, the place in the previous one.
     pub from: &'a [Option<usize>],
     /// Whether that link is known to be of the same script.
     pub same_script: bool,
@@ -49,14 +49,14 @@ pub struct PreviousView<'a> {
 }
 
 impl<'a> PreviousView<'a> {
-    /// The place that an object of the new link had in the earlier one.
+    /// The place that an object of the new link had in the previous one.
     pub(crate) fn place(&self, object: ObjectPlace) -> Option<usize>
         ensures { result ≡ slice_index_or self.now.from.now object.0 None }
     {
         self.from.get(object.0).copied().unwrap_or(None)
     }
 
-    /// Where an input section of the new link stood in the earlier one.
+    /// Where an input section of the new link stood in the previous one.
     #[tactic(auto, unfolding(crate::specs::StayedSections::previous_location))]
     fn section_location(&self, section: SectionKey) -> Option<SectionLocation>
         ensures { result ≡ previous_location (previous_state self.now) section }
@@ -66,29 +66,29 @@ impl<'a> PreviousView<'a> {
             object: ObjectPlace(place),
             part: section.part,
         };
-        find_location(&self.good.indexed_layout, section)
+        find_location(&self.snapshot.indexed_layout, section)
     }
 
-    /// What a symbol of an object of the new link was worth in the earlier one.
+    /// What a symbol of an object of the new link was worth in the previous one.
     fn value(&self, object: ObjectPlace, index: SymbolIndex) -> SymbolValue
         ensures { result ≡ previous_value (previous_state self.now) object index }
     {
         match self.place(object) {
             None => SymbolValue::NotDefined,
-            Some(place) => self.good.symbols.value(place, index),
+            Some(place) => self.snapshot.symbols.value(place, index),
         }
     }
 }
 
-/// Which input sections of a link stayed where the last one has them, if there is one.
+/// Which input sections of a link stayed where the previous one has them, if there is one.
 #[derive(Clone, Copy)]
 pub struct StayedSections<'a> {
     /// The previous link, if there is one.
     pub previous: Option<PreviousView<'a>>,
     /// Where everything of the new one stands.
     pub indexed_layout: &'a IndexedLayout,
-    /// Which objects of the new one, by their places, name a symbol that may have another value than in the last one;
-    /// an object past the end of the list may, too.
+    /// Which objects of the new one, by their places, name a symbol that may have another value than in the previous
+    /// one; an object past the end of the list may, too.
     pub dirty: &'a [bool],
 }
 
@@ -108,7 +108,7 @@ impl<'a> StayedSections<'a> {
             → IsComplete (range_of self.now) old link }
         ensures sound { (old : GoodLink) (link : KnownLink) → AreStayedSections self.now old link
             → IsSound (range_of self.now) old link }
-        ensures none { self.now.previous ≡ None → (k : SectionKey) → range_of self.now k ≡ None }
+        ensures none { self.now.previous ≡ None → (key : SectionKey) → range_of self.now key ≡ None }
     {
         sections_in_file();
         files_in_order();

@@ -66,9 +66,9 @@ pub fn symbol_values(
     link: &LinkView<'_, '_>,
     names: &[SymbolValue],
 ) -> Result<SymbolValues, NoMemory>
-    ensures { IfOk result (λ t. (layout : Layout) (table : SymbolTableState)
+    ensures { IfOk result (λ values. (layout : Layout) (table : SymbolTableState)
         → IsLinkView (known_link project.now layout table) link.now
-        → AreNameValues (known_link project.now layout table) names.now → AreSymbolValues project.now layout t) }
+        → AreNameValues (known_link project.now layout table) names.now → AreSymbolValues project.now layout values) }
 {
     let inputs = project.inputs();
     let count = count_symbols(inputs)?;

@@ -16,7 +16,7 @@ use Rattle.emit.specs.Output.{IsOutput, IsJoinedRow}
 pub draw_outputs-requires-clause-outputs : goal.draw_outputs-requires-clause-outputs
 draw_outputs-requires-clause-outputs g c =
     let p = c.args.project.now in
-    let stays : SectionKey → Bool = λ k. is_some (g.E.PreviousLinkInfo.range c.args.earlier.now k) in
+    let stays : SectionKey → Bool = λ k. is_some (g.E.PreviousLinkInfo.range c.args.previous.now k) in
     let r = c.requires.drawable in
     let s = r.layout in
     record {
@@ -37,7 +37,7 @@ draw_outputs-requires-clause-outputs g c =
 pub returns : goal.returns
 returns g c =
     let p = c.args.project.now in
-    let range : SectionKey → Option FileRange = g.E.PreviousLinkInfo.range c.args.earlier.now in
+    let range : SectionKey → Option FileRange = g.E.PreviousLinkInfo.range c.args.previous.now in
     let stays : SectionKey → Bool = λ k. is_some (range k) in
     let outputs : (s : Layout) (a : SymbolTableState)
     → IsDrawableAt p s a c.args.indexed_layout.now c.args.values.now c.args.relocated.now stays

@@ -10,7 +10,7 @@ use Rattle.emit.specs.Pieces.{IsDrawnPiece, IsRowPiece}
 pub returns-in-Some : goal.returns-in-Some
 returns-in-Some g c =
     let p = c.args.project.now in
-    let stays : SectionKey → Bool = λ k. is_some (g.E.PreviousLinkInfo.range c.args.earlier.now k) in
+    let stays : SectionKey → Bool = λ k. is_some (g.E.PreviousLinkInfo.range c.args.previous.now k) in
     on_ok _ _ c.add_kept.result
     (λ h l w whole same sources at stand.
     let kept = h whole stand in (
@@ -25,7 +25,7 @@ returns-in-Some g c =
 pub returns-in_ok-drawn-in-None : goal.returns-in_ok-drawn-in-None
 returns-in_ok-drawn-in-None g c =
     let p = c.args.project.now in
-    let stays : SectionKey → Bool = λ k. is_some (g.E.PreviousLinkInfo.range c.args.earlier.now k) in
+    let stays : SectionKey → Bool = λ k. is_some (g.E.PreviousLinkInfo.range c.args.previous.now k) in
     let new = ap is_some (sym c.in-None.ensures.range) in
     let y = c.in_ok-drawn-in-None.drawn in
     on_ok _ _ c.add_drawn.result

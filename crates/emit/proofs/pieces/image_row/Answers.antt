@@ -11,14 +11,14 @@ use Rattle.emit.proofs.pieces.image_row.Goals as goal
 
 pub loop-k-init : goal.loop-k-init
 loop-k-init g c link q same sources row =
-    let stays : SectionKey → Bool = λ key. is_some (g.E.PreviousLinkInfo.range c.args.earlier.now key) in
+    let stays : SectionKey → Bool = λ key. is_some (g.E.PreviousLinkInfo.range c.args.previous.now key) in
     subst (AreDrawnAs link.project link.layout stays []) (sym c.in_ok-pieces.ensures.items)
     (no_entries link.project link.layout stays)
 
 pub loop-k-preserved : goal.loop-k-preserved
 loop-k-preserved g c link q same sources row =
     let p = c.args.project.now in
-    let stays : SectionKey → Bool = λ key. is_some (g.E.PreviousLinkInfo.range c.args.earlier.now key) in
+    let stays : SectionKey → Bool = λ key. is_some (g.E.PreviousLinkInfo.range c.args.previous.now key) in
     let rs = c.args.row.now in
     let starts = c.args.starts.now in
     let k = c.loop-k.k in
@@ -34,7 +34,7 @@ loop-k-preserved g c link q same sources row =
 pub returns : goal.returns
 returns g c link q same sources row =
     let p = c.args.project.now in
-    let stays : SectionKey → Bool = λ key. is_some (g.E.PreviousLinkInfo.range c.args.earlier.now key) in
+    let stays : SectionKey → Bool = λ key. is_some (g.E.PreviousLinkInfo.range c.args.previous.now key) in
     all_entries p link.project link.layout stays q (map (piece_in p) c.args.row.now) c.args.starts.now
     c.loop-k.k c.loop-k.pieces.items row (omega (arith, c.loop-k-test.false, length-map c.args.row.now (piece_in p)))
     (c.loop-k.invariant link q same sources row)

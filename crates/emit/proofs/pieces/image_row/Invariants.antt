@@ -11,8 +11,8 @@ use Rattle.emit.specs.Pieces.{AreSources, IsRowAt}
 abbrev pub invariant-loop-k : goal.invariant-loop-k
 invariant-loop-k g l =
     (link : KnownLink) (q : PlacedOutput) → link.project ≡ l.project
-    → AreSources link (λ key. is_some (g.E.PreviousLinkInfo.range l.earlier key)) l.indexed_layout l.relocated
+    → AreSources link (λ key. is_some (g.E.PreviousLinkInfo.range l.previous key)) l.indexed_layout l.relocated
     → IsRowAt l.project link.layout (map (piece_in l.project) l.row) l.starts q
-    → AreDrawnAs link.project link.layout (λ key. is_some (g.E.PreviousLinkInfo.range l.earlier key))
+    → AreDrawnAs link.project link.layout (λ key. is_some (g.E.PreviousLinkInfo.range l.previous key))
     (take l.k q.pieces)
     l.pieces.items

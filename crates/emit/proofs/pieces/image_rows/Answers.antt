@@ -17,7 +17,7 @@ use Rattle.emit.specs.Pieces.{IsRowAt}
 pub loop-row-preserved : goal.loop-row-preserved
 loop-row-preserved g c =
     let p = c.args.project.now in
-    let stays : SectionKey → Bool = λ k. is_some (g.E.PreviousLinkInfo.range c.args.earlier.now k) in
+    let stays : SectionKey → Bool = λ k. is_some (g.E.PreviousLinkInfo.range c.args.previous.now k) in
     let rs = c.args.indexed_layout.now.rows.items in
     let starts = c.args.starts.now in
     let k = c.loop-row.row-index in
@@ -51,7 +51,7 @@ loop-row-preserved g c =
 pub returns : goal.returns
 returns g c l same sources placed =
     let p = c.args.project.now in
-    let stays : SectionKey → Bool = λ k. is_some (g.E.PreviousLinkInfo.range c.args.earlier.now k) in
+    let stays : SectionKey → Bool = λ k. is_some (g.E.PreviousLinkInfo.range c.args.previous.now k) in
     let rs = c.args.indexed_layout.now.rows.items in
     let many : length (rows_in p rs) ≡ length rs = length-map (map vec_items rs) _ ∙ length-map rs vec_items in
     all_rows p stays c.args.indexed_layout.now c.args.relocated.now

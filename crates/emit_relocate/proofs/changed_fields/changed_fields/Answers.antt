@@ -9,20 +9,20 @@ loop-key-preserved g c =
     λ old l k e all low order.
     let h = in_order l c.args.objects.now c.loop-key.key-index _ order
     (slice_get-get_or c.args.objects.now c.loop-key.key-index (record { 0 = 0 }) c.loop-key-test.true) in
-    object_at old l (g.E.PreviousLinkInfo.range c.args.earlier.now) _ _ _ l.project.objects c.loop-key.key-index h.0 h.2
+    object_at old l (g.E.PreviousLinkInfo.range c.args.previous.now) _ _ _ l.project.objects c.loop-key.key-index h.0 h.2
     (c.loop-key.invariant old l k e all low order)
-    (c.in_ok-add_of_key.ensures old l h.0 (record { link = k; earlier = e; symbols = all; below = low }) h.1)
+    (c.in_ok-add_of_key.ensures old l h.0 (record { link = k; previous = e; symbols = all; below = low }) h.1)
 
 pub returns : goal.returns
 returns g c =
-    λ old l k e all low order. whole_link old l (g.E.PreviousLinkInfo.range c.args.earlier.now) c.args.objects.now
+    λ old l k e all low order. whole_link old l (g.E.PreviousLinkInfo.range c.args.previous.now) c.args.objects.now
     c.loop-key.key-index order c.loop-key-test.false c.loop-key.auto.key-index-end _ _
     (c.loop-key.invariant old l k e all low order)
 
 pub loop-key-init : goal.loop-key-init
 loop-key-init g c =
     λ old l k e all low order.
-    changed_none old l (g.E.PreviousLinkInfo.range c.args.earlier.now) _ _ c.in_ok-with_capacity.ensures.items
+    changed_none old l (g.E.PreviousLinkInfo.range c.args.previous.now) _ _ c.in_ok-with_capacity.ensures.items
     c.in_ok-with_capacity-2.ensures.items
     c.new.ensures.items c.new-2.ensures.items refl
     (omega (arith, c.fields-fields.type_inv, c.fields-fields.ensures))

@@ -10,7 +10,7 @@ pub returns-clause-updated : goal.returns-clause-updated
 returns-clause-updated c = λ l is keys.
     followed_good l c.args.project.now c.args.keys.now c.relink.new.canvas.bytes
     (record {
-      good = c.in-Ok-Good.good;
+      snapshot = c.in-Ok-Good.snapshot;
       origins = c.in_ok-origins.origins;
       names = c.names_in_room.result;
       same_script = true;

@@ -52,7 +52,8 @@ returns-clause-link c =
     let offset_is = c.sections_in_file.ensures.offset s.sections is.table.indexed_layout.link_layout.named in
     let located : HasLocatedSections p s f.after c.deref.result.now =
     subst (HasLocatedSections p s f.after) (sym (c.deref.ensures.value ∙ c.in_ok-located.ensures
-    ∙ ap (λ (d : ObjectData). spots_below x.good.indexed_layout r.new (map section_of d.sections) (length d.sections))
+    ∙ ap (λ (d : ObjectData). spots_below x.snapshot.indexed_layout r.new (map section_of d.sections)
+    (length d.sections))
     (sym object))) (touching.locate_sections p x r f names keeps old is order all offset_is) in
     let rewrite = touching.rewriting_of p x r f names keeps old is c.nobits_are_bare.ensures in
     touching.if_both _ _ _ c.rewrite_in_place.result (λ done image faultless yes.
@@ -78,7 +79,8 @@ returns-clause-counted c =
     ap length c.symbols.ensures.value ∙ length-map c.in-Some.object.now.symbols (λ (y : NamedSymbol). y.symbol)
     ∙ ap (λ (d : ObjectData). length d.symbols) (sym object) in
     let spots_are = c.deref.ensures.value ∙ c.in_ok-located.ensures
-    ∙ ap (λ (d : ObjectData). spots_below x.good.indexed_layout r.new (map section_of d.sections) (length d.sections))
+    ∙ ap (λ (d : ObjectData). spots_below x.snapshot.indexed_layout r.new (map section_of d.sections)
+    (length d.sections))
     (sym object) in
     touching.if_both _ _ _ c.rewrite_in_place.result (λ done counted faultless yes old t is laid_at.
     let s : Layout = old.layout in
@@ -136,7 +138,8 @@ returns-clause-faulty c =
     let offset_is = c.sections_in_file.ensures.offset s.sections is.table.indexed_layout.link_layout.named in
     let located : HasLocatedSections p s f.after c.deref.result.now =
     subst (HasLocatedSections p s f.after) (sym (c.deref.ensures.value ∙ c.in_ok-located.ensures
-    ∙ ap (λ (d : ObjectData). spots_below x.good.indexed_layout r.new (map section_of d.sections) (length d.sections))
+    ∙ ap (λ (d : ObjectData). spots_below x.snapshot.indexed_layout r.new (map section_of d.sections)
+    (length d.sections))
     (sym object))) (touching.locate_sections p x r f names keeps old is order all offset_is) in
     touching.if_one _ _ c.rewrite_in_place.result
     (λ done refused no t laid none. refused no l f.after f.at object row located
@@ -168,7 +171,8 @@ returns-clause-reads c =
     let offset_is = c.sections_in_file.ensures.offset s.sections is.table.indexed_layout.link_layout.named in
     let located : HasLocatedSections p s f.after c.deref.result.now =
     subst (HasLocatedSections p s f.after) (sym (c.deref.ensures.value ∙ c.in_ok-located.ensures
-    ∙ ap (λ (d : ObjectData). spots_below x.good.indexed_layout r.new (map section_of d.sections) (length d.sections))
+    ∙ ap (λ (d : ObjectData). spots_below x.snapshot.indexed_layout r.new (map section_of d.sections)
+    (length d.sections))
     (sym object))) (touching.locate_sections p x r f names keeps old is order all offset_is) in
     let fields : c.args.meter.now.fields < 2 ^ 64 = omega (arith, c.fields.type_inv, c.fields.ensures) in
     let bytes : c.args.meter.now.bytes < 2 ^ 64 = omega (arith, c.bytes.type_inv, c.bytes.ensures) in

@@ -28,7 +28,7 @@ returns g c =
     let order : IsOrder l c.deref.result.now =
     subst (IsOrder l) (sym c.deref.ensures.value) c.in_ok-keys.ensures.keys in
     let changed = c.in_ok-fields.ensures old l v k symbols below order in
-    let range = g.E.PreviousLinkInfo.range c.args.earlier.now in
+    let range = g.E.PreviousLinkInfo.range c.args.previous.now in
     let once = placed_once p read s distinct e in
     let profile = of_profile p read in
     let own = c.patches_are_fields.ensures old l range _ _ changed refl profile once in

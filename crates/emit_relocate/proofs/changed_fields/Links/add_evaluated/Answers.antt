@@ -11,13 +11,13 @@ returns-then-is_empty g c =
     bare_added old l s
     (bare_at_hand l c.args.section.now s c.relocations.result.now h c.relocations.ensures.value
     (grind (arith, c.if-is_empty.true, c.is_empty.ensures)))
-    (g.E.PreviousLinkInfo.range c.args.self.now.earlier.now) c.args.section.now.key h.object_is
+    (g.E.PreviousLinkInfo.range c.args.self.now.previous.now) c.args.section.now.key h.object_is
     (results_of c.args.fields.now c.args.meter.now) (omega (arith, c.fields-fields.type_inv, c.fields-fields.ensures))
 
 pub returns-in_ok-add_renewed-in-None : goal.returns-in_ok-add_renewed-in-None
 returns-in_ok-add_renewed-in-None g c =
     λ old l s k h.
-    let range = g.E.PreviousLinkInfo.range c.args.self.now.earlier.now in
+    let range = g.E.PreviousLinkInfo.range c.args.self.now.previous.now in
     known_as old l range s c.args.section.now.key h.object_is None
     (c.in-None.ensures.range ∙ ap range (c.section_key.ensures l s h)) _ _
     (c.in_ok-add_renewed-in-None.ensures old l s k h)
@@ -25,11 +25,11 @@ returns-in_ok-add_renewed-in-None g c =
 pub returns-in_ok-add_retained-in-Some : goal.returns-in_ok-add_retained-in-Some
 returns-in_ok-add_retained-in-Some g c =
     λ old l s k h.
-    let range = g.E.PreviousLinkInfo.range c.args.self.now.earlier.now in
+    let range = g.E.PreviousLinkInfo.range c.args.self.now.previous.now in
     let same = c.section_key.ensures l s h in
     let known = c.in-Some.ensures.range ∙ ap range same in
     known_as old l range s c.args.section.now.key h.object_is (Some c.in-Some.range) known _ _
     (c.in_ok-add_retained-in-Some.ensures old l s k h (record {
       known = known;
-      stayed = subst (λ q. HasStayedAt old l q c.in-Some.range) same (c.in-Some.ensures.stayed old l k.earlier);
+      stayed = subst (λ q. HasStayedAt old l q c.in-Some.range) same (c.in-Some.ensures.stayed old l k.previous);
     }))

@@ -10,5 +10,5 @@ pub returns-in_ok-add_object-in-Some : goal.returns-in_ok-add_object-in-Some
 returns-in_ok-add_object-in-Some g c =
     λ old l o k named.
     let same = lent l c.args.key o c.in-Some.object.now (c.in-Some.ensures l k.link) named in
-    of_read old l (g.E.PreviousLinkInfo.range c.args.self.now.earlier.now) o c.in-Some.object.now same _ _
+    of_read old l (g.E.PreviousLinkInfo.range c.args.self.now.previous.now) o c.in-Some.object.now same _ _
     (c.in_ok-add_object-in-Some.ensures old l o k named same)

@@ -8,31 +8,31 @@ use Rattle.emit_relocate.proofs.changed_fields.Links.add_retained.Goals as goal
 pub returns-then-not-is_dirty : goal.returns-then-not-is_dirty
 returns-then-not-is_dirty g c =
     λ old l s k h kept.
-    let of_object = kept_by (g.E.PreviousLinkInfo.range c.args.self.now.earlier.now) _ _ kept.known in
+    let of_object = kept_by (g.E.PreviousLinkInfo.range c.args.self.now.previous.now) _ _ kept.known in
     let a = results_of c.args.fields.now c.args.meter.now in
-    retained old l (g.E.PreviousLinkInfo.range c.args.self.now.earlier.now) s _ c.args.range a a kept.stayed refl refl
+    retained old l (g.E.PreviousLinkInfo.range c.args.self.now.previous.now) s _ c.args.range a a kept.stayed refl refl
     (moved_in_none old l s c.args.section.now.key h.object_is
-    (c.is_dirty.ensures old l k.earlier of_object c.if-not-is_dirty.true) c.args.range a.patches a.faults a.counts
+    (c.is_dirty.ensures old l k.previous of_object c.if-not-is_dirty.true) c.args.range a.patches a.faults a.counts
     (omega (arith, c.fields-fields.type_inv, c.fields-fields.ensures)))
 
 pub returns-in-None : goal.returns-in-None
 returns-in-None g c =
     λ old l s k h kept.
     let a = results_of c.args.fields.now c.args.meter.now in
-    retained old l (g.E.PreviousLinkInfo.range c.args.self.now.earlier.now) s _ c.args.range a a kept.stayed refl refl
+    retained old l (g.E.PreviousLinkInfo.range c.args.self.now.previous.now) s _ c.args.range a a kept.stayed refl refl
     (moved_unplaced old l c.args.range s (c.in-None.ensures.place l s k.link k.below h) a.patches a.faults a.counts
     (omega (arith, c.fields-fields.type_inv, c.fields-fields.ensures)))
 
 pub returns-in_ok-add_moved-in-Some : goal.returns-in_ok-add_moved-in-Some
 returns-in_ok-add_moved-in-Some g c =
     λ old l s k h kept.
-    let range = g.E.PreviousLinkInfo.range c.args.self.now.earlier.now in
+    let range = g.E.PreviousLinkInfo.range c.args.self.now.previous.now in
     let of_object = kept_by range _ _ kept.known in
     let place = c.in-Some.ensures.place l s k.link k.below h in
     retained old l range s _ c.args.range _ _ kept.stayed refl refl
     (moved_placed old l c.args.range s c.in-Some.section place _ _ _ _ _ _
     (c.in_ok-add_moved-in-Some.ensures old l s (record {
-      links = k.earlier;
+      links = k.previous;
       kept = subst (IsKept range) (sym c.in-Some.ensures.key) of_object;
       section_is = place.section_is;
     })))
