@@ -25,7 +25,7 @@ use ldmodel::rows::{InputIndex, Piece};
 use ldmodel::sections::{Part, SectionKey};
 use ldmodel_project::input::InputObject;
 use ldmodel_project::view::ProjectView;
-use std::alloc::{AllocError, Global};
+use std::alloc::Global;
 
 /// An input section: a linked section of an object, or a common block that an object owns.
 #[derive(Clone, Copy)]
@@ -158,21 +158,16 @@ fn add_object(
     add_blocks(sections, key, matches.common, blocks)
 }
 
-/// How many input sections these objects have. Fails where they are too many for any memory.
-fn count_sections(
-    inputs: &[InputObject<'_>],
-    blocks: &[Vec<CommonBlock>],
-) -> Result<usize, NoMemory> {
+/// How many input sections these objects have, or the greatest number, for which there is no room.
+fn count_sections(inputs: &[InputObject<'_>], blocks: &[Vec<CommonBlock>]) -> usize {
     let mut count: usize = 0;
     for input in inputs {
-        count = count
-            .checked_add(input.object.sections().len())
-            .ok_or(AllocError)?;
+        count = count.saturating_add(input.object.sections().len());
     }
     for own in blocks {
-        count = count.checked_add(own.len()).ok_or(AllocError)?;
+        count = count.saturating_add(own.len());
     }
-    Ok(count)
+    count
 }
 
 /// The input sections of a project, each with the statement that takes it. `blocks` has the common blocks of each
@@ -192,7 +187,7 @@ pub(crate) fn input_sections(
     ensures { IfOk result (λ sections. AreGathered project.now sections.items) }
 {
     let inputs = project.inputs();
-    let mut sections = Vec::with_capacity(alloc, count_sections(inputs, blocks)?)?;
+    let mut sections = Vec::with_capacity(alloc, count_sections(inputs, blocks))?;
     for (place, input) in inputs.iter().enumerate() {
         add_object(&mut sections, place, input, matches[place], &blocks[place])?;
     }

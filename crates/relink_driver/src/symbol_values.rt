@@ -20,17 +20,15 @@ use ldmodel::memory::NoMemory;
 use ldmodel::names::ObjectPlace;
 use ldmodel_project::input::InputObject;
 use ldmodel_project::view::ProjectView;
-use std::alloc::{AllocError, Global};
+use std::alloc::Global;
 
-/// How many symbols these objects have. Fails where they are too many for any memory.
-fn count_symbols(inputs: &[InputObject<'_>]) -> Result<usize, NoMemory> {
+/// How many symbols these objects have, or the greatest number, for which there is no room.
+fn count_symbols(inputs: &[InputObject<'_>]) -> usize {
     let mut count: usize = 0;
     for input in inputs {
-        count = count
-            .checked_add(input.object.symbols().len())
-            .ok_or(AllocError)?;
+        count = count.saturating_add(input.object.symbols().len());
     }
-    Ok(count)
+    count
 }
 
 /// Adds the values of the symbols of an object.
@@ -71,7 +69,7 @@ pub fn symbol_values(
         → AreNameValues (known_link project.now layout table) names.now → AreSymbolValues project.now layout values) }
 {
     let inputs = project.inputs();
-    let count = count_symbols(inputs)?;
+    let count = count_symbols(inputs);
     let mut starts = Vec::with_capacity(alloc, inputs.len())?;
     let mut values = Vec::with_capacity(alloc, count)?;
     for (place, input) in inputs.iter().enumerate() {
