@@ -6,7 +6,7 @@ PREFIX ?= /usr/local
 export LDI
 
 .PHONY: help demo ldi install check test test-client fmt examples bench check-real check-images check-model \
-        check-link check-readers check-session check-counts check-memory mutants soak-client row lint
+        check-link check-readers check-session check-counts check-no-memory check-memory mutants soak-client row lint
 .PHONY: self dist dist-test
 
 help: ## this list
@@ -81,6 +81,9 @@ check-session: ## compares sessions with links from scratch on 1,000 lists of 50
 
 check-counts: ## looks whether work can be done without being counted: rules over the text, code that must not compile
 	tools/check-counts --compile
+
+check-no-memory: ## looks where 'out of memory' is answered without a growth that was refused
+	tools/check-no-memory
 
 check-memory: ## refuses each allocation of a session in turn, and compares the answers
 	tools/fail-alloc "$(LDI)"
