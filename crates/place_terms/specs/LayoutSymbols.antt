@@ -1,5 +1,5 @@
 -- The table of the symbols that a script has given values.
-use Rattle.std.specs.Prelude.{◌≡◌, ℕ, ◌+◌, ◌==◌, nat_lt, List, [], ◌∷◌, map, Option, Some, None, find, bytes_eq}
+use Rattle.std.specs.Prelude.{◌≡◌, ℕ, ◌+◌, ◌≤◌, ◌==◌, nat_lt, List, [], ◌∷◌, map, Option, Some, None, find, bytes_eq}
 use Rattle.std.specs.Prelude.{if◌then◌else◌}
 use Rattle.std.specs.List.{All}
 use Rattle.std.specs.Option.{option_map}
@@ -40,6 +40,10 @@ value_under symbols number =
 abbrev pub risen : ℕ → List code.ScriptSymbol → Option ℕ
 risen next [] = Some next
 risen next (x ∷ xs) = if nat_lt x.command.0 next then None else risen (x.command.0 + 1) xs
+
+-- the command of this number comes after theirs
+abbrev pub ComesAfter : List code.ScriptSymbol → ℕ → Type 0
+ComesAfter symbols number = (next : ℕ) → risen 0 symbols ≡ Some next → next ≤ number
 
 -- the numbers of the commands rise
 pub record Rises (symbols : List code.ScriptSymbol) : Type 0 where

@@ -1,6 +1,5 @@
 //! Guesses at the numbers of names.
 
-use ldmodel::impossible::impossible;
 use std::alloc::{AllocError, Global};
 
 /// How many slots may have the guess at a name, from one that its hash gives on.
@@ -60,10 +59,11 @@ fn hash_of(name: &[u8]) -> u64 {
 impl Guesses {
     /// No guess yet, and slots for this many names.
     pub fn new(alloc: Global, count: usize) -> Result<Guesses, AllocError> {
-        let Some(wanted) = count.saturating_mul(2).checked_next_power_of_two() else {
-            // No script has that number of names
-            return Err(impossible());
-        };
+        // with one slot for more names than there are powers of two, which no script has, guesses are missing
+        let wanted = count
+            .saturating_mul(2)
+            .checked_next_power_of_two()
+            .unwrap_or(1);
         let slots = vec![in alloc; Slot::FREE; wanted]?;
         Ok(Guesses { slots })
     }

@@ -1,9 +1,11 @@
 //! The symbols that a script has given values so far.
 
-ghost use Rattle.std.specs.Prelude.{◌≡◌, [], ◌∷◌, ◌++◌, length, take, IfOk, OnOk, Some};
-ghost use Rattle.place_terms.specs.LayoutSymbols.{named, risen, value_of, value_under, AreFound, IsFound, Rises};
+ghost use Rattle.std.specs.Prelude.{◌≡◌, [], ◌∷◌, ◌++◌, length, take, IfOk, IfSome, OnOk, Some};
+ghost use Rattle.place_terms.specs.LayoutSymbols.{named, risen, value_of, value_under, AreFound, ComesAfter, IsFound, Rises};
+ghost use Rattle.place_terms.specs.Tables.{symbol_number};
 
 use crate::directives_by_name::DirectivesByName;
+use crate::previous_layout::first;
 use ldmodel::impossible::impossible;
 use ldmodel::script_symbol::{DirectiveIndex, ScriptSymbol};
 use ldscript::Script;
@@ -121,19 +123,30 @@ impl<'a> AssignedSymbols<'a> {
         value_given(&self.list, number)
     }
 
+    /// The number of the command that gives a symbol its value, where it comes after those of all symbols so far.
+    fn next_number(&self, name: &[u8]) -> Option<DirectiveIndex>
+        ensures is { IfSome result (λ k. symbol_number self.now.script name.now ≡ Some k.0) }
+        ensures after { IfSome result (λ k. ComesAfter self.now.list k.0) }
+    {
+        let number = self.commands.number_or(self.next, name)?;
+        if number < self.next {
+            return None;
+        }
+        match u32::try_from(number) {
+            Ok(number) => Some(DirectiveIndex(number)),
+            Err(_) => None,
+        }
+    }
+
     /// Adds a symbol. Fails where memory runs out.
     fn push(&mut self, symbol: ScriptSymbol) -> Result<(), AllocError>
-        requires { IsFound self.now.script symbol }
+        requires found { IsFound self.now.script symbol }
+        requires after { ComesAfter self.now.list symbol.command.0 }
         ensures script { self.new.script ≡ self.old.script }
         ensures pushed { OnOk result (self.new.list ≡ self.old.list ++ symbol ∷ []) }
     {
-        let number = symbol.command.0 as usize;
-        if number < self.next {
-            // A layout goes through the commands in their order
-            return Err(impossible());
-        }
         self.list.push(symbol)?;
-        self.next = number + 1;
+        self.next = symbol.command.0 as usize + 1;
         Ok(())
     }
 
@@ -148,14 +161,11 @@ impl<'a> AssignedSymbols<'a> {
         ensures script { self.new.script ≡ self.old.script }
         ensures taken { OnOk result (self.new.list ≡ take count symbols.now) }
     {
-        let Some(first) = symbols.get(..count) else {
-            // A previous layout has no fewer
-            return Err(impossible());
-        };
+        let taken = first(symbols, count);
         self.list.clear();
         self.next = 0;
-        self.list.extend_from_slice(first)?;
-        self.next = after_last(first);
+        self.list.extend_from_slice(taken)?;
+        self.next = after_last(taken);
         Ok(())
     }
 
@@ -169,17 +179,11 @@ impl<'a> AssignedSymbols<'a> {
         ensures given { OnOk result (named self.new ≡ named self.old
             ++ record { name = name.now; value = value } ∷ []) }
     {
-        let Some(number) = self.commands.number_or(self.next, name) else {
-            // The name is one that the script gives a value
+        let Some(command) = self.next_number(name) else {
+            // A layout goes through the commands of its script in their order, and each of them gives a name of its own
+            // a value. No contract says that of the commands so far, nor that a script has fewer than 2^32
             return Err(impossible());
         };
-        let Ok(number) = u32::try_from(number) else {
-            // A script is too short for 2^32 commands
-            return Err(impossible());
-        };
-        self.push(ScriptSymbol {
-            command: DirectiveIndex(number),
-            value,
-        })
+        self.push(ScriptSymbol { command, value })
     }
 }

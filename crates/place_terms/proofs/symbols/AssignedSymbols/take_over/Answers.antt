@@ -6,13 +6,13 @@ use Rattle.place_terms.proofs.symbols.AssignedSymbols.take_over.Goals as goal
 
 pub after_last-self-inside-requires : goal.after_last-self-inside-requires
 after_last-self-inside-requires c =
-    let is : c.in-Some.first.now ≡ take c.args.count c.args.symbols.now = search rules in
+    let is : c.first-taken.result.now ≡ take c.args.count c.args.symbols.now = search rules in
     subst Rises (sym is) (rises_first c.args.symbols.now c.args.count c.requires.rises)
 
 pub invariant_of-self-2 : goal.invariant_of-self-2
 invariant_of-self-2 c =
     let is : c.extend_from_slice.new.self.items ≡ take c.args.count c.args.symbols.now = search rules in
-    let same : c.extend_from_slice.new.self.items ≡ c.in-Some.first.now = search rules in
+    let same : c.extend_from_slice.new.self.items ≡ c.first-taken.result.now = search rules in
     record {
       found = subst (AreFound c.self.inside.commands) (sym is)
           (All-take (IsFound c.self.inside.commands) c.args.count c.args.symbols.now
