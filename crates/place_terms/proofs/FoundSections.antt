@@ -1,5 +1,5 @@
 -- What the code's table of output sections finds.
-use Rattle.std.proofs.Common.{◌≡◌, ◌≢◌, ℕ, zero, suc, ◌+◌, ◌<◌, List, [], ◌∷◌, ◌++◌, length, get_or, set, map}
+use Rattle.std.proofs.Common.{◌≡◌, ◌≢◌, ℕ, zero, suc, ◌+◌, ◌<◌, ◌≤◌, List, [], ◌∷◌, ◌++◌, length, get_or, set, map}
 use Rattle.std.proofs.Common.{find, Bool, true, false, Option, Some, None, refl, sym, ap, subst, ◌∙◌, arith}
 use Rattle.std.specs.Prelude.{slice_get, bytes_eq}
 use Rattle.std.specs.List.{last_or}
@@ -32,6 +32,8 @@ use Rattle.place_terms.specs.SectionTable.{both, keyed, keyed_taken, section_nam
 use Rattle.place_terms.specs.SectionTable.{AreSectionsOf, Fits, IsKeptAt}
 use Rattle.place_terms.specs.Tables.{AreInOrder}
 use Rattle.place_terms.specs.declared.sections.Closed.{Closed}
+use Rattle.place_terms.specs.declared.sections.DifferencePlace.{DifferencePlace}
+use Rattle.place_terms.specs.declared.sections.DifferencePlace.TheVariants.{Elsewhere, At, Nowhere}
 use Rattle.place_terms.specs.declared.previous_layout.ReusedOutput.{ReusedOutput}
 
 abbrev placed_under : List KeyedSection → List ℕ → Option Placed
@@ -157,7 +159,7 @@ next_number script before xs v output e sound next =
     output_number script (length xs) output sound
     (subst (λ (w : Outputs). IsOutput w.script (length w.list) output) (sym e) next)
 
-kept_elsewhere : (script : List Statement) (n : ℕ) (region : Option (List ℕ)) → IsKeptAt script n region None
+kept_elsewhere : (script : List Statement) (n : ℕ) (region : Option (List ℕ)) → IsKeptAt script n region Elsewhere
     → region ≡ None
 kept_elsewhere script n None at = refl
 kept_elsewhere script n (Some name) at = absurd at
@@ -168,10 +170,20 @@ record KeptIn (script : List Statement) (n : ℕ) (region : Option (List ℕ)) (
   number_is : region_number script name ≡ Some j
   within : j < n
 
-kept_in : (script : List Statement) (n : ℕ) (region : Option (List ℕ)) (j : ℕ) → IsKeptAt script n region (Some j)
+kept_in : (script : List Statement) (n : ℕ) (region : Option (List ℕ)) (j : ℕ) → IsKeptAt script n region (At j)
     → KeptIn script n region j
 kept_in script n None j at = absurd at
 kept_in script n (Some name) j at = record { name = name; region_is = refl; number_is = at.0; within = at.1 }
+
+record KeptNowhere (script : List Statement) (n : ℕ) (region : Option (List ℕ)) : Type 0 where
+  name : List ℕ
+  region_is : region ≡ Some name
+  past : (k : ℕ) → region_number script name ≡ Some k → n ≤ k
+
+kept_nowhere : (script : List Statement) (n : ℕ) (region : Option (List ℕ)) → IsKeptAt script n region Nowhere
+    → KeptNowhere script n region
+kept_nowhere script n None at = absurd at
+kept_nowhere script n (Some name) at = record { name = name; region_is = refl; past = at }
 
 -- one more output section, the next one of the script
 module _ (script : List Statement) (xs : List KeyedSection) (x : KeyedSection) (ds : List ℕ) (elsewhere : ℕ)
@@ -210,7 +222,7 @@ module _ (script : List Statement) (xs : List KeyedSection) (x : KeyedSection) (
             ap (section_number script) (get_or-append (section_names xs) (x.name ∷ []) [] k below) ∙ o.order k below
 
     -- a section that names no region
-    pub pushed_elsewhere : (n : ℕ) (p : Option ℕ) → n ≡ length ds → p ≡ None → IsKeptAt script n x.region p
+    pub pushed_elsewhere : (n : ℕ) (p : DifferencePlace) → n ≡ length ds → p ≡ Elsewhere → IsKeptAt script n x.region p
         → AreSectionsOf script (xs ++ x ∷ []) ds (difference_of (section_of nameless x)) more more_data
     pushed_elsewhere n p long is at =
         let none = kept_elsewhere script n x.region (subst (IsKeptAt script n x.region) is at) in record {
@@ -222,6 +234,33 @@ module _ (script : List Statement) (xs : List KeyedSection) (x : KeyedSection) (
           counted = counted_more;
           data_counted = data_more;
         }
+
+    -- a section that names a region which the table has no place for
+    named_nowhere : (region : List ℕ) → x.region ≡ Some region
+        → ((k : ℕ) → region_number script region ≡ Some k → length ds ≤ k)
+        → AreSectionsOf script (xs ++ x ∷ []) ds elsewhere more more_data
+    named_nowhere region some past = record {
+      order = order_more;
+      differences_of = λ name k e l. go name k e l (bytes_eq region name) refl;
+      elsewhere_of = o.elsewhere_of ∙ sym (difference_other xs x None (ap (λ r. same_region r None) some));
+      ends = All-push (λ (y : KeyedSection). Fits y) xs x o.ends fits;
+      counted = counted_more;
+      data_counted = data_more;
+    }
+      where
+        go : (name : List ℕ) (k : ℕ) → region_number script name ≡ Some k → k < length ds → (b : Bool)
+            → bytes_eq region name ≡ b → get_or ds k 0 ≡ difference_by (xs ++ x ∷ []) (Some name)
+        go name k e h true same =
+            absurd (omega (arith, h, past k (ap (region_number script) (same_name region name same) ∙ e)))
+        go name k e h false other =
+            o.differences_of name k e h
+            ∙ sym (difference_other xs x (Some name) (ap (λ r. same_region r (Some name)) some ∙ other))
+
+    pub pushed_nowhere : (n : ℕ) (p : DifferencePlace) → n ≡ length ds → p ≡ Nowhere → IsKeptAt script n x.region p
+        → AreSectionsOf script (xs ++ x ∷ []) ds elsewhere more more_data
+    pushed_nowhere n p long is at =
+        let u = kept_nowhere script n x.region (subst (IsKeptAt script n x.region) is at) in
+        named_nowhere u.name u.region_is (λ k e. subst (λ m. m ≤ k) long (u.past k e))
 
     -- a section that names a region
     named_in : (region : List ℕ) (j : ℕ) → x.region ≡ Some region → region_number script region ≡ Some j
@@ -255,7 +294,7 @@ module _ (script : List Statement) (xs : List KeyedSection) (x : KeyedSection) (
             ∙ (o.differences_of name k e h
             ∙ sym (difference_other xs x (Some name) (ap (λ r. same_region r (Some name)) some ∙ other)))
 
-    pub pushed_in : (j n : ℕ) (p : Option ℕ) → n ≡ length ds → p ≡ Some j → IsKeptAt script n x.region p
+    pub pushed_in : (j n : ℕ) (p : DifferencePlace) → n ≡ length ds → p ≡ At j → IsKeptAt script n x.region p
         → AreSectionsOf script (xs ++ x ∷ []) (set ds j (difference_of
         (section_of nameless x))) elsewhere more more_data
     pushed_in j n p long is at =

@@ -1,5 +1,5 @@
 -- The table of the output sections in their places.
-use Rattle.std.specs.Prelude.{◌≡◌, ℕ, ◌+◌, ◌^◌, ◌<◌, List, [], ◌∷◌, ◌++◌, length, map, Option, Some, None}
+use Rattle.std.specs.Prelude.{◌≡◌, ℕ, ◌+◌, ◌^◌, ◌<◌, ◌≤◌, List, [], ◌∷◌, ◌++◌, length, map, Option, Some, None}
 use Rattle.std.specs.Prelude.{⊤, slice_index}
 use Rattle.std.specs.List.{All}
 use Rattle.ldscript.specs.statements.Given.{section_number, region_number}
@@ -11,6 +11,8 @@ use Rattle.place_terms.specs.Tables.{AreInOrder}
 use Rattle.place_terms.specs.Wholes.{all_data_in, starts_in}
 use Rattle.place_terms.specs.declared.sections.Closed.{Closed}
 use Rattle.place_terms.specs.declared.sections.PieceAt.{PieceAt}
+use Rattle.place_terms.specs.declared.sections.DifferencePlace.{DifferencePlace}
+use Rattle.place_terms.specs.declared.sections.DifferencePlace.TheVariants.{Elsewhere, At, Nowhere}
 use Rattle.place_terms.specs.declared.previous_layout.ReusedOutput.{ReusedOutput}
 use Rattle.ldmodel.specs.declared.rows.Piece as rows
 
@@ -66,12 +68,15 @@ Fits x = x.placed.start + x.placed.size < 2 ^ 64
 abbrev pub Ends : List KeyedSection → Type 0
 Ends sections = All (λ (x : KeyedSection). Fits x) sections
 
--- the difference of a region is kept at a place of the table, that of no region elsewhere
-abbrev pub IsKeptAt : List Statement → ℕ → Option (List ℕ) → Option ℕ → Type 0
-IsKeptAt script count None None = ⊤
-IsKeptAt script count None (Some k) = ⊥
-IsKeptAt script count (Some name) None = ⊥
-IsKeptAt script count (Some name) (Some k) = (region_number script name ≡ Some k) × (k < count)
+-- the difference of a region is kept at the place of its number in a table, if the table has that place; that of no
+-- region elsewhere
+abbrev pub IsKeptAt : List Statement → ℕ → Option (List ℕ) → DifferencePlace → Type 0
+IsKeptAt script count None Elsewhere = ⊤
+IsKeptAt script count None (At k) = ⊥
+IsKeptAt script count None Nowhere = ⊥
+IsKeptAt script count (Some name) Elsewhere = ⊥
+IsKeptAt script count (Some name) (At k) = (region_number script name ≡ Some k) × (k < count)
+IsKeptAt script count (Some name) Nowhere = (k : ℕ) → region_number script name ≡ Some k → count ≤ k
 
 -- the sections stand under their numbers, their ends are addresses, the differences under those of their regions, and
 -- their input sections and data commands are counted

@@ -1,11 +1,13 @@
 //! The output sections of a previous layout.
 
-ghost use Rattle.std.specs.Prelude.{◌≡◌, ◌+◌, ◌-◌, length, take, IfSome};
+ghost use Rattle.std.specs.Prelude.{◌≡◌, ◌+◌, ◌-◌, [], length, take, IfSome};
 ghost use Rattle.place_terms.specs.PreviousLayout.{part_of, AreStartsOf, IsSectionOf};
 
+use crate::sections::Closed;
 use ldmodel::placed::{Placed, PlacedData};
 use ldmodel::rows::Piece;
 use ldscript::tree::OutputSection;
+use std::ops::Range;
 
 /// What a previous layout had of its output sections, in the order of the script.
 #[derive(Clone, Copy)]
@@ -58,7 +60,7 @@ fn part<T>(list: &[T], from: usize, count: usize) -> Option<&[T]>
 
 impl<'a> PreviousLayout<'a> {
     /// The data commands from a number to another.
-    pub(crate) fn data_between(&self, from: usize, to: usize) -> Option<&'a [PlacedData]>
+    fn data_between(&self, from: usize, to: usize) -> Option<&'a [PlacedData]>
         ensures part { IfSome result (λ x. x.now ≡ part_of self.now.data_commands.now from (to - from)) }
         ensures long { IfSome result (λ x. from + length x.now ≡ to) }
     {
@@ -74,8 +76,34 @@ impl<'a> PreviousLayout<'a> {
         part(self.starts, from, count)
     }
 
+    /// The output section of a number, where none was placed anew so far: its data commands are those from a number to
+    /// another, and its input sections those from this one on, the first entries of its row. `None` where the layout has
+    /// no such output section.
+    pub(crate) fn next_section(
+        &self,
+        placed: &[Closed<'_>],
+        number: usize,
+        start: usize,
+        commands: Range<usize>,
+        output: &'a OutputSection,
+        row: &'a [Piece],
+    ) -> Option<ReusedOutput<'a>>
+        ensures first { IfSome result (λ _. placed.now ≡ []) }
+        ensures is { IfSome result (λ t.
+            IsSectionOf self.now number start output.now row.now t.data_commands.now t) }
+        ensures part { IfSome result (λ t. t.data_commands.now
+            ≡ part_of self.now.data_commands.now commands.start (commands.end - commands.start)) }
+        ensures long { IfSome result (λ t. commands.start + length t.data_commands.now ≡ commands.end) }
+    {
+        if !placed.is_empty() {
+            return None;
+        }
+        let commands = self.data_between(commands.start, commands.end)?;
+        self.section(number, start, output, row, commands)
+    }
+
     /// The output section of a number, whose input sections are those from this one on: the first entries of its row.
-    pub(crate) fn section(
+    fn section(
         &self,
         number: usize,
         start: usize,

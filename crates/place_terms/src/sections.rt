@@ -146,21 +146,32 @@ fn placed_at(taken: &[ReusedOutput<'_>], list: &[Closed<'_>], number: usize) -> 
     }
 }
 
-/// Where the difference of an output section is kept in a table of `count` differences, by its region: nowhere for an
-/// output section that names no region. Fails where the script does not declare the region.
-fn kept_at(
-    script: &Script,
-    count: usize,
-    output: &OutputSection,
-) -> Result<Option<usize>, AllocError>
-    ensures { IfOk result (λ p. IsKeptAt script.now count output.now.region p) }
+/// Where the difference of an output section is kept.
+#[derive(Clone, Copy)]
+enum DifferencePlace {
+    /// Beside the table: the output section names no region.
+    Elsewhere,
+    /// In the table, under the number of the region.
+    At(usize),
+    /// Nowhere: the table has no place for a region that the script does not declare, and nobody asks for it.
+    Nowhere,
+}
+
+/// Where the difference of an output section is kept, beside or in a table of `count` differences.
+fn kept_at(script: &Script, count: usize, output: &OutputSection) -> DifferencePlace
+    ensures { IsKeptAt script.now count output.now.region result }
 {
     match &output.region {
-        None => Ok(None),
+        None => DifferencePlace::Elsewhere,
         Some(region) => match script.region_number(region.as_bytes()) {
-            Some(number) if number < count => Ok(Some(number)),
-            // The script declares the regions that it names
-            Some(_) | None => Err(impossible()),
+            Some(number) => {
+                if number < count {
+                    DifferencePlace::At(number)
+                } else {
+                    DifferencePlace::Nowhere
+                }
+            }
+            None => DifferencePlace::Nowhere,
         },
     }
 }
@@ -295,7 +306,7 @@ impl<'a> Sections<'a> {
     {
         // what the numbers follow from is known of the script's statements
         let _statements = self.script.statements();
-        let kept_at = kept_at(self.script, self.differences.len(), section.output)?;
+        let kept_at = kept_at(self.script, self.differences.len(), section.output);
         let difference = section.placed.start.wrapping_sub(section.placed.load);
         let count = sum(self.count, section.pieces.len())?;
         let data_count = sum(self.data_count, section.data_commands.len())?;
@@ -305,8 +316,9 @@ impl<'a> Sections<'a> {
         self.count = count;
         self.data_count = data_count;
         match kept_at {
-            None => self.elsewhere = difference,
-            Some(number) => self.differences[number] = difference,
+            DifferencePlace::Elsewhere => self.elsewhere = difference,
+            DifferencePlace::At(number) => self.differences[number] = difference,
+            DifferencePlace::Nowhere => {}
         }
         Ok(())
     }
@@ -331,23 +343,16 @@ impl<'a> Sections<'a> {
     {
         // so that what a script says of its statements is known
         let _statements = self.script.statements();
-        // Fails only where memory runs out: the first ones are taken over, and the previous layout has them
-        if !self.list.is_empty() {
-            return Err(impossible());
-        }
-        let Some(commands) = self.earlier.data_between(self.data_count, data_end) else {
-            // The previous layout has these data commands
-            return Err(impossible());
-        };
         let number = self.taken.len();
+        let commands = self.data_count..data_end;
         let Some(section) = self
             .earlier
-            .section(number, self.count, output, row, commands)
+            .next_section(&self.list, number, self.count, commands, output, row)
         else {
-            // The previous layout has this section
+            // The first ones are taken over, and the previous layout has them. No contract says what it has
             return Err(impossible());
         };
-        let kept_at = kept_at(self.script, self.differences.len(), output)?;
+        let kept_at = kept_at(self.script, self.differences.len(), output);
         let difference = section.placed.start.wrapping_sub(section.placed.load);
         let count = sum(self.count, section.starts.len())?;
         self.taken.push(section)?;
@@ -355,8 +360,9 @@ impl<'a> Sections<'a> {
         self.count = count;
         self.data_count = data_end;
         match kept_at {
-            None => self.elsewhere = difference,
-            Some(number) => self.differences[number] = difference,
+            DifferencePlace::Elsewhere => self.elsewhere = difference,
+            DifferencePlace::At(number) => self.differences[number] = difference,
+            DifferencePlace::Nowhere => {}
         }
         Ok(())
     }
