@@ -7,9 +7,9 @@ ghost use Rattle.place_terms.specs.RegionTable.{region_of};
 ghost use Rattle.place_terms.specs.SectionTable.{both, keyed, keyed_piece};
 ghost use Rattle.place_terms.specs.Wholes.{all_data_in, counts_in, data_in, placed_in, starts_in};
 
+use crate::output_number::output_index;
 use crate::regions::RegionState;
 use crate::sections::{DataAt, PieceAt, SectionParts};
-use ldmodel::impossible::impossible;
 use ldmodel::placed::{OutputIndex, Placed, PlacedData, PlacedRegion};
 use std::alloc::{AllocError, Global};
 
@@ -63,17 +63,6 @@ pub fn counts_of(alloc: Global, parts: SectionParts<'_, '_>) -> Result<Vec<usize
     Ok(list)
 }
 
-/// The number of an output section.
-fn index_of(number: usize) -> Result<OutputIndex, AllocError>
-    ensures { IfOk result (λ k. k.0 ≡ number) }
-{
-    match u32::try_from(number) {
-        Ok(number) => Ok(OutputIndex(number)),
-        // No script has 2^32 output sections
-        Err(_) => Err(impossible()),
-    }
-}
-
 fn add_data(
     list: &mut Vec<PlacedData>,
     section: OutputIndex,
@@ -122,11 +111,11 @@ pub fn data_commands_of(
     let mut list = Vec::new(alloc);
     let mut number: usize = 0;
     for section in parts.taken {
-        add_taken_data(&mut list, index_of(number)?, section.data_commands)?;
+        add_taken_data(&mut list, output_index(number)?, section.data_commands)?;
         number += 1;
     }
     for section in parts.placed {
-        add_data(&mut list, index_of(number)?, &section.data_commands)?;
+        add_data(&mut list, output_index(number)?, &section.data_commands)?;
         number += 1;
     }
     Ok(list)
