@@ -16,13 +16,12 @@ use Rattle.ldmodel.specs.Layout.{Layout, PlacedPiece, PlacedOutput, address, not
 use Rattle.ldmodel.specs.PlacementView.{starts_of}
 use Rattle.ldmodel.specs.Placement.{opened, section_step}
 use Rattle.ldmodel.specs.Rows.{Piece}
-use Rattle.ldmodel.specs.Placement.{placed_section, section_end, with_section, Head, head_of}
+use Rattle.ldmodel.specs.Placement.{placed_section, section_end, Head, head_of}
 use Rattle.ldmodel.specs.declared.rows.Piece as rows
 use Rattle.place_terms.specs.Keyed.{piece_at}
 use Rattle.place_terms.specs.Naming.{Naming, piece_named, row_named}
 use Rattle.place_terms.specs.SectionTable.{keyed_piece}
-use Rattle.ldmodel_laws.specs.Alike.{AreAlike, AreBodiesAlike, BodiesStayAlike, HeadsAgree, given_names, names_given}
-use Rattle.ldmodel_laws.specs.Alike.{with_symbols}
+use Rattle.ldmodel_laws.specs.Alike.{AreBodiesAlike, BodiesStayAlike, HeadsAgree, given_names, names_given}
 use Rattle.place_sections.proofs.Counting.{along_none}
 use Rattle.place_sections.proofs.Adding.{end_is}
 use Rattle.place_sections.proofs.Beginning.{begins_mapped, begins_on, begins_same}

@@ -1,16 +1,9 @@
 -- The statements of SECTIONS, and those of a script, go on alongside a previous layout.
-use Rattle.std.proofs.Common.{◌≡◌, ℕ, ◌+◌, ◌≤◌, ◌<◌, List, [], ◌∷◌, ◌++◌, Ok, refl, sym, ap, subst, ◌∙◌, arith}
+use Rattle.std.proofs.Common.{◌≡◌, ℕ, ◌≤◌, ◌<◌, List, [], ◌∷◌, ◌++◌, Ok, refl, sym, ap, subst, ◌∙◌, arith}
 use Rattle.std.proofs.Common.{false, get_or, length, map}
 use Rattle.std.proofs.Math.ListN.{get_or-map}
 use Rattle.std.proofs.lemmas.List.{append-nil, length-map}
-use Rattle.ldscript.specs.statements.Numbering.{
-  DirectiveAt,
-  all_directives,
-  directives_in,
-  item_directives,
-  items_directives,
-}
-use Rattle.ldscript.specs.statements.Numbering.{top_directives}
+use Rattle.ldscript.specs.statements.Numbering.{DirectiveAt, all_directives, item_directives, items_directives}
 use Rattle.ldscript.specs.statements.declared.section.OutputSection.{OutputSection}
 use Rattle.ldscript.specs.statements.declared.statement.Command.{Command}
 use Rattle.ldscript.specs.statements.declared.statement.Command.TheVariants as top
@@ -20,15 +13,11 @@ use Rattle.ldscript.specs.statements.declared.statement.ItemCommand.TheVariants 
 use Rattle.ldscript.specs.statements.declared.statement.Statement.{Statement}
 use Rattle.ldmodel.specs.Chain.{and_then, run}
 use Rattle.ldmodel.specs.Layout.{Layout, noted}
-use Rattle.ldmodel.specs.PlacementView.{starts_of}
 use Rattle.ldmodel.specs.Placement.{item_command_step, item_step, next_row, section_step, statement_step}
-use Rattle.ldmodel.specs.Rows.{Piece}
 use Rattle.ldmodel.specs.declared.rows.Piece as rows
 use Rattle.ldmodel_laws.specs.Alike.{AreAlike, ItemsStayAlike, StatementsStayAlike, names_given}
-use Rattle.place_terms.specs.PreviousLayout.{AreStartsOf}
 use Rattle.place_terms.specs.Keyed.{KeyedSection, section_of}
 use Rattle.place_terms.specs.Naming.{Naming, row_named}
-use Rattle.place_terms.specs.Wholes.{starts_in}
 use Rattle.place_sections.proofs.Alongside.{names_on}
 use Rattle.place_sections.proofs.Ending.{Chained, chained}
 use Rattle.place_sections.proofs.InParts.{in_parts, whole}
@@ -36,7 +25,6 @@ use Rattle.place_sections.proofs.Onward.{items_on, leads_before, statements_on}
 use Rattle.place_sections.proofs.Taking.{count_is, grown, starts_are}
 use Rattle.place_sections.specs.Alongside.{IsAlongside, ItemsAlongside, ScriptAlongside, SectionAlongside}
 use Rattle.place_sections.specs.Inputs.{rows_of}
-use Rattle.place_sections.specs.Leads.{Leads}
 use Rattle.place_sections.specs.Parts.{after_sections, before_sections, if_sections, items_within}
 use Rattle.place_sections.specs.declared.script.Input.{Input}
 

@@ -1,6 +1,6 @@
 -- The entries of rows, and how many are placed anew.
 use Rattle.std.proofs.Common.{◌≡◌, ℕ, zero, suc, ◌+◌, ◌≤◌, ◌<◌, max, List, [], ◌∷◌, ◌++◌, length, get_or, map}
-use Rattle.std.proofs.Common.{Option, Some, None, IfSome, IfNone, drop, ◌∙◌, subst, sym}
+use Rattle.std.proofs.Common.{Option, Some, None, IfSome, IfNone, drop, ◌∙◌}
 use Rattle.std.proofs.Common.{Result, Ok, Err, OnOk, refl, ap, arith}
 use Rattle.std.specs.Prelude.{sum_by}
 use Rattle.std.proofs.lemmas.List.Sums.{sum_by-append, sum_by-cons}

@@ -1,7 +1,6 @@
 -- The parts of all output sections, by the layout that they stand for.
-use Rattle.std.proofs.Common.{◌≡◌, ℕ, zero, suc, arith, ◌+◌, List, [], ◌∷◌, ◌++◌, map, refl, sym, ap, ◌∙◌, ◌<◌, length}
-use Rattle.std.proofs.Common.{get_or, drop, append_assoc}
-use Rattle.std.proofs.lemmas.List.{drop_more, length-map}
+use Rattle.std.proofs.Common.{◌≡◌, ℕ, zero, suc, arith, ◌+◌, List, [], ◌∷◌, ◌++◌, map, refl, sym, ap, ◌∙◌, length}
+use Rattle.std.proofs.lemmas.List.{length-map}
 use Rattle.ldmodel.specs.Layout.{PlacedOutput}
 use Rattle.std.specs.Prelude.{flat_map}
 use Rattle.std.specs.List.{enumerate_from}

@@ -1,6 +1,6 @@
 -- A previous layout alongside the present one, whose rows are the same before a number. Other PROVIDEs may have been
 -- in force in it: so it differs in symbols alone.
-use Rattle.std.specs.Prelude.{◌≡◌, ℕ, ◌+◌, ◌<◌, ◌≤◌, List, [], ◌∷◌, ◌++◌, ⊤, true, false, ◌==◌, drop, length, map, Ok}
+use Rattle.std.specs.Prelude.{◌≡◌, ℕ, ◌+◌, ◌<◌, List, [], ◌∷◌, ◌++◌, ⊤, true, false, ◌==◌, drop, length, map, Ok}
 use Rattle.std.specs.Prelude.{IfSome, slice_index_or}
 use Rattle.ldscript.specs.statements.Numbering.{all_directives, directives_in, items_directives}
 use Rattle.ldscript.specs.statements.declared.section.BodyCommand.{BodyCommand}

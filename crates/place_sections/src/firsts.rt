@@ -7,7 +7,6 @@ ghost use Rattle.place_sections.specs.Hulls.{Around, Kept};
 
 use crate::extent::Extent;
 use crate::hull::{Hull, mark};
-use ldmodel::impossible::impossible;
 use ldmodel::memory::NoMemory;
 use std::alloc::Global;
 
@@ -84,11 +83,7 @@ fn marks(
     requires { length in_order.now ≡ length extents.now }
     ensures { IfOk result (λ v. AreFirst extents.now in_order.now v.items) }
 {
-    let Some(count) = in_order.len().checked_mul(2) else {
-        // A list of half the greatest number of extents does not lie in memory
-        return Err(impossible());
-    };
-    let mut nodes = vec![in alloc; around_all(in_order); count]?;
+    let mut nodes = vec![in alloc; around_all(in_order); 2 * in_order.len()]?;
     let mut firsts = vec![in alloc; None; in_order.len()]?;
     mark_all(extents, in_order, &mut nodes, &mut firsts);
     Ok(firsts)

@@ -9,9 +9,9 @@ ghost use Rattle.place_sections.specs.Found.{extent_in, extents_in, fault_in, fa
 use crate::extent::{Extent, are_ascending};
 use crate::firsts::firsts;
 use ldmodel::fault::Fault;
-use ldmodel::impossible::impossible;
 use ldmodel::memory::NoMemory;
 use ldmodel::placed::{OutputIndex, Placed};
+use place_terms::output_number::output_index;
 use std::alloc::Global;
 
 /// Where output sections may share addresses.
@@ -79,17 +79,6 @@ fn are_in_order(space: Space, sections: &[Placed]) -> bool
     true
 }
 
-/// The number of an output section. Fails past 2^32, where no number is left.
-fn number(k: usize) -> Result<OutputIndex, NoMemory>
-    ensures { IfOk result (λ x. x.0 ≡ k) }
-{
-    match u32::try_from(k) {
-        Ok(k) => Ok(OutputIndex(k)),
-        // No script has 2^32 output sections
-        Err(_) => Err(impossible()),
-    }
-}
-
 /// The fault of a section, where the first that it meets is an earlier one.
 fn push_meeting(
     faults: &mut Vec<Fault>,
@@ -105,8 +94,8 @@ fn push_meeting(
     if met >= section {
         return Ok(());
     }
-    let section = number(section)?;
-    let met = number(met)?;
+    let section = output_index(section)?;
+    let met = output_index(met)?;
     faults.push(space.fault(section, met))?;
     Ok(())
 }

@@ -22,8 +22,8 @@ use crate::reusable_placement::ReusablePlacement;
 use crate::script::Input;
 use crate::state::{LayoutCursor, PlacedOutputs};
 use crate::stop::LayoutStop;
-use ldmodel::impossible::impossible;
 use ldscript::tree::{Item, ItemCommand, OutputSection};
+use place_terms::previous_layout::first;
 use std::alloc::{AllocError, Global};
 
 /// What is taken over of SECTIONS.
@@ -48,12 +48,8 @@ impl<'a> LayoutCursor<'a> {
         ensures anew { self.new.anew ≡ self.old.anew }
         ensures refused { IfErr result (λ f. f ≡ NoMemory) }
     {
-        let Some(dots) = kept.dots.get(..to.dots) else {
-            // The previous layout has no fewer
-            return Err(LayoutStop::NoMemory);
-        };
         self.dots.clear();
-        self.dots.extend_from_slice(dots)?;
+        self.dots.extend_from_slice(first(kept.dots, to.dots))?;
         self.symbols.take_over(kept.symbols, to.symbols)?;
         self.inputs = to.inputs;
         self.dot = to.dot;
@@ -80,11 +76,7 @@ fn copy_of(
     ensures { IfOk result (λ v. v.items ≡ take count boundaries.now) }
 {
     let mut list = Vec::with_capacity(alloc, boundaries.len())?;
-    match boundaries.get(..count) {
-        Some(first) => list.extend_from_slice(first)?,
-        // There are no fewer
-        None => return Err(impossible()),
-    }
+    list.extend_from_slice(first(boundaries, count))?;
     Ok(list)
 }
 

@@ -38,7 +38,7 @@ pub struct ReusedOutput<'a> {
 }
 
 /// The first elements of a list, or all where there are no more.
-pub(crate) fn first<T>(list: &[T], count: usize) -> &[T]
+pub fn first<T>(list: &[T], count: usize) -> &[T]
     ensures { result.now ≡ take count list.now }
 {
     match list.get(..count) {

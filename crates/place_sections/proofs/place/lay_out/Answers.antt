@@ -1,4 +1,4 @@
-use Rattle.std.proofs.Common.{ℕ, List, map, sym, ap, ◌∙◌, inl, inr, refl, subst, arith}
+use Rattle.std.proofs.Common.{ℕ, List, map, sym, ap, ◌∙◌, inl, inr, refl, arith}
 use Rattle.ldscript.specs.statements.declared.statement.Statement.{Statement}
 use Rattle.ldmodel.specs.Chain.{run}
 use Rattle.ldmodel.specs.Placement.{statement_step}

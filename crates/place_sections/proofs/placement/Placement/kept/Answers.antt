@@ -1,4 +1,4 @@
-use Rattle.std.proofs.Common.{◌≡◌, nat_eq, true, ap, refl, sym, eq-eqb, ◌∙◌}
+use Rattle.std.proofs.Common.{◌≡◌, nat_eq, ap, refl, sym, eq-eqb, ◌∙◌}
 use Rattle.std.specs.Bool.{Decides}
 use Rattle.std.proofs.lemmas.Bool.{eqb-true}
 use Rattle.std.proofs.lemmas.Slice.Eq.{slice_eq-Decides}

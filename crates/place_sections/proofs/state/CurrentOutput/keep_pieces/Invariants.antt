@@ -1,4 +1,4 @@
-use Rattle.std.proofs.Common.{◌≡◌, ◌-◌, ◌≤◌, drop, length}
+use Rattle.std.proofs.Common.{◌≡◌, ◌-◌, drop, length}
 use Rattle.ldmodel.specs.Placement.{pieces_placed}
 use Rattle.place_terms.specs.Naming.{row_named}
 use Rattle.place_sections.specs.Alongside.{StartAt}

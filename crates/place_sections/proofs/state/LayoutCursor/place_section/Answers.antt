@@ -2,7 +2,6 @@ use Rattle.place_terms.specs.Naming.{row_named}
 use Rattle.place_sections.proofs.Alongside.{section_opened}
 use Rattle.place_sections.proofs.Options.{for_some}
 use Rattle.place_sections.proofs.state.LayoutCursor.place_section.Goals as goal
-use Rattle.place_sections.specs.Alongside.{BodyAlongside, SectionAlongside}
 use Rattle.place_sections.specs.Heads.{head_from}
 use Rattle.place_sections.specs.State.{layout_of}
 
