@@ -6,7 +6,6 @@ ghost use Rattle.ldmodel.specs.declared.names.ObjectKey.{ObjectKey};
 ghost use Rattle.ldmodel_project.specs.Listing.{AreKeysDistinct};
 ghost use Rattle.ldmodel_project.specs.Order.{HasPlaces, IsNoted};
 
-use ldmodel::impossible::impossible;
 use ldmodel::memory::NoMemory;
 use ldmodel::names::ObjectKey;
 use std::alloc::Global;
@@ -31,18 +30,16 @@ impl Model for Order {
     ghost invariant = { λ o. AreKeysDistinct o.keys.items × HasPlaces o.keys.items o.places.items };
 }
 
-/// Notes where a key stands. The table grows so that it has a place for the key.
+/// Notes where a key stands. Where the table has no place for the key, it grows so that the key's is the last.
 fn note_place(places: &mut Vec<Option<usize>>, key: usize, place: usize) -> Result<(), NoMemory>
     ensures { OnOk result (IsNoted places.old.items places.new.items key place) }
 {
-    if places.len() <= key {
-        let Some(len) = key.checked_add(1) else {
-            // No key is the greatest number
-            return Err(impossible());
-        };
-        places.resize(len, None)?;
+    if key < places.len() {
+        places[key] = Some(place);
+        return Ok(());
     }
-    places[key] = Some(place);
+    places.resize(key, None)?;
+    places.push(Some(place))?;
     Ok(())
 }
 
