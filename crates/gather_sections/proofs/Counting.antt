@@ -1,5 +1,5 @@
 -- The header numbers of objects, one object after another.
-use Rattle.std.proofs.Common.{◌≡◌, ◌<◌, ◌≤◌, ◌+◌, ◌-◌, ◌⊎◌, inl, inr, ℕ, refl, sym, ap, subst, ◌∙◌, arith}
+use Rattle.std.proofs.Common.{◌≡◌, ◌<◌, ◌≤◌, ◌+◌, ◌-◌, ◌⊎◌, inl, inr, ℕ, zero, suc, refl, sym, ap, subst, ◌∙◌, arith}
 use Rattle.std.proofs.Common.{List, [], ◌∷◌, ◌++◌, length, get_or, map, take, Option, Some, None}
 use Rattle.std.proofs.lemmas.Bool.{cases_lt}
 use Rattle.std.proofs.lemmas.List.{get_or-map, get_or_append_left, get_or_past, get_or_push, length-append, length-map}
@@ -62,12 +62,32 @@ none_reach xs ys count are none k d low =
     let long : length ys ≡ length xs = ap length are ∙ length-map xs section_of in
     absurd (omega (arith, none, long, low))
 
+-- numbers that ascend are no less than their places
+at_least : (ys : List Section) (d : Section) → AllPairs (λ (s t : Section). s.number.0 < t.number.0) ys → (k : ℕ)
+    → k < length ys → k ≤ (get_or ys k d).number.0
+at_least ys d up zero l = omega arith
+at_least ys d up (suc k) l =
+    let before = at_least ys d up k (omega (arith, l)) in
+    let less : (get_or ys k d).number.0 < (get_or ys (suc k) d).number.0 = up k (suc k) d (omega arith) l in
+    omega (arith, before, less)
+
+pub as_many : (xs : List LinkedSection) (ys : List Section) (last : Section) (count : ℕ) → ys ≡ map section_of xs
+    → AllPairs (λ (s t : Section). s.number.0 < t.number.0) ys → 0 < length ys → last ≡ get_or ys (length ys - 1) last
+    → count ≡ last.number.0 + 1 → length xs ≤ count
+as_many xs ys last count are up some is counted =
+    let long : length ys ≡ length xs = ap length are ∙ length-map xs section_of in
+    let least = at_least ys last up (length ys - 1) (omega (arith, some)) in
+    let greatest : (get_or ys (length ys - 1) last).number.0 ≡ last.number.0 =
+    ap (λ (s : Section). s.number.0) (sym is) in
+    omega (arith, long, least, greatest, counted, some)
+
 -- ---- all objects, one after another
 
 -- the header numbers of the first of these objects
 pub record LaidUpTo (inputs : List InputObject) (hs : List Slots) (total linked i : ℕ) : Type 0 where
   pub long : length hs ≡ i
   pub linked_is : linked ≡ linked_in (take i (shown_inputs inputs))
+  pub few : linked ≤ total
   pub before : (k : ℕ) (x : Slots) → slice_get hs k ≡ Some x → x.linked ≡ linked_in (take k (shown_inputs inputs))
   pub laid : AreLaid hs total
   pub counted : (k : ℕ) (x : InputObject) → k < i → slice_get inputs k ≡ Some x
@@ -77,6 +97,7 @@ pub none_laid : (inputs : List InputObject) → LaidUpTo inputs [] 0 0 0
 none_laid inputs = record {
   long = refl;
   linked_is = refl;
+  few = omega arith;
   before = λ k x e. absurd (let none : ⊥ = cc in none);
   laid = record {
     within = λ n l. absurd (omega (arith, l));
@@ -89,7 +110,8 @@ module _ (inputs : List InputObject) (i : ℕ) (x : InputObject) (hs now : List 
     (total count end linked more : ℕ) (inside : i < length inputs) (here : x ≡ get_or inputs i x)
     (before : LaidUpTo inputs hs total linked i) (sum : total + count ≡ end)
     (counted_more : more ≡ linked + length x.object.now.sections)
-    (reach : All (λ (s : LinkedSection). s.number.0 < count) x.object.now.sections) where
+    (reach : All (λ (s : LinkedSection). s.number.0 < count) x.object.now.sections)
+    (many : length x.object.now.sections ≤ count) where
   abbrev own : Slots
   own = record { begin = total; count = count; linked = linked }
 
@@ -198,6 +220,7 @@ module _ (inputs : List InputObject) (i : ℕ) (x : InputObject) (hs now : List 
       (record {
         long = long_after;
         linked_is = linked_after;
+        few = omega (arith, before.few, sum, counted_more, many);
         before = before_after;
         laid = record {
           within = λ n l. within n (omega (arith, l, long_after));

@@ -7,10 +7,9 @@ ghost use Rattle.gather_sections.specs.Ranks.{rank_cmp, rank_self};
 ghost use Rattle.gather_sections.specs.Slots.{AreLaid};
 
 use crate::rank::{Rank, find_rank};
-use crate::slots::{Slots, lay_slots};
+use crate::slots::{Slots, lay_slots, sum};
 use elfobj::relocation::SymbolIndex;
 use elfobj::section::SectionIndex;
-use ldmodel::impossible::impossible;
 use ldmodel::memory::NoMemory;
 use ldmodel::names::ObjectPlace;
 use ldmodel::sections::Part;
@@ -59,10 +58,8 @@ impl InputSectionTable {
         let laid = lay_slots(alloc, project)?;
         let mut blocks = ranks;
         blocks.sort_unstable_by_key(|block| *block);
-        if blocks.len() >= (u32::MAX - laid.slots) as usize {
-            // 2^32 common blocks do not lie in memory
-            return Err(impossible());
-        }
+        // so that each has a number
+        let _numbers = sum(laid.slots, blocks.len())?;
         Ok(InputSectionTable {
             objects: laid.objects,
             slots: laid.slots,

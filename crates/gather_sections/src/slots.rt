@@ -1,6 +1,6 @@
 //! The header numbers of the objects of a project, those of each after those of the one before.
 
-ghost use Rattle.std.specs.Prelude.{◌≡◌, ◌+◌, ◌<◌, All, IfOk};
+ghost use Rattle.std.specs.Prelude.{◌≡◌, ◌+◌, ◌^◌, ◌<◌, ◌≤◌, All, IfErr, IfOk, length};
 ghost use Rattle.elfobj.specs.Sections.{LinkedSection};
 ghost use Rattle.gather_sections.specs.Slots.{AreLaid, AreLinkedBefore, AreLinkedCounted};
 
@@ -40,12 +40,30 @@ fn count_to(section: SectionIndex) -> u32
 
 /// How many header numbers an object has up to that of its last linked section.
 fn count_of(object: &Object) -> u32
-    ensures { All (λ (section : LinkedSection). section.number.0 < result) object.now.sections }
+    ensures reaches { All (λ (section : LinkedSection). section.number.0 < result) object.now.sections }
+    ensures many { length object.now.sections ≤ result }
 {
     match object.sections().last() {
         None => 0,
         Some(last) => count_to(last.number),
     }
+}
+
+/// This number of numbers, and as many more.
+///
+/// # Errors
+///
+/// Past 2^32, where no number is left: the one place where a table fails for that. As many section headers, symbols and
+/// ranks of common blocks take more than 64 GiB, which no contract of objects says.
+pub(crate) fn sum(numbers: u32, more: usize) -> Result<u32, NoMemory>
+    ensures is { IfOk result (λ n. n ≡ numbers + more) }
+    ensures below { IfOk result (λ _. numbers + more < 2 ^ 32) }
+    ensures past { IfErr result (λ _. 2 ^ 32 ≤ numbers + more) }
+{
+    if more > (u32::MAX - numbers) as usize {
+        return Err(impossible());
+    }
+    Ok(numbers + more as u32)
 }
 
 /// The header numbers of all objects of a project. They are made of the objects alone, so an object has as many in each
@@ -70,16 +88,8 @@ pub(crate) fn lay_slots(alloc: Global, project: &ProjectView<'_>) -> Result<AllS
             count,
             linked,
         })?;
-        let Some(sum) = slots.checked_add(count) else {
-            // 2^32 section headers take 256 GiB
-            return Err(impossible());
-        };
-        let Some(more) = linked.checked_add(input.object.sections().len()) else {
-            // There are fewer of them than headers
-            return Err(impossible());
-        };
-        slots = sum;
-        linked = more;
+        slots = sum(slots, count as usize)?;
+        linked += input.object.sections().len();
     }
     Ok(AllSlots { objects, slots })
 }

@@ -13,15 +13,14 @@ loop-input-init c =
 pub loop-input-preserved : goal.loop-input-preserved
 loop-input-preserved c =
     one_laid c.inputs-inputs.result.now c.loop-input.input-index c.input-item.result c.loop-input.objects.items _
-    c.loop-input.slots c.count_of-count.result c.in-Some.sum c.loop-input.linked c.in-Some-checked_add.more
-    c.loop-input-test.true c.input-item.is c.loop-input.invariant (sym c.in-Some.ensures.1)
+    c.loop-input.slots c.count_of-count.result _ c.loop-input.linked _
+    c.loop-input-test.true c.input-item.is c.loop-input.invariant (sym c.in_ok-slots.ensures.is)
     (omega (
       arith,
-      c.in-Some-checked_add.ensures.1,
       ap length c.sections.ensures.value,
       length-map c.input-item.result.object.now.sections section_of,
     ))
-    c.count_of-count.ensures c.in_ok-push.ensures.items
+    c.count_of-count.ensures.reaches c.count_of-count.ensures.many c.in_ok-push.ensures.items
 
 pub returns-clause-laid : goal.returns-clause-laid
 returns-clause-laid c = c.loop-input.invariant.laid

@@ -8,7 +8,7 @@ pub invariant_of-result : goal.invariant_of-result
 invariant_of-result c = record {
   laid = c.in_ok-laid.ensures.laid;
   sorted = c.sort_unstable_by_key.ensures.sorted rank_self (answers_always _ _ _ (λ f a r f' k. search rules));
-  small = omega arith;
+  small = omega (arith, c.in_ok-_numbers.ensures.below, c.len.ensures);
 }
 
 pub returns : goal.returns
