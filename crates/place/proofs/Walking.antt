@@ -43,7 +43,7 @@ spread (q ∷ qs) (o ∷ os) = cond (q.size == 0) (0 ∷ spread qs (o ∷ os)) (
 
 walk_zero : (q : Placed) (qs : List Placed) (xs : List code.Segment) → (q.size == 0) ≡ true
     → offsets_in (q ∷ qs) xs ≡ 0 ∷ offsets_in qs xs
-walk_zero q qs [] e = ap (λ b. cond b (0 ∷ offsets_in qs []) []) e
+walk_zero q qs [] e = refl
 walk_zero q qs (x ∷ xs) e =
     ap (λ b. cond b (0 ∷ offsets_in qs (x ∷ xs))
     (offset_at x q ∷ cond (is_last x q) (offsets_in qs xs) (offsets_in qs (x ∷ xs)))) e

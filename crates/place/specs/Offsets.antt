@@ -18,10 +18,10 @@ abbrev pub is_last : Segment → Placed → Bool
 is_last segment q = ((q.start + q.size) - segment.start) == segment.memory_size
 
 -- where output sections begin in the file: one of size 0 at 0, each other one in the first of the segments, up to the
--- last one of that
+-- last one of that; past all segments, where none of nonzero size is, at 0
 abbrev pub offsets_in : List Placed → List Segment → List ℕ
 offsets_in [] gs = []
-offsets_in (q ∷ qs) [] = if q.size == 0 then 0 ∷ offsets_in qs [] else []
+offsets_in (q ∷ qs) [] = 0 ∷ offsets_in qs []
 offsets_in (q ∷ qs) (g ∷ gs) =
     if q.size == 0 then 0 ∷ offsets_in qs (g ∷ gs)
     else (offset_at g q ∷ (if is_last g q then offsets_in qs gs else offsets_in qs (g ∷ gs)))

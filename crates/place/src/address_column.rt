@@ -8,11 +8,11 @@ ghost use Rattle.place.specs.Entries.{all_entries, row_entries};
 use crate::indexed_layout::SectionAddress;
 use crate::indexed_section::IndexedSection;
 use gather::sections::input_section_table::InputSectionTable;
-use ldmodel::impossible::impossible;
 use ldmodel::memory::NoMemory;
 use ldmodel::names::ObjectPlace;
 use ldmodel::placed::OutputIndex;
 use ldmodel::rows::Piece;
+use place_terms::output_number::output_index;
 use std::alloc::Global;
 
 /// Puts the address of an input section under its number, where none stands there.
@@ -86,11 +86,8 @@ pub(crate) fn address_column(
     let mut column = vec![in alloc; None; table.len() as usize]?;
     let mut left = starts;
     for (number, row) in rows.iter().enumerate() {
-        let Ok(number) = u32::try_from(number) else {
-            // No script has 2^32 output sections
-            return Err(impossible());
-        };
-        add_row(&mut column, table, OutputIndex(number), row, left);
+        let section = output_index(number)?;
+        add_row(&mut column, table, section, row, left);
         left = after(left, row.len());
     }
     Ok(column)

@@ -5,9 +5,9 @@ ghost use Rattle.std.specs.List.{All};
 ghost use Rattle.ldmodel.specs.Segments.{shares_segment};
 ghost use Rattle.place.specs.Grouping.{Ends, AreGroups, Takes, bare, begun, joined};
 
-use ldmodel::impossible::impossible;
 use ldmodel::memory::NoMemory;
 use ldmodel::placed::{OutputIndex, Placed};
+use place_terms::output_number::output_index;
 use std::alloc::Global;
 
 /// The size of a page.
@@ -86,17 +86,6 @@ fn join(group: Group, number: OutputIndex, section: &Placed) -> Group
         memory_size: reach,
         last: number,
         ..group
-    }
-}
-
-/// The number of an output section. Fails past 2^32, where no number is left.
-fn output_index(k: usize) -> Result<OutputIndex, NoMemory>
-    ensures { IfOk result (λ x. x.0 ≡ k) }
-{
-    match u32::try_from(k) {
-        Ok(k) => Ok(OutputIndex(k)),
-        // No script has 2^32 output sections
-        Err(_) => Err(impossible()),
     }
 }
 

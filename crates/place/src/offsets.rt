@@ -9,7 +9,6 @@ ghost use Rattle.ldmodel.specs.Segments as model;
 ghost use Rattle.place.specs.Offsets.{is_last, offset_at, offsets_in};
 ghost use Rattle.place.specs.Offsets.{IsOffset};
 
-use ldmodel::impossible::impossible;
 use ldmodel::memory::NoMemory;
 use ldmodel::placed::Placed;
 use ldmodel::segment::Segment;
@@ -42,8 +41,8 @@ struct FilePlace {
     segment: usize,
 }
 
-/// Where an output section begins in the file, where the next segment to be looked at has this number. Fails where
-/// there is none, or where it is past any file.
+/// Where an output section begins in the file, where the next segment to be looked at has this number: at 0 past all
+/// segments, where none of nonzero size is. Fails where it is past any file.
 fn step(segments: &[Segment], number: usize, section: &Placed) -> Result<FilePlace, NoMemory>
     ensures { IfOk result (λ t. (qs : List Placed) → offsets_in (section.now ∷ qs) (drop number segments.now)
         ≡ t.offset ∷ offsets_in qs (drop t.segment segments.now)) }
@@ -55,8 +54,10 @@ fn step(segments: &[Segment], number: usize, section: &Placed) -> Result<FilePla
         });
     }
     match segments.get(number) {
-        // Each output section with file bytes is in a segment
-        None => Err(impossible()),
+        None => Ok(FilePlace {
+            offset: 0,
+            segment: number,
+        }),
         Some(segment) => {
             let offset = offset_at(segment, section)?;
             let last = is_last(segment, section);

@@ -11,8 +11,8 @@ loop-number-preserved c =
     let row = c.index-rows-number.result in
     let left = c.loop-number.left.now in
     let rows = c.args.rows.now in
-    let es : row_entries c.in-Ok.number c.deref.result.now left ≡ row_entries i row.items left =
-    ap (λ n. row_entries n c.deref.result.now left) c.in-Ok.ensures.1
+    let es : row_entries c.in_ok-section.section.0 c.deref.result.now left ≡ row_entries i row.items left =
+    ap (λ n. row_entries n c.deref.result.now left) c.in_ok-section.ensures.is
     ∙ ap (λ r. row_entries i r left) c.deref.ensures.value in
     record {
       done = inv.done ++ row_entries i row.items left;

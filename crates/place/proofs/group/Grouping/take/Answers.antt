@@ -9,7 +9,7 @@ returns-then-is_shared c =
     subst (λ r. Takes c.args.self.now.done.items r c.args.number c.args.section.now c.args.self.now.done.items
     (Some (record { group = c.join.result; last = c.args.section.now }))) (sym c.in-Some.is)
     (take_goes_on c.args.self.now.done.items c.in-Some.running c.args.number c.args.section.now c.in_ok-number.number
-    c.join.result (c.in_ok-number.ensures) c.if-section-eq0.false c.join.ensures (sym c.is_shared.ensures
+    c.join.result c.in_ok-number.ensures.is c.if-section-eq0.false c.join.ensures (sym c.is_shared.ensures
     ∙ c.if-is_shared.true))
 
 pub returns-in_ok-push-in-Some : goal.returns-in_ok-push-in-Some
@@ -19,7 +19,7 @@ returns-in_ok-push-in-Some c =
     (subst (λ l. Takes c.args.self.now.done.items (Some c.in-Some.running) c.args.number c.args.section.now l
     (Some (record { group = c.begin.result; last = c.args.section.now }))) (sym (c.in_ok-push-in-Some.ensures.items))
     (take_ends c.args.self.now.done.items c.in-Some.running c.args.number c.args.section.now c.in_ok-number.number
-    c.begin.result (c.in_ok-number.ensures) c.if-section-eq0.false c.begin.ensures (sym c.is_shared.ensures
+    c.begin.result c.in_ok-number.ensures.is c.if-section-eq0.false c.begin.ensures (sym c.is_shared.ensures
     ∙ c.if-is_shared.false)))
 
 pub returns-in-None : goal.returns-in-None
@@ -27,4 +27,4 @@ returns-in-None c =
     subst (λ r. Takes c.args.self.now.done.items r c.args.number c.args.section.now c.args.self.now.done.items
     (Some (record { group = c.begin-in-None.result; last = c.args.section.now }))) (sym c.in-None.is)
     (take_begins c.args.self.now.done.items c.args.number c.args.section.now c.in_ok-number.number
-    c.begin-in-None.result (c.in_ok-number.ensures) c.if-section-eq0.false c.begin-in-None.ensures)
+    c.begin-in-None.result c.in_ok-number.ensures.is c.if-section-eq0.false c.begin-in-None.ensures)
