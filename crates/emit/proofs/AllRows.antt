@@ -1,10 +1,10 @@
 -- All rows, one after another.
-use Rattle.std.proofs.Common.{◌≡◌, ◌∙◌, sym, refl, ap, subst, ℕ, ◌+◌, ◌<◌, ◌≤◌, zero, suc, List, [], ◌∷◌, ◌++◌, length}
+use Rattle.std.proofs.Common.{◌≡◌, ◌∙◌, sym, refl, ap, subst, ℕ, ◌+◌, ◌-◌, ◌<◌, ◌≤◌, zero, suc, List, [], ◌∷◌, ◌++◌, length}
 use Rattle.std.proofs.Common.{map, flat_map, take, drop, Some, Bool, true, false, ◌&&◌, bytes_eq}
 use Rattle.std.proofs.Common.{arith, eq-eqb, slice_get}
 use Rattle.std.specs.List.{AllZip}
 use Rattle.std.specs.Option.{option_map}
-use Rattle.std.proofs.lemmas.List.{drop_at, length-map, map-append, take_all}
+use Rattle.std.proofs.lemmas.List.{drop_at, length-append, length-drop, length-map, map-append, take_all}
 use Rattle.std.proofs.lemmas.Option.{same_Some, slice_get-map}
 use Rattle.std.proofs.lemmas.Slice.Eq.{bytes_eq-Decides}
 use Rattle.emit_image.specs.declared.section.ImagePiece.{ImagePiece}
@@ -134,10 +134,25 @@ module _ (p : Project) (stays : SectionKey → Bool) (indexed_layout : IndexedLa
         begun = so_far.rest l h ∙ ap (flat_map starts_of) (drop_next l.layout.sections k q.0 q.1);
       }
 
+  -- the addresses that are left are enough for the row
+  room_at : (l : KnownLink) (k at : ℕ) (row : List Piece) (q : Placed l.layout k at row)
+      → length row ≤ length (drop at starts)
+  room_at l k at row q =
+      let later : List ℕ = flat_map starts_of (drop (k + 1) l.layout.sections) in
+      omega (
+        arith,
+        ap length q.entries,
+        length-map q.section.pieces (λ (x : PlacedPiece). x.piece),
+        length-map q.section.pieces (λ (x : PlacedPiece). x.start),
+        ap length q.begun,
+        length-append (starts_of q.section) later,
+      )
+
   row_at : (l : KnownLink) (k at : ℕ) (row : List Piece) (h : AreRowsAt p l.layout rows starts)
       (q : Placed l.layout k at row) → IsRowAt p l.layout row (drop at starts) q.section
   row_at l k at row h q = record {
     long = ap length q.entries ∙ length-map q.section.pieces (λ (x : PlacedPiece). x.piece);
+    enough = room_at l k at row q;
     each = λ j piece start w there at_row at_start. (
         let own_entry : slice_get row j ≡ Some w.piece =
         ap (λ es. slice_get es j) q.entries ∙ slice_get-map (λ (x : PlacedPiece). x.piece) q.section.pieces j
@@ -161,13 +176,14 @@ module _ (p : Project) (stays : SectionKey → Bool) (indexed_layout : IndexedLa
         );
   }
 
-  pub one_row : (k at : ℕ) (row : List Piece) (y : List ImagePiece) (old new : List (List ImagePiece))
-      → slice_get rows k ≡ Some row → k < length rows → at + length row ≤ length starts
+  pub one_row : (k at step : ℕ) (row : List Piece) (y : List ImagePiece) (old new : List (List ImagePiece))
+      → slice_get rows k ≡ Some row → k < length rows → step ≤ length starts - at
+      → (length row ≤ length starts - at → step ≡ length row)
       → ((l : KnownLink) (q : PlacedOutput) → l.project ≡ p → AreSources l stays indexed_layout r
       → IsRowAt p l.layout row (drop at starts) q → IsJoinedRow l.project l.layout stays q y) → new ≡ old ++ y ∷ []
-      → RowsSoFar k at old → RowsSoFar (k + 1) (at + length row) new
-  one_row k at row y old new e below fits make pushed so_far = record {
-    within = fits;
+      → RowsSoFar k at old → RowsSoFar (k + 1) (at + step) new
+  one_row k at step row y old new e below few all make pushed so_far = record {
+    within = omega (arith, few, so_far.within);
     drawn = λ l same sources h.
         let q = placed_at l k at row old e below h so_far in
         subst (λ qs. AllZip (IsJoinedRow l.project l.layout stays) qs new)
@@ -182,7 +198,8 @@ module _ (p : Project) (stays : SectionKey → Bool) (indexed_layout : IndexedLa
         let long : length (starts_of q.section) ≡ length row =
         length-map q.section.pieces (λ (x : PlacedPiece). x.start)
         ∙ sym (ap length q.entries ∙ length-map q.section.pieces (λ (x : PlacedPiece). x.piece)) in
-        sym (drop_drop at (length row) starts) ∙ ap (drop (length row)) q.begun
+        let fits : step ≡ length row = all (omega (arith, room_at l k at row q, length-drop at starts)) in
+        ap (λ n. drop (at + n) starts) fits ∙ sym (drop_drop at (length row) starts) ∙ ap (drop (length row)) q.begun
         ∙ drop_at (starts_of q.section) (flat_map starts_of (drop (k + 1) l.layout.sections)) (length row) long;
   }
 

@@ -32,6 +32,7 @@ use Rattle.ldmodel.specs.declared.sections.Part.{Part}
 use Rattle.ldmodel.specs.declared.sections.Part.TheVariants.{InTable, InCommon}
 use Rattle.ldmodel.specs.declared.sections.SectionKey.{SectionKey}
 use Rattle.ldmodel_project.specs.ByPlace.{piece_in}
+use Rattle.ldmodel_project.specs.Inputs.{AreObjectsNamed}
 use Rattle.elfobj.specs.Numbering.{IsNumberedAt}
 use Rattle.elfobj.specs.Object.{ObjectData}
 use Rattle.elfobj.specs.declared.section.Section.{Section}
@@ -87,6 +88,30 @@ named_self p key o distinct e =
     ap (object_named p) name
     ∙ found_by_name o.name p.objects key o (distinct o.name) e ((bytes_eq-Decides o.name o.name).1 refl)
 
+-- ---- input sections of no object
+
+none_named : (objects : List NamedObject) → AreObjectsNamed objects → find (has_name []) objects ≡ None
+none_named [] h = refl
+none_named (y ∷ ys) h =
+    let other : has_name [] y ≡ false =
+    false_from_ne_true (has_name [] y)
+    (λ t. absurd (omega (arith, h.0, ap length ((bytes_eq-Decides y.name []).0 t)))) in
+    ap (λ b. cond b (Some y) (find (has_name []) ys)) other ∙ none_named ys h.1
+
+unnamed : (p : Project) (key : ℕ) → AreObjectsNamed p.objects → slice_get p.objects key ≡ None
+    → object_named p (object_name p key) ≡ None
+unnamed p key named e =
+    ap (λ a. object_named p (option_map_or (λ (x : NamedObject). x.name) a [])) e ∙ none_named p.objects named
+
+no_object_in : (a : Option NamedObject) → None ≡ option_map (λ (o : NamedObject). o.object) a → a ≡ None
+no_object_in None h = refl
+no_object_in (Some o) h = absurd (let none : ⊥ = cc in none)
+
+-- no object has the key
+pub no_object : (p : Project) (key : ℕ)
+    → None ≡ option_map (λ (o : NamedObject). o.object) (slice_get p.objects key) → slice_get p.objects key ≡ None
+no_object p key h = no_object_in (slice_get p.objects key) h
+
 -- ---- input sections without bytes
 
 pub zero_byte : (bytes : List ℕ) (fields : List Patch) (i : ℕ) → bytes ≡ [] → fields ≡ []
@@ -126,6 +151,16 @@ module _ (p : Project) (s : Layout) (piece : Piece) (start : ℕ) (w : PlacedPie
         → IsDrawnPiece p s w y
     drawn_common number y z e =
         drawn_zeros y z (λ i. ap (λ part. part_byte p s w.piece.object part w.start i) (part_is (InCommon number) e))
+
+    pub drawn_unnamed : (key : ℕ) (number : SectionIndex) → AreObjectsNamed p.objects → slice_get p.objects key ≡ None
+        → piece.object ≡ object_name p key → piece.part ≡ InTable number → (y : ImagePiece)
+        → AreZeros piece.size start y → IsDrawnPiece p s w y
+    drawn_unnamed key number named none name part y z =
+        let object : w.piece.object ≡ object_name p key = ap (λ (x : Piece). x.object) at.piece_is ∙ name in
+        drawn_zeros y z
+        (λ i. ap (λ n. part_byte p s w.piece.object n w.start i) (part_is (InTable number) part)
+        ∙ ap (λ n. option_map_or (object_byte p s number w.start i) (object_named p n) 0) object
+        ∙ ap (λ a. option_map_or (object_byte p s number w.start i) a 0) (unnamed p key named none))
 
     module _ (key : ℕ) (o : NamedObject) (number : SectionIndex) (distinct : AreNamesDistinct p.objects)
         (there : slice_get p.objects key ≡ Some o) (name : piece.object ≡ object_name p key)
@@ -317,13 +352,15 @@ pub one_entry : (own p : Project) (s : Layout) (stays : SectionKey → Bool) (q 
     (starts : List ℕ) (k : ℕ)
     (piece : Piece) (start : ℕ) (old new : List ImagePiece) → IsRowAt own s row starts q
     → k < length row
-    → slice_get row k ≡ Some piece → slice_get starts k ≡ Some start
+    → slice_get row k ≡ Some piece → ((n : ℕ) → slice_get starts k ≡ Some n → start ≡ n)
     → ((w : PlacedPiece) (whole : List ImagePiece) → IsPlacedAt own s piece start w → StandFor whole old
     → (y : ImagePiece) × IsRowPiece p s stays w y × StandFor (whole ++ y ∷ []) new)
     → AreDrawnAs p s stays (take k q.pieces) old → AreDrawnAs p s stays (take (k + 1) q.pieces) new
 one_entry own p s stays q row starts k piece start old new h l at_row at_start make so_far =
     let m = member q.pieces k (omega (arith, l, h.long)) in
-    let more = make m.0 so_far.whole (h.each k piece start m.0 m.1 at_row at_start) so_far.joined in
+    let a = member starts k (omega (arith, l, h.enough)) in
+    let here : slice_get starts k ≡ Some start = a.1 ∙ ap Some (sym (at_start a.0 a.1)) in
+    let more = make m.0 so_far.whole (h.each k piece start m.0 m.1 at_row here) so_far.joined in
     subst (λ ws. AreDrawnAs p s stays ws new) (sym (take_next q.pieces k m.0 m.1))
     (record {
       whole = so_far.whole ++ more.0 ∷ [];

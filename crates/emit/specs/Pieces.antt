@@ -1,5 +1,5 @@
 -- Input sections as they are drawn.
-use Rattle.std.specs.Prelude.{◌≡◌, Bool, ℕ, List, Some, false, flat_map, length, map, slice_get}
+use Rattle.std.specs.Prelude.{◌≡◌, ◌≤◌, Bool, ℕ, List, Some, false, flat_map, length, map, slice_get}
 use Rattle.emit_fields.specs.Patches.{patched_byte}
 use Rattle.elfobj.specs.Sections.{LinkedSection}
 use Rattle.elfobj.specs.declared.section.SectionIndex.{SectionIndex}
@@ -71,6 +71,7 @@ pub record IsPlacedAt (project : Project) (layout : Layout) (piece : Piece) (sta
 pub record IsRowAt (project : Project) (layout : Layout) (row : List Piece) (starts : List ℕ)
     (output : PlacedOutput) : Type 0 where
   pub long : length row ≡ length output.pieces
+  pub enough : length row ≤ length starts
   pub each : (k : ℕ) (piece : Piece) (start : ℕ) (w : PlacedPiece) → slice_get output.pieces k ≡ Some w
       → slice_get row k ≡ Some piece → slice_get starts k ≡ Some start → IsPlacedAt project layout piece start w
 

@@ -1,7 +1,7 @@
 //! Input sections as they are drawn.
 
-ghost use Rattle.std.specs.Prelude.{◌≡◌, ◌<◌, ◌++◌, ◌∷◌, Bool, IfOk, List, OnOk, Some, [], false, is_some, length};
-ghost use Rattle.std.specs.Prelude.{map, slice_get};
+ghost use Rattle.std.specs.Prelude.{◌≡◌, ◌<◌, ◌≤◌, ◌++◌, ◌∷◌, [], ℕ, Bool, IfOk, List, OnOk, Some, false};
+ghost use Rattle.std.specs.Prelude.{is_some, length, map, slice_get};
 ghost use Rattle.std.specs.List.{AllZip};
 ghost use Rattle.std.specs.Vec.{vec_items};
 ghost use Rattle.emit_image.specs.Joined.{StandFor};
@@ -106,7 +106,7 @@ fn section_piece<'a>(
     }
 }
 
-/// An entry of a row at an address that is drawn anew. Fails where it is of no object.
+/// An entry of a row at an address that is drawn anew; all zeros where it is of no object.
 fn drawn_piece<'a>(
     project: &'a ProjectView<'_>,
     relocated: &'a Relocated,
@@ -122,12 +122,12 @@ fn drawn_piece<'a>(
 {
     // so that what a project says of its objects is known
     let _inputs = project.inputs();
+    project.objects_are_named();
     let key = piece.section.object;
     match piece.section.part {
         Part::InCommon(_) => Ok(zeros(piece.size, start)),
         Part::InTable(number) => match project.object(key) {
-            // The project has the object
-            None => Err(impossible()),
+            None => Ok(zeros(piece.size, start)),
             Some(object) => match object.section_at(number) {
                 None => Ok(zeros(piece.size, start)),
                 Some(index) => {
@@ -174,6 +174,16 @@ fn add_entry<'a, E: PreviousLinkInfo>(
     }
 }
 
+/// The address of this number among some; 0 where there are fewer.
+fn start_at(starts: &[u64], number: usize) -> u64
+    ensures { (start : ℕ) → slice_get starts.now number ≡ Some start → result ≡ start }
+{
+    match starts.get(number) {
+        None => 0,
+        Some(start) => *start,
+    }
+}
+
 /// The entries of a row at these addresses, of which those that stay are joined where no gap lies between. Fails where
 /// memory runs out.
 fn image_row<'a, E: PreviousLinkInfo>(
@@ -192,23 +202,25 @@ fn image_row<'a, E: PreviousLinkInfo>(
 {
     let mut pieces = Vec::with_capacity(alloc, row.len())?;
     for (k, piece) in row.iter().enumerate() {
-        match starts.get(k) {
-            // A row has as many starts as entries
-            None => return Err(impossible()),
-            Some(start) => {
-                add_entry(
-                    &mut pieces,
-                    project,
-                    relocated,
-                    indexed_layout,
-                    previous,
-                    piece,
-                    *start,
-                )?;
-            }
-        }
+        add_entry(
+            &mut pieces,
+            project,
+            relocated,
+            indexed_layout,
+            previous,
+            piece,
+            start_at(starts, k),
+        )?;
     }
     Ok(pieces)
+}
+
+/// How many addresses a row of this many entries takes of those that are left.
+fn taken(count: usize, left: usize) -> usize
+    ensures few { result ≤ left }
+    ensures all { count ≤ left → result ≡ count }
+{
+    if count <= left { count } else { left }
 }
 
 /// The entries of all rows, row by row. Fails where memory runs out.
@@ -230,10 +242,6 @@ fn image_rows<'a, E: PreviousLinkInfo>(
     let mut at: usize = 0;
     for row in &indexed_layout.rows {
         let row = row.as_slice();
-        if starts.len() - at < row.len() {
-            // The starts are those of all rows
-            return Err(impossible());
-        }
         let drawn = image_row(
             alloc,
             project,
@@ -244,7 +252,7 @@ fn image_rows<'a, E: PreviousLinkInfo>(
             &starts[at..],
         )?;
         pieces.push(drawn)?;
-        at += row.len();
+        at += taken(row.len(), starts.len() - at);
     }
     Ok(pieces)
 }

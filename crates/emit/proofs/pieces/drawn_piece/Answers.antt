@@ -5,8 +5,8 @@ use Rattle.ldmodel_laws.specs.ByteCases.{section_byte}
 use Rattle.ldmodel_project.specs.ByPlace.{piece_in}
 use Rattle.emit.proofs.Lists.{if_ok}
 use Rattle.emit.proofs.Numbering.{numbers_differ}
-use Rattle.emit.proofs.OfRows.{drawn_none, drawn_some, named_self, not_stayed, numbered_at, numbered_is}
-use Rattle.emit.proofs.OfRows.{numbered_none, placed_is, there_is}
+use Rattle.emit.proofs.OfRows.{drawn_none, drawn_some, drawn_unnamed, named_self, no_object, not_stayed, numbered_at}
+use Rattle.emit.proofs.OfRows.{numbered_is, numbered_none, placed_is, there_is}
 use Rattle.emit.proofs.pieces.drawn_piece.Goals as goal
 use Rattle.emit.specs.Numbers.{HaveNumbers}
 use Rattle.emit.specs.Pieces.{IsDrawnPiece}
@@ -20,6 +20,15 @@ returns-in-None-section_at c l stays w same sources new at =
     (drawn_none p l.layout (piece_in p r) c.args.start w at r.section.object.0 there.object c.in-InTable.number
     c.inputs-inputs.ensures.distinct there.at refl c.in-InTable.is _ c.zeros-in-None-section_at.ensures
     (numbered_none there.object c.in-InTable.number c.in-Some.object.now there.is c.in-None-section_at.ensures.absent))
+
+pub returns-in-None : goal.returns-in-None
+returns-in-None c l stays w same sources new at =
+    let p = c.args.project.now in
+    let r = c.args.piece.now in
+    subst (λ pr. IsDrawnPiece pr l.layout w c.zeros-in-None.result) (sym same)
+    (drawn_unnamed p l.layout (piece_in p r) c.args.start w at r.section.object.0 c.in-InTable.number
+    c.objects_are_named.ensures.named (no_object p r.section.object.0 c.in-None.ensures) refl c.in-InTable.is _
+    c.zeros-in-None.ensures)
 
 pub returns-in-Some-section_at : goal.returns-in-Some-section_at
 returns-in-Some-section_at c =

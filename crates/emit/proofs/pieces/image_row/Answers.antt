@@ -1,8 +1,7 @@
 -- One entry a step.
-use Rattle.std.proofs.Common.{Bool, sym, subst, refl, map, length, arith, []}
+use Rattle.std.proofs.Common.{Bool, sym, subst, map, arith, []}
 use Rattle.std.specs.Prelude.{is_some}
 use Rattle.std.proofs.lemmas.List.{length-map}
-use Rattle.std.proofs.lemmas.Option.{slice_get_read}
 use Rattle.ldmodel.specs.declared.sections.SectionKey.{SectionKey}
 use Rattle.ldmodel_project.specs.ByPlace.{piece_in}
 use Rattle.emit.proofs.Lists.{mapped_at, own_member}
@@ -22,13 +21,12 @@ loop-k-preserved g c link q same sources row =
     let rs = c.args.row.now in
     let starts = c.args.starts.now in
     let k = c.loop-k.k in
-    one_entry p link.project link.layout stays q (map (piece_in p) rs) starts k _ c.in-Some.start.now
+    one_entry p link.project link.layout stays q (map (piece_in p) rs) starts k _ c.start_at.result
     c.loop-k.pieces.items _ row
     (omega (arith, c.loop-k-test.true, length-map rs (piece_in p)))
     (mapped_at (piece_in p) rs k _ (omega (arith, c.loop-k-test.true)) (sym (own_member rs k _)))
-    (slice_get_read starts (length starts) k c.in-Some.start.now refl c.in-Some.ensures.lookup.3.0
-    c.in-Some.ensures.lookup.1)
-    (λ w whole at stand. c.in_ok-add_entry-in-Some.ensures link w whole same sources at stand)
+    c.start_at.ensures
+    (λ w whole at stand. c.in_ok-add_entry.ensures link w whole same sources at stand)
     (c.loop-k.invariant link q same sources row)
 
 pub returns : goal.returns

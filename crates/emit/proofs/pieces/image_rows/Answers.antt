@@ -37,16 +37,15 @@ loop-row-preserved g c =
     let left : length (drop at starts) ≡ length starts - at = length-drop at starts in
     let whole : take (length starts - at) (drop at starts) ≡ drop at starts =
     take_all (length starts - at) (drop at starts) (omega (arith, left)) in
-    subst (λ n. RowsSoFar p stays c.args.indexed_layout.now c.args.relocated.now (rows_in p rs) starts (k + 1) (at + n)
-    (map vec_items c.push.new.self.items)) long
-    (one_row p stays c.args.indexed_layout.now c.args.relocated.now
-    (rows_in p rs) starts k at row c.in_ok-drawn.drawn.items
+    one_row p stays c.args.indexed_layout.now c.args.relocated.now
+    (rows_in p rs) starts k at c.taken-at.result row c.in_ok-drawn.drawn.items
     (map vec_items c.loop-row.pieces.items) _ here (omega (arith, low, many))
-    (omega (arith, c.if-starts-at.false, within, long))
+    (omega (arith, c.taken-at.ensures.few))
+    (λ fits. c.taken-at.ensures.all (omega (arith, fits, long)) ∙ sym long)
     (λ l q same sources placed.
     c.in_ok-drawn.ensures l q same sources (subst (λ ss. IsRowAt p l.layout row ss q) (sym whole) placed))
     (ap (map vec_items) c.in_ok-push.ensures.items ∙ map-append vec_items c.loop-row.pieces.items _)
-    c.loop-row.invariant)
+    c.loop-row.invariant
 
 pub returns : goal.returns
 returns g c l same sources placed =
