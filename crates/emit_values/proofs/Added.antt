@@ -1,7 +1,7 @@
 -- Symbols of the output, one by one.
 use Rattle.std.proofs.Common.{◌≡◌, ◌∙◌, ℕ, List, [], ◌∷◌, ◌++◌, ap, sym}
-use Rattle.std.specs.Prelude.{Option, Some, slice_get}
-use Rattle.std.specs.Option.{option_map}
+use Rattle.std.specs.Prelude.{None, Option, Some, slice_get}
+use Rattle.std.specs.Option.{option_map, unwrap_or}
 use Rattle.ldmodel.specs.HandedOver.{decision_of}
 use Rattle.ldmodel.specs.Layout.{Layout, script_value}
 use Rattle.ldmodel.specs.Names.{Decision, decision}
@@ -10,7 +10,10 @@ use Rattle.ldmodel.specs.OutputSymbols.{output_symbol}
 use Rattle.ldmodel.specs.Project.{Project}
 use Rattle.ldmodel.specs.SymbolValues.{SymbolValue, decided_value, name_value}
 use Rattle.symres.specs.Decided.{case_at}
+use Rattle.emit_relocate.specs.KnownLink.{value_under}
 use Rattle.emit_relocate.specs.Values.{value_of}
+use Rattle.emit_relocate.specs.declared.value.SymbolValue as code
+use Rattle.emit_relocate.specs.declared.value.SymbolValue.TheVariants as code_value
 use Rattle.symres.specs.table.State.{IsNamed}
 use Rattle.emit_values.specs.ScriptValues.{value_in}
 use Rattle.emit_values.specs.Symbols.{AddsSymbols, AreSources, defined, shown}
@@ -30,14 +33,20 @@ same_symbol p s x d v =
 some_same : (x y : SymbolValue) → Some x ≡ Some y → x ≡ y
 some_same x y h = cc
 
+-- the value of a name that has one
+under_key : (a : Option code.SymbolValue) (v : SymbolValue) → option_map value_of a ≡ Some v
+    → value_of (unwrap_or a code_value.NotDefined) ≡ v
+under_key None v h = absurd (let none : ⊥ = cc in none)
+under_key (Some x) v h = some_same (value_of x) v h
+
 -- the symbol of a name with a key
 pub named_symbol : (p : Project) (s : Layout) (src : Sources) (k : ℕ) (x : OutputSymbol) → AreSources p s src
     → IsNamed src.symbol_table.now.names k x.name.now → Some x.case ≡ case_at src.symbol_table.now.cases k
-    → Some x.value ≡ slice_get src.names.now k → shown_symbol x ≡ output_symbol p s x.name.now
+    → x.value ≡ value_under src.names.now (record { 0 = k }) → shown_symbol x ≡ output_symbol p s x.name.now
 named_symbol p s src k x h named case value =
     same_symbol p s x ((h.symbol_table.sound k x.case (sym case)).case x.name.now named)
-    (some_same (value_of x.value) (name_value p s x.name.now)
-    (ap (option_map value_of) value ∙ h.names k x.name.now named))
+    (ap value_of value
+    ∙ under_key (slice_get src.names.now k) (name_value p s x.name.now) (h.names k x.name.now named))
 
 -- that of another name
 pub unnamed_symbol : (p : Project) (s : Layout) (src : Sources) (x : OutputSymbol) (given : Option ℕ)

@@ -7,6 +7,7 @@ ghost use Rattle.ldmodel.specs.Layout.{Layout, script_value};
 ghost use Rattle.ldmodel.specs.OutputSymbols.{is_defined, output_symbols};
 ghost use Rattle.ldmodel.specs.Project.{Project};
 ghost use Rattle.ldmodel.specs.SymbolValues.{decided_value};
+ghost use Rattle.emit_relocate.specs.KnownLink.{value_under};
 ghost use Rattle.emit_relocate.specs.Values.{value_of};
 ghost use Rattle.symres.specs.table.State.{AreDistinct, IsNamed};
 ghost use Rattle.emit_values.specs.AssertedSymbols.{AreInOrder};
@@ -83,6 +84,16 @@ fn add_if_defined<'a>(
     Ok(())
 }
 
+/// The value of the name of a key, in a table of the values of all names.
+fn value_under(values: &[SymbolValue], key: NameKey) -> SymbolValue
+    ensures { result ≡ value_under values.now key }
+{
+    match values.get(key.0) {
+        None => SymbolValue::NotDefined,
+        Some(value) => *value,
+    }
+}
+
 /// Adds the symbol of a name with a key.
 fn add_named<'a>(
     sources: &Sources<'_>,
@@ -98,18 +109,8 @@ fn add_named<'a>(
     // so that it is known that each key of a name has a case
     sources.symbol_table.keys_decided();
     let case = sources.symbol_table.case_of(key).unwrap();
-    let Some(value) = sources.names.get(key.0) else {
-        // Each key of a name has a value; but how many values there are is known of the values of a link alone
-        return Err(impossible());
-    };
-    add_if_defined(
-        list,
-        OutputSymbol {
-            name,
-            case,
-            value: *value,
-        },
-    )
+    let value = value_under(sources.names, key);
+    add_if_defined(list, OutputSymbol { name, case, value })
 }
 
 /// Adds the symbol of a name without a key. It is looked up.
