@@ -8,6 +8,7 @@ use Rattle.std.proofs.lemmas.Bool.{eqb-true, false_from_ne_true}
 use Rattle.std.proofs.lemmas.List.{length-map, map-append, take_all}
 use Rattle.std.proofs.lemmas.List.Elements.{All-push, filter-append}
 use Rattle.std.proofs.lemmas.Option.{same_Some, slice_get-map}
+use Rattle.std.proofs.lemmas.Slice.Zip.{AllZip-long}
 use Rattle.emit_image.specs.InMemory.{IsSectionFilled}
 use Rattle.emit_image.specs.Joined.{IsJoinedSection}
 use Rattle.emit_image.specs.OfLink.{IsImageSection}
@@ -76,6 +77,26 @@ module _ (p : Project) (s : Layout) (stays : SectionKey → Bool) (places : List
           row = λ ys at. at_zip (IsJoinedRow p s stays) s.sections rows k q ys h.pieces next.at at;
           data_commands = λ ds at. at_zip AreDataOf s.sections runs k q ds h.data_commands next.at at;
         };
+      }
+
+  -- each list has a member for each place
+  pub record Reached (k : ℕ) : Type 0 where
+    pub section : k < length os
+    pub offset : k < length offsets
+    pub row : k < length rows
+    pub run : k < length runs
+
+  pub reached : (k : ℕ) → AreJoined p s stays places os offsets rows runs → k < length places → Reached k
+  reached k h l =
+      let long : length s.sections ≡ length places = sym (length-map s.sections placed_of) ∙ ap length h.placed in
+      let names : length s.sections ≡ length os =
+      sym (length-map s.sections (λ (q : PlacedOutput). q.name)) ∙ ap length h.names
+      ∙ length-map os (λ (o : OutputSectionAt). o.section.name) in
+      record {
+        section = omega (arith, l, long, names);
+        offset = omega (arith, l, long, AllZip-long (IsOffset s) s.sections offsets h.begun);
+        row = omega (arith, l, long, AllZip-long (IsJoinedRow p s stays) s.sections rows h.pieces);
+        run = omega (arith, l, long, AllZip-long AreDataOf s.sections runs h.data_commands);
       }
 
   -- one output section more

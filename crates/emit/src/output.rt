@@ -1,6 +1,7 @@
 //! Output sections with all that is drawn of them.
 
-ghost use Rattle.std.specs.Prelude.{◌≡◌, ◌<◌, ◌≤◌, ◌%◌, Bool, ℕ, IfOk, IfSome, List, length, map, slice_index};
+ghost use Rattle.std.specs.Prelude.{◌≡◌, ◌<◌, ◌≤◌, ◌%◌, Bool, ℕ, IfNone, IfOk, IfSome, List, length};
+ghost use Rattle.std.specs.Prelude.{map, slice_index};
 ghost use Rattle.std.specs.List.{AllZip};
 ghost use Rattle.std.specs.Vec.{vec_items};
 ghost use Rattle.place.specs.LinkLayout.{IsLinkLayout};
@@ -14,7 +15,6 @@ ghost use Rattle.emit.specs.Output.{IsJoinedRow, IsOutput};
 
 use crate::data_runs::data_runs;
 use emit_image::section::ImagePiece;
-use ldmodel::impossible::impossible;
 use ldmodel::memory::NoMemory;
 use ldmodel::placed::{Placed, PlacedData};
 use ldmodel_laws::layout::layout_by_effects;
@@ -66,11 +66,13 @@ fn output_at<'a>(
     pieces: &'a [Vec<ImagePiece<'a>>],
     runs: &[&'a [PlacedData]],
 ) -> Option<OutputDrawing<'a>>
-    ensures { IfSome result (λ x. (project : Project) (layout : Layout) (stays : SectionKey → Bool)
+    ensures some { IfSome result (λ x. (project : Project) (layout : Layout) (stays : SectionKey → Bool)
         (output : PlacedOutput)
         → IsAt project layout stays output number placed.now (shown_sections sections.now) offsets.now
         (map vec_items pieces.now)
         (map (λ run. run.now) runs.now) → IsOutput project layout stays output x) }
+    ensures none { IfNone result (number < length sections.now → number < length offsets.now
+        → number < length pieces.now → number < length runs.now → ⊥) }
 {
     let at = sections.get(number)?;
     let offset = *offsets.get(number)?;
@@ -87,8 +89,8 @@ fn output_at<'a>(
     })
 }
 
-/// The output sections of these places and of the members of these lists. Fails where memory runs out, or where a list
-/// is short.
+/// The output sections of these places and of the members of these lists, as many as the shortest list has. Fails where
+/// memory runs out.
 fn join<'a>(
     alloc: Global,
     placed: &[Placed],
@@ -105,8 +107,7 @@ fn join<'a>(
     for (number, place) in placed.iter().enumerate() {
         match output_at(number, place, sections, offsets, pieces, runs) {
             Some(output) => outputs.push(output)?,
-            // Each placed section has a row and an offset
-            None => return Err(impossible()),
+            None => {}
         }
     }
     Ok(outputs)

@@ -11,8 +11,8 @@ use Rattle.emit.proofs.Lists.{mapped_at}
 use Rattle.emit.proofs.output.output_at.Goals as goal
 use Rattle.emit.specs.Output.{IsJoinedRow}
 
-pub returns : goal.returns
-returns c p s stays q at =
+pub returns-clause-some : goal.returns-clause-some
+returns-clause-some c p s stays q at =
     let show : code_section.OutputSectionAt → OutputSectionAt =
     λ o. record { line = o.line; section = o.section.now } in
     let now : Bor (List PlacedData) → List PlacedData = λ run. run.now in
