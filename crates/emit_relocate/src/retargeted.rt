@@ -116,14 +116,9 @@ impl<'a, E: PreviousLinkInfo> StayedSection<'a, E> {
         if patches.len() == before {
             return Ok(());
         }
-        match patches.pop() {
-            // A field was added
-            None => Err(impossible()),
-            Some(field) => {
-                add_in_file(self.range, field, patches)?;
-                Ok(())
-            }
-        }
+        let field = patches.pop().unwrap();
+        add_in_file(self.range, field, patches)?;
+        Ok(())
     }
 
     /// Evaluates the relocation of number `entry`, if its symbol has another value: adds its field in its place in the

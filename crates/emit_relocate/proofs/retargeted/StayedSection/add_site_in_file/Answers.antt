@@ -1,4 +1,5 @@
-use Rattle.std.proofs.Common.{◌≡◌, length, arith, subst}
+use Rattle.std.proofs.Common.{◌≡◌, ◌∙◌, ◌++◌, ap, length, arith, subst}
+use Rattle.std.specs.Prelude.{option_to_list}
 use Rattle.emit_relocate.specs.Fields.{IsTried}
 use Rattle.emit_relocate.specs.Links.{sites_at_hand}
 use Rattle.emit_relocate.proofs.Filed.{filed_none, filed_one}
@@ -15,8 +16,8 @@ returns-then-len-before g c =
     _ _ _ _ _ _ tried
     (omega (arith, c.if-len-before.true, c.len.ensures, c.len-before.ensures))
 
-pub returns-in_ok-add_in_file-in-Some : goal.returns-in_ok-add_in_file-in-Some
-returns-in_ok-add_in_file-in-Some g c =
+pub returns : goal.returns
+returns g c =
     λ l s h.
     let tried = subst (λ rs. IsTried l (sites_at_hand c.args.self.now.section s rs) c.args.patches.now.items
     c.add_sites.new.fields.items c.args.faults.now.items c.add_sites.new.faults.items c.args.meter.now
@@ -26,5 +27,6 @@ returns-in_ok-add_in_file-in-Some g c =
     λ e. omega (arith, e, c.if-len-before.false, c.len.ensures, c.len-before.ensures) in
     filed_one l c.args.self.now.range s.object s.section c.args.self.now.section.start c.args.relocation.now
     _ _ _ _ _ _ tried
-    c.pop.new.self.items _ c.in-Some.field c.in-Some.ensures.items
-    c.in_ok-add_in_file-in-Some.ensures differs
+    c.pop.new.self.items _ c.unwrap-field.result
+    (c.pop.ensures.items ∙ ap (λ r. c.pop.new.self.items ++ option_to_list r) c.unwrap-field.ensures)
+    c.in_ok-add_in_file.ensures differs
