@@ -13,7 +13,7 @@ use Rattle.std.proofs.lemmas.List.Sums.{sum_by-append, sum_by-cons}
 use Rattle.std.proofs.lemmas.Grind.{flat_map-append}
 use Rattle.std.proofs.lemmas.Option.{get_or_from_slice_get, same_Some, slice_get-map, slice_get_within}
 use Rattle.elfobj.specs.Object.{ObjectData}
-use Rattle.elfobj.specs.Profile.{size_in_file}
+use Rattle.elfobj.specs.Profile.{HasRelocationsOfProfile, IsSectionOfProfile, size_in_file}
 use Rattle.elfobj.specs.Relocations.{field_end}
 use Rattle.elfobj.specs.Sections.{LinkedSection, section_of}
 use Rattle.elfobj.specs.declared.meter.Count.TheVariants as count
@@ -56,8 +56,26 @@ module _ (ps : List Patch) (i : ℕ) where
       (subst (λ k. AreInOrder next n (drop k ps)) (add-one i) h) in
       subst (λ qs. AreInOrder end n qs) (sym all) (from, rest)
 
+  pub order_first : (end n : ℕ) (d : Patch) → i < length ps → d ≡ get_or ps i d → AreInOrder end n (drop i ps)
+      → (end ≤ d.offset) × AreInOrder (patch_end d) n (drop (i + 1) ps)
+  order_first end n d low is h =
+      let all : drop i ps ≡ d ∷ drop (suc i) ps = drop-cons ps i d low ∙ ap (λ q. q ∷ drop (suc i) ps) (sym is) in
+      let both = subst (λ qs. AreInOrder end n qs) all h in
+      (both.0, subst (λ k. AreInOrder (patch_end d) n (drop k ps)) (sym (add-one i)) both.1)
+
+  pub order_end : (end n : ℕ) → length ps ≤ i → AreInOrder end n (drop i ps) → end ≤ n
+  order_end end n long h = subst (λ qs. AreInOrder end n qs) (drop_all i ps long) h
+
   pub order_all : (end n : ℕ) → length ps ≤ i → end ≤ n → AreInOrder end n (drop i ps)
   order_all end n long low = subst (λ qs. AreInOrder end n qs) (sym (drop_all i ps long)) low
+
+-- fields in order end at the limit at the latest
+pub order_low : (ps : List Patch) (from n : ℕ) → AreInOrder from n ps → from ≤ n
+order_low [] from n h = h
+order_low (p ∷ ps) from n h =
+    let rest : patch_end p ≤ n = order_low ps (patch_end p) n h.1 in
+    let own : p.offset ≤ patch_end p = omega arith in
+    omega (arith, h.0, rest, own)
 
 -- ---- a section of an object
 
@@ -96,6 +114,31 @@ below xs i start rs h short low = λ k e long.
     let end = h own.section own.is k e long in
     let whole = short own.section own.is in
     omega (arith, end, whole)
+
+all_at : {X : Type 0} (P : X → Type 0) (xs : List X) (i : ℕ) (x : X) → All P xs → slice_get xs i ≡ Some x → P x
+all_at P xs i x h e = subst P (get_or_from_slice_get xs i x x e) (h i x (slice_get_within xs i x e))
+
+-- the fields of a section lie in its bytes
+fields_within : (n : ℕ) (x : LinkedSection) → IsSectionOfProfile x → HasRelocationsOfProfile n x
+    → All (λ r. field_end r ≤ length x.bytes) x.relocations
+fields_within n x s h = go x.kind refl
+  where
+    go : (kind : SectionKind) → x.kind ≡ kind → All (λ r. field_end r ≤ length x.bytes) x.relocations
+    go Nobits e =
+        subst (All (λ r. field_end r ≤ length x.bytes)) (sym (h.none e)) (λ k d low. absurd (omega (arith, low)))
+    go _ e = λ k d low.
+        let long : length x.bytes ≡ x.size = s.bytes ∙ ap (λ kind. size_in_file kind x.size) e in
+        let end = (h.each k d low).field in
+        omega (arith, end, long)
+
+-- the fields of a link are in order within the bytes of their section
+pub order_of : (l : KnownLink) (o : NamedObject) (xs : List LinkedSection) (i start n : ℕ) (x : LinkedSection)
+    (run : List Patch) (bytes : List ℕ) → All IsSectionOfProfile xs → All (HasRelocationsOfProfile n) xs
+    → slice_get xs i ≡ Some x → bytes ≡ x.bytes → IsFaultlessRun l o x start run → AreInOrder 0 (length bytes) run
+order_of l o xs i start n x run bytes sections relocations is same h =
+    let within = fields_within n x (all_at IsSectionOfProfile xs i x sections is)
+    (all_at (HasRelocationsOfProfile n) xs i x relocations is) in
+    subst (λ b. AreInOrder 0 (length b) run) (sym same) (h.is_run.order (length x.bytes) within)
 
 -- a section of an object of the link
 pub placed_of : (l : KnownLink) (key : ObjectPlace) (read : ObjectData) (values : List SymbolValue) (m : PlacedInput)

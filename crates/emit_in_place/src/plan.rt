@@ -1,6 +1,6 @@
 //! What is written of each section of an object: its bytes, with its fields in them.
 
-ghost use Rattle.std.specs.Prelude.{◌≡◌, ◌+◌, ◌<◌, ◌^◌, ◌⊎◌, ℕ, All, IfNone, IfOk, IfSome, Some, length};
+ghost use Rattle.std.specs.Prelude.{◌≡◌, ◌+◌, ◌<◌, ◌^◌, ◌⊎◌, [], ℕ, All, IfNone, IfOk, IfSome, Some, length};
 ghost use Rattle.std.specs.Prelude.{false, slice_get, sum_by, true};
 ghost use Rattle.std.specs.List.{AllZip};
 ghost use Rattle.elfobj.specs.Raised.{raised};
@@ -77,7 +77,8 @@ fn can_stand(object: &Object, limit: usize, spot: LocatedSection) -> bool
 
 /// Whether fields lie one after another, and end at a limit at the latest.
 fn are_in_order(fields: &[Patch], limit: usize) -> bool
-    ensures { result ≡ true → AreInOrder 0 limit fields.now }
+    ensures order { result ≡ true → AreInOrder 0 limit fields.now }
+    ensures none { result ≡ false → AreInOrder 0 limit fields.now → ⊥ }
 {
     let mut end: usize = 0;
     for patch in fields {
@@ -127,7 +128,19 @@ fn fields_of(
     }
 }
 
-/// What is written of a section of this kind with these bytes and fields.
+/// Nothing at all.
+fn nothing<'a>(alloc: Global) -> Rewrite<'a>
+    ensures { written result ≡ record { at = 0; bytes = []; run = [] } }
+{
+    Rewrite {
+        at: 0,
+        bytes: &[],
+        fields: Vec::new(alloc),
+    }
+}
+
+/// What is written of a section of this kind with these bytes and fields, if the fields are in order, as those of a
+/// link are; nothing else.
 fn rewrite_of<'a>(
     alloc: Global,
     kind: SectionKind,
@@ -135,25 +148,22 @@ fn rewrite_of<'a>(
     fields: Vec<Patch>,
     range: FileRange,
     limit: usize,
-) -> Result<Rewrite<'a>, NoMemory>
+) -> Rewrite<'a>
     requires { HasBytes kind range → IsInFile limit bytes.now range }
-    ensures within { IfOk result (λ w. IsWithin limit (written w)) }
-    ensures planned { IfOk result (λ w. IsPlanned kind bytes.now range fields.items (written w)) }
+    ensures within { IsWithin limit (written result) }
+    ensures planned { AreInOrder 0 (length bytes.now) fields.items
+        → IsPlanned kind bytes.now range fields.items (written result) }
 {
     if is_empty(kind, range) {
-        return Ok(Rewrite {
-            at: 0,
-            bytes: &[],
-            fields: Vec::new(alloc),
-        });
+        return nothing(alloc);
     }
     let at = range.offset as usize;
+    // No fields of a section meet, and each ends within the section's bytes; but `add_fields` says so only where the
+    // symbols have their values in a link
     if !are_in_order(&fields, bytes.len()) {
-        // No fields of a section meet, and each ends within the section's bytes; but `add_fields` says so only where
-        // the symbols have their values in a link
-        return Err(impossible());
+        return nothing(alloc);
     }
-    Ok(Rewrite { at, bytes, fields })
+    Rewrite { at, bytes, fields }
 }
 
 /// What is written of a section of an object; none where, and only where, a relocation has a fault.
@@ -181,10 +191,12 @@ fn plan_section<'a>(
     }
     let kind = object.sections()[spot.index.0].kind;
     let bytes = object.section_bytes(spot.index);
+    // so that what an object says of its relocations is known
+    let _relocations = object.relocations(spot.index);
     match fields_of(alloc, key, object, values, spot.index, spot.start, meter)? {
         None => Ok(None),
         Some(fields) => {
-            let rewrite = rewrite_of(alloc, kind, bytes, fields, spot.range, limit)?;
+            let rewrite = rewrite_of(alloc, kind, bytes, fields, spot.range, limit);
             Ok(Some(rewrite))
         }
     }

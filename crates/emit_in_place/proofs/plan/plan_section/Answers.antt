@@ -7,11 +7,11 @@ use Rattle.ldmodel.specs.Raised.{raised}
 use Rattle.elfobj.specs.declared.meter.Count.TheVariants.{Fields}
 use Rattle.emit_relocate.specs.Fields.{evaluations}
 use Rattle.emit_in_place.specs.Plan.{HasBytes, IsInFile, IsRefused, written}
-use Rattle.emit_in_place.proofs.Planning.{at_index, bytes_at, has, planned_at, sites_at_spot}
+use Rattle.emit_in_place.proofs.Planning.{at_index, bytes_at, has, order_of, planned_at, sites_at_spot}
 use Rattle.emit_in_place.proofs.plan.plan_section.Goals as goal
 
-pub rewrite_of-requires : goal.rewrite_of-requires
-rewrite_of-requires c = λ has_bytes.
+pub rewrite_of-rewrite-requires : goal.rewrite_of-rewrite-requires
+rewrite_of-rewrite-requires c = λ has_bytes.
     let can = c.can_stand.ensures c.if-not-can_stand.false in
     let sections = c.args.object.now.sections in
     let own = has sections c.args.spot.index.0 can.index in
@@ -33,21 +33,26 @@ returns-in-None-clause-none c = λ l o h.
     subst (λ ts. IsRefused l ts c.args.meter.now c.fields_of.new.meter) (sites_at_spot o c.args.spot own.section own.is)
     ((rw c.in-None.is at c.in_ok-fields_of.ensures.none) l o own.section h own.is)
 
-pub returns-in_ok-rewrite-in-Some-clause-planned : goal.returns-in_ok-rewrite-in-Some-clause-planned
-returns-in_ok-rewrite-in-Some-clause-planned c = λ l o h.
+pub returns-in-Some-clause-planned : goal.returns-in-Some-clause-planned
+returns-in-Some-clause-planned c = λ l o h.
     let low = (c.can_stand.ensures c.if-not-can_stand.false).index in
     let same = ap (λ (r : ObjectData). length r.sections) h.same in
     let own = has o.object.sections c.args.spot.index.0 (omega (arith, low, same)) in
     let run = (rw c.in-Some.is at c.in_ok-fields_of.ensures.some) l o own.section h own.is in
     let there = ap (λ (r : ObjectData). slice_get r.sections c.args.spot.index.0) (sym h.same) ∙ own.is in
+    let bytes_are = bytes_at c.args.object.now.sections c.args.spot.index.0 c.section_bytes-bytes.result.now
+    c.section_bytes-bytes.ensures own.section there in
     let d : Section = record { number = record { 0 = 0 }; kind = Progbits; flags = 0; size = 0; alignment = 0 } in (
       planned_at l o c.args.spot own.section own.is c.in-Some.fields.items run.0 _ c.section_bytes-bytes.result.now
           (ap (λ (s : Section). s.kind)
           (at_index c.args.object.now.sections c.args.spot.index.0 d c.sections.result.now c.sections.ensures.value
           own.section there))
-          (bytes_at c.args.object.now.sections c.args.spot.index.0 c.section_bytes-bytes.result.now
-          c.section_bytes-bytes.ensures own.section there)
-          (written c.in_ok-rewrite-in-Some.rewrite) c.in_ok-rewrite-in-Some.ensures.planned,
+          bytes_are
+          (written c.rewrite_of-rewrite.result)
+          (c.rewrite_of-rewrite.ensures.planned
+          (order_of l o c.args.object.now.sections c.args.spot.index.0 c.args.spot.start
+          (length c.args.object.now.symbols) own.section c.in-Some.fields.items c.section_bytes-bytes.result.now
+          c.sections.ensures.limits c.relocations-relocations.ensures.limits there bytes_are run.0)),
       run.1 ∙ ap (λ ts. raised c.args.meter.now Fields (evaluations l ts))
           (sites_at_spot o c.args.spot own.section own.is),
     )
