@@ -53,7 +53,8 @@ fn is_empty(kind: SectionKind, range: FileRange) -> bool
 /// Whether these are as many bytes as a range of the file has, and the range ends at a limit at the latest; or nothing
 /// is written of a section of this kind there.
 fn fits(kind: SectionKind, bytes: &[u8], range: FileRange, limit: usize) -> bool
-    ensures { result ≡ true → HasBytes kind range → IsInFile limit bytes.now range }
+    ensures fits { result ≡ true → HasBytes kind range → IsInFile limit bytes.now range }
+    ensures none { result ≡ false → (HasBytes kind range → IsInFile limit bytes.now range) → ⊥ }
 {
     if is_empty(kind, range) {
         return true;
@@ -65,7 +66,8 @@ fn fits(kind: SectionKind, bytes: &[u8], range: FileRange, limit: usize) -> bool
 /// Whether a spot is that of a section of an object, which ends in the address space there, and of which all bytes that
 /// it has in the file lie below a limit. The time is constant.
 fn can_stand(object: &Object, limit: usize, spot: LocatedSection) -> bool
-    ensures { result ≡ true → CanStand object.now limit spot }
+    ensures stands { result ≡ true → CanStand object.now limit spot }
+    ensures refused { result ≡ false → CanStand object.now limit spot → ⊥ }
 {
     if spot.index.0 >= object.sections().len() {
         return false;

@@ -12,7 +12,7 @@ use Rattle.emit_in_place.proofs.plan.plan_section.Goals as goal
 
 pub rewrite_of-rewrite-requires : goal.rewrite_of-rewrite-requires
 rewrite_of-rewrite-requires c = λ has_bytes.
-    let can = c.can_stand.ensures c.if-not-can_stand.false in
+    let can = c.can_stand.ensures.stands c.if-not-can_stand.false in
     let sections = c.args.object.now.sections in
     let own = has sections c.args.spot.index.0 can.index in
     let d : Section = record { number = record { 0 = 0 }; kind = Progbits; flags = 0; size = 0; alignment = 0 } in
@@ -27,7 +27,7 @@ rewrite_of-rewrite-requires c = λ has_bytes.
 
 pub returns-in-None-clause-none : goal.returns-in-None-clause-none
 returns-in-None-clause-none c = λ l o h.
-    let low = (c.can_stand.ensures c.if-not-can_stand.false).index in
+    let low = (c.can_stand.ensures.stands c.if-not-can_stand.false).index in
     let same = ap (λ (r : ObjectData). length r.sections) h.same in
     let own = has o.object.sections c.args.spot.index.0 (omega (arith, low, same)) in
     subst (λ ts. IsRefused l ts c.args.meter.now c.fields_of.new.meter) (sites_at_spot o c.args.spot own.section own.is)
@@ -35,7 +35,7 @@ returns-in-None-clause-none c = λ l o h.
 
 pub returns-in-Some-clause-planned : goal.returns-in-Some-clause-planned
 returns-in-Some-clause-planned c = λ l o h.
-    let low = (c.can_stand.ensures c.if-not-can_stand.false).index in
+    let low = (c.can_stand.ensures.stands c.if-not-can_stand.false).index in
     let same = ap (λ (r : ObjectData). length r.sections) h.same in
     let own = has o.object.sections c.args.spot.index.0 (omega (arith, low, same)) in
     let run = (rw c.in-Some.is at c.in_ok-fields_of.ensures.some) l o own.section h own.is in
