@@ -1,8 +1,8 @@
 -- The ranges of a link that stayed, as far as they are known, are those of its input sections that stayed.
-use Rattle.std.proofs.Common.{◌≡◌, ◌<◌, ◌≤◌, ℕ, ◌^◌, Bool, true, false, cond, refl, sym, ap, length, map, subst}
+use Rattle.std.proofs.Common.{◌≡◌, ◌<◌, ◌≤◌, ◌==◌, ◌&&◌, ℕ, ◌^◌, Bool, true, false, cond, refl, sym, ap, length, map, subst}
 use Rattle.std.proofs.Common.{◌∙◌, Option, Some, None, slice_get}
 use Rattle.std.specs.List.{Contains}
-use Rattle.std.specs.Option.{option_and_then}
+use Rattle.std.specs.Option.{option_and_then, option_map}
 use Rattle.std.specs.Prelude.{IfSome, IsSome}
 use Rattle.std.proofs.lemmas.Bool.{false≢true}
 use Rattle.std.proofs.lemmas.Option.{same_Some}
@@ -22,16 +22,18 @@ use Rattle.ldmodel.specs.declared.names.ObjectPlace.{ObjectPlace}
 use Rattle.ldmodel.specs.declared.sections.Part.{Part}
 use Rattle.ldmodel.specs.declared.sections.SectionKey.{SectionKey}
 use Rattle.ldmodel_laws.specs.FileOrder.{AreInFileOrder}
-use Rattle.place.specs.IndexedLayout.{IsIndexedLayout}
+use Rattle.place.specs.IndexedLayout.{IsIndexedLayout, place_in}
 use Rattle.place.specs.declared.indexed_layout.IndexedLayout.{IndexedLayout}
+use Rattle.place.specs.declared.indexed_layout.SectionAddress.{SectionAddress}
+use Rattle.place.specs.declared.link_layout.LinkLayout.{LinkLayout}
 use Rattle.emit.specs.relocate.PreviousLinkInfo as earlier
 use Rattle.emit.specs.relocate.PreviousLinkInfo.{HasStayedAt, IsComplete, IsKept, IsPieceOf}
 use Rattle.emit.specs.relocate.KnownLink.{IsSymbolOf, KnownLink, name_of_object}
 use Rattle.emit.specs.relocate.Values.{value_of}
 use Rattle.emit.specs.relocate.declared.previous_link_info.FileRange.{FileRange}
-use Rattle.relink_driver.specs.SectionLocation.{same_location, location_in}
+use Rattle.relink_driver.specs.SectionLocation.{same_location, location_in, location_of, location_with}
 use Rattle.relink_driver.specs.StayedSections.{IsPreviousOf, PreviousState, kept_at, kept_range, previous_of}
-use Rattle.relink_driver.specs.StayedSections.{last_place, previous_location}
+use Rattle.relink_driver.specs.StayedSections.{address_from, last_place, previous_address, previous_location}
 use Rattle.relink_driver.specs.StayedSections.{previous_state}
 use Rattle.relink_driver.specs.StayedSections.{previous_value, standing_from, value_from}
 use Rattle.relink_driver.specs.declared.section_location.SectionLocation.{SectionLocation}
@@ -198,6 +200,12 @@ module _ (old : GoodLink) (l : KnownLink) (keys : (k : ℕ) → l.number k ≡ k
   complete_or_none (Some y) is previous short order all offset_is = complete
       (previous_state y) previous short order all offset_is
 
+-- a section that is known to have stayed has, if each range that is known says so
+pub if_known : (old : GoodLink) (l : KnownLink) (key : SectionKey) (known : Option FileRange)
+    → ((r : FileRange) → known ≡ Some r → HasStayedAt old l key r) → IfSome known (HasStayedAt old l key)
+if_known old l key None h = tt
+if_known old l key (Some r) h = h r refl
+
 pub none_known : (m : Option PreviousState) (t : IndexedLayout) (key : SectionKey) → m ≡ None
     → kept_range m t key ≡ None
 unfolding kept_range
@@ -205,24 +213,62 @@ none_known m t key e = ap (λ n. kept_range n t key) e
 
 -- ---- case by case, as the code finds them
 
+kept_none : (x : Option SectionLocation) → None ≡ kept_at x None
+kept_none None = refl
+kept_none (Some b) = refl
+
+-- what stood at another address did not stay
+pub elsewhere : (b a : SectionAddress) → (b.start == a.start) ≡ false → (x y : Option FileRange)
+    → None ≡ kept_at (option_map (location_with b) x) (option_map (location_with a) y)
+elsewhere b a e None y = refl
+elsewhere b a e (Some r) None = refl
+elsewhere b a e (Some r) (Some s) =
+    ap (λ c. cond (c && ((b.size == a.size) && ((r.offset == s.offset) && (r.length == s.length)))) (Some s) None)
+    (sym e)
+
 module _ (m : Option PreviousView) (y : PreviousView) (last_is : m ≡ Some y) (t : IndexedLayout)
     (key : SectionKey) where
-  kept_is : kept_range (previous_of m) t key ≡ kept_at (previous_location (previous_state y) key) (location_in t key)
-  unfolding kept_range
-  kept_is = ap (λ n. kept_range (previous_of n) t key) last_is
+  abbrev was : LinkLayout
+  was = y.snapshot.now.indexed_layout.link_layout
 
-  pub none_before : None ≡ previous_location (previous_state y) key → None ≡ kept_range (previous_of m) t key
-  none_before e = ap (λ b. kept_at b (location_in t key)) e ∙ sym kept_is
+  before_is : (p : Option ℕ) → option_and_then (standing_from (previous_state y) key.part) p
+      ≡ option_and_then (location_of was) (option_and_then (address_from (previous_state y) key.part) p)
+  unfolding location_in
+  before_is None = refl
+  before_is (Some i) = refl
 
-  module _ (b : SectionLocation) (before : Some b ≡ previous_location (previous_state y) key) where
-    pub none_now : None ≡ location_in t key → None ≡ kept_range (previous_of m) t key
-    none_now e = ap (kept_at (Some b)) e ∙ ap (λ c. kept_at c (location_in t key)) before ∙ sym kept_is
+  kept_is : kept_range (previous_of m) t key
+      ≡ kept_at (option_and_then (location_of was) (previous_address (previous_state y) key))
+      (option_and_then (location_of t.link_layout) (place_in t key))
+  unfolding kept_range previous_location location_in
+  kept_is =
+      ap (λ n. kept_range (previous_of n) t key) last_is
+      ∙ ap (λ b. kept_at b (location_in t key)) (before_is (last_place (previous_state y) key.object))
 
-    pub both : (a : SectionLocation) → Some a ≡ location_in t key → (c : Bool) → same_location b a ≡ c
-        → cond c (Some a.range) None ≡ kept_range (previous_of m) t key
-    both a e c same =
-        ap (λ d. cond d (Some a.range) None) (sym same) ∙ ap (kept_at (Some b)) e
-        ∙ ap (λ c. kept_at c (location_in t key)) before ∙ sym kept_is
+  pub none_before : None ≡ previous_address (previous_state y) key → None ≡ kept_range (previous_of m) t key
+  none_before e =
+      ap (λ b. kept_at (option_and_then (location_of was) b) (option_and_then (location_of t.link_layout) (place_in t key)))
+      e
+      ∙ sym kept_is
+
+  module _ (b : SectionAddress) (before : Some b ≡ previous_address (previous_state y) key) where
+    known_before : kept_at (location_of was b) (option_and_then (location_of t.link_layout) (place_in t key))
+        ≡ kept_range (previous_of m) t key
+    known_before =
+        ap (λ c. kept_at (option_and_then (location_of was) c)
+        (option_and_then (location_of t.link_layout) (place_in t key))) before
+        ∙ sym kept_is
+
+    pub none_now : None ≡ place_in t key → None ≡ kept_range (previous_of m) t key
+    none_now e =
+        kept_none (location_of was b)
+        ∙ ap (λ c. kept_at (location_of was b) (option_and_then (location_of t.link_layout) c)) e
+        ∙ known_before
+
+    pub both : (a : SectionAddress) → Some a ≡ place_in t key
+        → kept_at (location_of was b) (location_of t.link_layout a) ≡ kept_range (previous_of m) t key
+    both a e =
+        ap (λ c. kept_at (location_of was b) (option_and_then (location_of t.link_layout) c)) e ∙ known_before
 
 -- ---- what symbols were worth
 

@@ -13,8 +13,9 @@ use Rattle.ldmodel.specs.declared.names.ObjectPlace.{ObjectPlace}
 use Rattle.ldmodel.specs.declared.sections.Part.{Part}
 use Rattle.ldmodel.specs.declared.sections.SectionKey.{SectionKey}
 use Rattle.symres.specs.SymbolTable.{SymbolTableState}
-use Rattle.place.specs.IndexedLayout.{IsIndexedLayout}
+use Rattle.place.specs.IndexedLayout.{IsIndexedLayout, place_in}
 use Rattle.place.specs.declared.indexed_layout.IndexedLayout.{IndexedLayout}
+use Rattle.place.specs.declared.indexed_layout.SectionAddress.{SectionAddress}
 use Rattle.emit.specs.relocate.KnownLink.{KnownLink}
 use Rattle.emit.specs.relocate.declared.previous_link_info.FileRange.{FileRange}
 use Rattle.emit.specs.relocate.declared.value.SymbolValue.{SymbolValue}
@@ -71,6 +72,14 @@ last_place previous k = slice_index_or previous.from k.0 None
 abbrev pub standing_from : PreviousState → Part → ℕ → Option SectionLocation
 standing_from previous part i =
     location_in previous.snapshot.indexed_layout (record { object = record { 0 = i }; part = part })
+
+-- its address there
+abbrev pub address_from : PreviousState → Part → ℕ → Option SectionAddress
+address_from previous part i =
+    place_in previous.snapshot.indexed_layout (record { object = record { 0 = i }; part = part })
+
+abbrev pub previous_address : PreviousState → SectionKey → Option SectionAddress
+previous_address previous k = option_and_then (address_from previous k.part) (last_place previous k.object)
 
 unfoldable pub previous_location : PreviousState → SectionKey → Option SectionLocation
 previous_location previous k = option_and_then (standing_from previous k.part) (last_place previous k.object)

@@ -1,7 +1,8 @@
 //! Where an input section stands in a link, in memory and in the file.
 
 ghost use Rattle.std.specs.Prelude.{◌≡◌};
-ghost use Rattle.relink_driver.specs.SectionLocation.{range_at, range_from, location_in};
+ghost use Rattle.relink_driver.specs.SectionLocation.{range_at, range_from, location_in, location_of};
+ghost use Rattle.relink_driver.specs.StayedSections.{kept_at};
 
 use emit::relocate::previous_link_info::FileRange;
 use ldmodel::placed::Placed;
@@ -51,6 +52,18 @@ fn range_at(link_layout: &LinkLayout, place: SectionAddress) -> Option<FileRange
     range_from(section, *offset, place.start, place.size)
 }
 
+/// Where an input section stands whose address is this one. None where its bytes in the file begin past 2^64.
+fn location_at(link_layout: &LinkLayout, address: SectionAddress) -> Option<SectionLocation>
+    ensures { result ≡ location_of link_layout.now address }
+{
+    let range = range_at(link_layout, address)?;
+    Some(SectionLocation {
+        start: address.start,
+        size: address.size,
+        range,
+    })
+}
+
 /// Where an input section stands in a link, if it is in the output. None where its bytes in the file begin past 2^64.
 #[tactic(auto, unfolding(crate::specs::SectionLocation::location_in))]
 pub(crate) fn find_location(
@@ -59,11 +72,24 @@ pub(crate) fn find_location(
 ) -> Option<SectionLocation>
     ensures { result ≡ location_in indexed_layout.now section }
 {
-    let place = indexed_layout.find(section)?;
-    let range = range_at(&indexed_layout.link_layout, place)?;
-    Some(SectionLocation {
-        start: place.start,
-        size: place.size,
-        range,
-    })
+    let address = indexed_layout.find(section)?;
+    location_at(&indexed_layout.link_layout, address)
+}
+
+/// The bytes in the file of an input section that stands at `now` and stood at `before` in a previous link, if it
+/// stayed. Most of those that did not are at another address: their places in the file are not worked out.
+pub(crate) fn range_if_stayed(
+    previous: &LinkLayout,
+    before: SectionAddress,
+    link_layout: &LinkLayout,
+    now: SectionAddress,
+) -> Option<FileRange>
+    ensures { result ≡ kept_at (location_of previous.now before) (location_of link_layout.now now) }
+{
+    if before.start != now.start {
+        return None;
+    }
+    let before = location_at(previous, before)?;
+    let now = location_at(link_layout, now)?;
+    if before == now { Some(now.range) } else { None }
 }

@@ -5,11 +5,11 @@ ghost use Rattle.emit.specs.Kept.{IsSound};
 ghost use Rattle.ldmodel.specs.Stayed.{GoodLink};
 ghost use Rattle.emit.specs.relocate.PreviousLinkInfo.{IsComplete};
 ghost use Rattle.emit.specs.relocate.KnownLink.{KnownLink};
-ghost use Rattle.relink_driver.specs.StayedSections.{AreStayedSections, previous_location, previous_state};
+ghost use Rattle.relink_driver.specs.StayedSections.{AreStayedSections, previous_address, previous_state};
 ghost use Rattle.relink_driver.specs.StayedSections.{previous_value, range_of};
 
 use crate::link_snapshot::LinkSnapshot;
-use crate::section_location::{SectionLocation, find_location};
+use crate::section_location::range_if_stayed;
 use elfobj::relocation::SymbolIndex;
 use elfobj::{Object, Symbol};
 use emit::relocate::previous_link_info::{FileRange, PreviousLinkInfo};
@@ -17,7 +17,7 @@ use emit::relocate::value::SymbolValue;
 use ldmodel::names::ObjectPlace;
 use ldmodel::sections::SectionKey;
 use ldmodel_laws::segments::{files_in_order, sections_in_file};
-use place::indexed_layout::IndexedLayout;
+use place::indexed_layout::{IndexedLayout, SectionAddress};
 
 /// An object of the previous link in whose place another of its name came.
 #[derive(Clone, Copy)]
@@ -56,17 +56,16 @@ impl<'a> PreviousView<'a> {
         self.from.get(object.0).copied().unwrap_or(None)
     }
 
-    /// Where an input section of the new link stood in the previous one.
-    #[tactic(auto, unfolding(crate::specs::StayedSections::previous_location))]
-    fn section_location(&self, section: SectionKey) -> Option<SectionLocation>
-        ensures { result ≡ previous_location (previous_state self.now) section }
+    /// The address of an input section of the new link in the previous one, if it was in the output.
+    fn section_address(&self, section: SectionKey) -> Option<SectionAddress>
+        ensures { result ≡ previous_address (previous_state self.now) section }
     {
         let place = self.place(section.object)?;
         let section = SectionKey {
             object: ObjectPlace(place),
             part: section.part,
         };
-        find_location(&self.snapshot.indexed_layout, section)
+        self.snapshot.indexed_layout.find(section)
     }
 
     /// What a symbol of an object of the new link was worth in the previous one.
@@ -128,9 +127,10 @@ impl<'a> PreviousLinkInfo for StayedSections<'a> {
 
     fn stayed(&self, section: SectionKey) -> Option<FileRange> {
         let previous = self.previous?;
-        let before = previous.section_location(section)?;
-        let now = find_location(self.indexed_layout, section)?;
-        if before == now { Some(now.range) } else { None }
+        let before = previous.section_address(section)?;
+        let now = self.indexed_layout.find(section)?;
+        let layout_before = &previous.snapshot.indexed_layout.link_layout;
+        range_if_stayed(layout_before, before, &self.indexed_layout.link_layout, now)
     }
 
     fn is_dirty(&self, object: ObjectPlace) -> bool {
