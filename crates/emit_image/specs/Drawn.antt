@@ -1,5 +1,5 @@
 -- The image that a drawing, with patches, is for, and how much of it does not stay.
-use Rattle.std.specs.Prelude.{◌≡◌, ℕ, ◌+◌, ◌<◌, zero, suc, List, [], slice_index, length, true, false, if◌then◌else◌}
+use Rattle.std.specs.Prelude.{◌≡◌, ℕ, ◌+◌, ◌<◌, zero, suc, List, slice_index, length, true, false, if◌then◌else◌}
 use Rattle.std.specs.List.{All}
 use Rattle.emit_fields.specs.declared.patch.Patch.{Patch}
 use Rattle.emit_image.specs.Drawing.{drawing_end, drawing_spot}

@@ -1,6 +1,6 @@
 -- Spans of the image (`paint`), and the bytes that they stand for; patches.
 use Rattle.std.specs.Prelude.{◌≡◌, ℕ, ◌+◌, ◌%◌, ◌<◌, ◌≤◌, List, length, slice_index, Bool, sum_by}
-use Rattle.std.specs.List.{list_any, All}
+use Rattle.std.specs.List.{list_any}
 use Rattle.std.specs.Int.{to_le_bytes, w64}
 use Rattle.emit_fields.specs.Patches.{AreInOrder, patch_end, patched_byte, patch_covers}
 use Rattle.emit_fields.specs.declared.patch.Patch.{Patch}

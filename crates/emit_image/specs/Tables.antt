@@ -1,7 +1,7 @@
 -- The values that the tail is made of: that they are those of a link.
 use Rattle.std.specs.Prelude.{◌≡◌, ℕ, ◌+◌, ◌%◌, ◌^◌, List, [], ◌∷◌, ◌++◌, map, flat_map, replicate, Bool, codes, length}
 use Rattle.std.specs.Int.{next_multiple_of}
-use Rattle.std.specs.Prelude.{◌==◌, not, if◌then◌else◌}
+use Rattle.std.specs.Prelude.{◌==◌, if◌then◌else◌}
 use Rattle.std.specs.List.{AllZip, enumerate_from}
 use Rattle.elfobj.specs.file.declared.constants.TheConstants.{SHT_PROGBITS, SHT_NOBITS, SHF_WRITE, SHF_ALLOC}
 use Rattle.elfobj.specs.file.declared.constants.TheConstants.{SHF_EXECINSTR}

@@ -31,6 +31,54 @@ pub enum Content<'a> {
     Bytes(&'a [u8], &'a [Patch]),
 }
 
+/// How long a gap is at most that is written from a ready run of its byte.
+const SHORT: usize = 32;
+
+/// A run of one value.
+fn run_of(byte: u8) -> [u8; SHORT]
+    ensures len { length result ≡ 32 }
+    ensures filled { (i : ℕ) → i < 32 → slice_index result i ≡ byte }
+{
+    [byte; SHORT]
+}
+
+/// Writes at most 32 bytes of one value, from `at` on, at once.
+fn write_same(canvas: &mut Canvas, at: usize, n: usize, byte: u8, meter: &mut Meter)
+    requires within { at + n ≤ length canvas.old.bytes }
+    requires short { n ≤ 32 }
+    ensures written { (i : ℕ) → i < n → slice_index canvas.new.bytes (at + i) ≡ byte }
+    ensures before { (o : ℕ) → o < at → slice_index canvas.new.bytes o ≡ slice_index canvas.old.bytes o }
+    ensures after { (o : ℕ) → at + n ≤ o → slice_index canvas.new.bytes o ≡ slice_index canvas.old.bytes o }
+    ensures len { length canvas.new.bytes ≡ length canvas.old.bytes }
+    ensures room { canvas.new.room ≡ canvas.old.room }
+    ensures counted { meter.new ≡ raised meter.old Bytes n }
+{
+    // so that the length of the canvas is known to fit
+    let _len = canvas.len();
+    let run = run_of(byte);
+    canvas.write(at, &run[..n], meter);
+}
+
+/// Writes a pattern of 1 to 8 bytes over and over, `n` bytes from `at` on. Most gaps are short and of one byte.
+fn write_fill(canvas: &mut Canvas, at: usize, n: usize, pattern: &[u8], meter: &mut Meter)
+    requires within { at + n ≤ length canvas.old.bytes }
+    requires some { 0 < length pattern.now }
+    requires most { length pattern.now ≤ 8 }
+    ensures written { (i : ℕ) → i < n
+        → slice_index canvas.new.bytes (at + i) ≡ slice_index pattern.now (i % length pattern.now) }
+    ensures before { (o : ℕ) → o < at → slice_index canvas.new.bytes o ≡ slice_index canvas.old.bytes o }
+    ensures after { (o : ℕ) → at + n ≤ o → slice_index canvas.new.bytes o ≡ slice_index canvas.old.bytes o }
+    ensures len { length canvas.new.bytes ≡ length canvas.old.bytes }
+    ensures room { canvas.new.room ≡ canvas.old.room }
+    ensures counted { meter.new ≡ raised meter.old Bytes n }
+{
+    if pattern.len() == 1 && n <= SHORT {
+        write_same(canvas, at, n, pattern[0], meter);
+    } else {
+        write_run(canvas, at, n, pattern, meter);
+    }
+}
+
 /// Writes the bytes of a content from `from` up to `end`. An input section may be put together on `desk` before.
 fn write_content(
     canvas: &mut Canvas,
@@ -51,7 +99,7 @@ fn write_content(
     ensures counted { meter.new ≡ raised meter.old Bytes (end - from) }
 {
     match content {
-        Content::Fill(pattern) => write_run(canvas, from, end - from, pattern, meter),
+        Content::Fill(pattern) => write_fill(canvas, from, end - from, pattern, meter),
         Content::Number(value) => {
             let bytes = value.to_le_bytes();
             canvas.write(from, &bytes[..end - from], meter);
