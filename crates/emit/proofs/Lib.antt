@@ -3,6 +3,7 @@ mod Ending
 mod Sizes
 mod Ordering
 mod Faulting
+mod Present
 mod Reading
 mod Patching
 mod Beside

@@ -37,7 +37,7 @@ numbers_differ o xs e h =
 
 -- ---- the fields of a section
 
-linked_long : (objects : List NamedObject) → length (sections_in objects) ≡ linked_in objects
+pub linked_long : (objects : List NamedObject) → length (sections_in objects) ≡ linked_in objects
 linked_long [] = refl
 linked_long (o ∷ os) =
     omega (
@@ -111,13 +111,13 @@ run_cut m (r ∷ rs) (suc n) run begin end e f g =
           ∙ ap (take (end - begin)) (drop_own r (flat rs) (begin - (m + length r))) ∙ rest.is;
     }
 
-record Run (R : ObjectSection → List Patch → Type 0) (s : ObjectSection) (runs : List (List Patch)) (n : ℕ)
+pub record Run (R : ObjectSection → List Patch → Type 0) (s : ObjectSection) (runs : List (List Patch)) (n : ℕ)
     : Type 0 where
   pub run : List Patch
   pub at : slice_get runs n ≡ Some run
   pub is : R s run
 
-run_of : (R : ObjectSection → List Patch → Type 0) (ss : List ObjectSection) (runs : List (List Patch)) (n : ℕ)
+pub run_of : (R : ObjectSection → List Patch → Type 0) (ss : List ObjectSection) (runs : List (List Patch)) (n : ℕ)
     (s : ObjectSection) → AllZip R ss runs → slice_get ss n ≡ Some s → Run R s runs n
 run_of R [] runs n s h e = absurd (let none : ⊥ = cc in none)
 run_of R (x ∷ xs) [] n s h e = absurd h

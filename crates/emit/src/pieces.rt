@@ -29,7 +29,6 @@ use elfobj::section::{LinkedIndex, Section, SectionKind};
 use emit_image::row::{add_drawn, add_kept};
 use emit_image::section::ImagePiece;
 use emit_relocate::previous_link_info::PreviousLinkInfo;
-use ldmodel::impossible::impossible;
 use ldmodel::memory::NoMemory;
 use ldmodel::names::ObjectPlace;
 use ldmodel::rows::Piece;
@@ -64,7 +63,7 @@ fn section_at(object: &Object, index: LinkedIndex) -> Section
     object.sections()[index.0]
 }
 
-/// A section of the object of a key, as an input section of this number of bytes at an address. Fails where it is not
+/// A section of the object of a key, as an input section of this number of bytes at an address; all zeros where it is not
 /// among those whose fields are known.
 fn section_piece<'a>(
     relocated: &'a Relocated,
@@ -74,16 +73,16 @@ fn section_piece<'a>(
     index: LinkedIndex,
     size: u64,
     start: u64,
-) -> Result<ImagePiece<'a>, NoMemory>
+) -> ImagePiece<'a>
     requires { index.0 < length object.now.sections }
-    ensures { IfOk result (λ y. (link : KnownLink) (stays : KeyOf → Bool) (o : NamedObject) (section : LinkedSection)
+    ensures { (link : KnownLink) (stays : KeyOf → Bool) (o : NamedObject) (section : LinkedSection)
         (w : PlacedPiece)
         → AreSources link stays indexed_layout.now relocated.now → slice_get link.project.objects key.0 ≡ Some o
         → o.object ≡ object.now
         → slice_get o.object.sections index.0 ≡ Some section
         → stays (record { object = key; part = part.InTable section.number }) ≡ false
         → placed_part link.layout o.name (part.InTable section.number) ≡ Some w → w.start ≡ start → section.size ≡ size
-        → IsSectionPiece link o section size start y) }
+        → IsSectionPiece link o section size start result }
 {
     let section = section_at(object, index);
     // so that what an object says of its sections is known
@@ -91,17 +90,16 @@ fn section_piece<'a>(
     let _relocations = object.relocations(index);
     let bytes = object.section_bytes(index);
     match section.kind {
-        SectionKind::Nobits => Ok(zeros(size, start)),
+        SectionKind::Nobits => zeros(size, start),
         _ => match fields_of(relocated, indexed_layout, key, index) {
-            // Each object that an entry names is one of the project
-            None => Err(impossible()),
-            Some(fields) => Ok(ImagePiece {
+            None => zeros(size, start),
+            Some(fields) => ImagePiece {
                 start,
                 size,
                 bytes,
                 fields,
                 stays: false,
-            }),
+            },
         },
     }
 }
@@ -113,23 +111,23 @@ fn drawn_piece<'a>(
     indexed_layout: &IndexedLayout,
     piece: &Piece,
     start: u64,
-) -> Result<ImagePiece<'a>, NoMemory>
-    ensures { IfOk result (λ y. (link : KnownLink) (stays : KeyOf → Bool) (w : PlacedPiece)
+) -> ImagePiece<'a>
+    ensures { (link : KnownLink) (stays : KeyOf → Bool) (w : PlacedPiece)
         → link.project ≡ project.now → AreSources link stays indexed_layout.now relocated.now → stays piece.now.section
         ≡ false
         → IsPlacedAt project.now link.layout (piece_in project.now piece.now) start w
-        → IsDrawnPiece link.project link.layout w y) }
+        → IsDrawnPiece link.project link.layout w result }
 {
     // so that what a project says of its objects is known
     let _inputs = project.inputs();
     project.objects_are_named();
     let key = piece.section.object;
     match piece.section.part {
-        Part::InCommon(_) => Ok(zeros(piece.size, start)),
+        Part::InCommon(_) => zeros(piece.size, start),
         Part::InTable(number) => match project.object(key) {
-            None => Ok(zeros(piece.size, start)),
+            None => zeros(piece.size, start),
             Some(object) => match object.section_at(number) {
-                None => Ok(zeros(piece.size, start)),
+                None => zeros(piece.size, start),
                 Some(index) => {
                     // so that what an object says of its sections is known
                     let _sections = object.sections();
@@ -168,7 +166,7 @@ fn add_entry<'a, E: PreviousLinkInfo>(
     match previous.stayed(piece.section) {
         Some(_) => add_kept(pieces, piece.size, start),
         None => {
-            let drawn = drawn_piece(project, relocated, indexed_layout, piece, start)?;
+            let drawn = drawn_piece(project, relocated, indexed_layout, piece, start);
             add_drawn(pieces, drawn)
         }
     }

@@ -1,6 +1,6 @@
 //! The fields of a section of an object, among those of all sections.
 
-ghost use Rattle.std.specs.Prelude.{◌≡◌, ◌∷◌, Bool, IfSome, Some, slice_get};
+ghost use Rattle.std.specs.Prelude.{◌≡◌, ◌∷◌, Bool, IfNone, IfSome, Some, slice_get};
 ghost use Rattle.elfobj.specs.Sections.{LinkedSection};
 ghost use Rattle.ldmodel.specs.Project.{NamedObject};
 ghost use Rattle.ldmodel.specs.declared.sections.SectionKey.{SectionKey};
@@ -16,7 +16,7 @@ use place::indexed_layout::IndexedLayout;
 
 /// Where the first `count` of some runs end, of which these are the ends; none where there are fewer.
 fn end_of(ends: &[usize], count: usize) -> Option<usize>
-    ensures { IfSome result (λ n. slice_get (0 ∷ ends.now) count ≡ Some n) }
+    ensures { result ≡ slice_get (0 ∷ ends.now) count }
 {
     if count == 0 {
         return Some(0);
@@ -34,12 +34,18 @@ pub(crate) fn fields_of<'a>(
     place: ObjectPlace,
     section: LinkedIndex,
 ) -> Option<&'a [Patch]>
-    ensures { IfSome result (λ run. (link : KnownLink) (stays : SectionKey → Bool) (object : NamedObject)
+    ensures some { IfSome result (λ run. (link : KnownLink) (stays : SectionKey → Bool) (object : NamedObject)
         (x : LinkedSection)
         → IsIndexedLayout link.project link.layout indexed_layout.now
         → AreRunsUnless link stays relocated.now.patches.items relocated.now.ends.items
         → slice_get link.project.objects place.0 ≡ Some object → slice_get object.object.sections section.0 ≡ Some x
         → IsRunUnless link stays (record { object = object; section = x }) run.now) }
+    ensures none { IfNone result ((link : KnownLink) (stays : SectionKey → Bool) (object : NamedObject)
+        (x : LinkedSection)
+        → IsIndexedLayout link.project link.layout indexed_layout.now
+        → AreRunsUnless link stays relocated.now.patches.items relocated.now.ends.items
+        → slice_get link.project.objects place.0 ≡ Some object → slice_get object.object.sections section.0 ≡ Some x
+        → ⊥) }
 {
     let patches = relocated.patches.as_slice();
     let ends = relocated.ends.as_slice();

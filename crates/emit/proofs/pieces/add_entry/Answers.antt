@@ -22,15 +22,15 @@ returns-in-Some g c =
     ))
     c.add_kept.ensures
 
-pub returns-in_ok-drawn-in-None : goal.returns-in_ok-drawn-in-None
-returns-in_ok-drawn-in-None g c =
+pub returns-in-None : goal.returns-in-None
+returns-in-None g c =
     let p = c.args.project.now in
     let stays : SectionKey → Bool = λ k. is_some (g.E.PreviousLinkInfo.range c.args.previous.now k) in
     let new = ap is_some (sym c.in-None.ensures.range) in
-    let y = c.in_ok-drawn-in-None.drawn in
+    let y = c.drawn_piece-drawn.result in
     on_ok _ _ c.add_drawn.result
     (λ h l w whole same sources at stand.
-    let drawn = c.in_ok-drawn-in-None.ensures l stays w same sources new at in (
+    let drawn = c.drawn_piece-drawn.ensures l stays w same sources new at in (
       y,
       subst (λ pr. IsRowPiece pr l.layout stays w y) (sym same)
           (row_drawn p l.layout stays c.args.piece.now c.args.start w y at new

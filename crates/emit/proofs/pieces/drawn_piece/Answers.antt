@@ -3,7 +3,6 @@ use Rattle.std.proofs.Common.{◌≡◌, ◌∙◌, sym, refl, ap, subst, Some, 
 use Rattle.elfobj.specs.Object.{ObjectData}
 use Rattle.ldmodel_laws.specs.ByteCases.{section_byte}
 use Rattle.ldmodel_project.specs.ByPlace.{piece_in}
-use Rattle.emit.proofs.Lists.{if_ok}
 use Rattle.emit.proofs.Numbering.{numbers_differ}
 use Rattle.emit.proofs.OfRows.{drawn_none, drawn_some, drawn_unnamed, named_self, no_object, not_stayed, numbered_at}
 use Rattle.emit.proofs.OfRows.{numbered_is, numbered_none, placed_is, there_is}
@@ -31,7 +30,7 @@ returns-in-None c l stays w same sources new at =
     c.zeros-in-None.ensures)
 
 pub returns-in-Some-section_at : goal.returns-in-Some-section_at
-returns-in-Some-section_at c =
+returns-in-Some-section_at c l stays w same sources new at =
     let p = c.args.project.now in
     let r = c.args.piece.now in
     let key = r.section.object.0 in
@@ -49,9 +48,8 @@ returns-in-Some-section_at c =
     (numbers_differ ob c.sections-sections.result.now c.sections-sections.ensures.value
     c.sections-sections.ensures.ascending) in
     let found = numbered_is o number index x differ here one.is in
-    if_ok c.section_piece.result
-    (λ y h l stays w same sources new at.
-    let is = h l stays o x w sources (ap (λ pr. slice_get pr.objects key) same ∙ there.at) there.is here
+    let y = c.section_piece.result in
+    let is = c.section_piece.ensures l stays o x w sources (ap (λ pr. slice_get pr.objects key) same ∙ there.at) there.is here
     (not_stayed r number x stays c.in-InTable.is one.is new)
     (placed_is p l.layout (piece_in p r) c.args.start w at key o number c.inputs-inputs.ensures.distinct there.at refl
     c.in-InTable.is x one.is there.name) at.start_is
@@ -59,5 +57,4 @@ returns-in-Some-section_at c =
     subst (λ pr. IsDrawnPiece pr l.layout w y) (sym same)
     (drawn_some p l.layout (piece_in p r) c.args.start w at key o number c.inputs-inputs.ensures.distinct there.at refl
     c.in-InTable.is x y found is.start is.size
-    (λ i. is.bytes i ∙ ap (λ pr. section_byte pr l.layout o c.args.start i x) same) is.filled is.unstayed))
-    c.section_piece.ensures
+    (λ i. is.bytes i ∙ ap (λ pr. section_byte pr l.layout o c.args.start i x) same) is.filled is.unstayed)

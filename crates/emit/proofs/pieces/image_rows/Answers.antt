@@ -1,5 +1,5 @@
 -- One row a step.
-use Rattle.std.proofs.Common.{◌≡◌, ◌≤◌, ◌<◌, ◌+◌, ◌-◌, ◌∙◌, sym, ap, subst, List, length, map, take, drop, slice_get}
+use Rattle.std.proofs.Common.{◌≡◌, ◌≤◌, ◌<◌, ◌-◌, ◌∙◌, sym, ap, subst, List, length, map, take, drop, slice_get}
 use Rattle.std.proofs.Common.{Bool, Some, arith, get_or}
 use Rattle.std.specs.Prelude.{is_some}
 use Rattle.std.specs.Option.{option_map}
@@ -9,7 +9,7 @@ use Rattle.std.proofs.lemmas.Option.{slice_get-map}
 use Rattle.ldmodel.specs.Rows.{Piece}
 use Rattle.ldmodel.specs.declared.sections.SectionKey.{SectionKey}
 use Rattle.ldmodel_project.specs.ByPlace.{piece_in, rows_in}
-use Rattle.emit.proofs.AllRows.{RowsSoFar, all_rows, one_row}
+use Rattle.emit.proofs.AllRows.{all_rows, one_row}
 use Rattle.emit.proofs.Lists.{mapped_at}
 use Rattle.emit.proofs.pieces.image_rows.Goals as goal
 use Rattle.emit.specs.Pieces.{IsRowAt}

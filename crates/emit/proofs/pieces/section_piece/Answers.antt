@@ -31,4 +31,8 @@ returns-in-Some c l stays o x w sources there same here new placed at sized =
     w (λ e. c.in_default.not-Nobits (ap (λ (z : Section). z.kind) is ∙ e))
     sized placed at refl refl
     (bytes_are ob i x c.section_bytes-bytes.result.now own c.section_bytes-bytes.ensures)
-    (c.in-Some.ensures l stays o x sources.indexed_layout sources.runs there here c.args.key there new) refl
+    (c.in-Some.ensures.some l stays o x sources.indexed_layout sources.runs there here c.args.key there new) refl
+
+pub returns-in-None : goal.returns-in-None
+returns-in-None c l stays o x w sources there same here new placed at sized =
+    absurd (c.in-None.ensures.none l stays o x sources.indexed_layout sources.runs there here)
