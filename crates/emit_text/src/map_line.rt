@@ -1,6 +1,6 @@
 //! The map's lines.
 
-ghost use Rattle.std.specs.Prelude.{◌≡◌, ◌∷◌, ◌++◌, [], OnOk, codes};
+ghost use Rattle.std.specs.Prelude.{◌≡◌, ◌∷◌, ◌++◌, ◌≤◌, ◌+◌, [], OnOk, codes, length, take};
 ghost use Rattle.ldmodel.specs.Lines.{hex, line_of};
 ghost use Rattle.emit_text.specs.ShownMap.{value_text};
 
@@ -52,8 +52,51 @@ pub fn put_section_line(
     Ok(())
 }
 
-/// The two names at the end of a line.
+/// How long a line is at most that is put together beside the text.
+const LINE_ROOM: usize = 256;
+
+/// How long the front and each name of such a line are at most.
+const PART_ROOM: usize = 80;
+
+/// Puts the next part into a line that reaches to `at`. Returns how far it reaches then.
 #[inline(always)]
+fn put_part(line: &mut [u8; LINE_ROOM], at: usize, part: &[u8]) -> usize
+    requires { at + length part.now ≤ 256 }
+    ensures end { result ≡ at + length part.now }
+    ensures written { take result line.new ≡ take at line.old ++ part.now }
+{
+    let end = at + part.len();
+    line[at..end].copy_from_slice(part);
+    end
+}
+
+/// A line of a front and two names. Most are short: they are put together first, so that the text grows once.
+#[inline(always)]
+fn put_line_of_names(
+    text: &mut Vec<u8>,
+    front: &[u8],
+    first: &[u8],
+    second: &[u8],
+) -> Result<(), AllocError>
+    ensures { OnOk result (text.new.items
+        ≡ text.old.items ++ (front.now ++ (first.now ++ 32 ∷ [] ++ second.now ++ 10 ∷ []))) }
+{
+    if front.len() > PART_ROOM || first.len() > PART_ROOM || second.len() > PART_ROOM {
+        text.extend_from_slice(front)?;
+        put_names(text, first, second)?;
+        return Ok(());
+    }
+    let mut line = [0; LINE_ROOM];
+    let front_end = put_part(&mut line, 0, front);
+    let first_end = put_part(&mut line, front_end, first);
+    let space_end = put_part(&mut line, first_end, b" ");
+    let second_end = put_part(&mut line, space_end, second);
+    let end = put_part(&mut line, second_end, b"\n");
+    text.extend_from_slice(&line[..end])?;
+    Ok(())
+}
+
+/// The two names at the end of a line.
 fn put_names(text: &mut Vec<u8>, first: &[u8], second: &[u8]) -> Result<(), AllocError>
     ensures { OnOk result (text.new.items ≡ text.old.items ++ (first.now ++ 32 ∷ [] ++ second.now ++ 10 ∷ [])) }
 {
@@ -91,8 +134,7 @@ pub fn put_piece_line(
     ensures { OnOk result (text.new.items
         ≡ text.old.items ++ line_of (codes "piece" ∷ hex start ∷ hex size ∷ object.now ∷ section.now ∷ [])) }
 {
-    text.extend_from_slice(&piece_front(start, size))?;
-    put_names(text, object, section)
+    put_line_of_names(text, &piece_front(start, size), object, section)
 }
 
 /// `symbol VALUE ` of a line.
@@ -108,14 +150,14 @@ fn symbol_front(value: u64) -> [u8; 24]
     ]
 }
 
-/// `symbol VALUE ` of a line, at the end.
+/// `symbol VALUE ` of a line whose symbol may have no value.
 #[inline(always)]
-fn put_symbol_front(text: &mut Vec<u8>, value: Option<u64>) -> Result<(), AllocError>
-    ensures { OnOk result (text.new.items ≡ text.old.items ++ (codes "symbol " ++ (value_text value ++ 32 ∷ []))) }
+fn symbol_front_or_dashes(value: Option<u64>) -> [u8; 24]
+    ensures { result ≡ codes "symbol " ++ (value_text value ++ 32 ∷ []) }
 {
     match value {
-        Some(number) => text.extend_from_slice(&symbol_front(number)),
-        None => text.extend_from_slice(b"symbol ---------------- "),
+        Some(number) => symbol_front(number),
+        None => *b"symbol ---------------- ",
     }
 }
 
@@ -129,6 +171,5 @@ pub fn put_symbol_line(
     ensures { OnOk result (text.new.items
         ≡ text.old.items ++ line_of (codes "symbol" ∷ value_text value ∷ name.now ∷ owner.now ∷ [])) }
 {
-    put_symbol_front(text, value)?;
-    put_names(text, name, owner)
+    put_line_of_names(text, &symbol_front_or_dashes(value), name, owner)
 }
