@@ -4,7 +4,7 @@ use Rattle.std.proofs.Common.{Some, None, refl, sym, ap, ◌∙◌, arith, subst
 use Rattle.std.specs.Prelude.{slice_get}
 use Rattle.std.specs.Option.{option_map, option_and_then}
 use Rattle.std.proofs.lemmas.List.{map-set, get_or-map, length-map}
-use Rattle.std.proofs.lemmas.Option.{slice_get-map, slice_get-get_or, slice_get_past}
+use Rattle.std.proofs.lemmas.Option.{slice_get-map, slice_get_past}
 use Rattle.ldscript.specs.statements.Given.{region_number}
 use Rattle.ldscript.specs.statements.declared.statement.Statement.{Statement}
 use Rattle.ldmodel.specs.Layout.{MemoryRegion, region_named}
@@ -22,12 +22,11 @@ module _ (script : List Statement) (xs : List RegionState) (name : List ℕ)
   region_under = found_under (λ (r : MemoryRegion). r.name) (region_number script) (regions_told script) name
       (map region_of xs) o
 
-  pub region_there : (k : ℕ) (r : RegionState) → region_number script name ≡ Some k → k < length xs → r ≡ get_or xs k r
+  pub region_there : (k : ℕ) (r : RegionState) → region_number script name ≡ Some k → slice_get xs k ≡ Some r
       → region_named (map region_of xs) name ≡ Some (region_of r)
-  region_there k r n l e =
+  region_there k r n e =
       region_under ∙ (ap (option_and_then (λ j. slice_get (map region_of xs) j)) n
-      ∙ (slice_get-map region_of xs k
-      ∙ (ap (option_map region_of) (slice_get-get_or xs k r l) ∙ ap (λ x. Some (region_of x)) (sym e))))
+      ∙ (slice_get-map region_of xs k ∙ ap (option_map region_of) e))
 
   pub region_past : (k : ℕ) → region_number script name ≡ Some k → length xs ≤ k → region_named (map region_of xs) name
       ≡ None

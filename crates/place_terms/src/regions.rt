@@ -3,9 +3,10 @@
 ghost use Rattle.std.specs.Prelude.{◌≡◌, [], ◌∷◌, ◌++◌, length, map, OnOk, Some, find, bytes_eq, option_map};
 ghost use Rattle.ldmodel.specs.Layout.{MemoryRegion, region_named};
 ghost use Rattle.ldmodel.specs.Placement.{freed_from};
-ghost use Rattle.place_terms.specs.RegionTable.{region_of};
+ghost use Rattle.ldscript.specs.statements.Given.{region_number};
+ghost use Rattle.place_terms.specs.RegionTable.{region_of, region_names};
+ghost use Rattle.place_terms.specs.Tables.{AreInOrder};
 
-use ldmodel::impossible::impossible;
 use ldscript::Script;
 use std::alloc::{AllocError, Global};
 use std::marker::Model;
@@ -24,15 +25,17 @@ pub struct RegionState<'a> {
 }
 
 /// The memory regions that a script has declared so far, in the order of the text. A look-up takes the time of one in
-/// the script's table of names.
+/// the script's table of names; in any other order it would go through all regions.
 #[derive(Drop)]
 pub struct Regions<'a> {
     script: &'a Script,
     list: Vec<RegionState<'a>>,
+    /// Whether each region stands under its number, as those of a script that is gone through do.
+    in_order: bool,
 }
 
 impl<'a> Model for Regions<'a> {
-    ghost use Rattle.std.specs.Prelude.{List, map};
+    ghost use Rattle.std.specs.Prelude.{◌≡◌, List, map, true};
     ghost use Rattle.ldmodel.specs.Layout.{MemoryRegion};
 
     ghost Value = { List MemoryRegion };
@@ -43,7 +46,46 @@ impl<'a> Model for Regions<'a> {
 
     ghost view = { λ s. map region_of s.list.items };
 
-    ghost invariant = { λ s. AreInOrder (region_number s.script.now) (region_names (map region_of s.list.items)) };
+    ghost invariant = { λ s. s.in_order ≡ true
+        → AreInOrder (region_number s.script.now) (region_names (map region_of s.list.items)) };
+}
+
+/// The region of a name, where each stands under its number.
+#[tactic(auto, using(crate::proofs::Found::region_past, crate::proofs::Found::region_unknown))]
+fn numbered<'a>(script: &Script, list: &[RegionState<'a>], name: &[u8]) -> Option<RegionState<'a>>
+    requires { AreInOrder (region_number script.now) (region_names (map region_of list.now)) }
+    ensures { option_map region_of result ≡ region_named (map region_of list.now) name.now }
+{
+    match script.region_number(name) {
+        Some(number) => match list.get(number) {
+            Some(region) => Some(*region),
+            None => None,
+        },
+        None => None,
+    }
+}
+
+/// The region of a name, looked for among all.
+fn searched<'a>(list: &[RegionState<'a>], name: &[u8]) -> Option<RegionState<'a>>
+    ensures { option_map region_of result ≡ region_named (map region_of list.now) name.now }
+{
+    for region in list {
+        if region.name == name {
+            return Some(*region);
+        }
+    }
+    None
+}
+
+/// Sets the next free address of each region of a name.
+fn free_all(list: &mut [RegionState<'_>], name: &[u8], next: u64)
+    ensures { map region_of list.new ≡ freed_from (Some name.now) next (map region_of list.old) }
+{
+    for region in list.iter_mut() {
+        if region.name == name {
+            region.next = next;
+        }
+    }
 }
 
 impl<'a> Regions<'a> {
@@ -54,23 +96,18 @@ impl<'a> Regions<'a> {
         Regions {
             script,
             list: Vec::new(alloc),
+            in_order: true,
         }
     }
 
     /// The region of a name.
-    #[tactic(auto, using(crate::proofs::Found::region_there, crate::proofs::Found::region_past, crate::proofs::Found::region_unknown))]
     pub fn get(&self, name: &[u8]) -> Option<RegionState<'a>>
         ensures { option_map region_of result ≡ region_named self.now name.now }
     {
-        match self.script.region_number(name) {
-            Some(number) => {
-                if number < self.list.len() {
-                    Some(self.list[number])
-                } else {
-                    None
-                }
-            }
-            None => None,
+        if self.in_order {
+            numbered(self.script, &self.list, name)
+        } else {
+            searched(&self.list, name)
         }
     }
 
@@ -83,16 +120,16 @@ impl<'a> Regions<'a> {
         ensures pushed { OnOk result (self.new ≡ self.old
             ++ record { name = name.now; origin = origin; extent = extent; next = origin } ∷ []) }
     {
-        if self.script.region_number(name) != Some(self.list.len()) {
-            // A script declares each of its regions once, in the order of their numbers
-            return Err(impossible());
-        }
+        let is_next = self.script.region_number(name) == Some(self.list.len());
         self.list.push(RegionState {
             name,
             origin,
             extent,
             next: origin,
         })?;
+        if !is_next {
+            self.in_order = false;
+        }
         Ok(())
     }
 
@@ -101,10 +138,14 @@ impl<'a> Regions<'a> {
     pub fn free_from(&mut self, name: &[u8], next: u64)
         ensures { self.new ≡ freed_from (Some name.now) next self.old }
     {
-        if let Some(number) = self.script.region_number(name) {
-            if number < self.list.len() {
-                self.list[number].next = next;
+        if self.in_order {
+            if let Some(number) = self.script.region_number(name) {
+                if number < self.list.len() {
+                    self.list[number].next = next;
+                }
             }
+        } else {
+            free_all(&mut self.list, name, next);
         }
     }
 
