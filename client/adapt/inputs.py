@@ -123,7 +123,8 @@ class Rewriter:
         of the objects that are known. None where the pattern does so as it stands.
         """
         objects = self.model.objects
-        if objects is None or word == "*" or not any(file_names(name)[0] for name in objects.names):
+        names_archive = bool(word.rpartition(":")[0])
+        if objects is None or word == "*" or not (names_archive or any(file_names(name)[0] for name in objects.names)):
             return None
         wanted = [name for name in objects.names if file_matches(word, name)]
         for patterns in self._spellings(word):

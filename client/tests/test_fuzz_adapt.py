@@ -4,6 +4,7 @@ from __future__ import annotations
 import os
 import tempfile
 import unittest
+from collections.abc import Iterable
 
 from client.tests.fuzz import objects
 from client.tests.fuzz.linked import CRASHED, REFUSED, SAME, SILENT, link
@@ -12,6 +13,8 @@ from client.tests.linking import needs
 
 COUNT = 300
 """The cases; `tools/fuzz-adapt` runs others by hand."""
+COLLECTING = (8100034, 8300242, 8300540, 8300920)
+"""Seeds of cases with --gc-sections that were silently another."""
 
 
 @needs("ld.bfd", "as", "ar")
@@ -28,10 +31,18 @@ class FuzzTest(unittest.TestCase):
 
     def test_nothing_is_silent(self) -> None:
         """No image is another without a line that says so, and most are the same."""
+        self.tried(range(COUNT), False)
+
+    def test_collecting(self) -> None:
+        """So with --gc-sections."""
+        self.tried([*range(8200000, 8200000 + COUNT // 3), *COLLECTING], True)
+
+    def tried(self, seeds: Iterable[int], collects: bool) -> None:
+        """Links the cases of some seeds."""
         outcomes: dict[str, int] = {}
-        for seed in range(COUNT):
-            came = link(case(seed))
+        for seed in seeds:
+            came = link(case(seed, collects))
             outcomes[came.outcome] = outcomes.get(came.outcome, 0) + 1
             with self.subTest(seed):
                 self.assertNotIn(came.outcome, (SILENT, CRASHED), f"{came.found} {came.said}")
-        self.assertGreater(outcomes.get(SAME, 0), 5 * outcomes.get(REFUSED, 0), outcomes)
+        self.assertGreater(outcomes.get(SAME, 0), (2 if collects else 5) * outcomes.get(REFUSED, 0), outcomes)

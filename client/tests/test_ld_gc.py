@@ -153,6 +153,18 @@ class CollectingTest(BesideGnu):
             self.collects("plain.o", "other.o", "-u", "from_common", "-u", "usym")
             self.collects("other.o", "plain.o", "-u", "from_common", "-u", "usym")
 
+    def test_archives(self) -> None:
+        """KEEP of what is in an archive keeps nothing of objects that are in none, and the members' sections."""
+        self.compile("member.s", """ .globl of_member\n .section .text.member,"ax"\nof_member: .byte 21\n
+            .section .data.x,"aw"\n .byte 22\n .section .data.w,"aw"\n .byte 23\n""")
+        self.run_tool("ar", "rcs", "libx.a", "member.o")
+        for inside in ("KEEP(*libx.a:(.data.x))", "KEEP(*libx.a:*(.data.x .data.z))", "KEEP(*liby.a:*(.data*))",
+                       "KEEP(libx.a:member.o(.data.*))", "KEEP(*(EXCLUDE_FILE(*libx.a:*) .data.x))",
+                       "KEEP(EXCLUDE_FILE(*liby.a:*) *(.data.x))", "KEEP(:other.o(.data.x))"):
+            self.script(inside=inside)
+            self.collects("plain.o", "other.o")
+            self.collects("plain.o", "other.o", "-u", "of_member", "libx.a")
+
     def test_binary(self) -> None:
         """The bytes of a file of -b binary stay."""
         self.write("some.bin", b"abcdefgh")

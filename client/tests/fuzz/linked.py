@@ -86,7 +86,8 @@ def link(one: Case) -> Came:
 
 
 def main(words: list[str]) -> int:
-    """`fuzz-adapt COUNT [SEED]`: that many cases, and a line for each silent difference."""
+    """`fuzz-adapt COUNT [SEED] [--gc-sections] [-v]`: that many cases, and a line for each silent difference."""
+    given, words = words, [word for word in words if not word.startswith("-")]
     count, first = int(words[0]) if words else 300, int(words[1]) if len(words) > 1 else 0
     folder = os.environ.get("FUZZ_FOLDER", "/tmp/fuzz-adapt")
     os.makedirs(folder, exist_ok=True)
@@ -96,9 +97,9 @@ def main(words: list[str]) -> int:
     tally: Counter[str] = Counter()
     for seed in range(first, first + count):
         faulthandler.dump_traceback_later(LIMIT, exit=True)
-        came = link(case(seed))
+        came = link(case(seed, "--gc-sections" in given))
         tally[came.outcome] += 1
-        if came.outcome in (SILENT, CRASHED) or "-v" in words:
+        if came.outcome in (SILENT, CRASHED) or "-v" in given:
             print(f"{seed}: {came.outcome}: {' | '.join(came.found[:4]) or came.said[-300:]}", flush=True)
     print(", ".join(f"{number} {outcome}" for outcome, number in sorted(tally.items())))
     return 1 if tally[SILENT] or tally[CRASHED] else 0

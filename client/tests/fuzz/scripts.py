@@ -44,7 +44,6 @@ class Writer:
         """Symbols so far."""
         self.regions: list[str] = []
         self.phdrs = False
-        self.gc = False
 
     def chance(self, percent: int) -> bool:
         """Whether something happens that does so this often."""
@@ -316,8 +315,8 @@ class Writer:
         return text
 
 
-def case(seed: int) -> Case:
-    """The case of a seed."""
+def case(seed: int, collects: bool = False) -> Case:
+    """The case of a seed, with --gc-sections if it collects."""
     writer = Writer(seed)
     random = writer.random
     count = random.choice([1, 2, 2, 3, 4, len(NAMES)])
@@ -327,6 +326,8 @@ def case(seed: int) -> Case:
     if "a.o" in objects and "b.o" not in objects:
         objects.append("b.o")
     result = Case(writer.script(), objects=objects)
+    if collects:
+        result.before.append("--gc-sections")
     if writer.chance(20):
         result.objects += random.choice([["--whole-archive", ARCHIVE], ["-u", "lib_one", ARCHIVE]])
     if writer.chance(6):
