@@ -14,6 +14,7 @@ from collections.abc import Callable, Mapping, Sequence
 from dataclasses import replace
 
 import client.files
+from client.adapt.objects import Objects as Known
 from client.check.link import Outcome
 from client.files import Files
 from client.inputs import Message
@@ -31,6 +32,7 @@ from client.ld.page_size import PAGE, TooFar
 from client.ld.script import Script, Source
 from client.object_file import NOBITS, PROGBITS, NotElf, ObjectFile
 from client.protocol import Options, Refused
+from client.server.adapted import Adapted
 from client.watch.inputs import Inputs, NotThere
 from client.watch.kept import SCRIPT, Kept
 from client.watch.listing import names_in
@@ -98,11 +100,13 @@ class KeptOpened(Opened):
 class WatchHost(Host):
     """The watch as what a link uses of its process."""
 
-    def __init__(self) -> None:
+    def __init__(self, adapted: Adapted, is_same_text: bool) -> None:
+        """What was adapted for the links before is taken where the script's text is the same."""
         super().__init__()
         self.kept: Kept | None = None
         """The session, from when it is used on."""
-        self._scripts: dict[tuple[tuple[str, int], ...] | None, Script] = {}
+        self._adapted = adapted
+        self._is_same_text = is_same_text
 
     def opened(self, options: Options, objects: Sequence[Object]) -> Opened:
         """The kept session."""
@@ -111,11 +115,14 @@ class WatchHost(Host):
 
     def script(self, source: Source, command: Command, objects: Sequence[Object],
                values: Mapping[str, int] | None) -> Script:
-        """The script as `write_script` has it, written once for the same values."""
-        key = None if values is None else tuple(sorted(values.items()))
-        if key not in self._scripts:
-            self._scripts[key] = super().script(source, command, objects, values)
-        return self._scripts[key]
+        """The script as `write_script` has it, or as it had it where it would write the same."""
+        script = self._adapted.script(source, command, objects, values, self._is_same_text)
+        self._is_same_text = True
+        return script
+
+    def known(self, objects: Sequence[Object]) -> Known:
+        """What is known of these objects; what the adapter has read is not read again."""
+        return self._adapted.known(objects)
 
     def write(self, path: str, data: bytes, mode: int) -> None:
         """Files are put in place by the watch."""
@@ -138,9 +145,9 @@ class KeptLink(Link):
 class WatchedLink:
     """A link of `ld.ldi` whose session is kept, of which nothing is written, and what is printed is kept."""
 
-    def __init__(self, command: Command, words: list[str]) -> None:
+    def __init__(self, command: Command, words: list[str], host: WatchHost) -> None:
         self.command = command
-        self.host = WatchHost()
+        self.host = host
         self.link = KeptLink(command, words, os.environ, self.host)
         self.link.load()
         self.first = self.host.script(self.link.source, command, self.link.objects, {})
@@ -198,6 +205,9 @@ class AsLd:
         """The last link that came to an image."""
         self.is_no_script = False
         """Whether the script is none of GNU ld."""
+        self._adapted = Adapted()
+        self._is_known_text = False
+        """Whether what was adapted is of the script as it was read last."""
         self._objects: list[Object] = []
         self._whole: dict[str, list[int]] = {}
         """The places of the objects that are whole files, by these."""
@@ -209,9 +219,13 @@ class AsLd:
             inputs.keep()
             return self._alike(self._link)
         self._link = None
+        is_same_text = self._is_known_text and changed is not None and all(one.path in self._whole for one in changed)
+        self._is_known_text = False
         client.files.begin(WatchedFiles(inputs))
         try:
-            watched = WatchedLink(self._command(inputs), list(self._words.as_ld))
+            host = WatchHost(self._adapted, is_same_text)
+            watched = WatchedLink(self._command(inputs), list(self._words.as_ld), host)
+            self._is_known_text = True
         except MissingInput as fault:
             raise NotThere(("the link", str(fault))) from fault
         except NotScript as fault:
