@@ -130,9 +130,11 @@ class _Reader:
         self._set(name, value if equals else self._next(name))
 
     def _set(self, name: str, value: str) -> None:
-        if name in self.values:
+        if name == "-T" and name in self.values:  # several are one script, as for `ld.ldi`
+            self.is_ld = True
+        elif name in self.values:
             raise WordsRefused(f"`{name}` is given twice")
-        self.values[name] = value
+        self.values.setdefault(name, value)
         if name not in OWN:
             self.as_ld += [name, value]
 
