@@ -4,6 +4,7 @@ import fcntl
 import os
 import time
 import unittest
+from contextlib import nullcontext
 from unittest import mock
 
 from client import writers
@@ -11,6 +12,9 @@ from client.inputs_state import Input, Written
 from client.tests.test_watch_commands import FolderTest
 from client.tests.watching import Folder, Watching, numbered, run_once, wait_until
 from client.watch.events import Kind, Watcher
+from client.watch.loop import Watch
+from client.watch.says import Teller
+from client.watch.words import read_words
 from client.writers import has_writer
 
 
@@ -147,6 +151,46 @@ class WritersTest(FolderTest):
         self.folder.renew(1, 2)
         with open(one.path, "r+b"):
             self.assertRaises(Written, one.read)
+
+
+    def test_of_inputs_and_sources_alone(self) -> None:
+        """Of other files in the folders, the image among them, it is not asked who writes them."""
+        asked: list[str] = []
+
+        def ask(path: str) -> bool | None:
+            asked.append(os.path.basename(path))
+            return has_writer(path)
+
+        words = read_words(["-T", "t.ld", "-o", "image", "--make", ":", "--sources", "*.c", "--", "o0.o", "o1.o"])
+        before = os.getcwd()
+        self.addCleanup(os.chdir, before)
+        os.chdir(self.folder.path)
+        with mock.patch("client.watch.events.has_writer", ask):
+            watch = Watch(words, mock.Mock(shield=nullcontext), Teller(False, "image"))
+            self.addCleanup(watch.end)
+            watch.commands.begin(watch.watcher, watch.here)
+            watch.inputs.search()
+            for name in ("image", "other.o", "a.c", ".a.c.swp", "o1.o"):
+                (self.folder / "next").write_bytes(numbered(1, 2, 3))
+                os.rename(self.folder / "next", self.folder / name)
+                with open(self.folder / name, "ab") as file:
+                    file.write(b"\0")
+            watch.drain()
+        self.assertEqual(set(asked), {"a.c", "o1.o"})
+
+    def test_renamed_to_an_input(self) -> None:
+        """A file that is no input is renamed to the name of one while it is being written: that is seen."""
+        watching = self.opened()
+        before = self.folder.image()
+        with open(self.folder / "new", "wb", buffering=0) as file:
+            file.write(numbered(1, 2, 3))
+            os.rename(self.folder / "new", self.folder / "o1.o")
+            time.sleep(0.3)
+            self.assertEqual(self.folder.image(), before)
+            file.seek(0)
+            file.write(numbered(1, 5, 3))
+        self.assertEqual(watching.wait_for("linked")["after"], ["o1.o"])
+        self.assertEqual(self.folder.image(), self.folder.link())
 
 
 class NotAskedTest(FolderTest):

@@ -8,7 +8,7 @@ import os
 import stat
 import struct
 import sys
-from collections.abc import Iterator
+from collections.abc import Callable, Iterator
 from dataclasses import dataclass
 
 from client.writers import has_writer
@@ -33,6 +33,9 @@ MASK = (
     | InotifyConstants.IN_ONLYDIR
     | InotifyConstants.IN_EXCL_UNLINK  # who closes a file that was removed has closed none of this name
 )
+
+ASKED = InotifyConstants.IN_MODIFY | InotifyConstants.IN_CREATE | InotifyConstants.IN_MOVED_TO
+"""The events after which a file may have a writer, who is asked for."""
 
 HEADER = struct.Struct("iIII")
 """What an event begins with: the number of the watch, the mask, a number that both events of a rename have, and the
@@ -62,7 +65,9 @@ class Event:
 class Watcher:
     """Watches folders. `read` waits, so that it is called only where `fileno` has something to read."""
 
-    def __init__(self) -> None:
+    def __init__(self, asks: Callable[[str], bool] = lambda path: True) -> None:
+        """`asks` says of which files it is asked whether somebody writes them: in the folders are others too."""
+        self._asks = asks
         self.is_disturbed = False
         """Whether events may be missing: the system lost some, or a watched folder came, went or moved."""
         self._folders: dict[str, tuple[int, int] | None] = {}
@@ -120,10 +125,11 @@ class Watcher:
         """What an event says of a file; one that is renamed while it is being written is being written still."""
         if mask & InotifyConstants.IN_MODIFY and path in self._written:
             return Kind.WRITING  # its end comes with the writer's close
-        kind = kind_of(path, mask)
+        asked = has_writer(path) if mask & ASKED and self._asks(path) else None
+        kind = kind_of(path, mask, asked)
         if mask & InotifyConstants.IN_MOVED_TO and pair in self._moving:
             self._moving.remove(pair)
-            kind = Kind.WHOLE if kind is Kind.WHOLE and has_writer(path) is False else Kind.WRITING
+            kind = Kind.WHOLE if asked is False else Kind.WRITING
         if kind is Kind.WRITING:
             self._written.add(path)
         elif kind is not Kind.TOUCHED and path in self._written:
@@ -194,28 +200,24 @@ def identity(folder: str) -> tuple[int, int] | None:
     return status.st_dev, status.st_ino
 
 
-def kind_of(path: str, mask: int) -> Kind:
-    """What an event's mask says of a file."""
+def kind_of(path: str, mask: int, asked: bool | None) -> Kind:
+    """What an event's mask says of a file; `asked` is whether it has a writer, where that is known."""
     if mask & InotifyConstants.IN_CLOSE_WRITE:
         return Kind.WHOLE
     if mask & InotifyConstants.IN_MOVED_TO:
-        return Kind.WRITING if has_writer(path) else Kind.WHOLE
+        return Kind.WRITING if asked else Kind.WHOLE
     if mask & InotifyConstants.IN_CREATE:
-        return Kind.WRITING if is_written(path) else Kind.WHOLE
+        return Kind.WRITING if (is_written(path) if asked is None else asked) else Kind.WHOLE
     if mask & InotifyConstants.IN_MODIFY:  # one who truncates it by its name has no file to close
-        return Kind.WHOLE if has_writer(path) is False else Kind.WRITING
+        return Kind.WHOLE if asked is False else Kind.WRITING
     return Kind.GONE if mask & GONE else Kind.TOUCHED
 
 
 def is_written(path: str) -> bool:
-    """Whether a name that came by no rename is that of a file with a writer, who will close it.
-
-    Where that cannot be asked: a link's file has another name still, or was last written before it got this one. What
-    has been written to a new file has events that follow.
+    """Whether a name that came by no rename is that of a file with a writer, who will close it, as far as the file
+    tells: a link's file has another name still, or was last written before it got this one. What has been written to a
+    new file has events that follow.
     """
-    asked = has_writer(path)
-    if asked is not None:
-        return asked
     try:
         status = os.lstat(path)
     except OSError:

@@ -70,7 +70,7 @@ class Watch:
         self.teller = teller
         self.here = Here()
         self.threads = ThreadPoolExecutor(2)
-        self.watcher = Watcher()
+        self.watcher = Watcher(self._is_read)
         self.inputs = Inputs(recipe_of(words, teller), self.watcher)
         self.linking = Linking(words.options, stops.shield)
         self.image = Image(words, stops.shield, self.threads)
@@ -155,6 +155,10 @@ class Watch:
                 self.gathering.note(now)
             elif event.path in self.written:
                 self.gathering.look_by(now + BEFORE_SAID)
+
+    def _is_read(self, path: str) -> bool:
+        """Whether a path is that of an input or a source: of other files nothing is asked."""
+        return bool(self.inputs.places.at(path)) or self.commands.has_source(path)
 
     def look_at_all(self, now: float) -> None:
         """Looks at all inputs, folders and outputs, for events that the system lost."""

@@ -48,6 +48,10 @@ class Commands:
             return False
         return self.making.changed(event.path)
 
+    def has_source(self, path: str) -> bool:
+        """Whether a file is a source of --make's command."""
+        return self.making is not None and self.making.sources.has(path)
+
     def look(self) -> bool:
         """Looks at all sources; says whether one has changed."""
         return self.making is not None and self.making.look()
