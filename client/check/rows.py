@@ -67,8 +67,8 @@ class Rows:
             self._own()
 
     def _own(self) -> None:
-        """GNU ld's own sections, after those of the first object with properties, else of the last one."""
-        owner = next((item.object for item in self.items if item.name == ".note.gnu.property"), self.names[-1])
+        """GNU ld's own sections, after those of the first object with properties, else of the first one."""
+        owner = next((item.object for item in self.items if item.name == ".note.gnu.property"), self.names[0])
         made = [Item(owner, name, ALLOC | LOAD | CONTENTS | CREATED | flags, 0, 1 if name == ".iplt" else 8, kind)
                 for name, kind, flags in OWN]
         at = max((i for i, item in enumerate(self.items) if item.object == owner), default=len(self.items) - 1) + 1

@@ -165,6 +165,20 @@ class CollectingTest(BesideGnu):
             self.collects("plain.o", "other.o")
             self.collects("plain.o", "other.o", "-u", "of_member", "libx.a")
 
+    def test_members(self) -> None:
+        """KEEP of an archive's members, by the archive's name, by a member's, and by a pattern of both."""
+        self.compile("start.s", """ .globl _start\n .section .text._start,"ax"\n _start: call f\n call g\n""")
+        self.compile("a.s", """ .globl f\n .section .text.f,"ax"\n f: ret\n .section .s,"aw"\n .quad 0x11\n""")
+        self.compile("b.s", """ .globl g\n .section .text.g,"ax"\n g: ret\n .section .s,"aw"\n .quad 0x22\n
+            .section .t,"aw"\n .quad 0x33\n""")
+        self.run_tool("ar", "rc", "libx.a", "a.o", "b.o")
+        for file in ("*libx.a:", "*libx.a:a.o", "*libx.a:*", "*x.a:b*", "*libx.a", "*b.o"):
+            for body in ("KEEP({0}(.s))", "*(.s) KEEP({0}(.s .t))", "KEEP({0}(SORT(.s))) *(.s)",
+                         "KEEP(*(EXCLUDE_FILE({0}) .s))", "*(.s) KEEP({0})"):
+                self.write("t.ld", "ENTRY(_start) SECTIONS { . = 0x10000; .text : { *(.text*) } .s : { "
+                           + body.format(file) + " } .rest : { *(.s) *(.t) *(.data) *(.bss) } }")
+                self.collects("start.o", "libx.a")
+
     def test_binary(self) -> None:
         """The bytes of a file of -b binary stay."""
         self.write("some.bin", b"abcdefgh")
