@@ -68,6 +68,19 @@ class AsLdTest(FolderTest):
         expected = self.by_ld("-T", "t.ld", *words)
         self.assertTrue(wait_until(lambda: self.folder.image() == expected, 5))
 
+    def test_scripts(self) -> None:
+        """Several -T are one script: an edit of each of them is seen."""
+        self.folder.put("secs.ld", GNU_SCRIPT.replace(b"INCLUDE memory.ld\n", b""))
+        words = ("-T", "secs.ld", "o0.o", "-L", "lib", "-lq")
+        watching = self.begun(*words, script="memory.ld")
+        self.folder.put("t.ld", MEMORY.replace(b"0x401000", b"0x402000"))
+        self.assertEqual(watching.wait_for("linked")["event"], "linked")
+        self.assert_as_ld(*words)
+        self.folder.put("secs.ld", GNU_SCRIPT.replace(b"INCLUDE memory.ld\n", b"")
+                        .replace(b"*(.numbers)", b"*(.numbers) QUAD(7)"))
+        self.assertEqual(watching.wait_for("linked")["event"], "linked")
+        self.assert_as_ld(*words)
+
     def test_library(self) -> None:
         """Members of a library: one that changes, one that is needed now, one that is needed no longer."""
         words = ("o0.o", "-L", "lib", "-lq")
