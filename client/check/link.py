@@ -193,8 +193,15 @@ class CheckedLink:
         if result is None or result.script_refused or result.status:
             return Outcome(script, result, self._changed())
         changed = self._changed()
-        said = [checker.line(one.offset, ("changed: " if changed else "") + one.text) for one in found]
-        return Outcome(script, result, changed + said, not changed)
+        if not changed:
+            return Outcome(script, result, [checker.line(one.offset, one.text) for one in found], True)
+        return Outcome(script, result, changed + self._consequences(found))
+
+    def _consequences(self, found: list[Difference]) -> list[str]:
+        """What is another where lines of the report say why: the first, and how much more, or all with --verbose."""
+        shown = found if self.checker.command.verbose else found[:1]
+        more = f", and {len(found) - 1} more" if len(found) > len(shown) else ""
+        return [self.checker.line(one.offset, f"changed: {one.text}{more}") for one in shown]
 
     def _fixed(self) -> Outcome | None:
         """The link by a script of numbers, where that comes to GNU ld's image."""

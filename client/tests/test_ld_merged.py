@@ -40,6 +40,18 @@ class MergedTest(LinkTest):
             ".gnu.linkonce.t.x of one.o and 1 more: GNU ld links the first alone, here all are linked"])
         self.assertEqual(len(self.says(FRAMES + NOTES, ONCE, objects="one.o start.o other.o two.o")), 3)
 
+    def test_consequences(self) -> None:
+        """One line for all that follows of what a line names; all of it with --verbose."""
+        self.compile("more.s", ' .globl _start\n .text\n_start: nop\n .section .text1,""\n .byte 1\n'
+                     ' .section .text2,""\n .byte 2\n .section .text3\n .byte 3\n')
+        self.write("t.ld", "SECTIONS { . = 0x1000; .text : { *(.text*) } end = .; /DISCARD/ : { *(.note*) } }")
+        quiet, every = (self.links("-T", "t.ld", "-o", "image", "more.o", *words).stderr.splitlines()
+                        for words in ((), ("--verbose",)))
+        quiet, every = ([line for line in lines if ": changed: " in line] for lines in (quiet, every))
+        self.assertEqual(len(quiet), 2, quiet)
+        self.assertRegex(quiet[1], r"t\.ld:1: changed: \.text is .*; to GNU ld it is .*, and \d more$")
+        self.assertGreater(len(every), 3, every)
+
     def test_not_said(self) -> None:
         """Nothing of what is discarded, and of one alone of them."""
         self.assertEqual(self.says("", objects="start.o other.o one.o two.o"), [])
