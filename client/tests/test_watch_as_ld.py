@@ -70,6 +70,8 @@ class AsLdTest(FolderTest):
 
     def test_scripts(self) -> None:
         """Several -T are one script: an edit of each of them is seen."""
+        several = read_words(["-Ta", "-oi", "--script=b", "-T", "c"])
+        self.assertEqual((several.as_ld, several.is_ld), (("-T", "a", "-o", "i", "-T", "b", "-T", "c"), True))
         self.folder.put("secs.ld", GNU_SCRIPT.replace(b"INCLUDE memory.ld\n", b""))
         words = ("-T", "secs.ld", "o0.o", "-L", "lib", "-lq")
         watching = self.begun(*words, script="memory.ld")

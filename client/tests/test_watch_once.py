@@ -150,7 +150,7 @@ class OnceTest(unittest.TestCase):
 
     def test_words(self) -> None:
         """Words that are refused: status 2, and the usage on standard error."""
-        for words in (["--map", "m"], ["-e"], ["--once"], ["--orphan-handling=keep"], ["--sources", "*.c"], ["-Tx"]):
+        for words in (["--map", "m"], ["-e"], ["--once"], ["--orphan-handling=keep"], ["--sources", "*.c"], ["-ox"]):
             done = run_once(self.folder, *words)
             self.assertEqual((done.returncode, done.stdout), (2, ""), words)
             self.assertIn("usage: ldi-watch -T SCRIPT", done.stderr)

@@ -144,7 +144,7 @@ class WordsTest(unittest.TestCase):
         for words in (
             ["-o", "i"], ["-T", "s"], ["-Ts", "-oi", "-oj"], ["-Ts", "-oi", "--json", "--json"], ["-Ts", "-oi", "-%"],
             ["-Ts", "-oi", "--make", "m", "--sources", "*.c", "a.o"], ["-Ts", "-oi", "--Map", "-m"],
-            ["-Ts", "-oi", "--gc"], ["-Ts", "-oi", "--whole"], ["-Ts", "-oi", "-L"], ["-Ts", "-oi", "--script=x"],
+            ["-Ts", "-oi", "--gc"], ["-Ts", "-oi", "--whole"], ["-Ts", "-oi", "-L"], ["-Ts", "-oi", "--output=x"],
             ["-Ts", "-oi", "--make", "m", "--sources"], ["-Ts", "-oi", "\udcff.o"],
         ):
             with self.assertRaises(WordsRefused, msg=words):
