@@ -10,6 +10,7 @@ from types import FrameType
 
 import client.files
 from client.adapt.segments import about_segments
+from client.check.evaluate import Evaluated
 from client.check.link import CheckedLink, Checker, Outcome, wants_map
 from client.ld.command import Command, read_command
 from client.ld.fallback import Reasons, hand_over
@@ -135,6 +136,8 @@ class Link:
         self.opened: Opened | None = None
         self.script: Script | None = None
         self.valued: Valued | None = None
+        self.evaluation: Evaluated | None = None
+        """What GNU ld makes of the script over the objects of this link, if that was evaluated for values."""
 
     def run(self) -> int:
         """Links, and gives the exit status."""
@@ -172,6 +175,7 @@ class Link:
 
     def link(self) -> int:
         """Writes the script while the objects are sent, and links."""
+        self.evaluation = None
         opened, script = self._open(), self._written({})
         if script.valued:
             return self._link_valued(opened, script)
@@ -188,7 +192,7 @@ class Link:
         if refused := opened.refused():
             return self._refused(refused)
         self.valued = Valued(self._written, script)
-        linked = self.valued.link(opened, self._wants_map(script))
+        linked = self.valued.link(opened, self._wants_map(script), self._evaluated(script))
         if linked is not None:
             return self._finish(opened, *linked)
         beforehand = opened_beforehand(self.command, script, self.objects)
@@ -196,6 +200,24 @@ class Link:
             return self._link_beforehand(opened, None if beforehand.refused() else beforehand)
         finally:
             beforehand.end()
+
+    def _evaluated(self, script: Script) -> dict[str, int] | None:
+        """The values of objects' symbols by the evaluation with which the image is compared; None where one of them
+        has none, and where no evaluation is made."""
+        if self.command.gc_sections or script.left or self.host.is_checked(script, self.objects):
+            return None
+        evaluated = self._checker(script).evaluated()
+        values = {name: evaluated.value(name) for name in script.valued} if evaluated is not None else {}
+        found = {name: value for name, value in values.items() if value is not None}
+        self.evaluation = evaluated
+        return found if len(found) == len(script.valued) else None
+
+    def _checker(self, script: Script) -> Checker:
+        """What compares the images of a script; it evaluates nothing once more."""
+        assert script.adapted is not None
+        checker = Checker(script.adapted, self.host.known(self.objects), self.command, self.source.own)
+        checker.done, self.evaluation = self.evaluation, None
+        return checker
 
     def _link_beforehand(self, opened: Opened, beforehand: Opened | None) -> int:
         """The same with values of a session of its own."""
@@ -227,11 +249,9 @@ class Link:
     def _checked(self, opened: Opened, script: Script, result: Result | None) -> Outcome:
         """Compares the image with what GNU ld makes of the script, and says what is another; what was done to the
         script, and what has no effect."""
-        assert script.adapted is not None
         outcome = self.host.checked_before(script, self.objects, result)
         if outcome is None:
-            checker = Checker(script.adapted, self.host.known(self.objects), self.command, self.source.own)
-            outcome = CheckedLink(checker, script, result, lambda text: opened.link(text, True)).run()
+            outcome = CheckedLink(self._checker(script), script, result, lambda text: opened.link(text, True)).run()
             self.host.checked(script, self.objects, outcome, self.command)
         report_script(script, self.command.verbose, outcome)
         if outcome.result is None:
@@ -271,7 +291,7 @@ class Link:
 
         That is so where the adapter and the choice of members find the same in them; the server knows.
         """
-        self.objects = objects
+        self.objects, self.evaluation = objects, None
         print_asked(self.command, self.source)
         self._check_outputs()
         opened, script = self._open(), self.script

@@ -4,6 +4,8 @@ In the profile an expression is evaluated before objects' symbols have values. S
 such symbol; the map has its value, which is written into the script. An ASSERT for each has the link itself prove its
 value. Where one fails, as in a layout that depends on the values, the objects are linked again until the values stay.
 
+Where the check of the link evaluates the script anyhow, the first values are those of that evaluation.
+
 The links for values are edits of the session of the link. Where one of these has faults, as of a relocation that 0 does
 not fit, the objects are linked without their relocations, which do not change the layout, by a session of its own.
 """
@@ -70,9 +72,11 @@ class Valued:
         self.without_value: frozenset[str] = frozenset()
         """The symbols that a link gave no value, as their sections are not in the image."""
 
-    def link(self, opened: Opened, with_map: bool) -> tuple[Script, Result] | None:
-        """Links with values that the link leaves as they are; None where the links for them have faults."""
-        script, found = self._script, self._found(opened, self._script)
+    def link(self, opened: Opened, with_map: bool, evaluated: Values | None = None) -> tuple[Script, Result] | None:
+        """Links with values that the link leaves as they are; None where the links for them have faults. Values that
+        are `evaluated` need no link with 0 for each; where they are wrong, an ASSERT fails, and the next link has them.
+        """
+        script, found = self._script, evaluated or self._found(opened, self._script)
         for _ in range(ROUNDS):
             if found is None:
                 return None

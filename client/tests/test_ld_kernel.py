@@ -1,10 +1,17 @@
 """`ld.ldi`: what a kernel's script and command line want besides: values of objects' symbols, and larger pages."""
 from __future__ import annotations
 
+import contextlib
+import io
+import os
 import re
 import struct
+from unittest import mock
 
 from client.adapt.adapt import adapt
+from client.ld import main
+from client.ld.link import Opened
+from client.ld.main import Link
 from client.ld.page_size import segments_of
 from client.ld.phdrs import NotWritten, with_program_headers
 from client.tests.linking import LinkTest, needs
@@ -90,6 +97,23 @@ class KernelTest(LinkTest):
         ours, theirs = self._symbols("kernel"), self._symbols("gnu")
         for name in ("jiffies", "jiffies_64", "phys_start", "start", "end", "half"):
             self.assertEqual(hex(ours[name]), hex(theirs[name]), name)
+
+    def test_values_need_no_link(self) -> None:
+        """The values are those of the evaluation with which the image is compared, so that there is one link; where
+        that has another value, the link with it does not hold, and values are looked for by links."""
+        expected = None
+        wrong = {"jiffies_64": 0x1234}
+        for values, count in ((None, 1), (wrong, 3)):
+            with (contextlib.chdir(self.folder), contextlib.redirect_stderr(io.StringIO()),
+                  mock.patch.object(Opened, "link", autospec=True, side_effect=Opened.link) as linked,
+                  mock.patch.object(Link, "_evaluated", autospec=True,
+                                    side_effect=lambda *words, own=Link._evaluated, values=values: (
+                                        own(*words) if values is None else {**own(*words), **values}))):
+                self.assertEqual(main.run(["-T", "kernel.ld", "-o", "kernel", *self.objects], os.environ), 0)
+            self.assertEqual(linked.call_count, count)
+            image = (self.folder / "kernel").read_bytes()
+            self.assertEqual(image, expected or image)
+            expected = image
 
     def test_layout_that_depends_on_a_symbol(self) -> None:
         """Where the values of a first link are not right, they are looked for until a link leaves them as they are."""
