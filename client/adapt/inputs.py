@@ -271,15 +271,20 @@ class Rewriter:
         if any(flag.lstrip("!") not in bits for flag in self.node.flags):
             return False
         good: dict[str, bool] = {}
+        taking: dict[str, Pattern] = {}
         for item in objects.sections():
-            if takes(self.node, item) is None:
+            pattern = takes(self.node, item)
+            if pattern is None:
                 continue
             has = all(bool(item.flags & bits[flag.lstrip("!")]) != flag.startswith("!") for flag in self.node.flags)
-            if good.setdefault(item.name, has) != has:
+            same = taking.setdefault(item.name, pattern)
+            if good.setdefault(item.name, has) != has or (same.word, same.sorts, same.exclude) != (
+                    pattern.word, pattern.sorts, pattern.exclude):
                 return False
-        names = [name for name, has in good.items() if has]
         self.notes.append((REWRITTEN, "INPUT_SECTION_FLAGS by the names of these objects' sections"))
-        self.patterns = [Pattern(_escaped(name), [], [], 0, 0, False) for name in names or [".none"]]
+        found = [(name, taking[name]) for name, has in good.items() if has]
+        self.patterns = [Pattern(_escaped(name), pattern.sorts, pattern.exclude, 0, 0, False)
+                         for name, pattern in found] or [Pattern(".none", [], [], 0, 0, False)]
         return True
 
 

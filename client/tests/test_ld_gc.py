@@ -179,6 +179,16 @@ class CollectingTest(BesideGnu):
                            + body.format(file) + " } .rest : { *(.s) *(.t) *(.data) *(.bss) } }")
                 self.collects("start.o", "libx.a")
 
+    def test_flags(self) -> None:
+        """KEEP of INPUT_SECTION_FLAGS keeps what its patterns take, and not what EXCLUDE_FILE leaves out."""
+        for inside in ("KEEP(INPUT_SECTION_FLAGS(SHF_WRITE) *(EXCLUDE_FILE(other.o) .data.*))",
+                       "KEEP(INPUT_SECTION_FLAGS(SHF_WRITE) *(.data.z EXCLUDE_FILE(plain.o) .data.x))",
+                       "KEEP(INPUT_SECTION_FLAGS(SHF_WRITE) EXCLUDE_FILE(plain.o) *(.data.*))",
+                       "KEEP(INPUT_SECTION_FLAGS(SHF_WRITE) *(SORT_BY_NAME(.data.*)))"):
+            self.script(inside=inside)
+            self.collects("plain.o", "other.o")
+            self.collects("other.o", "plain.o")
+
     def test_binary(self) -> None:
         """The bytes of a file of -b binary stay."""
         self.write("some.bin", b"abcdefgh")
