@@ -181,13 +181,16 @@ class CollectingTest(BesideGnu):
 
     def test_flags(self) -> None:
         """KEEP of INPUT_SECTION_FLAGS keeps what its patterns take, and not what EXCLUDE_FILE leaves out."""
-        for inside in ("KEEP(INPUT_SECTION_FLAGS(SHF_WRITE) *(EXCLUDE_FILE(other.o) .data.*))",
-                       "KEEP(INPUT_SECTION_FLAGS(SHF_WRITE) *(.data.z EXCLUDE_FILE(plain.o) .data.x))",
-                       "KEEP(INPUT_SECTION_FLAGS(SHF_WRITE) EXCLUDE_FILE(plain.o) *(.data.*))",
-                       "KEEP(INPUT_SECTION_FLAGS(SHF_WRITE) *(SORT_BY_NAME(.data.*)))"):
-            self.script(inside=inside)
-            self.collects("plain.o", "other.o")
-            self.collects("other.o", "plain.o")
+        for name, number in (("p", 1), ("q", 2)):
+            self.compile(f"{name}.s", f""" .section .d.a,"aw"\n .byte {number}\n .section .d.b,"aw"\n .byte 3\n
+                .section .d.c,"a"\n .byte {number + 3}\n""")
+        self.compile("start.s", """ .globl _start\n .section .text._start,"ax"\n _start: ret\n""")
+        for kept in ("*(EXCLUDE_FILE(q.o) .d.a)", "*(.d.b EXCLUDE_FILE(p.o) .d.a)", "EXCLUDE_FILE(p.o) *(.d.*)",
+                     "*(SORT_BY_NAME(.d.*))"):
+            self.write("t.ld", "ENTRY(_start) SECTIONS { . = 0x10000; .text : { *(.text*) } .d : { "
+                       f"KEEP(INPUT_SECTION_FLAGS(SHF_WRITE) {kept}) }} .rest : {{ *(.d.*) *(.data) *(.bss) }} }}")
+            self.collects("start.o", "p.o", "q.o")
+            self.collects("start.o", "q.o", "p.o")
 
     def test_binary(self) -> None:
         """The bytes of a file of -b binary stay."""
