@@ -14,7 +14,7 @@ from client.adapt.tree import Input
 from client.check.compare import Comparison, Difference, pieces_of
 from client.check.evaluate import Evaluated, evaluate
 from client.check.fixed import NotFixed, fixed_script
-from client.check.merged import LINKONCE, merged
+from client.check.merged import ONCE, merged
 from client.check.state import ALLOC, CREATED, EXCLUDE, Settings, Stopped, Unknown
 
 if TYPE_CHECKING:
@@ -118,7 +118,7 @@ class Checker:
         fault = self.unknown or self.stopped
         if fault is not None:
             return [self.line(fault.offset, f"changed: it is not known whether GNU ld makes the same of it: {fault}")]
-        return [self.line(one.offset, f"changed: {one.text}") for one in found] + self.merged(map_text)
+        return [self.line(one.offset, f"changed: {one.text}") for one in found] + self.merged()
 
     def fixed(self) -> tuple[bytes, tuple[tuple[str, int], ...]] | None:
         """A script with the places of the evaluation, and the origins of its lines."""
@@ -130,15 +130,11 @@ class Checker:
         except NotFixed:
             return None
 
-    def merged(self, map_text: bytes) -> list[str]:
-        """Lines on the input sections that GNU ld does not link as they are."""
-        if self.done is not None:
-            outputs = [output.place for output in self.done.statements.outputs if output.place is not None]
-            placed = [(item.object, item.name) for place in outputs if not place.gone and place.flags & ALLOC
-                      for item in place.inputs if item.size and not item.flags & (EXCLUDE | CREATED)]
-        else:
-            placed = [(owner, name) for _, size, owner, name in pieces_of(map_text) if size]
-        return [self.line(-1, f"changed: {text}") for text in merged(placed, len(self.known.names))]
+    def merged(self) -> list[str]:
+        """Lines for what GNU ld makes other bytes of than the objects have."""
+        if self.done is None:
+            return []
+        return [self.line(one.offset, f"changed: {one.text}") for one in merged(self.done)]
 
     def line(self, offset: int, text: str) -> str:
         """A line for people, with its place in the script."""
@@ -173,8 +169,8 @@ class CheckedLink:
         outcome = self._run()
         result = outcome.result
         if result is not None and not result.script_refused and not result.status:
-            once = any(LINKONCE in line for line in outcome.said)  # the adapter has said it
-            outcome.said += [line for line in self.checker.merged(result.map) if not (once and LINKONCE in line)]
+            once = any(ONCE in line for line in outcome.said)  # the adapter has said it
+            outcome.said += [line for line in self.checker.merged() if not (once and ONCE in line)]
         return outcome
 
     def _run(self) -> Outcome:

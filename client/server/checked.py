@@ -1,13 +1,15 @@
 """What the check of a link said, for links whose layout is the same.
 
 The check compares places, values, and what the script itself puts into the image. They are functions of the script and
-of the sections and names of the objects; not of what is in the sections, but with `--gc-sections`.
+of the sections and names of the objects; not of what is in the sections, but with `--gc-sections`, and of .eh_frame.
 """
 from __future__ import annotations
 
+import struct
 from collections.abc import Sequence
 
 from client.check.link import Outcome
+from client.check.merged import facts_of
 from client.ld.inputs import Object
 from client.ld.link import Result
 from client.ld.script import Script
@@ -23,9 +25,9 @@ def layout_facts(data: bytes) -> object:
                     for number, header in enumerate(file.headers) if header.kind not in (SYMTAB, STRTAB, RELA)]
         table, names = file.global_table()
         symbols = [(names[entry[0] : names.find(b"\0", entry[0])], *entry[1:]) for entry in SYMBOL.iter_unpack(table)]
-    except NotElf:
+        return sections, symbols, facts_of(data)
+    except (NotElf, IndexError, struct.error):
         return data
-    return sections, symbols
 
 
 class CheckedLayout:

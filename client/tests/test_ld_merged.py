@@ -1,58 +1,101 @@
-"""What GNU ld merges or links once is said where it is in the image, and only there."""
+"""What GNU ld merges, and `ldi` leaves as it is: where that makes other bytes, it is said, and nowhere else."""
 from __future__ import annotations
 
-from client.tests.linking import LinkTest
+from client.check.merged import facts_of
+from client.tests.linking import LinkTest, needs
 
-SCRIPT = """ENTRY(_start) SECTIONS {{ . = 0x400000; .text : {{ *(.text*) {once} }} {kept} end = .;
-  /DISCARD/ : {{ {out} *(.comment) *(.note.GNU-stack) }} }}
+SCRIPT = """SECTIONS { . = 0x10000; .text : { *(.text .text.* .gnu.linkonce.t.*) }
+  .data : { *(.data*) *(.bss*) } .eh_frame : { BODY } .note : { *(.note.gnu.property) } .last : { QUAD(1) }
+  /DISCARD/ : { *(.gone) *(.note.GNU-stack) *(.comment) } }
 """
-FRAMES, NOTES, ONCE = ".eh_frame : { *(.eh_frame) }", ".note : { *(.note.gnu.property) }", "*(.gnu.linkonce.*)"
-DISCARDED = "*(.eh_frame) *(.note.gnu.property) *(.gnu.linkonce.*)"
+PLAIN = ".cfi_startproc\n ret\n .cfi_endproc\n"
+EIGHTH = ".cfi_escape 0x2e, 16, 0x2e, 16; ret"
+"""With this an entry needs nothing that fills it up."""
+FUNCTION = " .section .text.{0},\"ax\"\n .globl {0}\n{0}: " + PLAIN
+PROPERTY = """ .section .note.gnu.property,"a",@note\n .balign 8\n .long 4, 16, 5\n .asciz "GNU"\n
+ .long 0xc0000002, 4, {0}, 0\n"""
+ONCE = ' .section .gnu.linkonce.t.{0},"ax",@progbits\n .weak {0}\n{0}: .byte {1}\n'
+SOURCES = {
+    "start": FUNCTION.format("_start"),
+    "exact": f" .globl e\ne: {PLAIN.replace('ret', EIGHTH)}",
+    "exact_signal": f" .globl q\nq: {PLAIN.replace('ret', '.cfi_signal_frame; ' + EIGHTH)}",
+    "other": FUNCTION.format("other"),
+    "signal": f" .globl f\nf: {PLAIN.replace('ret', '.cfi_signal_frame; ret')}",
+    "longer": f" .globl g\ng: {PLAIN.replace('ret', '.cfi_def_cfa_offset 16; ret')}",
+    "filled": f" .globl h\nh: {PLAIN.replace('ret', '.cfi_escape 0,0,0,0,0,0; ret')} nop\n{PLAIN}",
+    "gone": f' .globl i\ni: {PLAIN} .section .gone,"ax"\n{PLAIN}',
+    "end": ' .section .eh_frame,"a",@progbits\n .long 0\n',
+    "bare": " .globl j\nj: ret\n",
+    "shadow": " .globl k\nk: ret\n" + PROPERTY.format(3),
+    "branch": " .globl l\nl: ret\n" + PROPERTY.format(1),
+    "once": " .globl m\nm: ret\n" + ONCE.format("one", 1) + ONCE.format("two", 2),
+    "twice": " .globl n\nn: ret\n" + ONCE.format("one", 3) + ONCE.format("three", 4),
+    "again": " .globl o\no: ret\n" + ONCE.format("two", 5) + ONCE.format("three", 6),
+}
+LINKS = ("start", "start other", "start signal", "signal start", "start end", "start end end", "end start", "longer",
+         "start longer", "signal longer", "longer signal", "filled", "bare filled", "gone", "start gone", "bare end",
+         "start signal end", "start signal longer", "bare shadow", "shadow", "shadow branch", "shadow shadow2",
+         "exact", "exact end", "exact exact_signal", "exact_signal exact end", "start exact_signal", "signal exact",
+         "bare once", "once twice", "once twice again", "start bare once")
 
 
+@needs("ld.bfd", "as", "objcopy")
 class MergedTest(LinkTest):
-    """Links of which GNU ld's image is another, and others."""
+    """Each link is made by both, and its sections are compared."""
 
     def setUp(self) -> None:
-        """Two objects with all three, one of them twice."""
+        """The objects."""
         super().setUp()
-        flags = ("-fasynchronous-unwind-tables", "-fcf-protection")
-        self.compile("start.c", "int other(int); void _start(void) { other(1); }", *flags)
-        self.compile("other.c", "int other(int x) { return x; }", *flags)
-        for name in ("one", "two"):
-            self.compile(f"{name}.s", ' .section .gnu.linkonce.t.x,"ax"\n .byte 1, 2, 3, 4\n')
+        for name, text in SOURCES.items():
+            self.compile(f"{name}.s", text)
+        self.compile("shadow2.s", " .globl p\np: ret\n" + PROPERTY.format(3))
 
-    def says(self, kept: str, once: str = "", out: str = DISCARDED, objects: str = "start.o other.o") -> list[str]:
-        """What a link says."""
-        self.write("t.ld", SCRIPT.format(kept=kept, once=once, out=out))
-        done = self.links("-T", "t.ld", "-o", "image", *objects.split())
-        return [line.split("changed: ", 1)[1] for line in done.stderr.splitlines() if "changed: " in line]
+    def parts(self, image: str) -> dict[str, bytes]:
+        """The bytes of the sections that are told apart."""
+        found = {}
+        for name in (".eh_frame", ".note", ".text"):
+            (self.folder / "part").unlink(missing_ok=True)
+            self.run_program("objcopy", "-O", "binary", "-j", name, image, "part")
+            found[name] = (self.folder / "part").read_bytes() if (self.folder / "part").exists() else b""
+        found[".text"] = found[".text"].rstrip(b"\0")
+        return found
 
-    def test_said(self) -> None:
-        """A line for each kind."""
-        self.assertEqual(self.says(FRAMES), [
-            ".eh_frame of start.o and 1 more: GNU ld links equal entries (CIEs) once, without what pads them; here all "
-            "are as they are"])
-        self.assertEqual(self.says(NOTES), [
-            ".note.gnu.property of start.o and 1 more: GNU ld makes one note, of what all objects have; here all are as "
-            "they are"])
-        self.assertEqual(self.says("", ONCE, objects="start.o other.o one.o two.o"), [
-            ".gnu.linkonce.t.x of one.o and 1 more: GNU ld links the first alone, here all are linked"])
-        self.assertEqual(len(self.says(FRAMES + NOTES, ONCE, objects="one.o start.o other.o two.o")), 3)
+    def tries(self, body: str, names: str) -> tuple[str, bool]:
+        """A link by both: what is said of it, and whether the sections are the same."""
+        self.write("t.ld", SCRIPT.replace("BODY", body))
+        words = ["-T", "t.ld", "-e", "0x10000", *(f"{name}.o" for name in names.split())]
+        self.run_tool("ld.bfd", "--no-warn-rwx-segments", *words, "-o", "gnu")
+        done = self.links(*words, "-o", "own")
+        return done.stderr, self.parts("own") == self.parts("gnu")
 
-    def test_consequences(self) -> None:
-        """One line for all that follows of what a line names; all of it with --verbose."""
-        self.compile("more.s", ' .globl _start\n .text\n_start: nop\n .section .text1,""\n .byte 1\n'
-                     ' .section .text2,""\n .byte 2\n .section .text3\n .byte 3\n')
-        self.write("t.ld", "SECTIONS { . = 0x1000; .text : { *(.text*) } end = .; /DISCARD/ : { *(.note*) } }")
-        quiet, every = (self.links("-T", "t.ld", "-o", "image", "more.o", *words).stderr.splitlines()
-                        for words in ((), ("--verbose",)))
-        quiet, every = ([line for line in lines if ": changed: " in line] for lines in (quiet, every))
-        self.assertEqual(len(quiet), 2, quiet)
-        self.assertRegex(quiet[1], r"t\.ld:1: changed: \.text is .*; to GNU ld it is .*, and \d more$")
-        self.assertGreater(len(every), 3, every)
+    def test_links(self) -> None:
+        """What is another is said, and what is the same is not."""
+        same = 0
+        for names in LINKS:
+            for body in ("KEEP(*(.eh_frame))", "*(.eh_frame)"):
+                if "gone" in names.split():
+                    continue  # for `ldi` an entry for code that is left out is a fault
+                with self.subTest(names):
+                    said, is_same = self.tries(body, names)
+                    same += is_same
+                    if names != "shadow":  # one note, which GNU ld makes anew
+                        self.assertEqual("changed" not in said, is_same, said)
+        self.assertGreater(same, 12)
 
-    def test_not_said(self) -> None:
-        """Nothing of what is discarded, and of one alone of them."""
-        self.assertEqual(self.says("", objects="start.o other.o one.o two.o"), [])
-        self.assertEqual(self.says("", ONCE, objects="start.o other.o one.o"), [])
+    def test_lines(self) -> None:
+        """A line a cause."""
+        said, _ = self.tries("*(.eh_frame)", "start other once twice again shadow branch")
+        lines = [line.split(": ", 1)[1] for line in said.splitlines()]
+        self.assertEqual(lines, [
+            "changed: .eh_frame: GNU ld merges equal CIEs; here all entries stay as they are",
+            "changed: .note.gnu.property of shadow.o and 1 more: GNU ld makes one note of those of all objects; here "
+            "they stay as they are",
+            "changed: .gnu.linkonce.t.one of once.o and 1 more, and 2 more names: GNU ld takes the first section of a "
+            "name; here all are in the image"])
+
+    def test_facts(self) -> None:
+        """What is kept of an object's .eh_frame is another where what is said may be another."""
+        facts = {name: facts_of((self.folder / f"{name}.o").read_bytes()) for name in SOURCES}
+        self.assertEqual(facts["start"], facts["other"])
+        for name in ("signal", "longer", "filled", "end"):
+            self.assertNotEqual(facts["start"], facts[name])

@@ -313,13 +313,15 @@ class AsLd:
 
 def facts_of(data: bytes) -> object:
     """All of an object but what its sections of code and data hold: what decides on members of archives, on the script
-    as it is adapted, on what stays with --gc-sections, and on places. Like nothing else where it is no object.
+    as it is adapted, on what stays with --gc-sections, on places, and on what is said of .eh_frame. Like nothing else
+    where it is no object.
     """
     try:
         file = ObjectFile(data)
         kinds = file.kinds()
         names = [file.section_name(at) for at in range(file.count)]
-        others = [file.content(at) for at, kind in enumerate(kinds) if kind not in (PROGBITS, NOBITS)]
+        others = [file.content(at) for at, kind in enumerate(kinds)
+                  if kind not in (PROGBITS, NOBITS) or names[at] == b".eh_frame"]
         headers = [header._replace(offset=0) for header in file.headers]
     except (NotElf, IndexError):
         return object()
