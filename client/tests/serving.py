@@ -86,9 +86,14 @@ class ServerTest(LinkTest):
         return [int(pid) for pid in re.findall(r": process (\d+) in", self.status())]
 
     def server(self) -> int:
-        """The process of the one server."""
-        found = self.servers()
-        self.assertEqual(len(found), 1, self.status())
+        """The process of the one server. On a busy machine it may not answer in time, so that it is asked again."""
+        found: list[int] = []
+
+        def is_one() -> bool:
+            found[:] = self.servers()
+            return len(found) == 1
+
+        self.wait(is_one, "there is not one server")
         return found[0]
 
     def start(self, *words: str, env: Mapping[str, str] | None = None) -> int:
