@@ -13,7 +13,7 @@ pub returns-clause-ran : goal.returns-clause-ran
 returns-clause-ran g c = record {
   last = g.L.Linker.project c.run-outcome.new.linker;
   ran = ran (g.R.Read.remaining c.args.reader) (g.W.Write.contents c.args.writer)
-    (g.L.Linker.project c.args.linker.now) _ c.run-outcome.result
-    (rw (c.in_ok-source.ensures, c.in_ok-sink.ensures) at c.run-outcome.ensures.ran);
+      (g.L.Linker.project c.args.linker.now) _ c.run-outcome.result
+      (rw (c.in_ok-source.ensures, c.in_ok-sink.ensures) at c.run-outcome.ensures.ran);
   sent = rw c.in_ok-sink.ensures at c.run-outcome.ensures.flushed;
 }
