@@ -1,6 +1,6 @@
 -- What an output section adds to a layout.
 use Rattle.std.proofs.Common.{◌≡◌, ℕ, List, [], ◌∷◌, ◌++◌, length, Ok, refl, sym, ap, ◌∙◌}
-use Rattle.std.proofs.Common.{arith, map, subst, ◌+◌}
+use Rattle.std.proofs.Common.{arith, map, subst, ◌+◌, ◌<◌, ◌^◌}
 use Rattle.std.specs.List.{enumerate_from}
 use Rattle.ldscript.specs.statements.declared.section.OutputSection.{OutputSection}
 use Rattle.ldmodel.specs.Placement.{Body, body_step}
@@ -10,7 +10,7 @@ use Rattle.ldmodel.specs.Placement.{opened, section_step}
 use Rattle.ldmodel.specs.Rows.{Piece}
 use Rattle.ldmodel.specs.Placement.{find_region, freed_from, load_region, placed_section, section_end, with_room}
 use Rattle.ldmodel.specs.Placement.{with_section, Head, head_of}
-use Rattle.place_sections.proofs.Ending.{chained}
+use Rattle.place_sections.proofs.Ending.{address_fits, chained}
 use Rattle.place_sections.proofs.Grows.{Grown, body_grows, given_is, the_piece}
 use Rattle.place_sections.specs.Leads.{Begins}
 
@@ -34,6 +34,7 @@ pub record SectionGrown (row : List Piece) (s : Layout) (o : OutputSection) (t :
   pub regions : t.regions
       ≡ freed_from (load_region o.load) (section.load + section.load_size)
       (freed_from o.region (section.start + section.size) s.regions)
+  pub load_end : section.load + section.load_size < 2 ^ 64
   pub dots_are : Begins s.dots t.dots
   pub symbols_are : Begins s.symbols t.symbols
 
@@ -48,10 +49,22 @@ end_is line o h b t e =
     let z = chained (address line (q.load + q.load_size)) _ t y.second in
     given_is (with_section b.layout o q) t z.second
 
+-- it is loaded up to an address
+loaded : (line : ℕ) (o : OutputSection) (h : Head) (b : Body) (t : Layout) → section_end line o h b ≡ Ok t
+    → (placed_section o h b).load + (placed_section o h b).load_size < 2 ^ 64
+unfolding section_end
+loaded line o h b t e =
+    let q : PlacedOutput = placed_section o h b in
+    let x = chained (with_room (find_region b.layout o.region) q.start q.size q) _ t e in
+    let y = chained (with_room (find_region b.layout (load_region o.load)) q.load q.load_size q) _ t x.second in
+    let z = chained (address line (q.load + q.load_size)) _ t y.second in
+    address_fits line (q.load + q.load_size) z.value z.first
+
 section_ended : (row : List Piece) (s : Layout) (o : OutputSection) (h : Head) (b : Body)
-    → Grown (opened s row h) b → SectionGrown row s o (with_section b.layout o (placed_section o h b))
+    → Grown (opened s row h) b → (placed_section o h b).load + (placed_section o h b).load_size < 2 ^ 64
+    → SectionGrown row s o (with_section b.layout o (placed_section o h b))
 unfolding placed_section
-section_ended row s o h b g = record {
+section_ended row s o h b g l = record {
   section = placed_section o h b;
   added = ap (λ l. l ++ placed_section o h b ∷ []) g.sections;
   name = refl;
@@ -61,6 +74,7 @@ section_ended row s o h b g = record {
   row_is = g.row;
   regions = ap (λ l. freed_from (load_region o.load) ((placed_section o h b).load + (placed_section o h b).load_size)
       (freed_from o.region ((placed_section o h b).start + (placed_section o h b).size) l)) g.regions;
+  load_end = l;
   dots_are = g.dots_are;
   symbols_are = g.symbols_are;
 }
@@ -73,4 +87,5 @@ section_grows provided row s line o t e =
     let b = chained (run (body_step provided) (opened s row h.value) o.body) (λ c. section_end line o h.value c) t
     h.second in
     let g = body_grows provided o.body (opened s row h.value) b.value b.first in
-    subst (SectionGrown row s o) (end_is line o h.value b.value t b.second) (section_ended row s o h.value b.value g)
+    subst (SectionGrown row s o) (end_is line o h.value b.value t b.second)
+    (section_ended row s o h.value b.value g (loaded line o h.value b.value t b.second))

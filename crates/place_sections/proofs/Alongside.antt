@@ -70,7 +70,7 @@ next_of before q all b =
 -- no entry of the statement is next
 starts_other : (n dot : ℕ) (p : Piece) (rest : List Piece) (all : List ℕ) → (p.statement == n) ≡ false
     → StartAt n dot (p ∷ rest) all
-starts_other n dot p rest [] e = tt
+starts_other n dot p rest [] e = e
 starts_other n dot p rest (x ∷ xs) e = λ is. absurd (let none : ⊥ = cc in none)
 
 -- an entry takes its place

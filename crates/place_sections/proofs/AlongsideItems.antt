@@ -1,6 +1,6 @@
 -- The statements of SECTIONS, and those of a script, go on alongside a previous layout.
 use Rattle.std.proofs.Common.{◌≡◌, ℕ, ◌≤◌, ◌<◌, List, [], ◌∷◌, ◌++◌, Ok, refl, sym, ap, subst, ◌∙◌, arith}
-use Rattle.std.proofs.Common.{false, get_or, length, map}
+use Rattle.std.proofs.Common.{Bool, true, false, get_or, length, map}
 use Rattle.std.proofs.Math.ListN.{get_or-map}
 use Rattle.std.proofs.lemmas.List.{append-nil, length-map}
 use Rattle.ldscript.specs.statements.Numbering.{DirectiveAt, all_directives, item_directives, items_directives}
@@ -22,9 +22,13 @@ use Rattle.place_sections.proofs.Alongside.{names_on}
 use Rattle.place_sections.proofs.Ending.{Chained, chained}
 use Rattle.place_sections.proofs.InParts.{in_parts, whole}
 use Rattle.place_sections.proofs.Onward.{items_on, leads_before, statements_on}
-use Rattle.place_sections.proofs.Taking.{count_is, grown, starts_are}
-use Rattle.place_sections.specs.Alongside.{IsAlongside, ItemsAlongside, ScriptAlongside, SectionAlongside}
+use Rattle.place_sections.proofs.Taking.{count_is, grown, has_starts, starts_are}
+use Rattle.place_terms.specs.PreviousLayout.{HasStarts, earlier_of}
+use Rattle.place_terms.specs.Wholes.{starts_in}
+use Rattle.place_sections.specs.Alongside.{HasKept, IfSection, IsAlongside, ItemsAlongside, ScriptAlongside}
+use Rattle.place_sections.specs.Alongside.{SectionAlongside}
 use Rattle.place_sections.specs.Inputs.{rows_of}
+use Rattle.place_sections.specs.Leads.{Leads}
 use Rattle.place_sections.specs.Parts.{after_sections, before_sections, if_sections, items_within}
 use Rattle.place_sections.specs.declared.script.Input.{Input}
 
@@ -66,19 +70,50 @@ module _ (n : Naming) (i : Input) (script : List Statement) (s : Layout) (x : It
       symbols = a.leads.symbols;
       found = a.leads.found;
       rises = a.leads.rises;
+      ends = a.leads.ends;
     };
   }
+
+  section_is : (o : OutputSection) → x.command ≡ item.Section o
+      → section_step a.provided (next_row a.rows a.state) (noted a.state) x.line o ≡ Ok first.value
+  unfolding item_command_step
+  section_is o e = sym (ap (item_command_step a.rows a.provided x.line (noted a.state)) e) ∙ first.first
+
+  same_sections : (sections : List KeyedSection) → s.sections ≡ map (section_of n) sections
+      → a.state.sections ≡ map (section_of n) sections
+  same_sections sections is = ap (λ (z : Layout). z.sections) (sym alike.same) ∙ is
+
+  -- the previous layout goes on with an output section, whose row is as it was
+  section_leads : (sections : List KeyedSection) → s.sections ≡ map (section_of n) sections → (o : OutputSection)
+      → x.command ≡ item.Section o → length sections < i.kept.first
+      → Leads script i.kept (section_step a.provided
+      (row_named n (get_or (map (λ v. v.items) i.rows.now) (length sections) [])) (noted a.state) x.line o)
+  section_leads sections is o e below =
+      let k : ℕ = length sections in
+      let row : List rows.Piece = get_or (map (λ v. v.items) i.rows.now) k [] in
+      let row_is : next_row a.rows a.state ≡ row_named n row =
+      ap (λ j. get_or a.rows j []) (ap length (same_sections sections is) ∙ length-map sections (section_of n))
+      ∙ (a.same k below ∙ get_or-map (row_named n) (map (λ v. v.items) i.rows.now) k []) in
+      let step : section_step a.provided (row_named n row) (noted a.state) x.line o ≡ Ok first.value =
+      ap (λ z. section_step a.provided z (noted a.state) x.line o) (sym row_is) ∙ section_is o e in
+      leads_before script i.kept first.value a.leads.layout
+      (section_step a.provided (row_named n row) (noted a.state) x.line o)
+      (run (item_step a.rows a.provided) a.state (x ∷ xs))
+      (items_on a.rows a.provided xs first.value a.leads.layout first.second) step a.leads refl
+
+  -- it has where the input sections of that start
+  pub starts_there : (sections : List KeyedSection) → s.sections ≡ map (section_of n) sections → (o : OutputSection)
+      → x.command ≡ item.Section o → length sections < i.kept.first
+      → HasStarts (earlier_of i.kept.earlier) (length sections) (length (starts_in sections))
+  starts_there sections is o e below =
+      has_starts n script i.kept a.provided (get_or (map (λ v. v.items) i.rows.now) (length sections) [])
+      (noted a.state) x.line o sections (same_sections sections is) (section_leads sections is o e below)
 
   -- an output section goes on alongside
   pub section_alongside : (sections : List KeyedSection) → s.sections ≡ map (section_of n) sections
       → IsAlongside n i (noted s) sections x.line x.command
-  unfolding item_command_step
   section_alongside sections is = by_command x.command refl
     where
-      section_is : (o : OutputSection) → x.command ≡ item.Section o
-          → section_step a.provided (next_row a.rows a.state) (noted a.state) x.line o ≡ Ok first.value
-      section_is o e = sym (ap (item_command_step a.rows a.provided x.line (noted a.state)) e) ∙ first.first
-
       by_command : (c : ItemCommand) → x.command ≡ c → IsAlongside n i (noted s) sections x.line c
       by_command (item.Dot c) e = tt
       by_command (item.Directive c) e = tt
@@ -86,17 +121,8 @@ module _ (n : Naming) (i : Input) (script : List Statement) (s : Layout) (x : It
       by_command (item.Section o) e = λ starts other below at.
           let k : ℕ = length sections in
           let row : List rows.Piece = get_or (map (λ v. v.items) i.rows.now) k [] in
-          let own : a.state.sections ≡ map (section_of n) sections = ap (λ (z : Layout). z.sections) (sym a.alike.same)
-          ∙ is in
-          let row_is : next_row a.rows a.state ≡ row_named n row =
-          ap (λ j. get_or a.rows j []) (ap length own ∙ length-map sections (section_of n))
-          ∙ (a.same k below ∙ get_or-map (row_named n) (map (λ v. v.items) i.rows.now) k []) in
-          let step : section_step a.provided (row_named n row) (noted a.state) x.line o ≡ Ok first.value =
-          ap (λ z. section_step a.provided z (noted a.state) x.line o) (sym row_is) ∙ section_is o e in
-          let l = leads_before script i.kept first.value a.leads.layout
-          (section_step a.provided (row_named n row) (noted a.state) x.line o)
-          (run (item_step a.rows a.provided) a.state (x ∷ xs))
-          (items_on a.rows a.provided xs first.value a.leads.layout first.second) step a.leads refl in
+          let own : a.state.sections ≡ map (section_of n) sections = same_sections sections is in
+          let l = section_leads sections is o e below in
           let g = grown n script i.kept a.provided row (noted a.state) x.line o sections own l in
           let count = count_is n script i.kept a.provided row (noted a.state) x.line o sections own l (length starts)
           at.counted in
@@ -199,3 +225,28 @@ next_alongside n i script s x xs sections is given = by_command x.command refl
         let a = given other (omega (arith, below)) (omega (arith, below)) in
         subst (IsAlongside n i (noted s) sections x.line) e (section_alongside n i script s x xs a sections is) starts
         other below at
+
+-- where the row of the next output section is as it was, it was not taken over, and the previous layout has it
+pub kept_there : (n : Naming) (i : Input) (script : List Statement) (s : Layout) (x : Item) (xs : List Item)
+    (sections : List KeyedSection) → s.sections ≡ map (section_of n) sections
+    → (i.kept.same_provided ≡ true → length sections < i.kept.first → (o : OutputSection)
+    → x.command ≡ item.Section o → ⊥)
+    → (i.kept.same_provided ≡ false → 0 < i.kept.first → length sections ≤ i.kept.first
+    → ItemsAlongside n i script s (x ∷ xs)) → IfSection x.command (HasKept i sections)
+kept_there n i script s x xs sections is taken given = by_command x.command refl
+  where
+    by_provided : (o : OutputSection) → x.command ≡ item.Section o → length sections < i.kept.first → (b : Bool)
+        → i.kept.same_provided ≡ b
+        → (i.kept.same_provided ≡ false)
+        × HasStarts (earlier_of i.kept.earlier) (length sections) (length (starts_in sections))
+    by_provided o e below true same = absurd (taken same below o e)
+    by_provided o e below false other = (
+      other,
+      starts_there n i script s x xs (given other (omega (arith, below)) (omega (arith, below))) sections is o e below,
+    )
+
+    by_command : (c : ItemCommand) → x.command ≡ c → IfSection c (HasKept i sections)
+    by_command (item.Dot c) e = tt
+    by_command (item.Directive c) e = tt
+    by_command (item.Discard inputs) e = tt
+    by_command (item.Section o) e = λ below. by_provided o e below i.kept.same_provided refl

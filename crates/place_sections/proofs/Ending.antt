@@ -1,5 +1,6 @@
 -- The end of an output section.
-use Rattle.std.proofs.Common.{Bool, true, false, cond, ◌≡◌, ℕ, ◌+◌, ◌-◌, max, List, [], ◌∷◌, ◌++◌}
+use Rattle.std.proofs.Common.{Bool, true, false, cond, ◌≡◌, ℕ, ◌+◌, ◌-◌, ◌<◌, ◌^◌, max, List, [], ◌∷◌, ◌++◌}
+use Rattle.std.proofs.lemmas.Bool.{ltb-true}
 use Rattle.std.proofs.Common.{Result, Ok, Err, refl, sym, ap, ◌∙◌, arith}
 use Rattle.std.specs.Option.{option_and_then}
 use Rattle.ldscript.specs.statements.declared.section.OutputSection.{OutputSection}
@@ -72,6 +73,13 @@ address_is line x y e = go (is_address x) e
     go : (b : Bool) → cond b (Ok x) (Err (PastAddressSpace line)) ≡ Ok y → y ≡ x
     go true h = cc
     go false h = absurd (let no : ⊥ = cc in no)
+
+pub address_fits : (line x y : ℕ) → address line x ≡ Ok y → x < 2 ^ 64
+address_fits line x y e = go (is_address x) refl e
+  where
+    go : (b : Bool) → is_address x ≡ b → cond b (Ok x) (Err (PastAddressSpace line)) ≡ Ok y → x < 2 ^ 64
+    go true is h = ltb-true x (2 ^ 64) is
+    go false is h = absurd (let no : ⊥ = cc in no)
 
 pub load_end_is : (line : ℕ) (o : OutputSection) (d : PlacedOutputs) (q : PlacedOutput) (x : ℕ)
     → load_end line o d.regions q

@@ -1,6 +1,6 @@
 -- The output section at a place is the next one of the script.
-use Rattle.std.proofs.Common.{◌≡◌, ℕ, suc, List, [], ◌∷◌, ◌++◌, length, take, drop, Ok, refl, sym, ap, ◌∙◌}
-use Rattle.std.proofs.Common.{append_assoc, arith, length-append, map, ◌+◌}
+use Rattle.std.proofs.Common.{◌≡◌, ℕ, suc, List, [], ◌∷◌, ◌++◌, length, take, drop, Ok, Some, refl, sym, ap, ◌∙◌}
+use Rattle.std.proofs.Common.{append_assoc, arith, length-append, map, ◌+◌, ◌≤◌}
 use Rattle.std.specs.Prelude.{slice_get}
 use Rattle.std.proofs.lemmas.List.{length-map, take-append-drop}
 use Rattle.ldscript.specs.statements.Numbering.{OutputSectionAt, items, items_of, output_sections, sections_in}
@@ -76,6 +76,20 @@ module _ (rows : List (List Piece)) (provided : List (List ℕ)) (script : List 
       let d = length-map (sections_in (take k items)) (λ (y : OutputSectionAt). y.section.name) in
       let n = ap length none in
       omega (arith, names, a, b, c, d, n)
+
+  -- those up to the next statement and in it are among all
+  pub more_to_come : (x : Item) → slice_get items k ≡ Some x
+      → length s.sections + length (item_sections x.line x.command) ≤ length (sections_in items)
+  more_to_come x there =
+      let parted : items ≡ take k items ++ x ∷ drop (suc k) items =
+      sym (take-append-drop k items) ∙ ap (λ l. take k items ++ l) (drop_at items k x there) in
+      let all = ap (λ l. length (sections_in l)) parted
+      ∙ (ap length (sections_of_both (take k items) (x ∷ drop (suc k) items))
+      ∙ length-append (sections_in (take k items))
+      (item_sections x.line x.command ++ sections_in (drop (suc k) items))) in
+      let own = length-append (item_sections x.line x.command) (sections_in (drop (suc k) items)) in
+      let m = many in
+      omega (arith, all, own, m)
 
   pub next_at : IsNextAt script (length s.sections) items k
   next_at x there =

@@ -1,5 +1,7 @@
 -- The layout of a script from those of its parts, and what a previous layout of the script tells of its SECTIONS.
-use Rattle.std.proofs.Common.{◌≡◌, ℕ, List, Result, Ok, Err, ◌⊎◌, inl, inr, refl, sym, ap, subst, ◌∙◌}
+use Rattle.std.proofs.Common.{◌≡◌, ℕ, List, length, Result, Ok, Err, ◌⊎◌, inl, inr, refl, sym, ap, subst, ◌∙◌, arith}
+use Rattle.std.proofs.Common.{length-append}
+use Rattle.ldscript.specs.statements.Numbering.{sections_in}
 use Rattle.ldscript.specs.statements.declared.statement.Item.{Item}
 use Rattle.ldscript.specs.statements.declared.statement.Statement.{Statement}
 use Rattle.ldmodel.specs.Chain.{and_then, run}
@@ -9,6 +11,7 @@ use Rattle.ldmodel.specs.Placement.{item_step, statement_step}
 use Rattle.ldmodel.specs.Rows.{Piece}
 use Rattle.place_terms.specs.Naming.{Naming}
 use Rattle.place_sections.proofs.Ending.{chained}
+use Rattle.place_sections.proofs.Following.{are_first}
 use Rattle.place_sections.proofs.Grows.{given_is}
 use Rattle.place_sections.proofs.InParts.{before_same, in_parts}
 use Rattle.place_sections.proofs.Onward.{leads_before, statements_on}
@@ -74,6 +77,11 @@ earlier_items n i script script' s t statements items same_script same_items com
           refl;
       boundaries = subst (λ z. AreBoundaries e.rows provided z (items_within statements) i.kept.boundaries.now) start
           e.boundaries.all;
+      many =
+          let f = are_first statements in
+          let l = ap length f.all ∙ length-append (sections_in (items_within statements)) f.later in
+          let m = e.many in
+          omega (arith, l, m);
     }))
 
 -- where a part stops, or memory runs out, so does the whole

@@ -1,11 +1,12 @@
 -- What a placement that is kept tells of a layout.
-use Rattle.std.proofs.Common.{◌≡◌, ℕ, ◌<◌, List, map, refl, sym, ap, subst, true}
+use Rattle.std.proofs.Common.{◌≡◌, ℕ, ◌<◌, List, length, map, refl, sym, ap, subst, true, arith}
+use Rattle.std.proofs.lemmas.List.{length-map}
 use Rattle.std.proofs.Common.{◌∙◌}
 use Rattle.std.specs.Prelude.{flat_map}
-use Rattle.ldscript.specs.statements.Numbering.{all_directives}
+use Rattle.ldscript.specs.statements.Numbering.{OutputSectionAt, all_directives, output_sections}
 use Rattle.ldscript.specs.statements.declared.statement.Statement.{Statement}
 use Rattle.ldmodel.specs.Chain.{run}
-use Rattle.ldmodel.specs.Layout.{Layout, nothing_placed}
+use Rattle.ldmodel.specs.Layout.{Layout, PlacedOutput, nothing_placed}
 use Rattle.ldmodel.specs.PlacementView.{data_of, placed_of, starts_of, symbol_of}
 use Rattle.ldmodel.specs.Placement.{placement, statement_step}
 use Rattle.ldmodel.specs.Rows.{Piece}
@@ -15,6 +16,7 @@ use Rattle.place_terms.specs.Naming.{Naming}
 use Rattle.place_terms.specs.ProvidedTable.{provided_names}
 use Rattle.place_terms.specs.LayoutSymbols.{AreFound, Rises}
 use Rattle.place_sections.proofs.Beginning.{begins_same}
+use Rattle.place_sections.proofs.Outputs.{outputs_are}
 use Rattle.place_sections.specs.Boundaries.{data_in, AreBoundariesOf}
 use Rattle.place_sections.specs.Alongside.{ScriptAlongside}
 use Rattle.place_sections.specs.PreviousPlacement.{EarlierScript, Same}
@@ -53,7 +55,19 @@ module _ (n : Naming) (i : Input) (script : List Statement) (p : Places) (first 
         (ap (map (symbol_of script)) a.symbols ∙ k.placed.places.symbols);
     found = subst (AreFound script) (sym a.symbols) k.placed.places.found;
     rises = subst Rises (sym a.symbols) k.placed.places.rises;
+    ends = a.ends;
   }
+
+  -- there is one boundary more than output sections
+  one_more : length (output_sections script) < length i.kept.boundaries.now
+  one_more =
+      let names = ap length
+      (outputs_are script k.earlier k.earlier_provided k.placed.layout k.placed.placed) in
+      let m = length-map k.placed.layout.sections (λ (q : PlacedOutput). q.name) in
+      let o = length-map (output_sections script) (λ (x : OutputSectionAt). x.section.name) in
+      let b = ap length a.boundaries in
+      let many = k.placed.many in
+      omega (arith, names, m, o, b, many)
 
   module _ (script' statements : List Statement) (s : Layout) (same : script' ≡ script) (all : statements ≡ script)
       (none : s ≡ nothing_placed) where
@@ -69,6 +83,7 @@ module _ (n : Naming) (i : Input) (script : List Statement) (p : Places) (first 
           leads = leads i.provided.now were;
           boundaries = subst (AreBoundariesOf k.earlier i.provided.now nothing_placed script) (sym a.boundaries)
               (subst (λ z. AreBoundariesOf k.earlier z nothing_placed script p.boundaries) were k.placed.boundaries);
+          many = one_more;
         })))
       where
         were : k.earlier_provided ≡ i.provided.now

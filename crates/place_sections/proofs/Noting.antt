@@ -5,7 +5,7 @@ use Rattle.std.specs.Option.{option_map_or}
 use Rattle.std.specs.Prelude.{slice_get}
 use Rattle.std.proofs.lemmas.List.{length-map, take_all}
 use Rattle.std.proofs.lemmas.Option.{slice_get_read}
-use Rattle.ldscript.specs.statements.Numbering.{item_sections}
+use Rattle.ldscript.specs.statements.Numbering.{item_sections, sections_in}
 use Rattle.ldscript.specs.statements.declared.statement.Item.{Item}
 use Rattle.ldscript.specs.statements.declared.statement.Statement.{Statement}
 use Rattle.ldmodel.specs.Chain.{run}
@@ -14,7 +14,7 @@ use Rattle.ldmodel.specs.Placement.{item_step}
 use Rattle.ldmodel.specs.Rows.{Piece}
 use Rattle.place_terms.specs.Keyed.{section_of}
 use Rattle.place_terms.specs.Naming.{Naming}
-use Rattle.place_sections.proofs.Following.{grown_by, next_at}
+use Rattle.place_sections.proofs.Following.{grown_by, more_to_come, next_at}
 use Rattle.place_sections.proofs.Runs.{run_more, run_stops}
 use Rattle.place_sections.specs.Boundaries.{AreNoted, IsAt, IsBoundary, sections_at}
 use Rattle.place_sections.specs.Next.{AreFirst, IsNext}
@@ -74,6 +74,14 @@ module _ (n : Naming) (rows : List (List Piece)) (provided : List (List ℕ)) (s
   is_next script none first =
       subst (λ m. IsNext script m x.command) (length-map d.sections.list (section_of n))
       (next_at rows provided script items start none first k (layout_of n h d) comes x there)
+
+  -- there are no fewer in SECTIONS than up to the end of the statement
+  pub more_sections : (script : List Statement) → start.sections ≡ [] → AreFirst script items
+      → length d.sections.list + length (item_sections x.line x.command) ≤ length (sections_in items)
+  more_sections script none first =
+      let m = more_to_come rows provided script items start none first k (layout_of n h d) comes x there in
+      let b = length-map d.sections.list (section_of n) in
+      omega (arith, m, b)
 
   -- where it stands
   pub stands_at : sections_at items k ≡ item_sections x.line x.command

@@ -163,6 +163,7 @@ leads_before script k s t r q o e l m =
       symbols = begins_on s.symbols l.layout.symbols (map (symbol_of script) k.symbols.now) v.symbols l.symbols;
       found = l.found;
       rises = l.rises;
+      ends = l.ends;
     }
   where
     begins_data : (xs ys : List PlacedOutput) → Begins xs ys → Begins (data_in xs) (data_in ys)

@@ -1,10 +1,13 @@
 -- A layout that takes over the first output sections of an earlier one comes to where that one had come to after them.
-use Rattle.std.proofs.Common.{◌≡◌, ℕ, zero, suc, ◌+◌, ◌≤◌, ◌<◌, List, [], ◌∷◌, ◌++◌, length, map, take, drop}
-use Rattle.std.proofs.Common.{get_or}
+use Rattle.std.proofs.Common.{◌≡◌, ℕ, zero, suc, ◌+◌, ◌^◌, ◌≤◌, ◌<◌, List, [], ◌∷◌, ◌++◌, length, map, take, drop}
+use Rattle.std.proofs.Common.{get_or, Option, None, inl, inr}
+use Rattle.std.specs.Option.{option_map_or}
 use Rattle.std.proofs.Common.{Ok, Some, refl, sym, ap, subst, ◌∙◌, arith, length-append}
 use Rattle.std.specs.Prelude.{slice_get}
 use Rattle.std.proofs.Math.ListN.{get_or-map}
-use Rattle.std.proofs.lemmas.List.{length-map, length-take, map-append, take-map}
+use Rattle.std.proofs.lemmas.List.{length-map, length-take, map-append, take-map, take_all}
+use Rattle.std.proofs.lemmas.Option.{slice_get_within}
+use Rattle.ldscript.specs.statements.Numbering.{item_sections}
 use Rattle.ldscript.specs.statements.declared.section.OutputSection.{OutputSection}
 use Rattle.ldscript.specs.statements.declared.statement.Item.{Item}
 use Rattle.ldscript.specs.statements.declared.statement.ItemCommand.{ItemCommand}
@@ -20,6 +23,8 @@ use Rattle.ldmodel.specs.declared.placed.Placed.{Placed}
 use Rattle.ldmodel.specs.declared.rows.Piece as rows
 use Rattle.place_terms.specs.Keyed.{section_of}
 use Rattle.place_terms.specs.Naming.{Naming, row_named}
+use Rattle.place_terms.specs.PreviousLayout.{HasSection, PreviousOutputs, earlier_of}
+use Rattle.place_terms.specs.Wholes.{starts_in}
 use Rattle.place_sections.proofs.Adding.{section_grows}
 use Rattle.place_sections.proofs.Beginning.{first_part}
 use Rattle.place_sections.proofs.Ending.{chained}
@@ -28,14 +33,14 @@ use Rattle.place_sections.proofs.Grows.{given_is}
 use Rattle.place_sections.proofs.Onward.{fewer, items_on, leads_before}
 use Rattle.place_sections.proofs.Runs.{drop_at, run_first, run_more, run_none, run_rest}
 use Rattle.place_sections.proofs.Still.{still_two}
-use Rattle.place_sections.proofs.Taking.{grown, section_taken}
-use Rattle.place_sections.specs.Boundaries.{data_in, AreNoted, IsBoundary}
+use Rattle.place_sections.proofs.Taking.{data_begun, data_within, grown, has_section, placed_is, section_taken}
+use Rattle.place_sections.specs.Boundaries.{data_in, sections_at, AreNoted, IsBoundary}
 use Rattle.place_sections.specs.PreviousPlacement.{PreviousPlacement, Same}
 use Rattle.place_sections.specs.Inputs.{rows_of}
 use Rattle.place_sections.specs.Leads.{Begins, Leads}
 use Rattle.place_sections.specs.Next.{AreFirst, IsNextAt}
 use Rattle.place_sections.specs.State.{layout_of}
-use Rattle.place_sections.specs.Taken.{Takes}
+use Rattle.place_sections.specs.Taken.{IsSection, MayBeTaken, Takes}
 use Rattle.place_sections.specs.declared.boundary.Boundary.{Boundary}
 use Rattle.place_sections.specs.declared.script.Input.{Input}
 use Rattle.place_sections.specs.declared.state.PlacedOutputs.{PlacedOutputs}
@@ -107,6 +112,25 @@ step_is : (rows : List (List Piece)) (provided : List (List ℕ)) (s t : Layout)
     → section_step provided (next_row rows s) (noted s) line o ≡ Ok t
 unfolding item_command_step
 step_is rows provided s t x line o same e = sym (ap (item_step rows provided s) same) ∙ e
+
+-- an output section at a place
+one_section : (items : List Item) (place : ℕ) → length (sections_at items place) ≡ 1
+    → (o : OutputSection) × IsSection items place o
+one_section items place one = at_place (slice_get items place) refl one
+  where
+    by_command : (x : Item) (c : ItemCommand) → x.command ≡ c → slice_get items place ≡ Some x
+        → length (item_sections x.line c) ≡ 1 → (o : OutputSection) × IsSection items place o
+    by_command x (item.Section o) e there l =
+        (o, record { line = x.line; there = there ∙ ap (λ c. Some (record { line = x.line; command = c })) e })
+    by_command x (item.Dot c) e there l = absurd (omega (arith, l))
+    by_command x (item.Directive c) e there l = absurd (omega (arith, l))
+    by_command x (item.Discard inputs) e there l = absurd (omega (arith, l))
+
+    at_place : (r : Option Item) → slice_get items place ≡ r
+        → length (option_map_or (λ (x : Item). item_sections x.line x.command) r []) ≡ 1
+        → (o : OutputSection) × IsSection items place o
+    at_place None e l = absurd (omega (arith, l))
+    at_place (Some x) e l = by_command x x.command refl e l
 
 -- the output section at a boundary, from a layout on, where the previous layout had come to after it
 record Stepped (script : List Statement) (i : Input) (rows : List (List Piece)) (s : Layout) (items : List Item)
@@ -217,6 +241,76 @@ module _ (n : Naming) (i : Input) (script : List Statement) (s : Layout) (items 
             ∙ (sym g.regions ∙ ap (λ (u : Layout). u.regions) same)));
         many = let m = ap length t.pushed ∙ length-append old.sections.list (t.section ∷ []) in let z = r.many in
             omega (arith, m, z);
+      }
+
+  -- the statement there is an output section
+  section_there : (next : Boundary) → slice_get i.kept.boundaries.now (k + 1) ≡ Some next
+      → length (sections_at items b.items) ≡ 1
+  section_there next there_next =
+      elim at.next [
+        | inl one ↦ one
+        | inr end ↦
+            let at_next = e.boundaries (k + 1) next there_next in
+            let last = run_rest (item_step e.rows i.provided.now) items next.items s at_next.state e.leads.layout
+            at_next.comes e.leads.comes in
+            let few = fewer at_next.state e.leads.layout
+            (items_on e.rows i.provided.now (drop next.items items) at_next.state e.leads.layout last) in
+            let whole : at.state ≡ e.leads.layout =
+            given_is at.state e.leads.layout
+            (sym at.comes
+            ∙ (ap (run (item_step e.rows i.provided.now) s) (take_all b.items items (omega (arith, end)))
+            ∙ e.leads.comes)) in
+            let same = ap (λ (u : Layout). length u.sections) whole in
+            let m = at.many in
+            let w = at_next.many in
+            absurd (omega (arith, few, same, m, w))
+      ]
+
+  -- the previous layout has it
+  pub may_be_taken : (next : Boundary) → slice_get i.kept.boundaries.now (k + 1) ≡ Some next → k < i.kept.first
+      → (d : PlacedOutputs) → Reached n i s items e.rows d k → d.sections.placed ≡ 0
+      → d.sections.earlier ≡ earlier_of i.kept.earlier → MayBeTaken i items b next d
+  may_be_taken next there_next l d r fresh kept =
+      let one = section_there next there_next in
+      let o = one_section items b.items one in
+      let provided : List (List ℕ) = i.provided.now in
+      let row : List rows.Piece = get_or (map (λ v. v.items) i.rows.now) (length d.sections.list) [] in
+      let long : length r.state.sections ≡ length at.state.sections =
+      (let p = ap length r.sections in let q = length-map d.sections.list (section_of n) in
+      let z = r.many in let w = at.many in omega (arith, p, q, z, w)) in
+      let two = still_two e.rows provided items s r.place b.items r.state at.state r.comes at.comes long in
+      let row_is : next_row e.rows at.state ≡ row_named n row =
+      ap (λ j. get_or e.rows j []) at.many
+      ∙ (e.same k l
+      ∙ (get_or-map (row_named n) (map (λ v. v.items) i.rows.now) k []
+      ∙ ap (λ j. row_named n (get_or (map (λ v. v.items) i.rows.now) j [])) (sym r.many))) in
+      let st = stepped o.1.line o.0 o.1.there (row_named n row) row_is in
+      let sections : at.state.sections ≡ map (section_of n) d.sections.list = sym (r.sections ∙ two.0) in
+      let end = data_end o.1.line o.0 o.1.there (row_named n row) row_is next there_next in
+      let has = has_section n script i.kept provided row (noted at.state) o.1.line o.0 d.sections.list sections
+      st.leads in
+      let g = grown n script i.kept provided row (noted at.state) o.1.line o.0 d.sections.list sections st.leads in
+      record {
+        section = one;
+        there = record {
+          first = fresh;
+          section = subst (λ z. HasSection z (length d.sections.list) (length (starts_in d.sections.list)) row)
+              (sym kept) has;
+          begun = data_begun n script i.kept provided row (noted at.state) o.1.line o.0 d.sections.list sections
+              st.leads next.data_commands end;
+          within = subst (λ (z : PreviousOutputs). next.data_commands ≤ length z.data_commands) (sym kept)
+              (data_within n script i.kept provided row (noted at.state) o.1.line o.0 d.sections.list sections st.leads
+              next.data_commands end);
+        };
+        within = slice_get_within i.kept.earlier.sections.now (length d.sections.list) has.placed has.there;
+        ends = λ p at_p.
+            let known = has.there in
+            let same : p ≡ has.placed = cc in
+            let own = placed_is n script i.kept provided row (noted at.state) o.1.line o.0 d.sections.list sections
+            st.leads p at_p in (
+              subst (λ (z : Placed). z.start + z.size < 2 ^ 64) (sym same) has.fits,
+              subst (λ (z : Placed). z.load + z.load_size < 2 ^ 64) (sym own) g.load_end,
+            );
       }
 
   -- where the previous layout had come to

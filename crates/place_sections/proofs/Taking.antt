@@ -1,11 +1,12 @@
 -- An output section that is taken over is the one that its statement makes.
-use Rattle.std.proofs.Common.{◌≡◌, ℕ, ◌+◌, List, [], ◌∷◌, ◌++◌, length, map, take, drop, Some}
-use Rattle.std.proofs.Common.{refl, sym, ap, ◌∙◌, arith, append_assoc, length-append}
+use Rattle.std.proofs.Common.{◌≡◌, ℕ, ◌+◌, ◌^◌, ◌<◌, ◌≤◌, List, [], ◌∷◌, ◌++◌, length, map, take, drop, Some}
+use Rattle.std.proofs.Common.{refl, sym, ap, subst, ◌∙◌, arith, append_assoc, length-append}
 use Rattle.std.specs.List.{enumerate_from}
 use Rattle.std.specs.Prelude.{flat_map, slice_get}
 use Rattle.std.proofs.Math.Seq.{drop-append_seam, take-append_seam}
 use Rattle.std.proofs.lemmas.Grind.{flat_map-append}
 use Rattle.std.proofs.lemmas.List.{append-nil, length-map, map-append}
+use Rattle.std.proofs.lemmas.Option.{get_or_from_slice_get, slice_get_within}
 use Rattle.ldscript.specs.statements.declared.section.OutputSection.{OutputSection}
 use Rattle.ldscript.specs.statements.declared.statement.Statement.{Statement}
 use Rattle.ldmodel.specs.Layout.{Layout, PlacedData, PlacedPiece, PlacedOutput}
@@ -20,12 +21,12 @@ use Rattle.place_terms.specs.Naming.{Naming, piece_named, row_named}
 use Rattle.place_terms.specs.SectionTable.{taken_pieces}
 use Rattle.place_terms.specs.Wholes.{all_data_in, starts_in}
 use Rattle.place_sections.proofs.Adding.{SectionGrown, enumerate_more, section_grows}
-use Rattle.place_sections.proofs.Beginning.{mapped_part}
+use Rattle.place_sections.proofs.Beginning.{fewer_begin, mapped_part}
 use Rattle.place_sections.proofs.Grows.{the_piece}
 use Rattle.place_sections.proofs.Wholes.{data_whole, starts_whole}
 use Rattle.place_sections.specs.Boundaries.{data_in}
 use Rattle.place_sections.specs.Leads.{Begins, Leads, counts_of}
-use Rattle.place_terms.specs.PreviousLayout.{IsTaken, earlier_of, part_of}
+use Rattle.place_terms.specs.PreviousLayout.{HasSection, HasStarts, IsTaken, earlier_of, part_of}
 use Rattle.place_sections.specs.declared.reusable_placement.ReusablePlacement.{ReusablePlacement}
 
 -- the one after the first ones of a list
@@ -97,20 +98,22 @@ module _ (n : Naming) (script : List Statement) (k : ReusablePlacement) (provide
   many : length before ≡ length s.sections
   many = sym (ap length sections ∙ length-map before (section_of n))
 
-  placed_is : (p : Placed) → slice_get k.earlier.sections.now (length before) ≡ Some p → p ≡ placed_of q
+  pub placed_is : (p : Placed) → slice_get k.earlier.sections.now (length before) ≡ Some p → p ≡ placed_of q
   placed_is p e =
       let at = next_element (map placed_of s.sections) (placed_of q) (map placed_of t.sections) k.earlier.sections.now
       (length before) (ap (map placed_of) grown.added ∙ map-append placed_of s.sections (q ∷ [])) l.sections
       (many ∙ sym (length-map s.sections placed_of)) in
       cc
 
-  pub count_is : (m : ℕ) → slice_get k.earlier.counts.now (length before) ≡ Some m → m ≡ length q.pieces
-  count_is m e =
-      let at = next_element (counts_of s.sections) (length q.pieces) (counts_of t.sections) k.earlier.counts.now
+  count_there : slice_get k.earlier.counts.now (length before) ≡ Some (length q.pieces)
+  count_there =
+      next_element (counts_of s.sections) (length q.pieces) (counts_of t.sections) k.earlier.counts.now
       (length before) (ap counts_of grown.added
       ∙ map-append (λ (x : PlacedOutput). length x.pieces) s.sections (q ∷ [])) l.counts
-      (many ∙ sym (length-map s.sections (λ (x : PlacedOutput). length x.pieces))) in
-      cc
+      (many ∙ sym (length-map s.sections (λ (x : PlacedOutput). length x.pieces)))
+
+  pub count_is : (m : ℕ) → slice_get k.earlier.counts.now (length before) ≡ Some m → m ≡ length q.pieces
+  count_is m e = let at = count_there in cc
 
   pub starts_are : (m : ℕ) → m ≡ length q.pieces
       → part_of k.earlier.starts.now (length (starts_in before)) m ≡ starts_of q
@@ -138,12 +141,62 @@ module _ (n : Naming) (script : List Statement) (k : ReusablePlacement) (provide
   before_long : length (all_data_in 0 before) ≡ length (data_in s.sections)
   before_long = ap length (data_whole n 0 before ∙ ap data_in (sym sections))
 
+  starts_within : length (starts_in before) + length q.pieces ≤ length k.earlier.starts.now
+  starts_within =
+      let all = ap length (ap (flat_map starts_of) grown.added
+      ∙ (flat_map-append starts_of s.sections (q ∷ [])
+      ∙ ap (λ x. flat_map starts_of s.sections ++ x) (append-nil (starts_of q))))
+      ∙ length-append (flat_map starts_of s.sections) (starts_of q) in
+      let own = length-map q.pieces (λ (x : PlacedPiece). x.start) in
+      let old = ap length (starts_whole n before ∙ ap (flat_map starts_of) (sym sections)) in
+      let few = fewer_begin (flat_map starts_of t.sections) k.earlier.starts.now l.starts in
+      omega (arith, all, own, old, few)
+
+  -- the previous layout has where its input sections start
+  pub has_starts : HasStarts (earlier_of k.earlier) (length before) (length (starts_in before))
+  has_starts = record { count = length q.pieces; counted = count_there; within = starts_within }
+
+  -- the previous layout has it
+  pub has_section : HasSection (earlier_of k.earlier) (length before) (length (starts_in before)) row
+  has_section =
+      let there : slice_get k.earlier.sections.now (length before) ≡ Some (placed_of q) =
+      next_element (map placed_of s.sections) (placed_of q) (map placed_of t.sections) k.earlier.sections.now
+      (length before) (ap (map placed_of) grown.added ∙ map-append placed_of s.sections (q ∷ [])) l.sections
+      (many ∙ sym (length-map s.sections placed_of)) in
+      record {
+        placed = placed_of q;
+        there = there;
+        fits = subst (λ (p : Placed). p.start + p.size < 2 ^ 64)
+            (get_or_from_slice_get k.earlier.sections.now (length before) (placed_of q) (placed_of q) there)
+            (l.ends (length before) (placed_of q)
+            (slice_get_within k.earlier.sections.now (length before) (placed_of q) there));
+        starts = record { count = length q.pieces; counted = count_there; within = starts_within };
+        enough =
+            let is = ap length grown.row_is in
+            let long = length-append (map the_piece q.pieces) grown.rest in
+            let own = length-map q.pieces the_piece in
+            let named = length-map row (piece_named n) in
+            omega (arith, is, long, own, named);
+      }
+
   -- as many data commands as come with the section
   own_data : (count end : ℕ) → length (all_data_in 0 before) + count ≡ end → end ≡ length (data_in t.sections)
       → count ≡ length (numbered (length s.sections, q))
   own_data count end e f =
       let g = ap length whole ∙ length-append (data_in s.sections) (numbered (length s.sections, q)) in
       omega (arith, e, f, g, before_long)
+
+  -- the previous layout has them
+  pub data_within : (end : ℕ) → end ≡ length (data_in t.sections) → end ≤ length k.earlier.data_commands.now
+  data_within end e =
+      let few = fewer_begin (data_in t.sections) (map data_of k.earlier.data_commands.now) l.data_commands in
+      let long = length-map k.earlier.data_commands.now data_of in
+      omega (arith, e, few, long)
+
+  pub data_begun : (end : ℕ) → end ≡ length (data_in t.sections) → length (all_data_in 0 before) ≤ end
+  data_begun end e =
+      let g = ap length whole ∙ length-append (data_in s.sections) (numbered (length s.sections, q)) in
+      omega (arith, e, g, before_long)
 
   data_are : (count : ℕ) → count ≡ length (numbered (length s.sections, q))
       → map data_at (map data_at_of (part_of k.earlier.data_commands.now (length (all_data_in 0 before)) count))

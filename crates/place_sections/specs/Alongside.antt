@@ -18,7 +18,7 @@ use Rattle.ldmodel.specs.PlacementView.{starts_of}
 use Rattle.ldmodel.specs.Placement.{item_step, section_step, statement_step}
 use Rattle.ldmodel.specs.Rows.{Piece}
 use Rattle.ldmodel_laws.specs.Alike.{AreAlike, AreBodiesAlike, names_given}
-use Rattle.place_terms.specs.PreviousLayout.{AreStartsOf}
+use Rattle.place_terms.specs.PreviousLayout.{AreStartsOf, HasStarts, earlier_of}
 use Rattle.place_terms.specs.Keyed.{KeyedSection}
 use Rattle.place_terms.specs.Naming.{Naming, row_named}
 use Rattle.place_terms.specs.Wholes.{starts_in}
@@ -32,7 +32,7 @@ use Rattle.place_sections.specs.declared.state.LayoutCursor.{LayoutCursor}
 -- the entries of an input statement, with which a row begins, start at these, where `.` is at a number
 abbrev pub StartAt : ℕ → ℕ → List Piece → List ℕ → Type 0
 StartAt statement dot [] starts = ⊤
-StartAt statement dot (p ∷ rest) [] = ⊤
+StartAt statement dot (p ∷ rest) [] = (p.statement == statement) ≡ false
 StartAt statement dot (p ∷ rest) (x ∷ starts) =
     (p.statement == statement) ≡ true → (x ≡ piece_start dot p) × StartAt statement (x + p.size) rest starts
 
@@ -82,6 +82,20 @@ IsAlongside n i layout sections line (item.Section o) =
 IsAlongside n i layout sections line (item.Dot c) = ⊤
 IsAlongside n i layout sections line (item.Directive c) = ⊤
 IsAlongside n i layout sections line (item.Discard inputs) = ⊤
+
+-- a fact, where a statement is an output section
+abbrev pub IfSection : ItemCommand → Type 0 → Type 0
+IfSection (item.Section o) fact = fact
+IfSection (item.Dot c) fact = ⊤
+IfSection (item.Directive c) fact = ⊤
+IfSection (item.Discard inputs) fact = ⊤
+
+-- where the row of the next output section is as it was, other PROVIDEs were in force, and the previous layout has it
+abbrev pub HasKept : Input → List KeyedSection → Type 0
+HasKept i sections =
+    length sections < i.kept.first
+    → (i.kept.same_provided ≡ false)
+    × HasStarts (earlier_of i.kept.earlier) (length sections) (length (starts_in sections))
 
 -- a previous layout, which differs in symbols alone, goes on with these statements of SECTIONS to one with which the
 -- kept one begins

@@ -7,7 +7,7 @@ use Rattle.ldmodel.specs.PlacementView.{data_of, placed_of, starts_of, symbol_of
 use Rattle.ldmodel.specs.declared.script_symbol.DirectiveIndex.{DirectiveIndex}
 use Rattle.place_terms.specs.LayoutSymbols.{AreFound, Rises}
 use Rattle.place_sections.specs.Boundaries.{data_in}
-use Rattle.place_sections.specs.Places.{Places}
+use Rattle.place_sections.specs.Places.{Places, Ends}
 use Rattle.place_sections.specs.declared.reusable_placement.ReusablePlacement.{ReusablePlacement}
 
 -- all of a placement, before the row of a number, where these PROVIDEs are in force now
@@ -19,6 +19,7 @@ pub record Keeps (p : Places) (first : ℕ) (provided : List DirectiveIndex) (k 
   pub dots : k.dots.now ≡ p.dots
   pub symbols : k.symbols.now ≡ p.symbols
   pub boundaries : k.boundaries.now ≡ p.boundaries
+  pub ends : Ends k.earlier.sections.now
   pub first_is : k.first ≡ first
   pub provided_is : k.same_provided ≡ true → p.provided ≡ provided
 
@@ -42,3 +43,4 @@ pub record Leads (script : List Statement) (k : ReusablePlacement) (wanted : Res
   pub symbols : Begins layout.symbols (map (symbol_of script) k.symbols.now)
   pub found : AreFound script k.symbols.now
   pub rises : Rises k.symbols.now
+  pub ends : Ends k.earlier.sections.now

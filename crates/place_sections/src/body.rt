@@ -129,11 +129,7 @@ impl<'d, 'a> CurrentOutput<'d, 'a> {
             if u64::from(piece.statement.0) != number {
                 break;
             }
-            let Some(start) = starts.get(place) else {
-                // Unreachable: the earlier row had as many entries
-                return Err(LayoutStop::NoMemory);
-            };
-            self.put_piece(here, line, piece, *start)?;
+            self.put_piece(here, line, piece, starts[place])?;
         }
         Ok(())
     }

@@ -10,7 +10,7 @@ ghost use Rattle.ldmodel.specs.Placement.{free_dot_step, item_command_step, item
 ghost use Rattle.place_terms.specs.PreviousLayout.{earlier_of, AreStartsOf};
 ghost use Rattle.place_terms.specs.Naming.{Naming};
 ghost use Rattle.place_terms.specs.Wholes.{counts_in, starts_in};
-ghost use Rattle.place_sections.specs.Alongside.{IsAlongside, ItemsAlongside};
+ghost use Rattle.place_sections.specs.Alongside.{HasKept, IfSection, IsAlongside, ItemsAlongside};
 ghost use Rattle.place_sections.specs.Boundaries.{AreBoundaries, IsAt};
 ghost use Rattle.place_sections.specs.Counted.{Adds, CountsAlong, Resumes, entries, placed_from};
 ghost use Rattle.place_sections.specs.PreviousPlacement.{PreviousPlacement};
@@ -90,29 +90,21 @@ impl<'a> LayoutCursor<'a> {
 
 impl<'i, 'a> Input<'i, 'a> {
     /// Where the input sections of the next output section start, if its row is as it was in a previous layout.
-    fn kept_starts(&self, done: &PlacedOutputs<'a>) -> Result<Option<&'a [u64]>, LayoutStop<'a>>
-        ensures first { IfOk result (λ o. IfSome o (λ _. length done.now.sections.list < self.now.kept.first)) }
-        ensures past { IfOk result (λ o. IfNone o (self.now.kept.first ≤ length done.now.sections.list)) }
-        ensures other { IfOk result (λ o. IfSome o (λ _. self.now.kept.same_provided ≡ false)) }
-        ensures starts { IfOk result (λ o. IfSome o (λ s.
+    fn kept_starts(&self, done: &PlacedOutputs<'a>) -> Option<&'a [u64]>
+        requires { HasKept self.now done.now.sections.list }
+        ensures first { IfSome result (λ _. length done.now.sections.list < self.now.kept.first) }
+        ensures past { IfNone result (self.now.kept.first ≤ length done.now.sections.list) }
+        ensures other { IfSome result (λ _. self.now.kept.same_provided ≡ false) }
+        ensures starts { IfSome result (λ s.
             AreStartsOf self.now.kept.earlier (length done.now.sections.list)
             (length (starts_in done.now.sections.list))
-            s.now)) }
-        ensures refused { IfErr result (λ f. f ≡ NoMemory) }
+            s.now) }
     {
         let number = done.sections.len();
         if number >= self.kept.first {
-            return Ok(None);
+            return None;
         }
-        if self.kept.same_provided {
-            // Unreachable: these are taken over
-            return Err(LayoutStop::NoMemory);
-        }
-        match self.kept.earlier.starts_of(number, done.sections.count()) {
-            Some(starts) => Ok(Some(starts)),
-            // Unreachable: the previous layout has this output section
-            None => Err(LayoutStop::NoMemory),
-        }
+        self.kept.earlier.starts_of(number, done.sections.count())
     }
 
     #[tactic(auto, unfolding(ldmodel::specs::Placement::item_command_step), using(crate::proofs::Rows::next_row_is, crate::proofs::Counting::entries_more))]
@@ -127,6 +119,7 @@ impl<'i, 'a> Input<'i, 'a> {
         requires next { IsNext done.now.sections.script (length done.now.sections.list) command.now }
         requires kept { IsAlongside naming self.now (layout_of naming here.now done.now) done.now.sections.list line
             command.now }
+        requires there { IfSection command.now (HasKept self.now done.now.sections.list) }
         ensures script { here.new.symbols.script ≡ here.old.symbols.script }
         ensures anew { here.new.anew ≤ here.old.anew + entries (length done.old.sections.list)
             (map (λ v. v.items) self.now.rows.now) }
@@ -146,7 +139,7 @@ impl<'i, 'a> Input<'i, 'a> {
             ItemCommand::Dot(command) => here.move_freely(done, line, command),
             ItemCommand::Directive(command) => here.directive(done, self.provided, line, command),
             ItemCommand::Section(output) => {
-                let starts = self.kept_starts(done)?;
+                let starts = self.kept_starts(done);
                 let row = row_at(self.rows, done.sections.len());
                 let output = output.get();
                 here.place_section(self.alloc, done, self.provided, row, starts, line, output)
@@ -173,6 +166,7 @@ impl<'i, 'a> Input<'i, 'a> {
         requires next { IsNext done.now.sections.script (length done.now.sections.list) item.now.command }
         requires kept { IsAlongside naming self.now (noted (layout_of naming here.now done.now))
             done.now.sections.list item.now.line item.now.command }
+        requires there { IfSection item.now.command (HasKept self.now done.now.sections.list) }
         ensures script { here.new.symbols.script ≡ here.old.symbols.script }
         ensures anew { here.new.anew ≤ here.old.anew + entries (length done.old.sections.list)
             (map (λ v. v.items) self.now.rows.now) }
@@ -202,6 +196,7 @@ impl<'i, 'a> Input<'i, 'a> {
     ) -> Result<Vec<Boundary>, LayoutStop<'a>>
         ghost naming: { Naming }
         requires none { done.now.sections.list ≡ [] }
+        requires placed { done.now.sections.placed ≡ 0 }
         requires first { AreFirst done.now.sections.script items.now }
         requires kept { done.now.sections.earlier ≡ earlier_of self.now.kept.earlier }
         requires earlier { self.now.kept.same_provided ≡ true → 0 < self.now.kept.first

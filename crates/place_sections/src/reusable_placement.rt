@@ -1,6 +1,6 @@
 //! What is kept of a previous layout.
 
-ghost use Rattle.std.specs.Prelude.{◌≡◌, ◌≤◌, ◌<◌, length, true, IfSome, IfNone};
+ghost use Rattle.std.specs.Prelude.{◌≡◌, ◌≤◌, ◌<◌, ◌-◌, min, length, true, IfSome, IfNone};
 ghost use Rattle.place_sections.specs.Leads.{Keeps};
 
 use crate::boundary::Boundary;
@@ -58,6 +58,9 @@ impl<'k> ReusablePlacement<'k> {
         ensures same { IfSome result (λ _. self.now.same_provided ≡ true) }
         ensures first { IfSome result (λ k. (0 < self.now.first) × (k ≤ self.now.first)) }
         ensures boundary { IfSome result (λ k. k < length self.now.boundaries.now) }
+        ensures all { IfSome result (λ k. k ≡ min self.now.first (length self.now.boundaries.now - 1)) }
+        ensures none { IfNone result (self.now.same_provided ≡ true
+            → min self.now.first (length self.now.boundaries.now - 1) ≡ 0) }
     {
         if !self.same_provided || self.first == 0 {
             return None;

@@ -1,17 +1,17 @@
 //! Output sections that are taken over from a previous layout.
 
-ghost use Rattle.std.specs.Prelude.{◌≡◌, ◌≤◌, ◌<◌, [], length, take, IfOk, IfSome, IfErr, OnOk, Ok, false, true};
+ghost use Rattle.std.specs.Prelude.{◌≡◌, ◌≤◌, ◌<◌, ◌-◌, min, [], length, take, IfOk, IfErr, OnOk, Ok, false, true};
 ghost use Rattle.ldmodel.specs.Chain.{run};
 ghost use Rattle.ldmodel.specs.Placement.{item_step};
 ghost use Rattle.place_terms.specs.PreviousLayout.{earlier_of};
 ghost use Rattle.place_terms.specs.Naming.{Naming};
 ghost use Rattle.place_terms.specs.LayoutSymbols.{AreFound, Rises};
-ghost use Rattle.place_sections.specs.Boundaries.{AreNoted};
+ghost use Rattle.place_sections.specs.Boundaries.{AreNoted, sections_at};
 ghost use Rattle.place_sections.specs.PreviousPlacement.{PreviousPlacement};
 ghost use Rattle.place_sections.specs.Inputs.{rows_of};
 ghost use Rattle.place_sections.specs.State.{layout_of};
 ghost use Rattle.place_sections.specs.Next.{AreFirst, IsNextAt};
-ghost use Rattle.place_sections.specs.Taken.{IsSection, Takes};
+ghost use Rattle.place_sections.specs.Taken.{IsSection, MayBeTaken, Takes};
 ghost use Rattle.place_sections.specs.declared.stop.LayoutStop.TheVariants.{NoMemory};
 
 use crate::boundary::Boundary;
@@ -58,12 +58,13 @@ impl<'a> LayoutCursor<'a> {
 }
 
 /// The output section that the statement at a place is.
-fn output_at(items: &[Item], place: usize) -> Option<&OutputSection>
-    ensures { IfSome result (λ o. IsSection items.now place o.now) }
+fn output_at(items: &[Item], place: usize) -> &OutputSection
+    requires { length (sections_at items.now place) ≡ 1 }
+    ensures { IsSection items.now place result.now }
 {
-    match &items.get(place)?.command {
-        ItemCommand::Section(output) => Some(output.get()),
-        ItemCommand::Dot(_) | ItemCommand::Directive(_) | ItemCommand::Discard(_) => None,
+    match &items[place].command {
+        ItemCommand::Section(output) => output.get(),
+        ItemCommand::Dot(_) | ItemCommand::Directive(_) | ItemCommand::Discard(_) => unreachable!(),
     }
 }
 
@@ -92,25 +93,18 @@ impl<'i, 'a> Input<'i, 'a> {
     ) -> Result<(), LayoutStop<'a>>
         requires next { IsNextAt done.now.sections.script (length done.now.sections.list) items.now at.items }
         requires kept { done.now.sections.earlier ≡ earlier_of self.now.kept.earlier }
+        requires there { MayBeTaken self.now items.now at next done.now }
         ensures takes { OnOk result (Takes self.now items.now at next done.old done.new) }
         ensures outputs { done.new.sections.script ≡ done.old.sections.script }
         ensures kept { done.new.sections.earlier ≡ done.old.sections.earlier }
+        ensures placed { done.new.sections.placed ≡ done.old.sections.placed }
         ensures refused { IfErr result (λ f. f ≡ NoMemory) }
     {
-        // Fails only where memory runs out: the previous layout has this output section
-        let Some(output) = output_at(items, at.items) else {
-            return Err(LayoutStop::NoMemory);
-        };
+        let output = output_at(items, at.items);
         let number = done.sections.len();
-        let Some(placed) = self.kept.earlier.sections.get(number) else {
-            return Err(LayoutStop::NoMemory);
-        };
-        let Some(end) = placed.start.checked_add(placed.size) else {
-            return Err(LayoutStop::NoMemory);
-        };
-        let Some(load_end) = placed.load.checked_add(placed.load_size) else {
-            return Err(LayoutStop::NoMemory);
-        };
+        let placed = self.kept.earlier.sections[number];
+        let end = placed.start + placed.size;
+        let load_end = placed.load + placed.load_size;
         free(&mut done.regions, region_name(output), end);
         free(&mut done.regions, load_region_name(output), load_end);
         let row = row_at(self.rows, number);
@@ -132,6 +126,7 @@ impl<'i, 'a> Input<'i, 'a> {
     ) -> Result<Resumed, LayoutStop<'a>>
         ghost naming: { Naming }
         requires none { done.now.sections.list ≡ [] }
+        requires placed { done.now.sections.placed ≡ 0 }
         requires first { AreFirst done.now.sections.script items.now }
         requires kept { done.now.sections.earlier ≡ earlier_of self.now.kept.earlier }
         requires earlier { self.now.kept.same_provided ≡ true → 0 < self.now.kept.first
@@ -140,6 +135,8 @@ impl<'i, 'a> Input<'i, 'a> {
         ensures outputs { done.new.sections.script ≡ done.old.sections.script }
         ensures anew { here.new.anew ≡ here.old.anew }
         ensures few { OnOk result (length done.new.sections.list ≤ self.now.kept.first) }
+        ensures all { OnOk result (self.now.kept.same_provided ≡ true
+            → min self.now.kept.first (length self.now.kept.boundaries.now - 1) ≤ length done.new.sections.list) }
         ensures here { IfOk result (λ r.
             run (item_step (rows_of naming self.now) self.now.provided.now) (layout_of naming here.old done.old)
             (take r.passed items.now) ≡ Ok (layout_of naming here.new done.new)) }

@@ -97,6 +97,7 @@ impl<'i, 'a> Input<'i, 'a> {
     ) -> Result<Vec<Boundary>, LayoutStop<'a>>
         ghost naming: { Naming }
         requires none { done.now.sections.list ≡ [] }
+        requires placed { done.now.sections.placed ≡ 0 }
         requires all { done.now.sections.script ≡ statements.now }
         requires kept { done.now.sections.earlier ≡ earlier_of self.now.kept.earlier }
         requires earlier { self.now.kept.same_provided ≡ true → 0 < self.now.kept.first

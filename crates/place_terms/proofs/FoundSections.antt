@@ -151,11 +151,11 @@ difference_other xs x region e =
     ) refl
 
 -- the number of the next one
-pub next_number : (script : List Statement) (e : PreviousOutputs) (xs : List KeyedSection) (v : Outputs)
-    (output : OutputSection) → record { script = script; earlier = e; list = xs } ≡ v → IsSound script
+pub next_number : (script : List Statement) (e : PreviousOutputs) (xs : List KeyedSection) (placed : ℕ) (v : Outputs)
+    (output : OutputSection) → record { script = script; earlier = e; list = xs; placed = placed } ≡ v → IsSound script
     → IsOutput v.script (length v.list) output
     → section_number script output.name ≡ Some (length xs)
-next_number script before xs v output e sound next =
+next_number script before xs placed v output e sound next =
     output_number script (length xs) output sound
     (subst (λ (w : Outputs). IsOutput w.script (length w.list) output) (sym e) next)
 

@@ -131,7 +131,8 @@ module _ (script : List Statement) (e : PreviousLayout) (ts : List ReusedOutput)
       omega (arith, sum, l, c)
 
   -- it is the next one of the previous layout
-  pub with_taken : (v : Outputs) → record { script = script; earlier = earlier_of e; list = both ts xs } ≡ v
+  pub with_taken : (v : Outputs)
+      → record { script = script; earlier = earlier_of e; list = both ts xs; placed = length xs } ≡ v
       → (new : List ReusedOutput) → new ≡ ts ++ t ∷ [] → (end : ℕ)
       → commands ≡ part_of e.data_commands.now commands_count (end - commands_count)
       → commands_count + length commands ≡ end → IsWithTaken v.earlier v.list row o end (both new xs)

@@ -34,6 +34,21 @@ pub record AreStartsOf (e : PreviousLayout) (number from : ℕ) (starts : List �
   pub counted : slice_get e.counts.now number ≡ Some (length starts)
   pub are : starts ≡ part_of e.starts.now from (length starts)
 
+-- there are the starts of the input sections of an output section, before which this many come
+pub record HasStarts (e : PreviousOutputs) (number from : ℕ) : Type 0 where
+  pub count : ℕ
+  pub counted : slice_get e.counts number ≡ Some count
+  pub within : from + count ≤ length e.starts
+
+-- there is an output section of this number, which ends at an address, and as many of its input sections are entries of
+-- the row
+pub record HasSection (e : PreviousOutputs) (number start : ℕ) (row : List Piece) : Type 0 where
+  pub placed : Placed
+  pub there : slice_get e.sections number ≡ Some placed
+  pub fits : placed.start + placed.size < 2 ^ 64
+  pub starts : HasStarts e number start
+  pub enough : starts.count ≤ length row
+
 -- it is the one of this number, its input sections are the previous layout's from this one on, and it has these data
 -- commands
 pub record IsSectionOf (e : PreviousLayout) (number start : ℕ) (o : OutputSection) (row : List Piece)

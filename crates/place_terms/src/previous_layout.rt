@@ -1,7 +1,8 @@
 //! The output sections of a previous layout.
 
-ghost use Rattle.std.specs.Prelude.{◌≡◌, ◌+◌, ◌-◌, [], length, take, IfSome};
-ghost use Rattle.place_terms.specs.PreviousLayout.{part_of, AreStartsOf, IsSectionOf};
+ghost use Rattle.std.specs.Prelude.{◌≡◌, ◌+◌, ◌-◌, ◌≤◌, ◌<◌, ◌^◌, [], length, take, IfSome, IsSome};
+ghost use Rattle.place_terms.specs.PreviousLayout.{earlier_of, part_of};
+ghost use Rattle.place_terms.specs.PreviousLayout.{AreStartsOf, HasSection, HasStarts, IsSectionOf};
 
 use crate::sections::Closed;
 use ldmodel::placed::{Placed, PlacedData};
@@ -51,6 +52,8 @@ pub fn first<T>(list: &[T], count: usize) -> &[T]
 fn part<T>(list: &[T], from: usize, count: usize) -> Option<&[T]>
     ensures part { IfSome result (λ x. x.now ≡ part_of list.now from count) }
     ensures long { IfSome result (λ x. length x.now ≡ count) }
+    ensures within { IfSome result (λ x. from + length x.now ≤ length list.now) }
+    ensures there { from + count ≤ length list.now → IsSome result }
 {
     match list.get(from..) {
         Some(rest) => rest.get(..count),
@@ -63,6 +66,7 @@ impl<'a> PreviousLayout<'a> {
     fn data_between(&self, from: usize, to: usize) -> Option<&'a [PlacedData]>
         ensures part { IfSome result (λ x. x.now ≡ part_of self.now.data_commands.now from (to - from)) }
         ensures long { IfSome result (λ x. from + length x.now ≡ to) }
+        ensures there { from ≤ to → to ≤ length self.now.data_commands.now → IsSome result }
     {
         let count = to.checked_sub(from)?;
         part(self.data_commands, from, count)
@@ -70,7 +74,9 @@ impl<'a> PreviousLayout<'a> {
 
     /// Where the input sections of the output section of a number start, before which this many come.
     pub fn starts_of(&self, number: usize, from: usize) -> Option<&'a [u64]>
-        ensures { IfSome result (λ x. AreStartsOf self.now number from x.now) }
+        ensures are { IfSome result (λ x. AreStartsOf self.now number from x.now) }
+        ensures room { IfSome result (λ x. from + length x.now < 2 ^ 64) }
+        ensures there { HasStarts (earlier_of self.now) number from → IsSome result }
     {
         let count = *self.counts.get(number)?;
         part(self.starts, from, count)
@@ -93,7 +99,10 @@ impl<'a> PreviousLayout<'a> {
             IsSectionOf self.now number start output.now row.now t.data_commands.now t) }
         ensures part { IfSome result (λ t. t.data_commands.now
             ≡ part_of self.now.data_commands.now commands.start (commands.end - commands.start)) }
+        ensures room { IfSome result (λ t. start + length t.starts.now < 2 ^ 64) }
         ensures long { IfSome result (λ t. commands.start + length t.data_commands.now ≡ commands.end) }
+        ensures there { placed.now ≡ [] → HasSection (earlier_of self.now) number start row.now
+            → commands.start ≤ commands.end → commands.end ≤ length self.now.data_commands.now → IsSome result }
     {
         if !placed.is_empty() {
             return None;
@@ -111,7 +120,9 @@ impl<'a> PreviousLayout<'a> {
         row: &'a [Piece],
         data_commands: &'a [PlacedData],
     ) -> Option<ReusedOutput<'a>>
-        ensures { IfSome result (λ t. IsSectionOf self.now number start output.now row.now data_commands.now t) }
+        ensures is { IfSome result (λ t. IsSectionOf self.now number start output.now row.now data_commands.now t) }
+        ensures room { IfSome result (λ t. start + length t.starts.now < 2 ^ 64) }
+        ensures there { HasSection (earlier_of self.now) number start row.now → IsSome result }
     {
         let placed = self.sections.get(number)?;
         let starts = self.starts_of(number, start)?;

@@ -1,12 +1,12 @@
 //! The output sections that are in their places.
 
-ghost use Rattle.std.specs.Prelude.{◌≡◌, ◌+◌, [], ◌∷◌, ◌++◌, length, IfOk, OnOk, IfSome, find};
+ghost use Rattle.std.specs.Prelude.{◌≡◌, ◌+◌, [], ◌∷◌, ◌++◌, length, IfOk, OnOk, IfSome, find, true};
 ghost use Rattle.std.specs.Prelude.{bytes_eq, map, option_map, slice_get};
 ghost use Rattle.std.specs.Option.{option_copied};
 ghost use Rattle.ldscript.specs.statements.Given.{section_number};
 ghost use Rattle.place_terms.specs.PreviousLayout.{earlier_of, IsWithTaken};
 ghost use Rattle.place_terms.specs.Keyed.{KeyedSection};
-ghost use Rattle.place_terms.specs.Outputs.{IsOutput};
+ghost use Rattle.place_terms.specs.Outputs.{HasNext, IsOutput};
 ghost use Rattle.place_terms.specs.SectionTable.{both, keyed, difference_by, section_names};
 ghost use Rattle.place_terms.specs.SectionTable.{Ends, Fits, IsKeptAt};
 ghost use Rattle.place_terms.specs.Tables.{AreInOrder};
@@ -83,6 +83,7 @@ impl<'a> Model for Sections<'a> {
 
     ghost coded = { Prim.hlevel (codes, formula.the_row.coded) };
 
+    ghost use Rattle.std.specs.Prelude.{length};
     ghost use Rattle.place_terms.specs.PreviousLayout.{earlier_of, AreTaken};
     ghost use Rattle.place_terms.specs.SectionTable.{both, AreSectionsOf};
 
@@ -90,6 +91,7 @@ impl<'a> Model for Sections<'a> {
       script = s.script.now;
       earlier = earlier_of s.earlier;
       list = both s.taken.items s.list.items;
+      placed = length s.list.items;
     } };
 
     ghost invariant = { λ s.
@@ -200,6 +202,7 @@ impl<'a> Sections<'a> {
         ensures script { IfOk result (λ s. s.script ≡ script.now) }
         ensures earlier { IfOk result (λ s. s.earlier ≡ earlier_of earlier.entry) }
         ensures none { IfOk result (λ s. s.list ≡ []) }
+        ensures placed { IfOk result (λ s. s.placed ≡ 0) }
     {
         let regions = script.regions(alloc)?;
         let differences = vec![in alloc; 0; regions.len()]?;
@@ -323,8 +326,9 @@ impl<'a> Sections<'a> {
         Ok(())
     }
 
-    /// Adds the next output section of the script, which is taken over. Its input sections are the first entries of its
-    /// row, and with its own data commands there are as many as `data_end`.
+    /// Adds the next output section of the script, which is taken over: its input sections are the first entries of its
+    /// row, and with its own data commands there are as many as `data_end`. `false`, and none is added, where the
+    /// previous layout has no such output section.
     ///
     /// # Errors
     ///
@@ -334,12 +338,14 @@ impl<'a> Sections<'a> {
         output: &'a OutputSection,
         row: &'a [Piece],
         data_end: usize,
-    ) -> Result<(), AllocError>
+    ) -> Result<bool, AllocError>
         requires next { IsOutput self.now.script (length self.now.list) output.now }
         ensures script { self.new.script ≡ self.old.script }
         ensures earlier { self.new.earlier ≡ self.old.earlier }
-        ensures taken { OnOk result
-            (IsWithTaken self.old.earlier self.old.list row.now output.now data_end self.new.list) }
+        ensures placed { self.new.placed ≡ self.old.placed }
+        ensures taken { IfOk result (λ t. t ≡ true
+            → IsWithTaken self.old.earlier self.old.list row.now output.now data_end self.new.list) }
+        ensures there { HasNext self.old row.now data_end → IfOk result (λ t. t ≡ true) }
     {
         // so that what a script says of its statements is known
         let _statements = self.script.statements();
@@ -349,12 +355,11 @@ impl<'a> Sections<'a> {
             .earlier
             .next_section(&self.list, number, self.count, commands, output, row)
         else {
-            // The first ones are taken over, and the previous layout has them. No contract says what it has
-            return Err(impossible());
+            return Ok(false);
         };
         let kept_at = kept_at(self.script, self.differences.len(), output);
         let difference = section.placed.start.wrapping_sub(section.placed.load);
-        let count = sum(self.count, section.starts.len())?;
+        let count = self.count + section.starts.len();
         self.taken.push(section)?;
         self.taken_count = count;
         self.count = count;
@@ -364,6 +369,6 @@ impl<'a> Sections<'a> {
             DifferencePlace::At(number) => self.differences[number] = difference,
             DifferencePlace::Nowhere => {}
         }
-        Ok(())
+        Ok(true)
     }
 }

@@ -56,29 +56,32 @@ place_script-laid-requires g c =
     let d : PlacedOutputs = record { sections = c.in_ok-sections.sections; regions = c.new-regions.result } in (
       c.in_ok-sections.ensures.none,
       (
-        c.in_ok-sections.ensures.script ∙ sym c.statements.ensures.value,
+        c.in_ok-sections.ensures.placed,
         (
-          c.in_ok-sections.ensures.earlier,
+          c.in_ok-sections.ensures.script ∙ sym c.statements.ensures.value,
           (
-            λ same some. by_option c.args.kept _ _ _ _ c.requires c.new-kept.ensures.some c.new-kept.ensures.none
-                (λ k kept keeps.
-                kept_earlier g.naming _ c.args.script.now k.0.now k.1 c.args.provided.now kept keeps
-                c.in_ok-here.here.symbols.script c.statements.result.now (layout_of g.naming c.in_ok-here.here d)
-                c.in_ok-here.ensures.script c.statements.ensures.value
-                (nothing_there g.naming c.in_ok-here.here d c.in_ok-here.ensures.dot c.in_ok-here.ensures.dots
-                c.in_ok-here.ensures.inputs c.in_ok-here.ensures.symbols c.in_ok-sections.ensures.none
-                c.new-regions.ensures) c.in_ok-in_force.ensures same)
-                (λ none. absurd (omega (arith, none, some))),
-            λ other some. by_option c.args.kept _ _ _ _ c.requires c.new-kept.ensures.some c.new-kept.ensures.none
-                (λ k kept keeps.
-                kept_alongside g.naming _ c.args.script.now k.0.now k.1 c.args.provided.now kept keeps
-                c.in_ok-here.here.symbols.script c.statements.result.now (layout_of g.naming c.in_ok-here.here d)
-                c.in_ok-here.ensures.script c.statements.ensures.value
-                (nothing_there g.naming c.in_ok-here.here d c.in_ok-here.ensures.dot c.in_ok-here.ensures.dots
-                c.in_ok-here.ensures.inputs c.in_ok-here.ensures.symbols c.in_ok-sections.ensures.none
-                c.new-regions.ensures)
-                (c.steps_stay_alike.ensures.begun c.args.script.now c.statements.ensures.sound))
-                (λ none. absurd (omega (arith, none, some))),
+            c.in_ok-sections.ensures.earlier,
+            (
+              λ same some. by_option c.args.kept _ _ _ _ c.requires c.new-kept.ensures.some c.new-kept.ensures.none
+                  (λ k kept keeps.
+                  kept_earlier g.naming _ c.args.script.now k.0.now k.1 c.args.provided.now kept keeps
+                  c.in_ok-here.here.symbols.script c.statements.result.now (layout_of g.naming c.in_ok-here.here d)
+                  c.in_ok-here.ensures.script c.statements.ensures.value
+                  (nothing_there g.naming c.in_ok-here.here d c.in_ok-here.ensures.dot c.in_ok-here.ensures.dots
+                  c.in_ok-here.ensures.inputs c.in_ok-here.ensures.symbols c.in_ok-sections.ensures.none
+                  c.new-regions.ensures) c.in_ok-in_force.ensures same)
+                  (λ none. absurd (omega (arith, none, some))),
+              λ other some. by_option c.args.kept _ _ _ _ c.requires c.new-kept.ensures.some c.new-kept.ensures.none
+                  (λ k kept keeps.
+                  kept_alongside g.naming _ c.args.script.now k.0.now k.1 c.args.provided.now kept keeps
+                  c.in_ok-here.here.symbols.script c.statements.result.now (layout_of g.naming c.in_ok-here.here d)
+                  c.in_ok-here.ensures.script c.statements.ensures.value
+                  (nothing_there g.naming c.in_ok-here.here d c.in_ok-here.ensures.dot c.in_ok-here.ensures.dots
+                  c.in_ok-here.ensures.inputs c.in_ok-here.ensures.symbols c.in_ok-sections.ensures.none
+                  c.new-regions.ensures)
+                  (c.steps_stay_alike.ensures.begun c.args.script.now c.statements.ensures.sound))
+                  (λ none. absurd (omega (arith, none, some))),
+            ),
           ),
         ),
       ),

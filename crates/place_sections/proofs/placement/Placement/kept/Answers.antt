@@ -1,9 +1,9 @@
-use Rattle.std.proofs.Common.{◌≡◌, nat_eq, ap, refl, sym, eq-eqb, ◌∙◌}
+use Rattle.std.proofs.Common.{◌≡◌, nat_eq, ap, refl, subst, sym, eq-eqb, ◌∙◌}
 use Rattle.std.specs.Bool.{Decides}
 use Rattle.std.proofs.lemmas.Bool.{eqb-true}
 use Rattle.std.proofs.lemmas.Slice.Eq.{slice_eq-Decides}
 use Rattle.ldmodel.specs.declared.script_symbol.DirectiveIndex.{DirectiveIndex}
-use Rattle.place_sections.specs.Places.{Places}
+use Rattle.place_sections.specs.Places.{Ends, Places}
 use Rattle.place_sections.proofs.placement.Placement.kept.Goals as goal
 
 same_number : (a b : DirectiveIndex) → Decides (nat_eq a.0 b.0) (a ≡ b)
@@ -21,6 +21,7 @@ returns c = record {
   dots = c.deref-5.ensures.value ∙ ap (λ (p : Places). p.dots) c.self.view_is;
   symbols = c.deref-6.ensures.value ∙ ap (λ (p : Places). p.symbols) c.self.view_is;
   boundaries = c.deref-7.ensures.value ∙ ap (λ (p : Places). p.boundaries) c.self.view_is;
+  ends = subst Ends (sym c.deref.ensures.value) c.self.invariant;
   first_is = refl;
   provided_is = λ same.
       ap (λ (p : Places). p.provided) (sym c.self.view_is)

@@ -32,31 +32,34 @@ pub place_items-requires : goal.place_items-requires
 place_items-requires g c = (
   ap (λ (z : Outputs). z.list) c.place_statements.ensures.sections ∙ c.requires.0,
   (
-    subst (λ z. AreFirst z c.of-parts.result.items.now)
-        (sym (ap (λ (z : Outputs). z.script) c.place_statements.ensures.sections ∙ c.requires.1.0))
-        (subst (AreFirst c.args.statements.now) (sym c.of-parts.ensures.items) (are_first c.args.statements.now)),
+    ap (λ (z : Outputs). z.placed) c.place_statements.ensures.sections ∙ c.requires.1.0,
     (
-      ap (λ (z : Outputs). z.earlier) c.place_statements.ensures.sections ∙ c.requires.1.1.0,
+      subst (λ z. AreFirst z c.of-parts.result.items.now)
+          (sym (ap (λ (z : Outputs). z.script) c.place_statements.ensures.sections ∙ c.requires.1.1.0))
+          (subst (AreFirst c.args.statements.now) (sym c.of-parts.ensures.items) (are_first c.args.statements.now)),
       (
-        λ same some. earlier_items g.naming c.args.self.now c.args.here.now.symbols.script
-            c.place_statements.new.here.symbols.script (layout_of g.naming c.args.here.now c.args.done.now)
-            (layout_of g.naming c.place_statements.new.here c.place_statements.new.done) c.args.statements.now
-            c.of-parts.result.items.now c.place_statements.ensures.script c.of-parts.ensures.items
-            (ap (run (statement_step (rows_of g.naming c.args.self.now) c.args.self.now.provided.now)
-            (layout_of g.naming c.args.here.now c.args.done.now)) (sym c.of-parts.ensures.before)
-            ∙ c.in_ok-place_statements.ensures.gives) (c.requires.1.1.1.0 same some),
-        λ other some. items_alongside g.naming c.args.self.now c.args.here.now.symbols.script
-            c.place_statements.new.here.symbols.script (layout_of g.naming c.args.here.now c.args.done.now)
-            (layout_of g.naming c.place_statements.new.here c.place_statements.new.done) c.args.statements.now
-            c.of-parts.result.items.now c.steps_stay_alike.ensures.statements c.place_statements.ensures.script
-            c.of-parts.ensures.items
-            (ap (run (statement_step (rows_of g.naming c.args.self.now) c.args.self.now.provided.now)
-            (layout_of g.naming c.args.here.now c.args.done.now)) (sym c.of-parts.ensures.before)
-            ∙ c.in_ok-place_statements.ensures.gives)
-            (let none = ap (λ (z : Outputs). length (map (section_of g.naming) z.list))
-            c.place_statements.ensures.sections
-            ∙ ap (λ l. length (map (section_of g.naming) l)) c.requires.0 in omega (arith, none))
-            (c.requires.1.1.1.1 other some),
+        ap (λ (z : Outputs). z.earlier) c.place_statements.ensures.sections ∙ c.requires.1.1.1.0,
+        (
+          λ same some. earlier_items g.naming c.args.self.now c.args.here.now.symbols.script
+              c.place_statements.new.here.symbols.script (layout_of g.naming c.args.here.now c.args.done.now)
+              (layout_of g.naming c.place_statements.new.here c.place_statements.new.done) c.args.statements.now
+              c.of-parts.result.items.now c.place_statements.ensures.script c.of-parts.ensures.items
+              (ap (run (statement_step (rows_of g.naming c.args.self.now) c.args.self.now.provided.now)
+              (layout_of g.naming c.args.here.now c.args.done.now)) (sym c.of-parts.ensures.before)
+              ∙ c.in_ok-place_statements.ensures.gives) (c.requires.1.1.1.1.0 same some),
+          λ other some. items_alongside g.naming c.args.self.now c.args.here.now.symbols.script
+              c.place_statements.new.here.symbols.script (layout_of g.naming c.args.here.now c.args.done.now)
+              (layout_of g.naming c.place_statements.new.here c.place_statements.new.done) c.args.statements.now
+              c.of-parts.result.items.now c.steps_stay_alike.ensures.statements c.place_statements.ensures.script
+              c.of-parts.ensures.items
+              (ap (run (statement_step (rows_of g.naming c.args.self.now) c.args.self.now.provided.now)
+              (layout_of g.naming c.args.here.now c.args.done.now)) (sym c.of-parts.ensures.before)
+              ∙ c.in_ok-place_statements.ensures.gives)
+              (let none = ap (λ (z : Outputs). length (map (section_of g.naming) z.list))
+              c.place_statements.ensures.sections
+              ∙ ap (λ l. length (map (section_of g.naming) l)) c.requires.0 in omega (arith, none))
+              (c.requires.1.1.1.1.1 other some),
+        ),
       ),
     ),
   ),

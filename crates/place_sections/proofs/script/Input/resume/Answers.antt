@@ -3,7 +3,7 @@ use Rattle.std.specs.Prelude.{slice_get}
 use Rattle.std.proofs.lemmas.Option.{slice_get-get_or}
 use Rattle.ldmodel.specs.Placement.{item_step}
 use Rattle.place_terms.specs.Keyed.{section_of}
-use Rattle.place_sections.proofs.Resuming.{all_noted, goes_on, none_reached, reached_on, taken_next}
+use Rattle.place_sections.proofs.Resuming.{all_noted, goes_on, may_be_taken, none_reached, reached_on, taken_next}
 use Rattle.place_sections.proofs.Runs.{run_none}
 use Rattle.place_sections.specs.Inputs.{rows_of}
 use Rattle.place_sections.specs.State.{layout_of}
@@ -24,13 +24,29 @@ loop-number-init g c = record {
       c.requires.0;
   outputs = search rules;
   kept = search rules;
+  placed = c.requires.1.0;
 }
 
 pub take_section-requires : goal.take_section-requires
 take_section-requires g c = record {
-  kept = c.loop-number.invariant.kept ∙ c.requires.1.1.0;
+  kept = c.loop-number.invariant.kept ∙ c.requires.1.1.1.0;
+  there =
+      let e = c.requires.1.1.1.1 c.in-Some.ensures.same c.in-Some.ensures.first.0 in
+      let bs : List Boundary = c.args.self.now.kept.boundaries.now in
+      let b = c.in-Some.ensures.boundary in
+      let f = c.in-Some.ensures.first.1 in
+      let inside : c.loop-number.number < length bs = omega (arith, c.loop-number-test.true, b) in
+      let inside_next : c.loop-number.number + 1 < length bs = omega (arith, c.loop-number-test.true, b) in
+      may_be_taken g.naming c.args.self.now c.args.here.now.symbols.script
+      (layout_of g.naming c.args.here.now c.args.done.now) c.args.items.now e
+      (get_or bs c.loop-number.number no_boundary) c.loop-number.number
+      (slice_get-get_or bs c.loop-number.number no_boundary inside)
+      (get_or bs (c.loop-number.number + 1) no_boundary)
+      (slice_get-get_or bs (c.loop-number.number + 1) no_boundary inside_next)
+      (omega (arith, c.loop-number-test.true, f)) c.loop-number.done (c.loop-number.invariant.reached e)
+      c.loop-number.invariant.placed (c.loop-number.invariant.kept ∙ c.requires.1.1.1.0);
   next =
-      let e = c.requires.1.1.1 c.in-Some.ensures.same c.in-Some.ensures.first.0 in
+      let e = c.requires.1.1.1.1 c.in-Some.ensures.same c.in-Some.ensures.first.0 in
       let bs : List Boundary = c.args.self.now.kept.boundaries.now in
       let inside : c.loop-number.number < length bs =
       (let b = c.in-Some.ensures.boundary in omega (arith, c.loop-number-test.true, b)) in
@@ -39,7 +55,7 @@ take_section-requires g c = record {
       (get_or bs c.loop-number.number no_boundary) c.loop-number.number
       (slice_get-get_or bs c.loop-number.number no_boundary inside)
       c.args.done.now.sections.script
-      (ap (map (section_of g.naming)) c.requires.0) c.requires.1.0 c.loop-number.done
+      (ap (map (section_of g.naming)) c.requires.0) c.requires.1.1.0 c.loop-number.done
       (c.loop-number.invariant.reached e) c.loop-number.invariant.outputs;
 }
 
@@ -62,18 +78,19 @@ loop-number-preserved g c = record {
       c.in_ok-take_section.ensures.takes;
   outputs = c.in_ok-take_section.ensures.outputs ∙ c.loop-number.invariant.outputs;
   kept = c.in_ok-take_section.ensures.kept ∙ c.loop-number.invariant.kept;
+  placed = c.in_ok-take_section.ensures.placed ∙ c.loop-number.invariant.placed;
 }
 
 pub returns-clause-few : goal.returns-clause-few
 returns-clause-few g c =
-    let r = c.loop-number.invariant.reached (c.requires.1.1.1 c.in-Some.ensures.same c.in-Some.ensures.first.0) in
+    let r = c.loop-number.invariant.reached (c.requires.1.1.1.1 c.in-Some.ensures.same c.in-Some.ensures.first.0) in
     let m = r.many in
     let f = c.in-Some.ensures.first.1 in
     omega (arith, m, f, c.loop-number-test.false, c.loop-number.auto.number-end)
 
 pub returns-clause-here : goal.returns-clause-here
 returns-clause-here g c =
-    let e = c.requires.1.1.1 c.in-Some.ensures.same c.in-Some.ensures.first.0 in
+    let e = c.requires.1.1.1.1 c.in-Some.ensures.same c.in-Some.ensures.first.0 in
     let bs : List Boundary = c.args.self.now.kept.boundaries.now in
     let end : c.loop-number.number ≡ c.in-Some.count =
     omega (arith, c.loop-number-test.false, c.loop-number.auto.number-end) in
@@ -90,7 +107,7 @@ returns-clause-here g c =
 
 pub returns-clause-noted : goal.returns-clause-noted
 returns-clause-noted g c =
-    let e = c.requires.1.1.1 c.in-Some.ensures.same c.in-Some.ensures.first.0 in
+    let e = c.requires.1.1.1.1 c.in-Some.ensures.same c.in-Some.ensures.first.0 in
     let r = c.loop-number.invariant.reached e in
     let m = r.many in
     let end : c.loop-number.number ≡ c.in-Some.count =
@@ -99,3 +116,10 @@ returns-clause-noted g c =
     (layout_of g.naming c.args.here.now c.args.done.now) c.args.items.now e c.in-Some.count
     c.in-Some.ensures.first.1 c.in_ok-copy_of.field-0.items (length c.loop-number.done.sections.list)
     c.in_ok-copy_of.ensures c.in-Some.ensures.boundary (m ∙ end)
+
+pub returns-clause-all : goal.returns-clause-all
+returns-clause-all g c = λ same.
+    let r = c.loop-number.invariant.reached (c.requires.1.1.1.1 c.in-Some.ensures.same c.in-Some.ensures.first.0) in
+    let m = r.many in
+    let a = c.in-Some.ensures.all in
+    omega (arith, m, a, c.loop-number-test.false, c.loop-number.auto.number-end)

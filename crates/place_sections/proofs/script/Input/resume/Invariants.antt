@@ -11,4 +11,5 @@ invariant-loop-number g l = record {
       → Reached g.naming l.self (layout_of g.naming l.fn.here l.fn.done) l.items e.rows l.done l.number;
   outputs : l.done.sections.script ≡ l.fn.done.sections.script;
   kept : l.done.sections.earlier ≡ l.fn.done.sections.earlier;
+  placed : l.done.sections.placed ≡ 0;
 }

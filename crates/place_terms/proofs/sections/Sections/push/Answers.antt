@@ -1,4 +1,4 @@
-use Rattle.std.proofs.Common.{arith}
+use Rattle.std.proofs.Common.{arith, length}
 use Rattle.std.proofs.lemmas.List.{length-map}
 use Rattle.place_terms.proofs.FoundSections.{both_pushed, next_number, pushed_elsewhere, pushed_in, pushed_nowhere}
 use Rattle.place_terms.specs.PreviousLayout.{earlier_of}
@@ -12,7 +12,8 @@ invariant_of-self-in-Elsewhere c =
           (keyed c.args.section) c.self.inside.differences.items c.self.inside.elsewhere c.self.inside.count
           c.in_ok-count.count c.self.inside.data_count c.in_ok-data_count.data_count c.self.invariant.0
           (next_number c.self.inside.script.now (earlier_of c.self.inside.earlier)
-          (both c.self.inside.taken.items c.self.inside.list.items) c.args.self.now
+          (both c.self.inside.taken.items c.self.inside.list.items) (length c.self.inside.list.items)
+          c.args.self.now
           c.args.section.output.now c.self.view_is c.statements-statements.ensures.sound c.requires.next)
           c.requires.fits
           (omega (arith, c.in_ok-count.ensures, c.len-2.ensures, length-map c.args.section.pieces.items keyed_piece))
@@ -28,7 +29,8 @@ invariant_of-self-in-Nowhere c =
           (keyed c.args.section) c.self.inside.differences.items c.self.inside.elsewhere c.self.inside.count
           c.in_ok-count.count c.self.inside.data_count c.in_ok-data_count.data_count c.self.invariant.0
           (next_number c.self.inside.script.now (earlier_of c.self.inside.earlier)
-          (both c.self.inside.taken.items c.self.inside.list.items) c.args.self.now
+          (both c.self.inside.taken.items c.self.inside.list.items) (length c.self.inside.list.items)
+          c.args.self.now
           c.args.section.output.now c.self.view_is c.statements-statements.ensures.sound c.requires.next)
           c.requires.fits
           (omega (arith, c.in_ok-count.ensures, c.len-2.ensures, length-map c.args.section.pieces.items keyed_piece))
@@ -44,7 +46,8 @@ invariant_of-self-in-At c =
           (keyed c.args.section) c.self.inside.differences.items c.self.inside.elsewhere c.self.inside.count
           c.in_ok-count.count c.self.inside.data_count c.in_ok-data_count.data_count c.self.invariant.0
           (next_number c.self.inside.script.now (earlier_of c.self.inside.earlier)
-          (both c.self.inside.taken.items c.self.inside.list.items) c.args.self.now
+          (both c.self.inside.taken.items c.self.inside.list.items) (length c.self.inside.list.items)
+          c.args.self.now
           c.args.section.output.now c.self.view_is c.statements-statements.ensures.sound c.requires.next)
           c.requires.fits
           (omega (arith, c.in_ok-count.ensures, c.len-2.ensures, length-map c.args.section.pieces.items keyed_piece))

@@ -1,4 +1,4 @@
-use Rattle.std.proofs.Common.{arith, ap, set, length, subst, sym, ◌∙◌}
+use Rattle.std.proofs.Common.{arith, ap, set, length, refl, subst, sym, ◌+◌, ◌∙◌}
 use Rattle.ldscript.specs.statements.declared.section.OutputSection.{OutputSection}
 use Rattle.ldmodel.specs.Placement.{difference_of}
 use Rattle.place_terms.proofs.FoundSections.{both_taken, next_number, pushed_elsewhere, pushed_in, pushed_nowhere}
@@ -12,16 +12,19 @@ use Rattle.place_terms.proofs.sections.Sections.take.Goals as goal
 pub invariant_of-self-in-Elsewhere : goal.invariant_of-self-in-Elsewhere
 invariant_of-self-in-Elsewhere c = (
   subst (λ l. AreSectionsOf c.self.inside.script.now l c.self.inside.differences.items
-      (difference_of (section_of nameless (keyed_taken c.in-Some.section))) c.in_ok-count.count c.args.data_end)
+      (difference_of (section_of nameless (keyed_taken c.in-Some.section)))
+      (c.self.inside.count + length c.in-Some.section.starts.now) c.args.data_end)
       (sym (ap (λ l. both l c.self.inside.list.items) c.in_ok-push.ensures.items
       ∙ both_taken c.self.inside.taken.items c.self.inside.list.items c.in-Some.section
       (sym c.deref.ensures.value ∙ c.in-Some.ensures.first)))
       (pushed_elsewhere c.self.inside.script.now (both c.self.inside.taken.items c.self.inside.list.items)
       (keyed_taken c.in-Some.section) c.self.inside.differences.items c.self.inside.elsewhere
       c.self.inside.count
-      c.in_ok-count.count c.self.inside.data_count c.args.data_end c.self.invariant.0
+      (c.self.inside.count + length c.in-Some.section.starts.now) c.self.inside.data_count c.args.data_end
+      c.self.invariant.0
       (next_number c.self.inside.script.now (earlier_of c.self.inside.earlier)
-      (both c.self.inside.taken.items c.self.inside.list.items) c.args.self.now c.in-Some.section.output.now
+      (both c.self.inside.taken.items c.self.inside.list.items) (length c.self.inside.list.items)
+      c.args.self.now c.in-Some.section.output.now
       c.self.view_is c.statements-statements.ensures.sound
       (subst (IsOutput c.args.self.now.script (length c.args.self.now.list)) (sym c.in-Some.ensures.is.output)
       c.requires.next))
@@ -32,7 +35,7 @@ invariant_of-self-in-Elsewhere c = (
       (sym c.deref.ensures.value ∙ c.in-Some.ensures.first)
       c.self.invariant.0 c.self.invariant.1 c.len-number.result c.args.output.now c.args.row.now
       c.in-Some.section.data_commands.now c.in-Some.section (omega (arith, c.len-number.ensures)) c.in-Some.ensures.is
-      c.in_ok-count.count c.in_ok-count.ensures)
+      (c.self.inside.count + length c.in-Some.section.starts.now) refl)
       (commands_more c.self.inside.script.now c.self.inside.earlier c.self.inside.taken.items
       c.self.inside.list.items c.self.inside.differences.items c.self.inside.elsewhere c.self.inside.count
       c.self.inside.data_count c.self.inside.taken_count
@@ -49,22 +52,24 @@ invariant_of-self-in-Elsewhere c = (
       (sym c.deref.ensures.value ∙ c.in-Some.ensures.first)
       c.self.invariant.0 c.self.invariant.1 c.len-number.result c.args.output.now c.args.row.now
       c.in-Some.section.data_commands.now c.in-Some.section (omega (arith, c.len-number.ensures)) c.in-Some.ensures.is
-      c.push.new.self.items c.in_ok-count.count c.in_ok-push.ensures.items c.in_ok-count.ensures,
+      c.push.new.self.items (c.self.inside.count + length c.in-Some.section.starts.now) c.in_ok-push.ensures.items refl,
 )
 
 pub invariant_of-self-in-Nowhere : goal.invariant_of-self-in-Nowhere
 invariant_of-self-in-Nowhere c = (
   subst (λ l. AreSectionsOf c.self.inside.script.now l c.self.inside.differences.items
-      c.self.inside.elsewhere c.in_ok-count.count c.args.data_end)
+      c.self.inside.elsewhere (c.self.inside.count + length c.in-Some.section.starts.now) c.args.data_end)
       (sym (ap (λ l. both l c.self.inside.list.items) c.in_ok-push.ensures.items
       ∙ both_taken c.self.inside.taken.items c.self.inside.list.items c.in-Some.section
       (sym c.deref.ensures.value ∙ c.in-Some.ensures.first)))
       (pushed_nowhere c.self.inside.script.now (both c.self.inside.taken.items c.self.inside.list.items)
       (keyed_taken c.in-Some.section) c.self.inside.differences.items c.self.inside.elsewhere
       c.self.inside.count
-      c.in_ok-count.count c.self.inside.data_count c.args.data_end c.self.invariant.0
+      (c.self.inside.count + length c.in-Some.section.starts.now) c.self.inside.data_count c.args.data_end
+      c.self.invariant.0
       (next_number c.self.inside.script.now (earlier_of c.self.inside.earlier)
-      (both c.self.inside.taken.items c.self.inside.list.items) c.args.self.now c.in-Some.section.output.now
+      (both c.self.inside.taken.items c.self.inside.list.items) (length c.self.inside.list.items)
+      c.args.self.now c.in-Some.section.output.now
       c.self.view_is c.statements-statements.ensures.sound
       (subst (IsOutput c.args.self.now.script (length c.args.self.now.list)) (sym c.in-Some.ensures.is.output)
       c.requires.next))
@@ -75,7 +80,7 @@ invariant_of-self-in-Nowhere c = (
       (sym c.deref.ensures.value ∙ c.in-Some.ensures.first)
       c.self.invariant.0 c.self.invariant.1 c.len-number.result c.args.output.now c.args.row.now
       c.in-Some.section.data_commands.now c.in-Some.section (omega (arith, c.len-number.ensures)) c.in-Some.ensures.is
-      c.in_ok-count.count c.in_ok-count.ensures)
+      (c.self.inside.count + length c.in-Some.section.starts.now) refl)
       (commands_more c.self.inside.script.now c.self.inside.earlier c.self.inside.taken.items
       c.self.inside.list.items c.self.inside.differences.items c.self.inside.elsewhere c.self.inside.count
       c.self.inside.data_count c.self.inside.taken_count
@@ -92,7 +97,7 @@ invariant_of-self-in-Nowhere c = (
       (sym c.deref.ensures.value ∙ c.in-Some.ensures.first)
       c.self.invariant.0 c.self.invariant.1 c.len-number.result c.args.output.now c.args.row.now
       c.in-Some.section.data_commands.now c.in-Some.section (omega (arith, c.len-number.ensures)) c.in-Some.ensures.is
-      c.push.new.self.items c.in_ok-count.count c.in_ok-push.ensures.items c.in_ok-count.ensures,
+      c.push.new.self.items (c.self.inside.count + length c.in-Some.section.starts.now) c.in_ok-push.ensures.items refl,
 )
 
 pub invariant_of-self-in-At : goal.invariant_of-self-in-At
@@ -100,16 +105,18 @@ invariant_of-self-in-At c = (
   subst (λ l. AreSectionsOf c.self.inside.script.now l
       (set c.self.inside.differences.items c.in-At.number
       (difference_of (section_of nameless (keyed_taken c.in-Some.section))))
-      c.self.inside.elsewhere c.in_ok-count.count c.args.data_end)
+      c.self.inside.elsewhere (c.self.inside.count + length c.in-Some.section.starts.now) c.args.data_end)
       (sym (ap (λ l. both l c.self.inside.list.items) c.in_ok-push.ensures.items
       ∙ both_taken c.self.inside.taken.items c.self.inside.list.items c.in-Some.section
       (sym c.deref.ensures.value ∙ c.in-Some.ensures.first)))
       (pushed_in c.self.inside.script.now (both c.self.inside.taken.items c.self.inside.list.items)
       (keyed_taken c.in-Some.section) c.self.inside.differences.items c.self.inside.elsewhere
       c.self.inside.count
-      c.in_ok-count.count c.self.inside.data_count c.args.data_end c.self.invariant.0
+      (c.self.inside.count + length c.in-Some.section.starts.now) c.self.inside.data_count c.args.data_end
+      c.self.invariant.0
       (next_number c.self.inside.script.now (earlier_of c.self.inside.earlier)
-      (both c.self.inside.taken.items c.self.inside.list.items) c.args.self.now c.in-Some.section.output.now
+      (both c.self.inside.taken.items c.self.inside.list.items) (length c.self.inside.list.items)
+      c.args.self.now c.in-Some.section.output.now
       c.self.view_is c.statements-statements.ensures.sound
       (subst (IsOutput c.args.self.now.script (length c.args.self.now.list)) (sym c.in-Some.ensures.is.output)
       c.requires.next))
@@ -120,7 +127,7 @@ invariant_of-self-in-At c = (
       (sym c.deref.ensures.value ∙ c.in-Some.ensures.first)
       c.self.invariant.0 c.self.invariant.1 c.len-number.result c.args.output.now c.args.row.now
       c.in-Some.section.data_commands.now c.in-Some.section (omega (arith, c.len-number.ensures)) c.in-Some.ensures.is
-      c.in_ok-count.count c.in_ok-count.ensures)
+      (c.self.inside.count + length c.in-Some.section.starts.now) refl)
       (commands_more c.self.inside.script.now c.self.inside.earlier c.self.inside.taken.items
       c.self.inside.list.items c.self.inside.differences.items c.self.inside.elsewhere c.self.inside.count
       c.self.inside.data_count c.self.inside.taken_count
@@ -137,11 +144,11 @@ invariant_of-self-in-At c = (
       (sym c.deref.ensures.value ∙ c.in-Some.ensures.first)
       c.self.invariant.0 c.self.invariant.1 c.len-number.result c.args.output.now c.args.row.now
       c.in-Some.section.data_commands.now c.in-Some.section (omega (arith, c.len-number.ensures)) c.in-Some.ensures.is
-      c.push.new.self.items c.in_ok-count.count c.in_ok-push.ensures.items c.in_ok-count.ensures,
+      c.push.new.self.items (c.self.inside.count + length c.in-Some.section.starts.now) c.in_ok-push.ensures.items refl,
 )
 
 pub returns-in-Elsewhere-clause-taken : goal.returns-in-Elsewhere-clause-taken
-returns-in-Elsewhere-clause-taken c =
+returns-in-Elsewhere-clause-taken c = λ _.
     with_taken c.self.inside.script.now c.self.inside.earlier c.self.inside.taken.items
     c.self.inside.list.items c.self.inside.differences.items c.self.inside.elsewhere c.self.inside.count
     c.self.inside.data_count c.self.inside.taken_count
@@ -152,7 +159,7 @@ returns-in-Elsewhere-clause-taken c =
     c.in-Some.ensures.part c.in-Some.ensures.long
 
 pub returns-in-Nowhere-clause-taken : goal.returns-in-Nowhere-clause-taken
-returns-in-Nowhere-clause-taken c =
+returns-in-Nowhere-clause-taken c = λ _.
     with_taken c.self.inside.script.now c.self.inside.earlier c.self.inside.taken.items
     c.self.inside.list.items c.self.inside.differences.items c.self.inside.elsewhere c.self.inside.count
     c.self.inside.data_count c.self.inside.taken_count
@@ -163,7 +170,7 @@ returns-in-Nowhere-clause-taken c =
     c.in-Some.ensures.part c.in-Some.ensures.long
 
 pub returns-in-At-clause-taken : goal.returns-in-At-clause-taken
-returns-in-At-clause-taken c =
+returns-in-At-clause-taken c = λ _.
     with_taken c.self.inside.script.now c.self.inside.earlier c.self.inside.taken.items
     c.self.inside.list.items c.self.inside.differences.items c.self.inside.elsewhere c.self.inside.count
     c.self.inside.data_count c.self.inside.taken_count
