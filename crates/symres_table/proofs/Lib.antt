@@ -21,4 +21,5 @@ pub mod Ordered
 pub mod ByPlace
 pub mod Fresh
 pub mod Reentering
-pub mod Undoing
+pub mod PrefixKeys
+pub mod Arranging

@@ -2,6 +2,7 @@
 pub mod State
 pub mod Hashing
 pub mod Known
+pub mod PrefixKeys
 pub mod Exchanges
 pub mod Places
 pub mod Numbers

@@ -2,8 +2,8 @@
 //! gives decisions, each counted.
 //!
 //! - `names`: the table, and what it is asked; `tally`: a decision, in one pass over the entries of a name;
-//! - `name_table` with `hashing`, `name_order`: names and their numbers; `objects`, `rows`, `places`: entries by
-//!   object, by name and by place;
+//! - `name_table` with `hashing`, `name_order` over `prefix_key`: names and their numbers; `objects`, `rows`, `places`:
+//!   entries by object, by name and by place;
 //! - `lists` with `hints`, `repeats`, `symbol`: the symbols of an object that is entered, and where their names are
 //!   likely to stand; `law`: what can be entered again.
 #![tactic(auto)]
@@ -17,6 +17,7 @@ mod name_table;
 pub mod names;
 mod objects;
 mod places;
+pub mod prefix_key;
 mod repeats;
 mod rows;
 pub mod symbol;

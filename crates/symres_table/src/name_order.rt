@@ -1,80 +1,86 @@
-//! The byte order of the names of a table, by exchanges of names that are found by the first bytes of each: these lie
-//! side by side and are compared as numbers, while names lie all over memory, and no name is hashed anew. Nothing
-//! relies on what is found so: the names are compared once they are exchanged. Where they were not in order then, all
-//! would be put back, and the table would sort them.
+//! The byte order of the names of a table. The names are sorted by their keys, and then exchanged, so that none is
+//! hashed anew.
 
-ghost use Rattle.std.specs.Prelude.{◌≡◌, ◌<◌, ℕ, IsTrue, List, OnErr, OnOk, Option, length, map, slice_index_or};
+ghost use Rattle.std.specs.Prelude.{◌≡◌, ◌<◌, ℕ, IfOk, List, OnErr, OnOk, Option, length, map};
+ghost use Rattle.std.specs.Cmp.Lexicographic.{slice_cmp};
+ghost use Rattle.std.specs.Ordering.{nat_cmp};
 ghost use Rattle.std.proofs.Common.{Vec, Global};
-ghost use Rattle.symres_table.specs.Exchanges.{exchange, exchanged};
+ghost use Rattle.symres_table.specs.Exchanges.{AreFronts, AreSorted, Exchanges, IsArranged, IsFront, IsInOrder};
+ghost use Rattle.symres_table.specs.Exchanges.{IsStanding, name_of, with_key};
 ghost use Rattle.symres_table.specs.Known.{AreApart, IsPaired, entry_spelled};
 ghost use Rattle.symres_table.specs.State.{IsInByteOrder};
 
 use crate::hashing::WordState;
+use crate::prefix_key::PrefixKey;
 use indexmap::IndexMap;
 use std::alloc::{AllocError, Global};
 use std::cmp::Ordering;
 
-/// How many bytes of a name are compared as a number.
-const FRONT: usize = 16;
-
-/// The first bytes of a name, with zeros after a short one, and the place of the name.
+/// The key of a name, and the place of the name.
 #[derive(Clone, Copy)]
 struct NameFront {
-    bytes: u128,
+    key: PrefixKey,
     place: usize,
 }
 
-fn front_of(name: &[u8]) -> u128 {
-    let mut bytes = [0; FRONT];
-    let count = name.len().min(FRONT);
-    bytes[..count].copy_from_slice(&name[..count]);
-    u128::from_be_bytes(bytes)
-}
-
+/// The name at a place, and no bytes past the last.
 fn name_at(names: &IndexMap<Vec<u8>, usize, WordState>, place: usize) -> &[u8]
-    requires { place < length names.now.entries }
-    ensures { (e : Vec ℕ Global × ℕ) → (slice_index_or names.now.entries place e).0.items ≡ result.now }
+    ensures { result.now ≡ name_of names.now.entries place }
 {
     match names.get_index(place) {
         Some((name, _number)) => name.as_slice(),
-        None => unreachable!(),
+        None => &[],
     }
 }
 
-/// Which of two names comes first. No name has a zero byte, so that it is the one whose front is the lesser number.
-fn compare(names: &IndexMap<Vec<u8>, usize, WordState>, a: &NameFront, b: &NameFront) -> Ordering {
-    if a.bytes != b.bytes || a.place >= names.len() || b.place >= names.len() {
-        return a.bytes.cmp(&b.bytes);
+/// Which of two names comes first.
+fn compare(names: &IndexMap<Vec<u8>, usize, WordState>, a: &NameFront, b: &NameFront) -> Ordering
+    ensures { result ≡ slice_cmp nat_cmp (with_key names.now.entries a.now) (with_key names.now.entries b.now) }
+{
+    let one = a.key.number;
+    let two = b.key.number;
+    if one != two {
+        return one.cmp(&two);
     }
     name_at(names, a.place).cmp(name_at(names, b.place))
 }
 
-/// The names in their order.
-fn sorted_fronts(
-    names: &IndexMap<Vec<u8>, usize, WordState>,
-) -> Result<Vec<NameFront>, AllocError> {
+/// The front of the name at a place.
+fn front_of(names: &IndexMap<Vec<u8>, usize, WordState>, place: usize) -> NameFront
+    requires { place < length names.now.entries }
+    ensures front { IsFront names.now.entries result }
+    ensures place { result.place ≡ place }
+{
+    NameFront {
+        key: PrefixKey::new(name_at(names, place)),
+        place,
+    }
+}
+
+/// The fronts of all names, by place.
+fn fronts_of(names: &IndexMap<Vec<u8>, usize, WordState>) -> Result<Vec<NameFront>, AllocError>
+    ensures { IfOk result (λ fronts. AreFronts names.now.entries (length names.now.entries) fronts.items) }
+{
     let mut fronts = Vec::with_capacity(*names.allocator(), names.len())?;
     for place in 0..names.len() {
-        fronts.push(NameFront {
-            bytes: front_of(name_at(names, place)),
-            place,
-        })?;
+        fronts.push(front_of(names, place))?;
     }
+    Ok(fronts)
+}
+
+/// The fronts of all names, in the order of the names.
+fn sorted_fronts(names: &IndexMap<Vec<u8>, usize, WordState>) -> Result<Vec<NameFront>, AllocError>
+    ensures { IfOk result (λ fronts. AreSorted names.now.entries fronts.items) }
+{
+    let mut fronts = fronts_of(names)?;
     fronts.sort_by(|a, b| compare(names, a, b))?;
     Ok(fronts)
 }
 
-fn number_at(list: &[usize], at: usize) -> usize {
-    list.get(at).copied().unwrap_or(0)
-}
-
-fn write_at(list: &mut [usize], at: usize, number: usize) {
-    if at < list.len() {
-        list[at] = number;
-    }
-}
-
-fn numbers_below(alloc: Global, count: usize) -> Result<Vec<usize>, AllocError> {
+/// The numbers below this one, in their order.
+fn numbers_below(alloc: Global, count: usize) -> Result<Vec<usize>, AllocError>
+    ensures { IfOk result (λ list. IsInOrder count list.items) }
+{
     let mut list = Vec::with_capacity(alloc, count)?;
     for number in 0..count {
         list.push(number)?;
@@ -82,66 +88,54 @@ fn numbers_below(alloc: Global, count: usize) -> Result<Vec<usize>, AllocError> 
     Ok(list)
 }
 
-/// With which place each place is to exchange its name, from the first on.
-fn find_exchanges(alloc: Global, fronts: &[NameFront]) -> Result<Vec<usize>, AllocError> {
-    let mut exchanges = Vec::with_capacity(alloc, fronts.len())?;
-    // where each name stands by now, and which one stands at each place
-    let mut stands_at = numbers_below(alloc, fronts.len())?;
-    let mut standing = numbers_below(alloc, fronts.len())?;
-    for (place, front) in fronts.iter().enumerate() {
-        let from = number_at(&stands_at, front.place);
-        let other = number_at(&standing, place);
-        exchanges.push(from)?;
-        write_at(&mut stands_at, other, from);
-        write_at(&mut standing, from, other);
-    }
-    Ok(exchanges)
-}
-
-/// Exchanges the names at two places, if there are such.
+/// Exchanges the names at two places.
 fn exchange(names: &mut IndexMap<Vec<u8>, usize, WordState>, a: usize, b: usize)
-    ensures entries { names.new.entries ≡ exchange a b names.old.entries }
+    requires { (a < length names.old.entries) × (b < length names.old.entries) }
+    ensures entries { Exchanges a b names.old.entries names.new.entries }
     ensures paired { (slots : List (Option (Vec ℕ Global))) → IsPaired names.old.entries slots
         → IsPaired names.new.entries slots }
 {
-    let count = names.len();
-    if a < count && b < count && a != b {
-        names.swap_indices(a, b);
-    }
+    names.swap_indices(a, b);
 }
 
-/// Makes exchanges, from the first on.
-fn exchange_all(names: &mut IndexMap<Vec<u8>, usize, WordState>, exchanges: &[usize])
-    ensures entries { names.new.entries ≡ exchanged exchanges.now (length exchanges.now) names.old.entries }
+/// Exchanges the numbers at two places.
+fn exchange_numbers(standing: &mut [usize], places: &mut [usize], a: usize, b: usize)
+    requires places { (a < length standing.old) × (b < length standing.old) }
+    requires standing { IsStanding (length standing.old) standing.old places.old }
+    ensures exchanged { Exchanges a b standing.old standing.new }
+    ensures standing { IsStanding (length standing.old) standing.new places.new }
+{
+    let one = standing[a];
+    let other = standing[b];
+    standing[a] = other;
+    standing[b] = one;
+    places[one] = b;
+    places[other] = a;
+}
+
+/// Puts the names into the order of these fronts. `standing` and `places` say, from place to place, which name stands
+/// at each place by now, and at which place each name stands.
+fn arrange(
+    names: &mut IndexMap<Vec<u8>, usize, WordState>,
+    fronts: &[NameFront],
+    standing: &mut [usize],
+    places: &mut [usize],
+)
+    requires fronts { AreSorted names.old.entries fronts.now }
+    requires standing { IsInOrder (length names.old.entries) standing.old }
+    requires places { IsInOrder (length names.old.entries) places.old }
+    ensures arranged { IsArranged fronts.now names.old.entries names.new.entries }
     ensures paired { (slots : List (Option (Vec ℕ Global))) → IsPaired names.old.entries slots
         → IsPaired names.new.entries slots }
 {
-    for (place, other) in exchanges.iter().enumerate() {
-        exchange(names, place, *other);
-    }
-}
-
-/// Makes exchanges, from the last back: this undoes them.
-fn exchange_back(names: &mut IndexMap<Vec<u8>, usize, WordState>, exchanges: &[usize])
-    ensures { (was : List (Vec ℕ Global × ℕ)) → names.old.entries ≡ exchanged exchanges.now (length exchanges.now) was
-        → names.new.entries ≡ was }
-{
-    let mut left = exchanges.len();
-    while left > 0 {
-        left -= 1;
-        exchange(names, left, exchanges[left]);
-    }
-}
-
-fn is_in_order(names: &IndexMap<Vec<u8>, usize, WordState>) -> bool
-    ensures { IsTrue result → IsInByteOrder (map entry_spelled names.now.entries) }
-{
-    for place in 1..names.len() {
-        if name_at(names, place).cmp(name_at(names, place - 1)).is_lt() {
-            return false;
+    for (place, front) in fronts.iter().enumerate() {
+        let from = places[front.place];
+        if from == place {
+            continue;
         }
+        exchange(names, place, from);
+        exchange_numbers(standing, places, place, from);
     }
-    true
 }
 
 /// Puts the names into byte order. Where memory is refused, they stand as before.
@@ -154,13 +148,10 @@ pub fn put_in_order(names: &mut IndexMap<Vec<u8>, usize, WordState>) -> Result<(
         → AreApart names.new.entries) }
 {
     let fronts = sorted_fronts(names)?;
-    let exchanges = find_exchanges(*names.allocator(), &fronts)?;
-    exchange_all(names, &exchanges);
+    let mut standing = numbers_below(*names.allocator(), names.len())?;
+    let mut places = numbers_below(*names.allocator(), names.len())?;
+    arrange(names, &fronts, &mut standing, &mut places);
     // so that no two names are known to be the same
     let _count = names.len();
-    if is_in_order(names) {
-        return Ok(());
-    }
-    exchange_back(names, &exchanges);
-    names.sort_keys()
+    Ok(())
 }
