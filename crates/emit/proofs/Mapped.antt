@@ -25,6 +25,7 @@ use Rattle.emit_relocate.specs.Values.{value_of}
 use Rattle.emit_relocate.specs.declared.value.SymbolValue as code
 use Rattle.emit_relocate.specs.declared.value.SymbolValue.TheVariants as value
 use Rattle.emit_text.specs.MapOf.{AreSymbolsOf, IsMapOf, IsSymbolOf, IsValue, symbol_names}
+use Rattle.emit_text.specs.declared.maps.LinkMap.{LinkMap}
 use Rattle.emit_text.specs.declared.maps.MapParts.{MapParts}
 use Rattle.emit_text.specs.declared.symbols.MapSymbol.{MapSymbol}
 use Rattle.emit_values.specs.Values.{AreValues, shown_symbol}
@@ -195,9 +196,9 @@ is_map p s a l v m h link_layout values = record {
       (all_there p s v.symbols.items name values.symbols declared is);
 }
 
-pub text_is : {E : Type 0} (p : Project) (l : LinkLayout) (v : Values) (m : MapParts) (r : Result (Vec ℕ Global) E)
-    → Makes p l v m → ((s : Layout) → IsMapOf p (λ key. key) s m → IfOk r (λ text. text.items ≡ map_text p s))
-    → IfOk r (λ text. (s : Layout) (a : SymbolTableState) → IsLinkLayout p s l → AreValues p s a v
-    → text.items ≡ map_text p s)
+pub text_is : {E : Type 0} (p : Project) (l : LinkLayout) (v : Values) (m : MapParts) (r : Result LinkMap E)
+    → Makes p l v m → ((s : Layout) → IsMapOf p (λ key. key) s m → IfOk r (λ made. made.text.items ≡ map_text p s))
+    → IfOk r (λ made. (s : Layout) (a : SymbolTableState) → IsLinkLayout p s l → AreValues p s a v
+    → made.text.items ≡ map_text p s)
 text_is p l v m (Ok text) h is = λ s a link_layout values. is s (is_map p s a l v m h link_layout values)
 text_is p l v m (Err e) h is = tt

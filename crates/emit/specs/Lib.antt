@@ -19,3 +19,4 @@ pub mod Pieces
 pub mod Sizes
 pub mod Symbols
 pub mod Listed
+pub mod PreviousNames

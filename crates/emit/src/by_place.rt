@@ -1,8 +1,9 @@
 //! The objects of a project by their places.
 
 use elfobj::Object;
-use emit_text::members::Members;
+use emit_text::members::{KnownNames, Members};
 use ldmodel::names::ObjectPlace;
+use ldmodel::sections::SectionKey;
 use ldmodel_project::view::ProjectView;
 
 /// The objects of a project, whose keys are their places.
@@ -30,5 +31,14 @@ impl<'a, 'b> Members for ByPlace<'a, 'b> {
     fn object(&self, key: ObjectPlace) -> Option<&Object> {
         let project = self.project;
         project.object(key)
+    }
+
+    fn known_names(
+        &self,
+        _row: usize,
+        _likely: usize,
+        _section: SectionKey,
+    ) -> Option<KnownNames<'_>> {
+        None
     }
 }

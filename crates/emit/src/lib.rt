@@ -4,7 +4,7 @@
 //! - `relocated` over `keys`: the fields of all relocations, or their faults; `law`;
 //! - `drawing` over `output`, `parts`, `pieces`, `data_runs`, `section_fields`, `symbols`: the image; `length`;
 //! - `good`: a link without faults is one that the laws on two links speak of;
-//! - `map`, `fault_lines` over `by_place`: the texts;
+//! - `map` over `map_members`, `fault_lines`, both over `by_place`: the texts;
 //! - the parts `fields`, `relocate`, `values`, `image`, `in_place`, `text`. Other families name this crate alone.
 #![tactic(auto)]
 
@@ -17,6 +17,7 @@ mod keys;
 mod law;
 pub mod length;
 pub mod map;
+pub mod map_members;
 mod output;
 mod parts;
 mod pieces;

@@ -8,3 +8,5 @@ pub mod SideBySide
 pub mod Mapped
 pub mod ByteOrder
 pub mod MapNames
+pub mod ByteStrings
+pub mod MapRows

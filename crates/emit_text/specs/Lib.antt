@@ -3,3 +3,4 @@ pub mod LineWords
 pub mod Naming
 pub mod ShownMap
 pub mod MapOf
+pub mod ByteStrings

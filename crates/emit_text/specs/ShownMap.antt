@@ -1,6 +1,6 @@
 -- The map by the values that the code has for it.
-use Rattle.std.specs.Prelude.{ℕ, List, [], ◌∷◌, ◌++◌, drop, flat_map, length, map, replicate, codes, Bool}
-use Rattle.std.specs.Prelude.{if◌then◌else◌}
+use Rattle.std.specs.Prelude.{◌≡◌, ℕ, List, [], ◌∷◌, ◌++◌, drop, flat_map, length, map, replicate, codes, Bool}
+use Rattle.std.specs.Prelude.{if◌then◌else◌, slice_get}
 use Rattle.std.specs.Prelude.{Option, Some, None}
 use Rattle.std.specs.Vec.{vec_items}
 use Rattle.ldscript.specs.Numbered.{shown_sections}
@@ -13,6 +13,7 @@ use Rattle.ldmodel.specs.OutputSymbols.{is_defined, owner}
 use Rattle.ldmodel.specs.Project.{Project}
 use Rattle.ldmodel.specs.declared.placed.Placed.{Placed}
 use Rattle.ldmodel.specs.declared.rows.Piece.{Piece}
+use Rattle.ldmodel.specs.declared.sections.SectionKey.{SectionKey}
 use Rattle.emit_text.specs.declared.maps.MapParts.{MapParts}
 use Rattle.emit_text.specs.declared.symbols.MapSymbol.{MapSymbol}
 
@@ -23,6 +24,31 @@ letters writable executable =
 abbrev pub section_text : List ℕ → Placed → List ℕ
 section_text name x =
     line_of (codes "section" ∷ name ∷ hex x.start ∷ hex x.load ∷ hex x.size ∷ letters x.writable x.executable ∷ [])
+
+-- a line of a piece up to its names
+abbrev pub piece_numbers : (start size : ℕ) → List ℕ
+piece_numbers start size = codes "piece " ++ (hex start ++ 32 ∷ []) ++ (hex size ++ 32 ∷ [])
+
+-- and from there on
+abbrev pub names_of : Project → (number : ℕ → ℕ) → SectionKey → List ℕ
+names_of project number k =
+    object_name project (number k.object.0) ++ 32 ∷ [] ++ name_of_part project (number k.object.0) k.part ++ 10 ∷ []
+
+-- those of the pieces of a row
+abbrev pub row_names : Project → (number : ℕ → ℕ) → List Piece → List (List ℕ)
+row_names project number row = map (λ (x : Piece). names_of project number x.section) row
+
+-- texts under the places of a row are the names of its pieces
+abbrev pub AreNamesOfRow : Project → (number : ℕ → ℕ) → List Piece → List (List ℕ) → Type 0
+AreNamesOfRow project number row texts =
+    (i : ℕ) (x : Piece) (text : List ℕ) → slice_get row i ≡ Some x → slice_get texts i ≡ Some text
+    → text ≡ names_of project number x.section
+
+-- so for all rows
+abbrev pub AreNamesOfRows : Project → (number : ℕ → ℕ) → List (List Piece) → List (List (List ℕ)) → Type 0
+AreNamesOfRows project number rows names =
+    (k : ℕ) (row : List Piece) (texts : List (List ℕ)) → slice_get rows k ≡ Some row → slice_get names k ≡ Some texts
+    → AreNamesOfRow project number row texts
 
 abbrev pub piece_text : Project → (number : ℕ → ℕ) → Piece → ℕ → List ℕ
 piece_text project number x start =

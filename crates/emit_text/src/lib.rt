@@ -1,11 +1,13 @@
-//! The texts of a link: the map (`map_text`) and the lines of faults (`fault_text`). Each is written once, into room for
-//! names of common length, which grows where names are longer.
+//! The texts of a link: the map (`map_text`) and the lines of faults (`fault_text`). Each is written once, into room
+//! for names of common length, which grows where names are longer.
 //!
 //! - `faults`, `fault_line`: fault lines; `maps`, `map_line`: the map; `line`, `hex`: how lines are written;
-//! - `members`, `script_names`, `named`, `symbols`, `assertion`: where names come from.
+//! - `byte_strings`: the names in a map, kept for the next; `members`, `script_names`, `named`, `symbols`, `assertion`:
+//!   where names come from.
 #![tactic(auto)]
 
 pub mod assertion;
+pub mod byte_strings;
 mod fault_line;
 pub mod faults;
 mod hex;

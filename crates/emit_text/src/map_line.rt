@@ -2,7 +2,7 @@
 
 ghost use Rattle.std.specs.Prelude.{◌≡◌, ◌∷◌, ◌++◌, ◌≤◌, ◌+◌, [], OnOk, codes, length, take};
 ghost use Rattle.ldmodel.specs.Lines.{hex, line_of};
-ghost use Rattle.emit_text.specs.ShownMap.{value_text};
+ghost use Rattle.emit_text.specs.ShownMap.{piece_numbers, value_text};
 
 use crate::hex::hex_digits;
 use std::alloc::AllocError;
@@ -110,7 +110,7 @@ fn put_names(text: &mut Vec<u8>, first: &[u8], second: &[u8]) -> Result<(), Allo
 /// `piece ADDRESS SIZE ` of a line.
 #[inline(always)]
 fn piece_front(start: u64, size: u64) -> [u8; 40]
-    ensures { result ≡ codes "piece " ++ (hex start ++ 32 ∷ []) ++ (hex size ++ 32 ∷ []) }
+    ensures { result ≡ piece_numbers start size }
 {
     let start = hex_digits(start);
     let size = hex_digits(size);
@@ -123,18 +123,33 @@ fn piece_front(start: u64, size: u64) -> [u8; 40]
     ]
 }
 
-/// `piece ADDRESS SIZE OBJECT SECTION`
+/// A line of a front and what follows it. Most are short: they are put together first, so that the text grows once.
+#[inline(always)]
+fn put_front_and_rest(text: &mut Vec<u8>, front: &[u8], rest: &[u8]) -> Result<(), AllocError>
+    ensures { OnOk result (text.new.items ≡ text.old.items ++ (front.now ++ rest.now)) }
+{
+    if front.len() > PART_ROOM || rest.len() > PART_ROOM {
+        text.extend_from_slice(front)?;
+        text.extend_from_slice(rest)?;
+        return Ok(());
+    }
+    let mut line = [0; LINE_ROOM];
+    let front_end = put_part(&mut line, 0, front);
+    let end = put_part(&mut line, front_end, rest);
+    text.extend_from_slice(&line[..end])?;
+    Ok(())
+}
+
+/// `piece ADDRESS SIZE NAMES`, where the names are `OBJECT SECTION` with the end of the line.
 pub fn put_piece_line(
     text: &mut Vec<u8>,
     start: u64,
     size: u64,
-    object: &[u8],
-    section: &[u8],
+    names: &[u8],
 ) -> Result<(), AllocError>
-    ensures { OnOk result (text.new.items
-        ≡ text.old.items ++ line_of (codes "piece" ∷ hex start ∷ hex size ∷ object.now ∷ section.now ∷ [])) }
+    ensures { OnOk result (text.new.items ≡ text.old.items ++ (piece_numbers start size ++ names.now)) }
 {
-    put_line_of_names(text, &piece_front(start, size), object, section)
+    put_front_and_rest(text, &piece_front(start, size), names)
 }
 
 /// `symbol VALUE ` of a line.

@@ -1,13 +1,15 @@
 //! The map.
 
-ghost use Rattle.std.specs.Prelude.{◌≡◌, ◌++◌, OnOk, IfOk, map};
+ghost use Rattle.std.specs.Prelude.{◌≡◌, ◌++◌, ◌∷◌, [], OnOk, IfOk, length, map, take};
 ghost use Rattle.std.specs.Vec.{vec_items};
 ghost use Rattle.ldscript.specs.Numbered.{shown_sections};
 ghost use Rattle.ldmodel.specs.Layout.{Layout};
 ghost use Rattle.ldmodel.specs.MapText.{map_text};
 ghost use Rattle.emit_text.specs.MapOf.{IsMapOf};
-ghost use Rattle.emit_text.specs.ShownMap.{letters, piece_text, pieces_text, section_text, sections_text, shown_map};
+ghost use Rattle.emit_text.specs.ShownMap.{AreNamesOfRows, letters, names_of, piece_text, pieces_text, row_names};
+ghost use Rattle.emit_text.specs.ShownMap.{section_text, sections_text, shown_map};
 
+use crate::byte_strings::ByteStrings;
 use crate::map_line::{put_entry_line, put_piece_line, put_section_line};
 use crate::members::Members;
 use crate::named::next_part_name;
@@ -15,6 +17,7 @@ use crate::symbols::{MapSymbol, put_symbols};
 use ldmodel::memory::NoMemory;
 use ldmodel::placed::{Placed, PlacementView};
 use ldmodel::rows::Piece;
+use ldmodel::sections::SectionKey;
 use ldscript::tree::OutputSectionAt;
 use std::alloc::{AllocError, Global};
 
@@ -53,80 +56,136 @@ fn put_section(text: &mut Vec<u8>, name: &[u8], placed: &Placed) -> Result<(), A
     put_section_line(text, name, numbers, flags(placed))
 }
 
-/// `piece ADDRESS SIZE OBJECT SECTION`; and the place of its section, given that of the piece before.
-fn put_piece<M: Members>(
-    text: &mut Vec<u8>,
-    members: &M,
-    piece: &Piece,
-    start: u64,
-    last: usize,
-) -> Result<usize, AllocError>
-    ensures { OnOk result (text.new.items
-        ≡ text.old.items ++ piece_text (M.project members.now) (M.number members.now) piece.now start) }
-{
-    let object = members.name(piece.section.object);
-    let (name, place) = next_part_name(members, piece.section, last);
-    put_piece_line(text, start, piece.size, object, name)?;
-    Ok(place)
+/// Where the names of the next input section of a row are looked for first.
+#[derive(Clone, Copy)]
+struct Likely {
+    /// The place in the row of the previous map.
+    known: usize,
+    /// The place of the section before among those of its object.
+    section: usize,
 }
 
-/// The lines of a row, whose addresses are the first of `starts`.
+/// Adds the names of an input section: those of a previous map, where it has them. Returns where the next are likely.
+fn add_names<M: Members>(
+    names: &mut ByteStrings,
+    members: &M,
+    row: usize,
+    section: SectionKey,
+    likely: Likely,
+) -> Result<Likely, AllocError>
+    ensures { OnOk result (names.new
+        ≡ names.old ++ names_of (M.project members.now) (M.number members.now) section ∷ []) }
+{
+    if let Some(known) = members.known_names(row, likely.known, section) {
+        names.push(known.names)?;
+        return Ok(Likely {
+            known: known.at.wrapping_add(1),
+            section: likely.section,
+        });
+    }
+    let object = members.name(section.object);
+    let (name, place) = next_part_name(members, section, likely.section);
+    names.push_line(object, name)?;
+    Ok(Likely {
+        known: likely.known,
+        section: place,
+    })
+}
+
+/// `piece ADDRESS SIZE OBJECT SECTION`, and its names beside it. Returns where the next are likely.
+fn put_piece<M: Members>(
+    text: &mut Vec<u8>,
+    names: &mut ByteStrings,
+    members: &M,
+    row: usize,
+    piece: &Piece,
+    start: u64,
+    likely: Likely,
+) -> Result<Likely, AllocError>
+    ensures text { OnOk result (text.new.items
+        ≡ text.old.items ++ piece_text (M.project members.now) (M.number members.now) piece.now start) }
+    ensures names { OnOk result (names.new
+        ≡ names.old ++ names_of (M.project members.now) (M.number members.now) piece.now.section ∷ []) }
+{
+    let next = add_names(names, members, row, piece.section, likely)?;
+    put_piece_line(text, start, piece.size, names.last())?;
+    Ok(next)
+}
+
+/// The lines of a row, whose addresses are the first of `starts`, and the names beside them.
 fn put_pieces<M: Members>(
     text: &mut Vec<u8>,
+    names: &mut ByteStrings,
     members: &M,
+    number: usize,
     row: &[Piece],
     starts: &[u64],
 ) -> Result<(), AllocError>
-    ensures { OnOk result (text.new.items
+    ensures text { OnOk result (text.new.items
         ≡ text.old.items ++ pieces_text (M.project members.now) (M.number members.now) row.now starts.now) }
+    ensures names { OnOk result (names.new
+        ≡ names.old ++ row_names (M.project members.now) (M.number members.now) (take (length starts.now) row.now)) }
 {
-    let mut place = 0;
+    let mut likely = Likely {
+        known: 0,
+        section: 0,
+    };
     for i in 0..row.len().min(starts.len()) {
-        place = put_piece(text, members, &row[i], starts[i], place)?;
+        likely = put_piece(text, names, members, number, &row[i], starts[i], likely)?;
     }
     Ok(())
 }
 
-/// The lines of all output sections, each with its row.
+/// The lines of all output sections, each with its row. Returns the names of each row.
 fn put_sections<M: Members>(
+    alloc: Global,
     text: &mut Vec<u8>,
     members: &M,
     parts: &MapParts<'_>,
-) -> Result<(), AllocError>
-    ensures { OnOk result (text.new.items
+) -> Result<Vec<ByteStrings>, AllocError>
+    ensures text { OnOk result (text.new.items
         ≡ text.old.items ++ sections_text (M.project members.now) (M.number members.now)
         parts.now.placement.sections.now
         (shown_sections parts.now.sections.now) (map vec_items parts.now.rows.now) parts.now.placement.starts.now) }
+    ensures names { IfOk result (λ v. AreNamesOfRows (M.project members.now) (M.number members.now)
+        (map vec_items parts.now.rows.now) v.items) }
 {
+    let mut names = Vec::with_capacity(alloc, parts.placement.sections.len())?;
     let mut starts = parts.placement.starts;
     // three tables side by side
     for k in 0..parts.placement.sections.len() {
         let Some(section) = parts.sections.get(k) else {
-            return Ok(());
+            return Ok(names);
         };
         let Some(row) = parts.rows.get(k) else {
-            return Ok(());
+            return Ok(names);
         };
         let placed = &parts.placement.sections[k];
         put_section(text, section.section.name.as_bytes(), placed)?;
-        put_pieces(text, members, row, starts)?;
+        let mut of_row = ByteStrings::with_capacity(alloc, row.len())?;
+        put_pieces(text, &mut of_row, members, k, row, starts)?;
+        names.push(of_row)?;
         starts = &starts[row.len().min(starts.len())..];
     }
-    Ok(())
+    Ok(names)
 }
 
-/// The lines of the map.
+/// The lines of the map. Returns the names of each row.
 fn put_map<M: Members>(
+    alloc: Global,
     text: &mut Vec<u8>,
     members: &M,
     parts: &MapParts<'_>,
-) -> Result<(), AllocError>
-    ensures { OnOk result (text.new.items
+) -> Result<Vec<ByteStrings>, AllocError>
+    ensures text { OnOk result (text.new.items
         ≡ text.old.items ++ shown_map (M.project members.now) (M.number members.now) parts.now) }
+    ensures names { IfOk result (λ v. AreNamesOfRows (M.project members.now) (M.number members.now)
+        (map vec_items parts.now.rows.now) v.items) }
 {
     put_entry_line(text, parts.entry)?;
-    put_sections(text, members, parts)?;
-    put_symbols(text, members, parts.symbols)
+    let names = put_sections(alloc, text, members, parts)?;
+    put_symbols(text, members, parts.symbols)?;
+    Ok(names)
 }
 
 /// Room for the line of an input section: 42 bytes, and both names.
@@ -145,6 +204,15 @@ fn likely_size(parts: &MapParts<'_>) -> usize {
     pieces.saturating_add(symbols).saturating_add(sections)
 }
 
+/// A map, and what stands in it of the names of input sections.
+#[derive(Drop)]
+pub struct LinkMap {
+    /// The map.
+    pub text: Vec<u8>,
+    /// For each output section the names in the lines of its input sections: `OBJECT SECTION` and the end of the line.
+    pub names: Vec<ByteStrings>,
+}
+
 /// The map of a link: the entry point, the output sections with their rows, and the symbols in byte order of names.
 /// `specs/MapOf.antt` says which values `parts` must have. It is written once, into room that grows where names are
 /// long: to measure it first would take as long as to write it.
@@ -156,11 +224,13 @@ pub fn render_map<M: Members>(
     alloc: Global,
     parts: &MapParts<'_>,
     members: &M,
-) -> Result<Vec<u8>, NoMemory>
-    ensures { (layout : Layout) → IsMapOf (M.project members.now) (M.number members.now) layout parts.now
-        → IfOk result (λ text. text.items ≡ map_text (M.project members.now) layout) }
+) -> Result<LinkMap, NoMemory>
+    ensures text { (layout : Layout) → IsMapOf (M.project members.now) (M.number members.now) layout parts.now
+        → IfOk result (λ x. x.text.items ≡ map_text (M.project members.now) layout) }
+    ensures names { IfOk result (λ x. AreNamesOfRows (M.project members.now) (M.number members.now)
+        (map vec_items parts.now.rows.now) x.names.items) }
 {
     let mut text = Vec::with_capacity(alloc, likely_size(parts))?;
-    put_map(&mut text, members, parts)?;
-    Ok(text)
+    let names = put_map(alloc, &mut text, members, parts)?;
+    Ok(LinkMap { text, names })
 }

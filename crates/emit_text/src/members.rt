@@ -2,13 +2,24 @@
 
 use elfobj::Object;
 use ldmodel::names::ObjectPlace;
+use ldmodel::sections::SectionKey;
+
+/// What stands in a map from the names of an input section on, as a previous map has it.
+#[derive(Clone, Copy)]
+pub struct KnownNames<'a> {
+    /// `OBJECT SECTION` and the end of the line.
+    pub names: &'a [u8],
+    /// Where the input section stood in its row.
+    pub at: usize,
+}
 
 /// What finds the objects of a project by their keys: that of a linker, or a table made for one link.
 pub trait Members {
-    ghost use Rattle.std.specs.Prelude.{◌≡◌, ℕ, slice_get};
+    ghost use Rattle.std.specs.Prelude.{◌≡◌, ℕ, IfSome, slice_get};
     ghost use Rattle.std.specs.Option.{option_map};
     ghost use Rattle.ldmodel.specs.NameFaults.{object_name};
     ghost use Rattle.ldmodel.specs.Project.{NamedObject, Project};
+    ghost use Rattle.emit_text.specs.ShownMap.{names_of};
 
     /// The project.
     ghost project: { Self → Project };
@@ -25,4 +36,9 @@ pub trait Members {
         ensures { option_map (λ o. o.now) result
             ≡ option_map (λ (object : NamedObject). object.object)
             (slice_get (project self.now).objects (number self.now key.0)) };
+
+    /// What stands in the map from the names of an input section of a row on, where a previous map has it: it is looked
+    /// for at a place of that row, and at some after it.
+    fn known_names(&self, row: usize, likely: usize, section: SectionKey) -> Option<KnownNames<'_>>
+        ensures { IfSome result (λ known. known.names.now ≡ names_of (project self.now) (number self.now) section) };
 }

@@ -22,3 +22,4 @@ pub mod Working
 mod Courses
 mod Shown
 mod Words
+pub mod MapNames

@@ -168,7 +168,7 @@ module _ (p q : Project) (i : ℕ) (h : DiffersInContents p q i) where
   same_sections : (j : ℕ) (k : SectionIndex) → name_of_section p j k ≡ name_of_section q j k
   same_sections j k = section_named p j k ∙ ap (name_under k) (outlines_at j) ∙ sym (section_named q j k)
 
-  same_parts : (j : ℕ) (part : Part) → name_of_part p j part ≡ name_of_part q j part
+  pub same_parts : (j : ℕ) (part : Part) → name_of_part p j part ≡ name_of_part q j part
   same_parts j (InTable k) = same_sections j k
   same_parts j (InCommon x) = refl
 

@@ -1,7 +1,9 @@
 //! A link over what is kept: names that are decided, matches that are found, and a previous link, if there is one.
 
 ghost use Rattle.std.specs.Prelude.{◌≡◌, IfErr, IfOk, IfSome, OnErr, OnOk, map};
+ghost use Rattle.std.specs.Vec.{vec_items};
 ghost use Rattle.gather.specs.ProjectMatches.{AreMatched};
+ghost use Rattle.emit.specs.text.ShownMap.{AreNamesOfRows};
 ghost use Rattle.relink_driver.specs.StayedSections.{previous_of};
 ghost use Rattle.ldmodel.specs.Layout.{Layout};
 ghost use Rattle.ldmodel.specs.Link.{link};
@@ -33,6 +35,8 @@ use crate::symbol_values::{SymbolValues, symbol_values};
 use emit::values::given::GivenValues;
 use emit::values::link_view::LinkView;
 use emit::values::values::Values;
+use emit::map_members::{MapMembers, PreviousNames};
+use emit::text::maps::LinkMap;
 use emit::{Canvas, map_text};
 use gather::Gathering;
 use gather::matches::Matches;
@@ -74,24 +78,52 @@ fn lay_out(context: PassContext<'_, '_>, meter: &mut Meter) -> Result<IndexedLay
     }
 }
 
-/// The map, if it is asked for, else no bytes. Fails where memory runs out.
+/// The objects of a project, with what the previous link has of the names in its map, if there is one.
+fn map_members<'a, 'b>(
+    project: &'a ProjectView<'b>,
+    previous: Option<PreviousView<'a>>,
+) -> MapMembers<'a, 'b>
+    requires { IfSome (previous_of previous) (HasPreviousLink project.now) }
+    ensures { result.project.now ≡ project.now }
+{
+    match previous {
+        None => MapMembers::new(project, None),
+        Some(previous) => {
+            let names = PreviousNames {
+                rows: &previous.snapshot.indexed_layout.rows,
+                names: &previous.snapshot.names,
+                from: previous.from,
+            };
+            MapMembers::new(project, Some(names))
+        }
+    }
+}
+
+/// The map, if it is asked for, else no bytes and no names. Fails where memory runs out.
 fn map_if_asked(
     context: PassContext<'_, '_>,
     indexed_layout: &IndexedLayout,
     values: &Values<'_>,
-) -> Result<Vec<u8>, NoMemory>
-    requires { IsLaidOut (project_of context) indexed_layout.now }
-    ensures { IfOk result (λ text. (layout : Layout) (a : SymbolTableState)
+) -> Result<LinkMap, NoMemory>
+    requires indexed_layout { IsLaidOut (project_of context) indexed_layout.now }
+    requires previous { IfSome (previous_of context.previous) (HasPreviousLink (project_of context)) }
+    ensures text { IfOk result (λ made. (layout : Layout) (a : SymbolTableState)
         → IsLinkLayout (project_of context.entry) layout indexed_layout.now.link_layout
         → AreValues (project_of context.entry) layout a values.now
-        → text.items ≡ shown_map context.entry.with_map (definition.map_text (project_of context.entry) layout)) }
+        → made.text.items ≡ shown_map context.entry.with_map (definition.map_text (project_of context.entry) layout)) }
+    ensures names { IfOk result (λ made. AreNamesOfRows (project_of context.entry) (λ key. key)
+        (map vec_items indexed_layout.now.rows.items) made.names.items) }
 {
     if !context.with_map {
-        return Ok(Vec::new(context.alloc));
+        return Ok(LinkMap {
+            text: Vec::new(context.alloc),
+            names: Vec::new(context.alloc),
+        });
     }
+    let members = map_members(context.project, context.previous);
     map_text(
         context.alloc,
-        context.project,
+        &members,
         &indexed_layout.rows,
         &indexed_layout.link_layout,
         values,
@@ -108,14 +140,16 @@ fn emit_output(
     symbols: &SymbolValues,
     canvas: &mut Canvas,
     meter: &mut Meter,
-) -> Result<Vec<u8>, PassError>
+) -> Result<LinkMap, PassError>
     requires indexed_layout { IsLaidOut (project_of context) indexed_layout.now }
     requires short { IsShort (project_of context) indexed_layout.now.link_layout view.now values.now }
     requires symbols { (layout : Layout) → IsLinkLayout (project_of context) layout indexed_layout.now.link_layout
         → AreSymbolValues (project_of context) layout symbols.now }
     requires previous { IfSome (previous_of context.previous) (HasPreviousImage (project_of context) canvas.old.bytes) }
-    ensures good { IfOk result (λ map. IsEmitted context.entry.with_map
-        (project_of context.entry) indexed_layout.now canvas.new.bytes map.items) }
+    ensures good { IfOk result (λ made. IsEmitted context.entry.with_map
+        (project_of context.entry) indexed_layout.now canvas.new.bytes made.text.items) }
+    ensures names { IfOk result (λ made. AreNamesOfRows (project_of context.entry) (λ key. key)
+        (map vec_items indexed_layout.now.rows.items) made.names.items) }
     ensures stop { IfErr result (λ stop. IsPassError (link (project_of context.entry)) stop) }
     ensures reads { OnOk result (ReadsNothing meter.old meter.new) }
     ensures counted { OnOk result
@@ -186,8 +220,9 @@ fn run_passes(
         LinkSnapshot {
             indexed_layout,
             symbols,
+            names: map.names,
         },
-        map,
+        map.text,
     ))
 }
 

@@ -2,24 +2,26 @@ use Rattle.std.proofs.Common.{◌∙◌, ap, map}
 use Rattle.ldscript.specs.Numbered.{shown_sections}
 use Rattle.ldscript.specs.Numbering.{output_sections}
 use Rattle.ldmodel.specs.Names.{provided}
+use Rattle.ldmodel.specs.Project.{Project}
 use Rattle.ldmodel.specs.Rows.{rows}
 use Rattle.emit.specs.Listed.{map_symbol}
 use Rattle.emit.proofs.Mapped.{text_is}
 use Rattle.emit.proofs.map.map_text.Goals as goal
 
-pub returns : goal.returns
-returns c =
-    text_is c.args.project.now c.args.link_layout.now c.args.values.now _ c.render_map.result
+pub returns-clause-text : goal.returns-clause-text
+returns-clause-text c =
+    let p = c.args.members.now.project.now in
+    text_is p c.args.link_layout.now c.args.values.now _ c.render_map.result
     (record {
       entry = c.number_or_0.ensures;
       sections = ap shown_sections c.deref-2.ensures.value
-          ∙ (c.in_ok-sections.ensures ∙ ap output_sections c.script-script.ensures);
+          ∙ (c.in_ok-sections.ensures ∙ ap output_sections (c.script-script.ensures ∙ ap (λ (q : Project). q.script) c.project.ensures));
       outputs = λ s l.
-          c.outputs_are_of_script.ensures c.args.project.now (rows c.args.project.now) (provided c.args.project.now) s
+          c.outputs_are_of_script.ensures p (rows p) (provided p) s
           l.placed;
-      placement = λ s l. c.view.ensures.placement c.args.project.now.script s l.places;
+      placement = λ s l. c.view.ensures.placement p.script s l.places;
       lent = c.requires;
-      placed = λ s l. c.placed_are_rows.ensures c.args.project.now (provided c.args.project.now) s l.placed;
+      placed = λ s l. c.placed_are_rows.ensures p (provided p) s l.placed;
       symbols = c.deref-3.ensures.value ∙ (c.in_ok-symbols.ensures ∙ ap (map map_symbol) c.deref.ensures.value);
     })
-    c.render_map.ensures
+    c.render_map.ensures.text

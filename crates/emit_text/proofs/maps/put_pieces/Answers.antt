@@ -6,6 +6,7 @@ use Rattle.ldmodel.specs.Project.{Project}
 use Rattle.ldmodel.specs.declared.rows.Piece.{Piece}
 use Rattle.emit_text.specs.ShownMap.{piece_text, pieces_text}
 use Rattle.emit_text.proofs.Appending.{written_step, written_end}
+use Rattle.emit_text.proofs.MapRows.{all_names, more_names}
 use Rattle.emit_text.proofs.maps.put_pieces.Goals as goal
 
 -- one piece further
@@ -33,14 +34,24 @@ no_pieces p number (x ∷ xs) (s ∷ ss) (suc i) h = no_pieces p number xs ss i 
 
 pub loop-i-preserved : goal.loop-i-preserved
 loop-i-preserved g c =
-    written_step _ _ _ _ _ _ c.in_ok-place.ensures
-    (more_pieces (g.M.Members.project c.args.members.now) (g.M.Members.number c.args.members.now) c.args.row.now
-    c.args.starts.now c.loop-i.i _ _ (omega arith))
-    c.loop-i.invariant
+    let p = g.M.Members.project c.args.members.now in
+    let number = g.M.Members.number c.args.members.now in
+    let row = c.args.row.now in
+    record {
+      text = written_step _ _ _ _ _ _ c.in_ok-likely.ensures.text
+          (more_pieces p number row c.args.starts.now c.loop-i.i _ _ (omega arith)) c.loop-i.invariant.text;
+      names = more_names p number row _ _ _ c.loop-i.i _ (omega arith) c.loop-i.invariant.names
+          c.in_ok-likely.ensures.names;
+    }
 
-pub returns : goal.returns
-returns g c =
+pub returns-clause-text : goal.returns-clause-text
+returns-clause-text g c =
     written_end _ _ _
     (no_pieces (g.M.Members.project c.args.members.now) (g.M.Members.number c.args.members.now) c.args.row.now
     c.args.starts.now c.loop-i.i (omega arith))
-    c.loop-i.invariant
+    c.loop-i.invariant.text
+
+pub returns-clause-names : goal.returns-clause-names
+returns-clause-names g c =
+    all_names (g.M.Members.project c.args.members.now) (g.M.Members.number c.args.members.now) c.args.row.now
+    c.args.starts.now _ _ c.loop-i.i (omega arith) c.loop-i.invariant.names

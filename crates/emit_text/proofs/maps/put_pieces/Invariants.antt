@@ -1,11 +1,14 @@
--- With the lines still to come, the text is the whole one.
-use Rattle.std.proofs.Common.{◌≡◌, ◌++◌, drop}
-use Rattle.emit_text.specs.ShownMap.{pieces_text}
+-- With the lines still to come, the text is the whole one; the names are those of the pieces so far.
+use Rattle.std.proofs.Common.{◌≡◌, ◌++◌, drop, take}
+use Rattle.emit_text.specs.ShownMap.{pieces_text, row_names}
 use Rattle.emit_text.proofs.maps.put_pieces.Given as goal
 
 abbrev pub invariant-loop-i : goal.invariant-loop-i
-invariant-loop-i g l =
-    l.text.items
-    ++ pieces_text (g.M.Members.project l.members) (g.M.Members.number l.members) (drop l.i l.row) (drop l.i l.starts)
-    ≡ l.initial.text.items
-    ++ pieces_text (g.M.Members.project l.members) (g.M.Members.number l.members) l.row l.starts
+invariant-loop-i g l = record {
+  text : l.text.items
+      ++ pieces_text (g.M.Members.project l.members) (g.M.Members.number l.members) (drop l.i l.row) (drop l.i l.starts)
+      ≡ l.initial.text.items
+      ++ pieces_text (g.M.Members.project l.members) (g.M.Members.number l.members) l.row l.starts;
+  names : l.names
+      ≡ l.initial.names ++ row_names (g.M.Members.project l.members) (g.M.Members.number l.members) (take l.i l.row);
+}

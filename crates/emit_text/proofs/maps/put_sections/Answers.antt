@@ -1,7 +1,8 @@
 -- Output sections with their rows.
 use Rattle.std.proofs.Common.{◌≡◌, ◌∙◌, ◌∷◌, [], ◌+◌, ◌++◌, ◌<◌, ap, sym, drop, get_or, length, map, min, ℕ, List, refl}
 use Rattle.std.proofs.Common.{append_assoc, arith, take, ◌-◌}
-use Rattle.std.proofs.lemmas.List.{at_drop_more, at_drop_all, drop_min, length-drop, take_all}
+use Rattle.std.proofs.lemmas.List.{at_drop_more, at_drop_all, drop_min, length-append, length-drop, take_all}
+use Rattle.std.specs.Prelude.{slice_get}
 use Rattle.std.specs.Vec.{vec_items}
 use Rattle.ldscript.specs.Numbering.{OutputSectionAt}
 use Rattle.ldscript.specs.Numbered.{shown_sections}
@@ -9,8 +10,9 @@ use Rattle.ldscript.specs.statements.declared.numbering.OutputSectionAt as code_
 use Rattle.ldmodel.specs.Project.{Project}
 use Rattle.ldmodel.specs.declared.placed.Placed.{Placed}
 use Rattle.ldmodel.specs.declared.rows.Piece.{Piece}
-use Rattle.emit_text.specs.ShownMap.{pieces_text, section_text, sections_text}
+use Rattle.emit_text.specs.ShownMap.{pieces_text, row_names, section_text, sections_text}
 use Rattle.emit_text.proofs.Appending.{written_step, written_both, written_end}
+use Rattle.emit_text.proofs.MapRows.{more_rows_at, some_at}
 use Rattle.emit_text.proofs.SideBySide.{some_left, none_left}
 use Rattle.emit_text.proofs.maps.put_sections.Goals as goal
 
@@ -79,48 +81,68 @@ starts_left row starts n e =
 
 pub loop-k-preserved : goal.loop-k-preserved
 loop-k-preserved g c =
-    sections_lent (g.M.Members.project c.args.members.now) (g.M.Members.number c.args.members.now) c.loop-k.text.items
-    c.put_section.new.text.items c.put_pieces.new.text.items _
-    c.args.parts.now.placement.sections.now (shown_sections c.args.parts.now.sections.now)
-    (map vec_items c.args.parts.now.rows.now) c.loop-k.starts.now
-    _ c.loop-k.k _ (shown_one c.in-Some.section.now) (vec_items c.in-Some-get.row.now)
-    c.as_bytes.result.now c.deref.result.now
-    c.loop-k-test.true
-    (some_left shown_one c.args.parts.now.sections.now c.loop-k.k c.in-Some.section.now c.in-Some.ensures.lookup.3.0
-    c.in-Some.ensures.lookup.1)
-    (some_left vec_items c.args.parts.now.rows.now c.loop-k.k c.in-Some-get.row.now c.in-Some-get.ensures.lookup.3.0
-    c.in-Some-get.ensures.lookup.1)
-    c.as_bytes.ensures c.deref.ensures.value c.in_ok-put_section.ensures c.in_ok-put_pieces.ensures
-    (starts_left c.deref.result.now c.loop-k.starts.now c.min.result
-    (c.min.ensures ∙ ap (λ n. min n (length c.loop-k.starts.now)) (c.len.ensures ∙ sym c.deref.ensures.len)))
-    c.loop-k.invariant
+    let p = g.M.Members.project c.args.members.now in
+    let number = g.M.Members.number c.args.members.now in
+    let rows = map vec_items c.args.parts.now.rows.now in
+    let starts = c.loop-k.starts.now in
+    record {
+      text = sections_lent p number c.loop-k.text.items
+          c.put_section.new.text.items c.put_pieces.new.text.items _
+          c.args.parts.now.placement.sections.now (shown_sections c.args.parts.now.sections.now)
+          rows starts
+          _ c.loop-k.k _ (shown_one c.in-Some.section.now) (vec_items c.in-Some-get.row.now)
+          c.as_bytes.result.now c.deref.result.now
+          c.loop-k-test.true
+          (some_left shown_one c.args.parts.now.sections.now c.loop-k.k c.in-Some.section.now c.in-Some.ensures.lookup.3.0
+          c.in-Some.ensures.lookup.1)
+          (some_left vec_items c.args.parts.now.rows.now c.loop-k.k c.in-Some-get.row.now c.in-Some-get.ensures.lookup.3.0
+          c.in-Some-get.ensures.lookup.1)
+          c.as_bytes.ensures c.deref.ensures.value c.in_ok-put_section.ensures c.in_ok-put_pieces.ensures.text
+          (starts_left c.deref.result.now starts c.min.result
+          (c.min.ensures ∙ ap (λ n. min n (length starts)) (c.len-in-loop-k.ensures ∙ sym c.deref.ensures.len)))
+          c.loop-k.invariant.text;
+      count = ap length c.in_ok-push.ensures.items ∙ length-append c.loop-k.names.items _
+          ∙ ap (λ n. n + 1) c.loop-k.invariant.count;
+      names = more_rows_at p number
+          rows c.loop-k.names.items c.push.new.self.items
+          (vec_items c.in-Some-get.row.now) c.deref.result.now c.put_pieces.new.names (length starts)
+          c.in_ok-push.ensures.items
+          (ap (slice_get rows) c.loop-k.invariant.count
+          ∙ some_at vec_items c.args.parts.now.rows.now c.loop-k.k c.in-Some-get.row.now c.in-Some-get.ensures.lookup.3.0
+          c.in-Some-get.ensures.lookup.1)
+          c.deref.ensures.value
+          (c.in_ok-put_pieces.ensures.names
+          ∙ ap (λ t. t ++ row_names p number
+          (take (length starts) c.deref.result.now)) c.in_ok-of_row.ensures)
+          c.loop-k.invariant.names;
+    }
 
-pub returns-in_default : goal.returns-in_default
-returns-in_default g c =
+pub returns-in_default-clause-text : goal.returns-in_default-clause-text
+returns-in_default-clause-text g c =
     written_end _ _ _
     (no_sections (g.M.Members.project c.args.members.now) (g.M.Members.number c.args.members.now)
     (drop c.loop-k.k c.args.parts.now.placement.sections.now)
     (drop c.loop-k.k (shown_sections c.args.parts.now.sections.now))
     (drop c.loop-k.k (map vec_items c.args.parts.now.rows.now)) c.loop-k.starts.now
     (none_left shown_one c.args.parts.now.sections.now c.loop-k.k c.in_default.ensures.lookup.3))
-    c.loop-k.invariant
+    c.loop-k.invariant.text
 
-pub returns-in_default-get : goal.returns-in_default-get
-returns-in_default-get g c =
+pub returns-in_default-get-clause-text : goal.returns-in_default-get-clause-text
+returns-in_default-get-clause-text g c =
     written_end _ _ _
     (no_rows (g.M.Members.project c.args.members.now) (g.M.Members.number c.args.members.now)
     (drop c.loop-k.k c.args.parts.now.placement.sections.now)
     (drop c.loop-k.k (shown_sections c.args.parts.now.sections.now))
     (drop c.loop-k.k (map vec_items c.args.parts.now.rows.now)) c.loop-k.starts.now
     (none_left vec_items c.args.parts.now.rows.now c.loop-k.k c.in_default-get.ensures.lookup.3))
-    c.loop-k.invariant
+    c.loop-k.invariant.text
 
-pub returns : goal.returns
-returns g c =
+pub returns-clause-text : goal.returns-clause-text
+returns-clause-text g c =
     written_end _ _ _
     (at_drop_all (λ qs. sections_text (g.M.Members.project c.args.members.now) (g.M.Members.number c.args.members.now)
     qs
     (drop c.loop-k.k (shown_sections c.args.parts.now.sections.now))
     (drop c.loop-k.k (map vec_items c.args.parts.now.rows.now)) c.loop-k.starts.now)
     c.args.parts.now.placement.sections.now c.loop-k.k c.loop-k-test.false)
-    c.loop-k.invariant
+    c.loop-k.invariant.text

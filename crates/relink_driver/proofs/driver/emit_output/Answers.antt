@@ -19,6 +19,9 @@ evaluate_relocations-requires-clause-beside c =
           (c.in_ok-dirty.ensures old s previous (c.requires.symbols s link_layout));
     }
 
+pub map_if_asked-requires-clause-previous : goal.map_if_asked-requires-clause-previous
+map_if_asked-requires-clause-previous c = has_old (project_of c.args.context) _ _ c.requires.previous
+
 pub returns-clause-good : goal.returns-clause-good
 returns-clause-good c =
     let p = project_of c.args.context in
@@ -35,7 +38,7 @@ returns-clause-good c =
       names = f.names;
       is = k.link_layout.layout ∙ of_short p s f.short.length;
       rest = all.rest;
-      link = ends_shown c.args.context.with_map p s _ _ same (c.in_ok-map.ensures s h.symbol_table k.link_layout h.values)
+      link = ends_shown c.args.context.with_map p s _ _ same (c.in_ok-map.ensures.text s h.symbol_table k.link_layout h.values)
           all.rest;
       image = same;
     }

@@ -52,6 +52,7 @@ returns-clause-ended c =
             (one_placement p k.layout o.layout k.link_layout.placed o.link_layout.placed)
             (c.in_ok-symbols.ensures k.layout h.symbol_table k.view
             (subst (AreNameValues (known_link p k.layout h.symbol_table)) (sym c.deref.ensures.value) h.values.names));
+        texts = c.in_ok-map.ensures.names;
         layout = o.is;
         link = o.rest;
       };

@@ -1,0 +1,12 @@
+-- Byte strings that stand one after the other in one list of bytes.
+use Rattle.std.specs.Prelude.{◌≤◌, ◌-◌, ℕ, List, drop, take}
+use Rattle.emit_text.specs.declared.byte_strings.Span.{Span}
+
+-- the bytes of a span
+abbrev pub bytes_at : (bytes : List ℕ) → Span → List ℕ
+bytes_at bytes s = take (s.end - s.begin) (drop s.begin bytes)
+
+-- a span lies within so many bytes
+pub record StandsIn (count : ℕ) (s : Span) : Type 0 where
+  pub order : s.begin ≤ s.end
+  pub within : s.end ≤ count
