@@ -25,6 +25,7 @@ pub mod Beginning
 pub mod Runs
 pub mod Still
 pub mod InParts
+pub mod Outside
 pub mod Resuming
 pub mod Noting
 pub mod Joining

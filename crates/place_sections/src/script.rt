@@ -1,6 +1,7 @@
 //! The statements of a script.
 
 ghost use Rattle.std.specs.Prelude.{◌≡◌, ◌≤◌, ◌<◌, ◌+◌, [], length, map, OnOk, IfOk, false, true};
+ghost use Rattle.ldscript.specs.Script.{IsSound};
 ghost use Rattle.ldmodel.specs.Chain.{run};
 ghost use Rattle.ldmodel.specs.Placement.{statement_step};
 ghost use Rattle.place_terms.specs.PreviousLayout.{earlier_of};
@@ -11,6 +12,7 @@ ghost use Rattle.place_sections.specs.Boundaries.{AreBoundariesOf};
 ghost use Rattle.place_sections.specs.Counted.{CountsAlong, entries, placed_from};
 ghost use Rattle.place_sections.specs.PreviousPlacement.{EarlierScript};
 ghost use Rattle.place_sections.specs.Inputs.{rows_of};
+ghost use Rattle.place_sections.specs.Parts.{AreOutside, IsOutside};
 ghost use Rattle.place_sections.specs.State.{layout_of, Gives};
 
 use crate::boundary::Boundary;
@@ -47,6 +49,7 @@ impl<'i, 'a> Input<'i, 'a> {
         statement: &'a Statement,
     ) -> Result<(), LayoutStop<'a>>
         ghost naming: { Naming }
+        requires { IsOutside statement.now.command }
         ensures script { here.new.symbols.script ≡ here.old.symbols.script }
         ensures anew { here.new.anew ≡ here.old.anew }
         ensures sections { done.new.sections ≡ done.old.sections }
@@ -57,8 +60,7 @@ impl<'i, 'a> Input<'i, 'a> {
         match &statement.command {
             Command::Entry(_) => Ok(()),
             Command::Memory(regions) => here.declare_all(done, regions.as_slice()),
-            // Unreachable: a script has one SECTIONS
-            Command::Sections(_) => Err(LayoutStop::NoMemory),
+            Command::Sections(_) => unreachable!(),
             Command::Directive(command) => {
                 here.directive(done, self.provided, statement.line, command)
             }
@@ -74,6 +76,7 @@ impl<'i, 'a> Input<'i, 'a> {
         statements: &'a [Statement],
     ) -> Result<(), LayoutStop<'a>>
         ghost naming: { Naming }
+        requires { AreOutside statements.now }
         ensures script { here.new.symbols.script ≡ here.old.symbols.script }
         ensures anew { here.new.anew ≡ here.old.anew }
         ensures sections { done.new.sections ≡ done.old.sections }
@@ -106,6 +109,7 @@ impl<'i, 'a> Input<'i, 'a> {
         requires alongside { self.now.kept.same_provided ≡ false → 0 < self.now.kept.first
             → ScriptAlongside naming self.now here.now.symbols.script (layout_of naming here.now done.now)
             statements.now }
+        requires sound { IsSound statements.now }
         ensures script { here.new.symbols.script ≡ here.old.symbols.script }
         ensures anew { here.new.anew ≤ here.old.anew + entries 0 (map (λ v. v.items) self.now.rows.now) }
         ensures resumed { OnOk result (here.new.anew ≤ here.old.anew

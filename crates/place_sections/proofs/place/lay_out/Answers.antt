@@ -1,6 +1,7 @@
-use Rattle.std.proofs.Common.{ℕ, List, map, sym, ap, ◌∙◌, inl, inr, refl, arith}
+use Rattle.std.proofs.Common.{ℕ, List, map, sym, ap, ◌∙◌, inl, inr, refl, subst, arith}
 use Rattle.ldscript.specs.statements.declared.statement.Statement.{Statement}
 use Rattle.ldmodel.specs.Chain.{run}
+use Rattle.ldscript.specs.Script.{IsSound}
 use Rattle.ldmodel.specs.Placement.{statement_step}
 use Rattle.place_terms.specs.Keyed.{KeyedSection}
 use Rattle.place_terms.specs.Naming.{rows_named}
@@ -71,16 +72,19 @@ place_script-laid-requires g c =
                   c.in_ok-here.ensures.inputs c.in_ok-here.ensures.symbols c.in_ok-sections.ensures.none
                   c.new-regions.ensures) c.in_ok-in_force.ensures same)
                   (λ none. absurd (omega (arith, none, some))),
-              λ other some. by_option c.args.kept _ _ _ _ c.requires c.new-kept.ensures.some c.new-kept.ensures.none
-                  (λ k kept keeps.
-                  kept_alongside g.naming _ c.args.script.now k.0.now k.1 c.args.provided.now kept keeps
-                  c.in_ok-here.here.symbols.script c.statements.result.now (layout_of g.naming c.in_ok-here.here d)
-                  c.in_ok-here.ensures.script c.statements.ensures.value
-                  (nothing_there g.naming c.in_ok-here.here d c.in_ok-here.ensures.dot c.in_ok-here.ensures.dots
-                  c.in_ok-here.ensures.inputs c.in_ok-here.ensures.symbols c.in_ok-sections.ensures.none
-                  c.new-regions.ensures)
-                  (c.steps_stay_alike.ensures.begun c.args.script.now c.statements.ensures.sound))
-                  (λ none. absurd (omega (arith, none, some))),
+              (
+                λ other some. by_option c.args.kept _ _ _ _ c.requires c.new-kept.ensures.some c.new-kept.ensures.none
+                    (λ k kept keeps.
+                    kept_alongside g.naming _ c.args.script.now k.0.now k.1 c.args.provided.now kept keeps
+                    c.in_ok-here.here.symbols.script c.statements.result.now (layout_of g.naming c.in_ok-here.here d)
+                    c.in_ok-here.ensures.script c.statements.ensures.value
+                    (nothing_there g.naming c.in_ok-here.here d c.in_ok-here.ensures.dot c.in_ok-here.ensures.dots
+                    c.in_ok-here.ensures.inputs c.in_ok-here.ensures.symbols c.in_ok-sections.ensures.none
+                    c.new-regions.ensures)
+                    (c.steps_stay_alike.ensures.begun c.args.script.now c.statements.ensures.sound))
+                    (λ none. absurd (omega (arith, none, some))),
+                subst IsSound (sym c.statements.ensures.value) c.statements.ensures.sound,
+              ),
             ),
           ),
         ),

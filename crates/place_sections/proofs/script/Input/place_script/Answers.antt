@@ -8,7 +8,9 @@ use Rattle.place_sections.proofs.Joining.{after_goes, before_stops, earlier_item
 use Rattle.place_sections.specs.Boundaries.{AreBoundaries}
 use Rattle.place_terms.specs.Outputs.{Outputs}
 use Rattle.place_sections.proofs.Following.{are_first}
+use Rattle.place_sections.proofs.Outside.{after_outside, before_outside}
 use Rattle.place_sections.specs.Inputs.{rows_of}
+use Rattle.place_sections.specs.Parts.{AreOutside}
 use Rattle.place_sections.specs.Next.{AreFirst}
 use Rattle.place_sections.specs.State.{fault_of, layout_of}
 use Rattle.place_sections.proofs.Counting.{along_same}
@@ -27,6 +29,14 @@ returns-in_err-place_statements-clause-gives g c =
     (layout_of g.naming c.args.here.now c.args.done.now) (fault_of c.in_err-place_statements.field-0.0)
     (ap (run (statement_step (rows_of g.naming c.args.self.now) c.args.self.now.provided.now)
     (layout_of g.naming c.args.here.now c.args.done.now)) (sym c.of-parts.ensures.before) ∙ e)) is
+
+pub place_statements-requires : goal.place_statements-requires
+place_statements-requires g c =
+    subst AreOutside (sym c.of-parts.ensures.before) (before_outside c.args.statements.now)
+
+pub place_statements-requires-2 : goal.place_statements-requires-2
+place_statements-requires-2 g c =
+    subst AreOutside (sym c.of-parts.ensures.after) (after_outside c.args.statements.now c.requires.1.1.1.1.1.1)
 
 pub place_items-requires : goal.place_items-requires
 place_items-requires g c = (
@@ -58,7 +68,7 @@ place_items-requires g c = (
               (let none = ap (λ (z : Outputs). length (map (section_of g.naming) z.list))
               c.place_statements.ensures.sections
               ∙ ap (λ l. length (map (section_of g.naming) l)) c.requires.0 in omega (arith, none))
-              (c.requires.1.1.1.1.1 other some),
+              (c.requires.1.1.1.1.1.0 other some),
         ),
       ),
     ),
