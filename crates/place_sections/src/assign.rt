@@ -50,12 +50,13 @@ impl<'a> LayoutCursor<'a> {
     {
         match command {
             Directive::Assign(a) => self.assign(done, line, a),
-            Directive::Provide(a) => match provided.is_in_force(a.name.as_bytes()) {
-                Some(true) => self.assign(done, line, a),
-                Some(false) => Ok(()),
-                // Unreachable: the name is one that the script gives a value
-                None => Err(LayoutStop::NoMemory),
-            },
+            Directive::Provide(a) => {
+                if provided.is_in_force(a.name.as_bytes()) {
+                    self.assign(done, line, a)
+                } else {
+                    Ok(())
+                }
+            }
             Directive::Assert(_) => Ok(()),
         }
     }

@@ -1,9 +1,10 @@
 //! The PROVIDEs that are in force.
 
-ghost use Rattle.std.specs.Prelude.{◌≡◌, [], IfOk, IfSome, slice_get, bytes_eq};
+ghost use Rattle.std.specs.Prelude.{◌≡◌, [], IfOk, slice_get, bytes_eq};
 ghost use Rattle.std.specs.List.{list_any};
 ghost use Rattle.std.specs.Option.{option_map_or};
 ghost use Rattle.ldscript.specs.statements.Numbered.{shown_directives};
+ghost use Rattle.place_terms.specs.Mentions.{shown_names};
 ghost use Rattle.place_terms.specs.ProvidedTable.{name_in, provided_names, Marks};
 
 use crate::directives_by_name::number_in;
@@ -13,12 +14,16 @@ use ldscript::tree::{Directive, DirectiveAt};
 use std::alloc::{AllocError, Global};
 use std::marker::Model;
 
-/// The PROVIDEs of a script that are in force.
+/// The PROVIDEs of a script that are in force. A look-up takes the time of one in the script's table of names; one of a
+/// name that the script gives no value would go through all of them.
 #[derive(Drop)]
 pub struct Provided<'a> {
     script: &'a Script,
     numbers: &'a [DirectiveIndex],
+    /// For each command of the script, whether it is one of them.
     in_force: Vec<bool>,
+    /// Their names.
+    names: Vec<&'a [u8]>,
 }
 
 impl<'a> Model for Provided<'a> {
@@ -26,11 +31,14 @@ impl<'a> Model for Provided<'a> {
 
     ghost Value = { List (List ℕ) };
 
+    ghost use Rattle.std.specs.Prelude.{◌≡◌};
+    ghost use Rattle.place_terms.specs.Mentions.{shown_names};
     ghost use Rattle.place_terms.specs.ProvidedTable.{provided_names, AreInForce};
 
     ghost view = { λ p. provided_names p.script.now p.numbers.now };
 
-    ghost invariant = { λ p. AreInForce p.script.now p.in_force.items (provided_names p.script.now p.numbers.now) };
+    ghost invariant = { λ p. AreInForce p.script.now p.in_force.items (provided_names p.script.now p.numbers.now)
+        × (shown_names p.names.items ≡ provided_names p.script.now p.numbers.now) };
 }
 
 /// The name that a command of these gives a value; no bytes where it gives none.
@@ -46,6 +54,18 @@ pub fn name_of<'a>(commands: &[DirectiveAt<'a>], number: DirectiveIndex) -> &'a 
         },
         None => b"",
     }
+}
+
+/// Whether a name is one of these.
+fn is_among(names: &[&[u8]], name: &[u8]) -> bool
+    ensures { result ≡ list_any (bytes_eq name.now) (shown_names names.now) }
+{
+    for other in names {
+        if name == *other {
+            return true;
+        }
+    }
+    false
 }
 
 /// Notes that the PROVIDE of a name is in force.
@@ -73,29 +93,37 @@ impl<'a> Provided<'a> {
                 script,
                 numbers,
                 in_force: Vec::new(alloc),
+                names: Vec::new(alloc),
             });
         }
         let list = script.all_directives(alloc)?;
         let mut in_force = vec![in alloc; false; list.len()]?;
+        let mut names = Vec::with_capacity(alloc, numbers.len())?;
         for number in numbers {
             let name = name_of(&list, *number);
             mark(script, &mut in_force, name);
+            names.push(name)?;
         }
         Ok(Provided {
             script,
             numbers,
             in_force,
+            names,
         })
     }
 
-    /// Whether the PROVIDE of a name is in force; `None` for a name that the script gives no value.
-    pub fn is_in_force(&self, name: &[u8]) -> Option<bool>
-        ensures { IfSome result (λ b. b ≡ list_any (bytes_eq name.now) self.now) }
+    /// Whether the PROVIDE of a name is in force.
+    pub fn is_in_force(&self, name: &[u8]) -> bool
+        ensures { result ≡ list_any (bytes_eq name.now) self.now }
     {
         if self.numbers.is_empty() {
-            return Some(false);
+            return false;
         }
-        let number = number_in(self.script, name)?;
-        Some(*self.in_force.get(number)?)
+        if let Some(number) = number_in(self.script, name) {
+            if number < self.in_force.len() {
+                return self.in_force[number];
+            }
+        }
+        is_among(&self.names, name)
     }
 }
