@@ -186,18 +186,13 @@ impl<'a> LayoutCursor<'a> {
         section: &OutputSection,
         given: Option<u64>,
         start: u64,
-    ) -> Result<u64, LayoutStop<'a>>
+    ) -> u64
         ghost naming: { Naming }
-        ensures { Yields (λ x.
-            x) (Ok (unstated_load (layout_of naming self.now done.now) section.now.region given start)) result }
+        ensures { result ≡ unstated_load (layout_of naming self.now done.now) section.now.region given start }
     {
         match given {
-            Some(_) => Ok(start),
-            None => match done.sections.difference(region_name(section)) {
-                Some(difference) => Ok(start.wrapping_sub(difference)),
-                // Unreachable: a script declares the regions that it names
-                None => Err(LayoutStop::NoMemory),
-            },
+            Some(_) => start,
+            None => start.wrapping_sub(done.sections.difference(region_name(section))),
         }
     }
 
@@ -222,7 +217,7 @@ impl<'a> LayoutCursor<'a> {
             Load::InRegion(name) => align(line, done.next_free(name.as_bytes()), alignment),
             Load::Unstated | Load::At(_) => match given.load {
                 Some(load) => Ok(load),
-                None => self.unstated(done, section, given.address, start),
+                None => Ok(self.unstated(done, section, given.address, start)),
             },
         }
     }

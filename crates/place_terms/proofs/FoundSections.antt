@@ -1,12 +1,14 @@
 -- What the code's table of output sections finds.
 use Rattle.std.proofs.Common.{◌≡◌, ◌≢◌, ℕ, zero, suc, ◌+◌, ◌<◌, ◌≤◌, List, [], ◌∷◌, ◌++◌, length, get_or, set, map}
 use Rattle.std.proofs.Common.{find, Bool, true, false, Option, Some, None, refl, sym, ap, subst, ◌∙◌, arith}
+use Rattle.std.proofs.Common.{if◌then◌else◌, take}
+use Rattle.ldmodel.specs.Arithmetic.{minus_modulo}
 use Rattle.std.specs.Prelude.{slice_get, bytes_eq}
 use Rattle.std.specs.List.{last_or}
 use Rattle.std.specs.Option.{option_map, option_and_then}
 use Rattle.std.proofs.Common.{append_assoc, replicate, length-append, ◌==◌}
 use Rattle.std.proofs.lemmas.List.{length-map, append-nil, get_or-set_other, map-append, get_or-replicate}
-use Rattle.std.proofs.lemmas.List.{length-replicate, length-set, get_or_at}
+use Rattle.std.proofs.lemmas.List.{length-replicate, length-set, get_or_at, take_more}
 use Rattle.std.proofs.Math.ListN.{get_or-append}
 use Rattle.std.proofs.lemmas.Bool.{eqb-true, eqb-false}
 use Rattle.std.proofs.lemmas.List.Elements.{filter-append, All-push}
@@ -149,6 +151,46 @@ difference_other xs x region e =
       e,
       append-nil,
     ) refl
+
+pub difference_next : (xs : List KeyedSection) (x : KeyedSection) (region : Option (List ℕ))
+    → difference_by (xs ++ x ∷ []) region
+    ≡ (if same_region x.region region then difference_of (section_of nameless x) else difference_by xs region)
+difference_next xs x region = go (same_region x.region region) refl
+  where
+    go : (b : Bool) → same_region x.region region ≡ b
+        → difference_by (xs ++ x ∷ []) region
+        ≡ (if b then difference_of (section_of nameless x) else difference_by xs region)
+    go true e = difference_same xs x region e
+    go false e = difference_other xs x region e
+
+pub difference_none : (region : Option (List ℕ)) → difference_by [] region ≡ 0
+unfolding difference_by difference_in
+difference_none region = refl
+
+first_more : {X : Type 0} (xs : List X) (k : ℕ) (x : X) → k < length xs → x ≡ get_or xs k x
+    → take (k + 1) xs ≡ take k xs ++ x ∷ []
+first_more xs k x l at = take_more xs k x l ∙ ap (λ y. take k xs ++ y ∷ []) (sym at)
+
+pub taken_next : (ts : List ReusedOutput) (k : ℕ) (t : ReusedOutput) (region : Option (List ℕ)) → k < length ts
+    → t ≡ get_or ts k t
+    → difference_by (map keyed_taken (take (k + 1) ts)) region
+    ≡ (if same_region t.output.now.region region then minus_modulo t.placed.now.start t.placed.now.load
+    else difference_by (map keyed_taken (take k ts)) region)
+taken_next ts k t region l at =
+    ap (λ xs. difference_by xs region)
+    (ap (map keyed_taken) (first_more ts k t l at) ∙ map-append keyed_taken (take k ts) (t ∷ []))
+    ∙ difference_next (map keyed_taken (take k ts)) (keyed_taken t) region
+
+pub placed_next : (before : List KeyedSection) (xs : List Closed) (k : ℕ) (x : Closed) (region : Option (List ℕ))
+    → k < length xs → x ≡ get_or xs k x
+    → difference_by (before ++ map keyed (take (k + 1) xs)) region
+    ≡ (if same_region x.output.now.region region then minus_modulo x.placed.start x.placed.load
+    else difference_by (before ++ map keyed (take k xs)) region)
+placed_next before xs k x region l at =
+    ap (λ ys. difference_by ys region)
+    (ap (λ ys. before ++ ys) (ap (map keyed) (first_more xs k x l at) ∙ map-append keyed (take k xs) (x ∷ []))
+    ∙ sym (append_assoc before (map keyed (take k xs)) (keyed x ∷ [])))
+    ∙ difference_next (before ++ map keyed (take k xs)) (keyed x) region
 
 -- the number of the next one
 pub next_number : (script : List Statement) (e : PreviousOutputs) (xs : List KeyedSection) (placed : ℕ) (v : Outputs)

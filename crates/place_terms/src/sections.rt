@@ -1,9 +1,11 @@
 //! The output sections that are in their places.
 
 ghost use Rattle.std.specs.Prelude.{◌≡◌, ◌+◌, [], ◌∷◌, ◌++◌, length, IfOk, OnOk, IfSome, find, true};
-ghost use Rattle.std.specs.Prelude.{bytes_eq, map, option_map, slice_get};
+ghost use Rattle.std.specs.Prelude.{bytes_eq, map, option_map, slice_get, if◌then◌else◌, Some};
 ghost use Rattle.std.specs.Option.{option_copied};
 ghost use Rattle.ldscript.specs.statements.Given.{section_number};
+ghost use Rattle.ldmodel.specs.Arithmetic.{minus_modulo};
+ghost use Rattle.ldmodel.specs.Placement.{same_region};
 ghost use Rattle.place_terms.specs.PreviousLayout.{earlier_of, IsWithTaken};
 ghost use Rattle.place_terms.specs.Keyed.{KeyedSection};
 ghost use Rattle.place_terms.specs.Outputs.{HasNext, IsOutput};
@@ -155,7 +157,7 @@ enum DifferencePlace {
     Elsewhere,
     /// In the table, under the number of the region.
     At(usize),
-    /// Nowhere: the table has no place for a region that the script does not declare, and nobody asks for it.
+    /// Nowhere: the table has no place for a region that the script does not declare, and no script names one.
     Nowhere,
 }
 
@@ -176,6 +178,37 @@ fn kept_at(script: &Script, count: usize, output: &OutputSection) -> DifferenceP
             None => DifferencePlace::Nowhere,
         },
     }
+}
+
+/// The difference of an output section that names a region, else that of those before it.
+fn next_difference(output: &OutputSection, placed: &Placed, region: &[u8], before: u64) -> u64
+    ensures { result ≡ if same_region output.now.region (Some region.now)
+        then minus_modulo placed.now.start placed.now.load else before }
+{
+    match &output.region {
+        Some(name) => {
+            if name.as_bytes() == region {
+                placed.start.wrapping_sub(placed.load)
+            } else {
+                before
+            }
+        }
+        None => before,
+    }
+}
+
+/// The difference of the last output section that names a region, looked for among all.
+fn last_difference(taken: &[ReusedOutput<'_>], list: &[Closed<'_>], region: &[u8]) -> u64
+    ensures { result ≡ difference_by (both taken.now list.now) (Some region.now) }
+{
+    let mut difference = 0;
+    for section in taken {
+        difference = next_difference(section.output, section.placed, region, difference);
+    }
+    for section in list {
+        difference = next_difference(section.output, &section.placed, region, difference);
+    }
+    difference
 }
 
 /// The sum of two counts of what is in memory, for which there is room in a count.
@@ -275,22 +308,22 @@ impl<'a> Sections<'a> {
         }
     }
 
-    /// How far the last output section of a region starts from where it is loaded, modulo 2^64; `None` for a region
-    /// that the script does not declare. Output sections that name no region count as one region.
-    pub fn difference(&self, region: Option<&[u8]>) -> Option<u64>
-        ensures { IfSome result (λ d. d ≡ difference_by self.now.list (option_copied region.entry)) }
+    /// How far the last output section of a region starts from where it is loaded, modulo 2^64. Output sections that
+    /// name no region count as one region.
+    pub fn difference(&self, region: Option<&[u8]>) -> u64
+        ensures { result ≡ difference_by self.now.list (option_copied region.entry) }
     {
         match region {
-            None => Some(self.elsewhere),
+            None => self.elsewhere,
             Some(name) => match self.script.region_number(name) {
                 Some(number) => {
                     if number < self.differences.len() {
-                        Some(self.differences[number])
+                        self.differences[number]
                     } else {
-                        None
+                        last_difference(&self.taken, &self.list, name)
                     }
                 }
-                None => None,
+                None => last_difference(&self.taken, &self.list, name),
             },
         }
     }
