@@ -13,7 +13,8 @@ use Rattle.ldmodel.specs.Segments.{headers_end, nonempty, segments}
 use Rattle.ldmodel.specs.declared.segment.Segment as code
 use Rattle.place.specs.declared.group.Group as code_group
 use Rattle.place.specs.Grouping.{IsGroup}
-use Rattle.place.specs.Placing.{Follow, past, segment_at, segments_from}
+use Rattle.place.specs.Placing.{Follow, HaveRoom, past, segment_at, segments_from}
+use Rattle.std.proofs.lemmas.List.Elements.{All-nil, All-push}
 
 segment_is : (s : List PlacedOutput) (end : ℕ) (g : Group) (x : code_group.Group) → IsGroup s g x
     → IsSegment s (begun end g) (segment_at end x)
@@ -62,6 +63,7 @@ congruent_near end at = omega (arith, mod_below (at % 4096 + (4096 - end % 4096)
 -- the groups so far have their places, and the file is not long
 pub record Placing (all rest : List code_group.Group) (done : List code.Segment) (end k : ℕ) : Type 0 where
   pub same : segments_from (headers_end (length all)) all ≡ done ++ segments_from end rest
+  pub room : HaveRoom done
   pub near : end ≤ headers_end (length all) + k * (2 ^ 64 + 4096)
 
 pub placing_none : (all : List code_group.Group) (done : List code.Segment) (end : ℕ) → done ≡ []
@@ -69,6 +71,7 @@ pub placing_none : (all : List code_group.Group) (done : List code.Segment) (end
 placing_none all done end empty same = record {
   same = ap (λ n. segments_from n all) (sym same) ∙ ap (λ l. l ++ segments_from end all) (sym empty);
   near = omega (arith, same);
+  room = subst HaveRoom (sym empty) (All-nil (λ (x : code.Segment). x.offset + 2 ^ 64 ≤ 2 ^ 128));
 }
 
 front_is : (all : List code_group.Group) (k : ℕ) (d : code_group.Group) → k < length all
@@ -78,16 +81,17 @@ front_is all k d below = drop-cons all k d below ∙ ap (λ n. get_or all k d �
 pub placing_more : (all : List code_group.Group) (k : ℕ) (d : code_group.Group) (done : List code.Segment)
     (end next : ℕ)
     (x : code.Segment) → Placing all (drop k all) done end k → k < length all → x ≡ segment_at end (get_or all k d)
-    → next ≡ past end x → next ≤ end + 4096 + 2 ^ 64
+    → next ≡ past end x → next ≤ end + 4096 + 2 ^ 64 → x.offset + 2 ^ 64 ≤ 2 ^ 128
     → Placing all (drop (k + 1) all) (done ++ x ∷ []) next (k + 1)
 unfolding segments_from
-placing_more all k d done end next x h below is same near = record {
+placing_more all k d done end next x h below is same near fits = record {
   same =
       h.same ∙ ap (λ l. done ++ segments_from end l) (front_is all k d below)
       ∙ ap (λ y. done ++ (y ∷ segments_from (past end y) (drop (k + 1) all))) (sym is)
       ∙ sym (append_assoc done (x ∷ []) (segments_from (past end x) (drop (k + 1) all)))
       ∙ ap (λ n. (done ++ x ∷ []) ++ segments_from n (drop (k + 1) all)) (sym same);
   near = omega (arith, near, h.near);
+  room = All-push (λ (y : code.Segment). y.offset + 2 ^ 64 ≤ 2 ^ 128) done x h.room fits;
 }
 
 -- in the end all groups have their places

@@ -1,5 +1,6 @@
 -- Where groups stand in the file.
-use Rattle.std.specs.Prelude.{◌≡◌, ⊤, ℕ, ◌+◌, ◌≤◌, List, [], ◌∷◌, map, ◌==◌, if◌then◌else◌}
+use Rattle.std.specs.Prelude.{◌≡◌, ⊤, ℕ, ◌+◌, ◌^◌, ◌≤◌, List, [], ◌∷◌, map, ◌==◌, if◌then◌else◌}
+use Rattle.std.specs.List.{All}
 use Rattle.ldmodel.specs.Layout.{PlacedOutput}
 use Rattle.ldmodel.specs.PlacementView.{AreSegments, placed_of}
 use Rattle.ldmodel.specs.Segments.{congruent, segments}
@@ -10,6 +11,10 @@ use Rattle.place.specs.declared.group.Group.{Group}
 -- the segments of any output sections that have these numbers
 abbrev pub AreAllSegments : List Placed → List Segment → Type 0
 AreAllSegments placed xs = (s : List PlacedOutput) → map placed_of s ≡ placed → AreSegments s (segments s) xs
+
+-- what stands in a segment begins below 2^128 in the file
+abbrev pub HaveRoom : List Segment → Type 0
+HaveRoom xs = All (λ (x : Segment). x.offset + 2 ^ 64 ≤ 2 ^ 128) xs
 
 -- a group at the first place past an end
 abbrev pub segment_at : ℕ → Group → Segment

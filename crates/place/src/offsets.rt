@@ -1,6 +1,6 @@
 //! Where output sections begin in the file.
 
-ghost use Rattle.std.specs.Prelude.{◌≡◌, ◌∷◌, IfOk, List, drop, map};
+ghost use Rattle.std.specs.Prelude.{◌≡◌, ◌+◌, ◌≤◌, ◌^◌, ◌∷◌, IfOk, List, drop, map};
 ghost use Rattle.std.specs.List.{AllZip};
 ghost use Rattle.ldmodel_laws.specs.ImageBytes.{AreNamed};
 ghost use Rattle.ldmodel.specs.Layout.{Layout};
@@ -8,22 +8,20 @@ ghost use Rattle.ldmodel.specs.PlacementView.{AreSegments, placed_of};
 ghost use Rattle.ldmodel.specs.Segments as model;
 ghost use Rattle.place.specs.Offsets.{is_last, offset_at, offsets_in};
 ghost use Rattle.place.specs.Offsets.{IsOffset};
+ghost use Rattle.place.specs.Placing.{HaveRoom};
 
 use ldmodel::memory::NoMemory;
 use ldmodel::placed::Placed;
 use ldmodel::segment::Segment;
 use ldmodel_laws::segments::segments_by_neighbours;
-use std::alloc::{AllocError, Global};
+use std::alloc::Global;
 
-/// Where an output section of a segment begins in the file. Fails where it is past any file.
-fn offset_at(segment: &Segment, section: &Placed) -> Result<u128, NoMemory>
-    ensures { IfOk result (λ o. o ≡ offset_at segment.now section.now) }
+/// Where an output section of a segment begins in the file.
+fn offset_at(segment: &Segment, section: &Placed) -> u128
+    requires { segment.now.offset + 2 ^ 64 ≤ 2 ^ 128 }
+    ensures { result ≡ offset_at segment.now section.now }
 {
-    let from_start = section.start.saturating_sub(segment.start);
-    segment
-        .offset
-        .checked_add(u128::from(from_start))
-        .ok_or(AllocError)
+    segment.offset + u128::from(section.start.saturating_sub(segment.start))
 }
 
 /// Whether an output section is the last one of its segment: it ends where that does.
@@ -42,29 +40,30 @@ struct FilePlace {
 }
 
 /// Where an output section begins in the file, where the next segment to be looked at has this number: at 0 past all
-/// segments, where none of nonzero size is. Fails where it is past any file.
-fn step(segments: &[Segment], number: usize, section: &Placed) -> Result<FilePlace, NoMemory>
-    ensures { IfOk result (λ t. (qs : List Placed) → offsets_in (section.now ∷ qs) (drop number segments.now)
-        ≡ t.offset ∷ offsets_in qs (drop t.segment segments.now)) }
+/// segments, where none of nonzero size is.
+fn step(segments: &[Segment], number: usize, section: &Placed) -> FilePlace
+    requires { HaveRoom segments.now }
+    ensures { (qs : List Placed) → offsets_in (section.now ∷ qs) (drop number segments.now)
+        ≡ result.offset ∷ offsets_in qs (drop result.segment segments.now) }
 {
     if section.size == 0 {
-        return Ok(FilePlace {
+        return FilePlace {
             offset: 0,
             segment: number,
-        });
+        };
     }
     match segments.get(number) {
-        None => Ok(FilePlace {
+        None => FilePlace {
             offset: 0,
             segment: number,
-        }),
+        },
         Some(segment) => {
-            let offset = offset_at(segment, section)?;
+            let offset = offset_at(segment, section);
             let last = is_last(segment, section);
-            Ok(FilePlace {
+            FilePlace {
                 offset,
                 segment: if last { number + 1 } else { number },
-            })
+            }
         }
     }
 }
@@ -73,12 +72,13 @@ fn step(segments: &[Segment], number: usize, section: &Placed) -> Result<FilePla
 ///
 /// # Errors
 ///
-/// Where memory runs out, or where one begins past any file.
+/// Where memory runs out.
 pub(crate) fn offsets(
     alloc: Global,
     sections: &[Placed],
     segments: &[Segment],
 ) -> Result<Vec<u128>, NoMemory>
+    requires { HaveRoom segments.now }
     ensures { IfOk result (λ v. (layout : Layout) → AreNamed layout.sections → map placed_of layout.sections
         ≡ sections.now
         → AreSegments layout.sections (model.segments layout.sections) segments.now
@@ -88,7 +88,7 @@ pub(crate) fn offsets(
     let mut offsets = Vec::with_capacity(alloc, sections.len())?;
     let mut number = 0;
     for section in sections {
-        let step = step(segments, number, section)?;
+        let step = step(segments, number, section);
         offsets.push(step.offset)?;
         number = step.segment;
     }

@@ -3,7 +3,7 @@
 ghost use Rattle.std.specs.Prelude.{◌≡◌, ℕ, ◌+◌, ◌*◌, ◌≤◌, ◌<◌, ◌^◌, List, IfOk, length};
 ghost use Rattle.ldmodel.specs.Segments.{congruent, headers_end};
 ghost use Rattle.place.specs.Grouping.{Ends};
-ghost use Rattle.place.specs.Placing.{AreAllSegments, segment_at, past};
+ghost use Rattle.place.specs.Placing.{AreAllSegments, HaveRoom, segment_at, past};
 
 use crate::group::{Group, PAGE_SIZE, groups};
 use ldmodel::memory::NoMemory;
@@ -66,7 +66,8 @@ pub(crate) fn end_after(end: u128, segment: Segment) -> u128
 /// Where memory runs out.
 pub fn segments(alloc: Global, placement: PlacementView<'_>) -> Result<Vec<Segment>, NoMemory>
     requires ends { Ends placement.sections.now }
-    ensures { IfOk result (λ v. AreAllSegments placement.entry.sections.now v.items) }
+    ensures are { IfOk result (λ v. AreAllSegments placement.entry.sections.now v.items) }
+    ensures room { IfOk result (λ v. HaveRoom v.items) }
 {
     let groups = groups(alloc, placement.sections)?;
     let mut end = header_length(groups.len());

@@ -36,10 +36,14 @@ loop-group-preserved c =
     c.end_after-end.result (c.loop-group.group-index + 1)) (sym (c.in_ok-push.ensures.items))
     (placing_more c.deref-group-items.result.now c.loop-group.group-index _ c.loop-group.segments.items c.loop-group.end
     c.end_after-end.result c.place_segment-segment.result c.loop-group.invariant c.loop-group-test.true is
-    (c.end_after-end.ensures.value (c.end_after-end.ensures.fits wide near)) (c.end_after-end.ensures.near near))
+    (c.end_after-end.ensures.value (c.end_after-end.ensures.fits wide near)) (c.end_after-end.ensures.near near)
+    (omega (arith, wide, near)))
 
-pub returns : goal.returns
-returns c s same =
+pub returns-clause-room : goal.returns-clause-room
+returns-clause-room c = c.loop-group.invariant.room
+
+pub returns-clause-are : goal.returns-clause-are
+returns-clause-are c s same =
     subst (λ xs. AreSegments s (segments s) xs)
     (sym (placing_all c.deref-group-items.result.now c.loop-group.segments.items c.loop-group.end
     c.loop-group.group-index

@@ -15,7 +15,7 @@ returns-clause-good c =
     let s = h.layout in
     let named = are_named p s.sections (subst IsSound c.script.ensures c.statements-statements.ensures.sound)
     (c.outputs_are_of_script.ensures p (rows p) (provided p) s h.placed) in
-    has_layout p _ h c.view.result.sections.now c.view.ensures.sections c.in_ok-segments.ensures named
+    has_layout p _ h c.view.result.sections.now c.view.ensures.sections c.in_ok-segments.ensures.are named
     (λ same are.
     c.in_ok-offsets.ensures s named (same ∙ c.view.ensures.sections ∙ sym c.sections.ensures)
     (subst (AreSegments s.sections (segments s.sections)) (sym c.deref.ensures.value) are))
