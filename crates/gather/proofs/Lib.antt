@@ -3,6 +3,8 @@ pub mod Marks
 pub mod NamedLists
 pub mod InLists
 pub mod LivePaths
+pub mod SharedStarts
+pub mod NamedPieces
 pub mod Sorts
 pub mod RowSteps
 pub mod GatheredLists

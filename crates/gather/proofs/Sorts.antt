@@ -1,5 +1,5 @@
 -- What a stable sort of pieces makes of the pieces that they stand for.
-use Rattle.std.proofs.Common.{◌≡◌, ◌<◌, ◌+◌, ◌⊎◌, inl, inr, Bool, true, false, cond, List, [], ◌∷◌, length, filter}
+use Rattle.std.proofs.Common.{◌≡◌, ◌<◌, ◌+◌, ◌++◌, ◌⊎◌, inl, inr, Bool, true, false, cond, List, [], ◌∷◌, length, filter}
 use Rattle.std.proofs.Common.{map, get_or, not, ◌&&◌, refl, ap, sym, ◌∙◌, ◌↔◌, arith, Option, Result, Ok, Err}
 use Rattle.std.proofs.Common.{Bor, OnOk, ℕ, ⊎_elim}
 use Rattle.std.specs.List.{All}
@@ -136,23 +136,23 @@ module _ {X : Type 0} (f : X → Piece) (law : OneOrder) (sort : Option Sort)
   ordered_if (Err e) xs ys compares moved sorted stable = tt
 
 -- a piece with a name beside it, as the piece of that name
-abbrev pub named_in : Project → NamedPiece → Piece
-named_in p x = piece_of (object_name p) (λ _. x.name.now) x.piece
+abbrev pub named_in : Project → List ℕ → NamedPiece → Piece
+named_in p start x = piece_of (object_name p) (λ _. start ++ x.name) x.piece
 
 -- where the names are right, they are the pieces alone
-pub as_pieces : (p : Project) (xs : List NamedPiece) → All (HasName p) xs
-    → map (named_in p) xs ≡ map (piece_in p) (pieces_of xs)
-as_pieces p [] are = refl
-as_pieces p (x ∷ xs) are =
-    ap (λ (name : List ℕ). piece_of (object_name p) (λ _. name) x.piece ∷ map (named_in p) xs)
-    (All-head (HasName p) x xs are)
-    ∙ ap (λ l. piece_in p x.piece ∷ l) (as_pieces p xs (All-tail (HasName p) x xs are))
+pub as_pieces : (p : Project) (start : List ℕ) (xs : List NamedPiece) → All (HasName p start) xs
+    → map (named_in p start) xs ≡ map (piece_in p) (pieces_of xs)
+as_pieces p start [] are = refl
+as_pieces p start (x ∷ xs) are =
+    ap (λ (name : List ℕ). piece_of (object_name p) (λ _. name) x.piece ∷ map (named_in p start) xs)
+    (All-head (HasName p start) x xs are)
+    ∙ ap (λ l. piece_in p x.piece ∷ l) (as_pieces p start xs (All-tail (HasName p start) x xs are))
 
 -- pieces with their names, put in an order of these pieces and names, are the pieces in that order
-pub ordered_named : (p : Project) (sort : Option Sort) (xs : List code.Piece) (named sorted : List NamedPiece)
-    → AreNamed p xs named → IsPermutation named sorted
-    → map (named_in p) sorted ≡ sort_by (below sort) (map (named_in p) named)
+pub ordered_named : (p : Project) (start : List ℕ) (sort : Option Sort) (xs : List code.Piece)
+    (named sorted : List NamedPiece) → AreNamed p start xs named → IsPermutation named sorted
+    → map (named_in p start) sorted ≡ sort_by (below sort) (map (named_in p start) named)
     → Orders p sort xs (pieces_of sorted)
-ordered_named p sort xs named sorted are moved order =
-    sym (as_pieces p sorted (All-permutation (HasName p) named sorted moved are.names))
-    ∙ (order ∙ ap (sort_by (below sort)) (as_pieces p named are.names ∙ ap (map (piece_in p)) are.pieces))
+ordered_named p start sort xs named sorted are moved order =
+    sym (as_pieces p start sorted (All-permutation (HasName p start) named sorted moved are.names))
+    ∙ (order ∙ ap (sort_by (below sort)) (as_pieces p start named are.names ∙ ap (map (piece_in p)) are.pieces))

@@ -9,6 +9,7 @@ pub mod Graphs
 pub mod LiveMarks
 pub mod Apart
 pub mod GatheredSections
+pub mod SharedStarts
 pub mod NamedPieces
 pub mod RowPieces
 pub mod LeftOut

@@ -1,38 +1,60 @@
 //! Pieces in the order of a sort.
 
-ghost use Rattle.std.specs.Prelude.{◌≡◌, IfOk, OnOk, Some, max};
-ghost use Rattle.gather.specs.NamedPieces.{AreNamed, pieces_of};
+ghost use Rattle.std.specs.Prelude.{◌≡◌, IfOk, OnOk, Some, length, max};
+ghost use Rattle.gather.specs.NamedPieces.{AreNamed, AreNames, pieces_of};
 ghost use Rattle.gather.specs.RowPieces.{Orders};
+ghost use Rattle.gather.specs.SharedStarts.{AllBegin};
 ghost use Rattle.ldmodel.specs.Project.{Project};
 ghost use Rattle.ldscript.specs.statements.declared.input.Sort.TheVariants.{ByName, ByAlignment};
 
 use crate::section_names::section_name;
+use crate::shared_start::shared_start;
 use ldmodel::memory::NoMemory;
 use ldmodel::rows::Piece;
 use ldmodel_laws::gathering::row_by_order;
 use ldmodel_project::view::ProjectView;
 use ldscript::tree::Sort;
 use std::alloc::Global;
+use symres::table::prefix_key::KeyedName;
 
-/// A piece, and the name of its section.
-#[derive(Clone, Copy)]
+/// A piece, and the name of its section after what the names of all pieces begin with.
+#[derive(Drop)]
 struct NamedPiece<'a> {
-    name: &'a [u8],
+    name: KeyedName<'a>,
     piece: Piece,
 }
 
-/// Pieces with the names of their sections, each of which is looked up once.
-fn with_names<'a>(
+/// The names of the sections of pieces, each of which is looked up once.
+fn names_of<'a>(
     alloc: Global,
     project: &ProjectView<'a>,
     pieces: &[Piece],
+) -> Result<Vec<&'a [u8]>, NoMemory>
+    ensures { IfOk result (λ names. AreNames project.now pieces.now names.items) }
+{
+    let mut names = Vec::with_capacity(alloc, pieces.len())?;
+    for piece in pieces {
+        names.push(section_name(project, piece.section))?;
+    }
+    Ok(names)
+}
+
+/// Pieces with their names, which all begin with `start`.
+fn with_names<'a>(
+    alloc: Global,
+    pieces: &[Piece],
+    names: &[&'a [u8]],
+    start: &[u8],
 ) -> Result<Vec<NamedPiece<'a>>, NoMemory>
-    ensures { IfOk result (λ named. AreNamed project.now pieces.now named.items) }
+    requires long { length names.now ≡ length pieces.now }
+    requires begin { AllBegin start.now names.now }
+    ensures { (project : Project) → IfOk result (λ named. AreNames project pieces.now names.now
+        → AreNamed project start.now pieces.now named.items) }
 {
     let mut named = Vec::with_capacity(alloc, pieces.len())?;
-    for piece in pieces {
+    for (place, piece) in pieces.iter().enumerate() {
         named.push(NamedPiece {
-            name: section_name(project, piece.section),
+            name: KeyedName::new(&names[place][start.len()..]),
             piece: *piece,
         })?;
     }
@@ -59,8 +81,9 @@ fn sort_by_name(
     ensures { OnOk result (Orders project.now (Some ByName) pieces.old.items pieces.new.items) }
 {
     row_by_order();
-    let mut named = with_names(alloc, project, pieces)?;
-    named.sort_by(|a, b| a.name.cmp(b.name))?;
+    let names = names_of(alloc, project, pieces)?;
+    let mut named = with_names(alloc, pieces, &names, shared_start(&names))?;
+    named.sort_by(|a, b| a.name.cmp(&b.name))?;
     put_back(pieces, &named)
 }
 

@@ -1,7 +1,9 @@
 -- The pieces so far.
 use Rattle.std.proofs.Common.{take}
-use Rattle.gather.specs.NamedPieces.{AreNamed}
+use Rattle.ldmodel.specs.Project.{Project}
+use Rattle.gather.specs.NamedPieces.{AreNamed, AreNames}
 use Rattle.gather.proofs.sorting.with_names.Given as goal
 
-abbrev pub invariant-loop-piece : goal.invariant-loop-piece
-invariant-loop-piece l = AreNamed l.project (take l.piece-index l.pieces) l.named.items
+abbrev pub invariant-loop-place : goal.invariant-loop-place
+invariant-loop-place l = (project : Project) → AreNames project l.pieces l.names
+    → AreNamed project l.start (take l.place l.pieces) l.named.items
