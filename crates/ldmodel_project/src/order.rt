@@ -52,7 +52,9 @@ pub fn places_of(alloc: Global, keys: &[usize]) -> Result<Vec<Option<usize>>, No
     requires { AreKeysDistinct keys.now }
     ensures { IfOk result (λ places. HasPlaces keys.now places.items) }
 {
-    let mut places = Vec::with_capacity(alloc, keys.len())?;
+    let mut places = Vec::new(alloc);
+    // the greatest key asks for as many, since no two keys are the same
+    places.resize(keys.len(), None)?;
     for (place, key) in keys.iter().enumerate() {
         note_place(&mut places, *key, place)?;
     }

@@ -175,7 +175,7 @@ impl<'a> Next<'a> {
         let mut inputs = Vec::with_capacity(alloc, self.len())?;
         for at in 0..self.len() {
             let (_key, named) = self.entry(at);
-            inputs.push(named.input())?;
+            inputs.push_reserved(named.input());
         }
         Ok(inputs)
     }
