@@ -20,9 +20,9 @@ use Rattle.ldmodel.specs.NameFaults.{object_name}
 use Rattle.ldmodel.specs.Sorting.{IsOrdered, sort_by}
 use Rattle.ldmodel.specs.declared.rows.Piece as code
 use Rattle.ldmodel_project.specs.ByPlace.{piece_in}
-use Rattle.gather.specs.NamedPieces.{AreNamed, HasName, pieces_of}
+use Rattle.gather.specs.NamedPieces.{AreNamed, HasName, piece_at, pieces_at}
 use Rattle.gather.specs.RowPieces.{Orders}
-use Rattle.gather.specs.declared.sorting.NamedPiece.{NamedPiece}
+use Rattle.gather.specs.declared.sorting.NamedPlace.{NamedPlace}
 
 module _ {X Y : Type 0} (f : X → Y) (p : Y → Bool) where
   pub filter_of_map : (xs : List X) → filter p (map f xs) ≡ map f (filter (λ x. p (f x)) xs)
@@ -135,24 +135,30 @@ module _ {X : Type 0} (f : X → Piece) (law : OneOrder) (sort : Option Sort)
   ordered_if (Ok x) xs ys compares moved sorted stable = ordered xs ys compares moved sorted stable
   ordered_if (Err e) xs ys compares moved sorted stable = tt
 
--- a piece with a name beside it, as the piece of that name
-abbrev pub named_in : Project → List ℕ → NamedPiece → Piece
-named_in p start x = piece_of (object_name p) (λ _. start ++ x.name) x.piece
+-- a piece with a name beside its place, as the piece of that name
+abbrev pub named_in : Project → List ℕ → List code.Piece → NamedPlace → Piece
+named_in p start xs x = piece_of (object_name p) (λ _. start ++ x.name) (piece_at xs x)
 
 -- where the names are right, they are the pieces alone
-pub as_pieces : (p : Project) (start : List ℕ) (xs : List NamedPiece) → All (HasName p start) xs
-    → map (named_in p start) xs ≡ map (piece_in p) (pieces_of xs)
-as_pieces p start [] are = refl
-as_pieces p start (x ∷ xs) are =
-    ap (λ (name : List ℕ). piece_of (object_name p) (λ _. name) x.piece ∷ map (named_in p start) xs)
-    (All-head (HasName p start) x xs are)
-    ∙ ap (λ l. piece_in p x.piece ∷ l) (as_pieces p start xs (All-tail (HasName p start) x xs are))
+pub as_pieces : (p : Project) (start : List ℕ) (xs : List code.Piece) (places : List NamedPlace)
+    → All (HasName p start xs) places → map (named_in p start xs) places ≡ map (piece_in p) (pieces_at xs places)
+as_pieces p start xs [] are = refl
+as_pieces p start xs (x ∷ places) are =
+    ap (λ (name : List ℕ). piece_of (object_name p) (λ _. name) (piece_at xs x) ∷ map (named_in p start xs) places)
+    (All-head (HasName p start xs) x places are).name
+    ∙ ap (λ l. piece_in p (piece_at xs x) ∷ l)
+    (as_pieces p start xs places (All-tail (HasName p start xs) x places are))
 
--- pieces with their names, put in an order of these pieces and names, are the pieces in that order
+-- places with names, put in an order of the pieces and names there, are of the pieces in that order
 pub ordered_named : (p : Project) (start : List ℕ) (sort : Option Sort) (xs : List code.Piece)
-    (named sorted : List NamedPiece) → AreNamed p start xs named → IsPermutation named sorted
-    → map (named_in p start) sorted ≡ sort_by (below sort) (map (named_in p start) named)
-    → Orders p sort xs (pieces_of sorted)
-ordered_named p start sort xs named sorted are moved order =
-    sym (as_pieces p start sorted (All-permutation (HasName p start) named sorted moved are.names))
-    ∙ (order ∙ ap (sort_by (below sort)) (as_pieces p start named are.names ∙ ap (map (piece_in p)) are.pieces))
+    (places sorted : List NamedPlace) → AreNamed p start xs places → IsPermutation places sorted
+    → map (named_in p start xs) sorted ≡ sort_by (below sort) (map (named_in p start xs) places)
+    → Orders p sort xs (pieces_at xs sorted)
+ordered_named p start sort xs places sorted are moved order =
+    sym (as_pieces p start xs sorted (All-permutation (HasName p start xs) places sorted moved are.names))
+    ∙ (order
+    ∙ ap (sort_by (below sort)) (as_pieces p start xs places are.names ∙ ap (map (piece_in p)) are.pieces))
+
+pub all_within : (p : Project) (start : List ℕ) (xs : List code.Piece) (places : List NamedPlace)
+    → All (HasName p start xs) places → All (λ (x : NamedPlace). x.place < length xs) places
+all_within p start xs places are k d l = (are k d l).within

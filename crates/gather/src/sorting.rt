@@ -1,9 +1,11 @@
 //! Pieces in the order of a sort.
 
-ghost use Rattle.std.specs.Prelude.{◌≡◌, IfOk, OnOk, Some, length, max};
-ghost use Rattle.gather.specs.NamedPieces.{AreNamed, AreNames, pieces_of};
+ghost use Rattle.std.specs.Prelude.{◌≡◌, ◌<◌, IfOk, OnOk, Some, length, max};
+ghost use Rattle.std.specs.List.{All};
+ghost use Rattle.gather.specs.NamedPieces.{AreNames, AreOfNames, pieces_at};
 ghost use Rattle.gather.specs.RowPieces.{Orders};
 ghost use Rattle.gather.specs.SharedStarts.{AllBegin};
+ghost use Rattle.gather.specs.declared.sorting.NamedPlace.{NamedPlace};
 ghost use Rattle.ldmodel.specs.Project.{Project};
 ghost use Rattle.ldscript.specs.statements.declared.input.Sort.TheVariants.{ByName, ByAlignment};
 
@@ -17,11 +19,11 @@ use ldscript::tree::Sort;
 use std::alloc::Global;
 use symres::table::prefix_key::KeyedName;
 
-/// A piece, and the name of its section after what the names of all pieces begin with.
+/// The name of the section of a piece, after what the names of all pieces begin with, and the place of the piece.
 #[derive(Drop)]
-struct NamedPiece<'a> {
+struct NamedPlace<'a> {
     name: KeyedName<'a>,
-    piece: Piece,
+    place: usize,
 }
 
 /// The names of the sections of pieces, each of which is looked up once.
@@ -39,36 +41,39 @@ fn names_of<'a>(
     Ok(names)
 }
 
-/// Pieces with their names, which all begin with `start`.
-fn with_names<'a>(
+/// The places of names, which all begin with `start`, with what follows this in each.
+fn places_of<'a>(
     alloc: Global,
-    pieces: &[Piece],
     names: &[&'a [u8]],
     start: &[u8],
-) -> Result<Vec<NamedPiece<'a>>, NoMemory>
-    requires long { length names.now ≡ length pieces.now }
-    requires begin { AllBegin start.now names.now }
-    ensures { (project : Project) → IfOk result (λ named. AreNames project pieces.now names.now
-        → AreNamed project start.now pieces.now named.items) }
+) -> Result<Vec<NamedPlace<'a>>, NoMemory>
+    requires { AllBegin start.now names.now }
+    ensures { IfOk result (λ places. AreOfNames start.now names.now (length names.now) places.items) }
 {
-    let mut named = Vec::with_capacity(alloc, pieces.len())?;
-    for (place, piece) in pieces.iter().enumerate() {
-        named.push(NamedPiece {
-            name: KeyedName::new(&names[place][start.len()..]),
-            piece: *piece,
+    let mut places = Vec::with_capacity(alloc, names.len())?;
+    for (place, name) in names.iter().enumerate() {
+        places.push(NamedPlace {
+            name: KeyedName::new(&name[start.len()..]),
+            place,
         })?;
     }
-    Ok(named)
+    Ok(places)
 }
 
-/// Puts pieces in place of others, without their names.
-fn put_back(pieces: &mut Vec<Piece>, named: &[NamedPiece<'_>]) -> Result<(), NoMemory>
-    ensures { OnOk result (pieces.new.items ≡ pieces_of named.now) }
+/// Puts pieces in the order of these places.
+fn put_in_order(
+    alloc: Global,
+    pieces: &mut Vec<Piece>,
+    places: &[NamedPlace<'_>],
+) -> Result<(), NoMemory>
+    requires { All (λ (x : NamedPlace). x.place < length pieces.old.items) places.now }
+    ensures { OnOk result (pieces.new.items ≡ pieces_at pieces.old.items places.now) }
 {
-    pieces.clear();
-    for entry in named {
-        pieces.push(entry.piece)?;
+    let mut ordered = Vec::with_capacity(alloc, places.len())?;
+    for entry in places {
+        ordered.push(pieces[entry.place])?;
     }
+    *pieces = ordered;
     Ok(())
 }
 
@@ -82,9 +87,9 @@ fn sort_by_name(
 {
     row_by_order();
     let names = names_of(alloc, project, pieces)?;
-    let mut named = with_names(alloc, pieces, &names, shared_start(&names))?;
-    named.sort_by(|a, b| a.name.cmp(&b.name))?;
-    put_back(pieces, &named)
+    let mut places = places_of(alloc, &names, shared_start(&names))?;
+    places.sort_by(|a, b| a.name.cmp(&b.name))?;
+    put_in_order(alloc, pieces, &places)
 }
 
 /// The alignment of a piece, at least 1.
