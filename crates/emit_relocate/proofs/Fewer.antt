@@ -1,5 +1,5 @@
 -- Lists of sites and of patches of some of them.
-use Rattle.std.proofs.Common.{◌≡◌, List, [], ◌∷◌, ◌++◌, Option, None, Some, refl, subst, append_assoc}
+use Rattle.std.proofs.Common.{◌≡◌, List, [], ◌∷◌, ◌++◌, Option, None, Some, refl, subst, sym, append_assoc}
 use Rattle.std.specs.List.{AllZip, Contains, cons_option, filter_map}
 use Rattle.std.specs.List.Sorted.{IsPermutation}
 use Rattle.std.proofs.lemmas.List.Sorted.{IsPermutation-append, IsPermutation-append_comm, IsPermutation-append_left}
@@ -24,7 +24,7 @@ middle_moved a b c d =
     (subst (λ l. IsPermutation (a ++ ((b ++ c) ++ d)) l) after
     (IsPermutation-append_right a ((b ++ c) ++ d) ((c ++ b) ++ d) moved))
 
-zip_append : {X Y : Type 0} (R : X → Y → Type 0) (a b : List X) (c d : List Y) → AllZip R a c → AllZip R b d
+pub zip_append : {X Y : Type 0} (R : X → Y → Type 0) (a b : List X) (c d : List Y) → AllZip R a c → AllZip R b d
     → AllZip R (a ++ b) (c ++ d)
 zip_append R [] b [] d h k = k
 zip_append R [] b (y ∷ c) d h k = absurd h
@@ -62,3 +62,17 @@ given_of {X} {Y} R f (x ∷ xs) h =
           parts = IsPermutation-refl (x ∷ []);
           related = (h x y (here x xs) e, tt);
         }) k
+
+-- each member gives something that is related to it
+pub record Gives {X Y : Type 0} (R : X → Y → Type 0) (f : X → Option Y) (x : X) : Type 0 where
+  pub given : Y
+  pub is : f x ≡ Some given
+  pub related : R x given
+
+pub all_given : {X Y : Type 0} (R : X → Y → Type 0) (f : X → Option Y) (xs : List X)
+    → ((x : X) → Contains xs x → Gives R f x) → AllZip R xs (filter_map f xs)
+all_given R f [] h = tt
+all_given R f (x ∷ xs) h =
+    let own = h x (here x xs) in
+    subst (λ m. AllZip R (x ∷ xs) (cons_option m (filter_map f xs))) (sym own.is)
+    (own.related, all_given R f xs (λ z c. h z (later x xs z c)))

@@ -11,6 +11,7 @@ use Rattle.std.proofs.lemmas.List.Elements.{All-contains, All-contains_itself, A
 use Rattle.std.proofs.lemmas.List.Sorted.{Contains-permutation, IsPermutation-sym, IsPermutation-trans}
 use Rattle.elfobj.specs.Profile.{HasRelocationsOfProfile, IsRelocationOfProfile}
 use Rattle.elfobj.specs.RelocationKinds.{width}
+use Rattle.elfobj.specs.Relocations.{field_end}
 use Rattle.elfobj.specs.Sections.{LinkedSection}
 use Rattle.emit_fields.specs.declared.patch.Patch.{Patch}
 use Rattle.ldmodel.specs.Fault.{Fault}
@@ -23,15 +24,17 @@ use Rattle.ldmodel.specs.Stayed.{linked_pieces, link_pieces, retargeted, sites_i
 use Rattle.ldmodel.specs.SymbolValues.{number_or_0}
 use Rattle.ldmodel.specs.declared.sections.SectionKey.{SectionKey}
 use Rattle.ldmodel_laws.specs.StayedSites.{has_part_stayed}
+use Rattle.ldmodel_laws.specs.Untouched.{HasField}
 use Rattle.emit_relocate.specs.Changes.{AreChanged, Evaluated, IsEvaluatedAt, IsEvaluatedOf, Results, file_patch_at}
 use Rattle.emit_relocate.specs.Changes.{in_file, own_sites, section_key}
 use Rattle.emit_relocate.specs.PreviousLinkInfo.{IsComplete, good_link, has_moved, range_of}
 use Rattle.emit_relocate.specs.Filled.{ObjectSection, sections_in}
 use Rattle.emit_relocate.specs.KnownLink.{KnownLink}
-use Rattle.emit_relocate.specs.Patched.{AreAllPatched, AreFew, AreOfProfile, AreSized, IsPatchOfSite, file_patch}
+use Rattle.emit_relocate.specs.Patched.{AreAllPatched, AreFew, AreInFile, AreOfProfile, AreOneEach, AreSized}
+use Rattle.emit_relocate.specs.Patched.{IsPatchOfSite, file_patch}
 use Rattle.emit_relocate.specs.declared.previous_link_info.FileRange.{FileRange}
 use Rattle.emit_relocate.proofs.Changing.{patches_of}
-use Rattle.emit_relocate.proofs.Fewer.{Some_of, both_of, given_of, none_of}
+use Rattle.emit_relocate.proofs.Fewer.{Some_of, all_given, both_of, given_of, none_of, zip_append}
 use Rattle.emit_relocate.proofs.Lists.{filter_in, filter_nothing, filter_where, given_in, here, in_filter, in_given}
 use Rattle.emit_relocate.proofs.Lists.{in_joined, in_mapped, joined_in, later, none_in_nil, partner_in, partner_of}
 use Rattle.emit_relocate.proofs.Settling.{Home, all_sites, belongs, home, keyed, lies, lies_as, own, same_where}
@@ -64,6 +67,16 @@ patched l r t q e = go (site_field l.project l.layout t) refl e
     go (Ok f) k h = record { field = f; is_field = k; stands_at = stands r t f q h }
     go (Err f) k h = cc
 
+-- a site with a field that fits has the patch
+gives : (l : KnownLink) (x : LinkedPiece) (t : Site) (f : List ℕ) (r : FileRange)
+    → site_field l.project l.layout t ≡ Ok f → x.range ≡ range_of r → t.relocation.offset + length f ≤ r.length
+    → file_patch_at l r t ≡ Some (file_patch x t f)
+gives l x t f r is e fits =
+    let passes : nat_le (t.relocation.offset + length f) r.length ≡ true = grind (arith, nat_tests) in
+    ap (λ a. option_and_then (in_file r) (patch_of t a)) is
+    ∙ ap (λ b. cond b (Some (record { offset = r.offset + t.relocation.offset; field = f })) None) passes
+    ∙ ap (λ a. Some (record { offset = a.offset + t.relocation.offset; field = f })) (sym e)
+
 module _ (l : KnownLink) where
   -- of an object and a section of the project
   record Member (s : ObjectSection) : Type 0 where
@@ -91,6 +104,17 @@ module _ (l : KnownLink) where
         let m = member s c in
         subst (λ x. HasRelocationsOfProfile (length s.object.object.symbols) x) (sym (own old l s t d).section)
         (profile s.object s.section m.object m.section)
+
+    -- the field of a site ends in its section
+    own_end : (s : ObjectSection) → Contains (sections_in l.project.objects) s → (t : Site)
+        → Contains (own_sites l s) t → field_end t.relocation ≤ t.section.size
+    own_end s c t d =
+        let of_own = own old l s t d in
+        let rows = own_profile s c t d in
+        let one = All-contains (IsRelocationOfProfile (length s.object.object.symbols) t.section.size)
+        t.section.relocations t.relocation rows.each
+        (subst (λ (z : LinkedSection). Contains z.relocations t.relocation) (sym of_own.section) of_own.relocation) in
+        one.field
 
 module _ (old : GoodLink) (l : KnownLink) (range : SectionKey → Option FileRange)
     (by_piece : IsPermutation (sites l.project l.layout)
@@ -202,14 +226,6 @@ module _ (old : GoodLink) (l : KnownLink) (range : SectionKey → Option FileRan
         belongs_to = belongs l.project x t within;
       }
 
-      gives : (r : FileRange) → x.range ≡ range_of r → t.relocation.offset + length f ≤ r.length
-          → file_patch_at l r t ≡ Some (file_patch x t f)
-      gives r e fits =
-          let passes : nat_le (t.relocation.offset + length f) r.length ≡ true = grind (arith, nat_tests) in
-          ap (λ a. option_and_then (in_file r) (patch_of t a)) is
-          ∙ ap (λ b. cond b (Some (record { offset = r.offset + t.relocation.offset; field = f })) None) passes
-          ∙ ap (λ a. Some (record { offset = a.offset + t.relocation.offset; field = f })) (sym e)
-
       all_at : (s : ObjectSection) (c : Evaluated) (r : Option FileRange) (h : IsEvaluatedOf old l range s c)
           → range (section_key h.key s) ≡ r → IsEvaluatedAt old l (section_key h.key s) r s c
           → Contains (sections_in l.project.objects) s → Contains (own_sites l s) t
@@ -220,12 +236,7 @@ module _ (old : GoodLink) (l : KnownLink) (range : SectionKey → Option FileRan
           absurd (let no : ⊥ = (let y : true ≡ false = sym ((of_stayed x stays).1) ∙ out in cc) in no)
       all_at s c (Some r) h e k among d =
           let at = k.stayed t d x (keyed old l s h.key h.named t d home_is) in
-          let of_own = own old l s t d in
-          let rows = own_profile l old profile s among t d in
-          let one = All-contains (IsRelocationOfProfile (length s.object.object.symbols) t.section.size)
-          t.section.relocations t.relocation rows.each
-          (subst (λ (z : LinkedSection). Contains z.relocations t.relocation) (sym of_own.section) of_own.relocation) in
-          let end = one.field in
+          let end = own_end l old profile s among t d in
           let long : x.range.length ≡ r.length = ap (λ a. a.length) at.1 in
           let whole : x.range.length ≡ x.size = range_whole l.project l.layout x (of_stayed x stays).0 some in
           let size : x.size ≡ t.section.size = sized x t (of_stayed x stays).0 within in
@@ -234,7 +245,7 @@ module _ (old : GoodLink) (l : KnownLink) (range : SectionKey → Option FileRan
           subst (λ qs. Contains qs (file_patch x t f)) (sym k.patches)
           (given_in (file_patch_at l r) c.sites t (file_patch x t f)
           (subst (λ ts. Contains ts t) (sym k.sites) (filter_in (has_moved old l) (own_sites l s) t d moved))
-          (gives r at.1 fits))
+          (gives l x t f r is at.1 fits))
 
     pub all_patches : (a b : Results) → a.patches ≡ [] → AreChanged old l range (sections_in l.project.objects) a b
         → AreAllPatched old (good_link l) b.patches
@@ -321,3 +332,81 @@ module _ (old : GoodLink) (l : KnownLink) (range : SectionKey → Option FileRan
               (subst (λ ts. IsPermutation (few.some ++ few.others) (filter both ts)) (all_sites l) few.parts) permuted;
           widths = subst (AllZip HasWidth few.some) (sym patches) few.related;
         }
+
+    -- ---- where each section with sites has its bytes in the file: exactly one
+
+    module _ (profile : AreOfProfile l.project) (filed : AreInFile (good_link l))
+        (found : (x : LinkedPiece) → Contains (link_pieces (good_link l)) x → (t : Site)
+        → Contains (sites_in l.project x) t → HasField (good_link l) t) where
+      one_at : (s : ObjectSection) (c : Evaluated) (r : Option FileRange) (h : IsEvaluatedOf old l range s c)
+          → range (section_key h.key s) ≡ r → IsEvaluatedAt old l (section_key h.key s) r s c
+          → Contains (sections_in l.project.objects) s
+          → ((t : Site) → Contains (own_sites l s) t → Contains (sites l.project l.layout) t)
+          → AllZip HasWidth (filter both (own_sites l s)) c.patches
+      one_at s c None h e k among inside =
+          let none : filter both (own_sites l s) ≡ filter (λ t. false) (own_sites l s) =
+          filter_where both (λ t. false) (own_sites l s) (λ t d.
+          let at : Home old l t = home old l by_piece t (inside t d) in
+          let out : lies old l t ≡ false = lies_as old l range complete by_piece by_part t at
+          ∙ complete (section_key h.key s) at.piece e (keyed old l s h.key h.named t d at) in
+          ap (λ b. b && has_moved old l t) out) in
+          subst (λ ts. AllZip HasWidth ts c.patches) (sym (none ∙ filter_nothing (own_sites l s)))
+          (subst (AllZip HasWidth []) (sym k.patches) tt)
+      one_at s c (Some r) h e k among inside =
+          let same : c.sites ≡ filter both (own_sites l s) =
+          k.sites
+          ∙ filter_where (has_moved old l) both (own_sites l s) (λ t d.
+          let at : Home old l t = home old l by_piece t (inside t d) in
+          let here : lies old l t ≡ true = lies_as old l range complete by_piece by_part t at
+          ∙ (k.stayed t d at.piece (keyed old l s h.key h.named t d at)).0 in
+          sym (ap (λ b. b && has_moved old l t) here)) in
+          subst (λ ts. AllZip HasWidth ts c.patches) same
+          (subst (AllZip HasWidth c.sites) (sym k.patches)
+          (all_given HasWidth (file_patch_at l r) c.sites (λ t d.
+          let kept = in_filter (has_moved old l) (own_sites l s) t (subst (λ ts. Contains ts t) k.sites d) in
+          let at : Home old l t = home old l by_piece t (inside t kept.0) in
+          let stays = k.stayed t kept.0 at.piece (keyed old l s h.key h.named t kept.0 at) in
+          let field = found at.piece at.among t at.within in
+          let width = wide at.piece t field.0 at.within field.1 in
+          let end = own_end l old profile s among t kept.0 in
+          let long : at.piece.range.length ≡ r.length = ap (λ a. a.length) stays.1 in
+          let size : at.piece.range.length ≡ t.section.size = filed at.piece t at.among at.within in
+          let fits : t.relocation.offset + length field.0 ≤ r.length = omega (arith, end, width, long, size) in
+          record {
+            given = file_patch at.piece t field.0;
+            is = gives l at.piece t field.0 r field.1 stays.1 fits;
+            related = width;
+          })))
+
+      one_of_each : (ss : List ObjectSection) (cs : List Evaluated) → AllZip (IsEvaluatedOf old l range) ss cs
+          → ((s : ObjectSection) → Contains ss s → Contains (sections_in l.project.objects) s)
+          → ((s : ObjectSection) (t : Site) → Contains ss s → Contains (own_sites l s) t
+          → Contains (sites l.project l.layout) t)
+          → AllZip HasWidth (filter both (flat_map (own_sites l) ss)) (flat_map patches_of cs)
+      one_of_each [] [] h among inside = tt
+      one_of_each [] (c ∷ cs) h among inside = absurd h
+      one_of_each (s ∷ ss) [] h among inside = absurd h
+      one_of_each (s ∷ ss) (c ∷ cs) h among inside =
+          subst (λ ts. AllZip HasWidth ts (c.patches ++ flat_map patches_of cs))
+          (sym (filter-append both (own_sites l s) (flat_map (own_sites l) ss)))
+          (zip_append HasWidth (filter both (own_sites l s)) (filter both (flat_map (own_sites l) ss)) c.patches
+          (flat_map patches_of cs)
+          (one_at s c (range (section_key h.0.key s)) h.0 refl h.0.outcome (among s (here s ss))
+          (λ t d. inside s t (here s ss) d))
+          (one_of_each ss cs h.1 (λ z d. among z (later s ss z d)) (λ z t d e. inside z t (later s ss z d) e)))
+
+      pub one_each : (a b : Results) → a.patches ≡ [] → AreChanged old l range (sections_in l.project.objects) a b
+          → IsPermutation (filter both (sites l.project l.layout)) (retargeted old (good_link l))
+          → AreOneEach old (good_link l) b.patches
+      one_each a b none h permuted =
+          let each = one_of_each (sections_in l.project.objects) h.sections h.each (λ s d. d) (λ s t d e.
+          subst (λ ts. Contains ts t) (all_sites l) (joined_in (own_sites l) (sections_in l.project.objects) s t d e))
+          in
+          let patches : b.patches ≡ flat_map patches_of h.sections =
+          h.patches ∙ ap (λ qs. qs ++ flat_map patches_of h.sections) none in
+          record {
+            sites = filter both (sites l.project l.layout);
+            parts = permuted;
+            widths = subst (AllZip HasWidth (filter both (sites l.project l.layout))) (sym patches)
+                (subst (λ ts. AllZip HasWidth (filter both ts) (flat_map patches_of h.sections)) (all_sites l) each);
+          }

@@ -29,6 +29,13 @@ AreSized link =
     → Contains (sites_in link.project piece) site
     → piece.size ≡ site.section.size
 
+-- an input section in the output with sites has all bytes of its section in the file
+abbrev pub AreInFile : GoodLink → Type 0
+AreInFile link =
+    (piece : LinkedPiece) (site : Site) → Contains (link_pieces link) piece
+    → Contains (sites_in link.project piece) site
+    → piece.range.length ≡ site.section.size
+
 -- the new field of a site of an input section that stayed, where the relocations of the section share no byte
 pub record IsPatchOfSite (old new : GoodLink) (q : Patch) : Type 0 where
   pub piece : LinkedPiece
@@ -52,4 +59,10 @@ pub record AreFew (old new : GoodLink) (patches : List Patch) : Type 0 where
   pub sites : List Site
   pub others : List Site
   pub parts : IsPermutation (sites ++ others) (retargeted old new)
+  pub widths : AllZip (λ (site : Site) (q : Patch). length q.field ≡ width site.relocation.kind) sites patches
+
+-- exactly one for each of them
+pub record AreOneEach (old new : GoodLink) (patches : List Patch) : Type 0 where
+  pub sites : List Site
+  pub parts : IsPermutation sites (retargeted old new)
   pub widths : AllZip (λ (site : Site) (q : Patch). length q.field ≡ width site.relocation.kind) sites patches

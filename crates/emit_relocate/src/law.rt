@@ -15,7 +15,8 @@ ghost use Rattle.emit_relocate.specs.PreviousLinkInfo.{IsComplete, good_link};
 ghost use Rattle.emit_relocate.specs.Fields.{fault_at, faults_of};
 ghost use Rattle.emit_relocate.specs.Filled.{sections_in};
 ghost use Rattle.emit_relocate.specs.KnownLink.{KnownLink};
-ghost use Rattle.emit_relocate.specs.Patched.{AreAllPatched, AreFew, AreOfProfile, AreSized, IsPatchOfSite};
+ghost use Rattle.emit_relocate.specs.Patched.{AreAllPatched, AreFew, AreInFile, AreOfProfile, AreOneEach, AreSized};
+ghost use Rattle.emit_relocate.specs.Patched.{IsPatchOfSite};
 ghost use Rattle.emit_relocate.specs.declared.previous_link_info.FileRange.{FileRange};
 
 use ldmodel_laws::stayed::{
@@ -69,7 +70,8 @@ pub fn patches_are_fields()
 }
 
 /// Where each section that stayed is known to have stayed, each site in one whose symbol has another value has a patch,
-/// and no site has two.
+/// and no site has two; between good links, where each section with sites has its bytes in the file, it has exactly
+/// one.
 pub fn patches_are_those_retargeted()
     ensures all { (old : GoodLink) (link : KnownLink) (range : SectionKey → Option FileRange) (before after : Results)
         → AreChanged old link range (sections_in link.project.objects) before after → before.patches ≡ []
@@ -81,6 +83,12 @@ pub fn patches_are_those_retargeted()
         → IsComplete range old link
         → IsGood old → IsGood (good_link link) → IsPlacedOnce link.project link.layout
         → AreFew old (good_link link) after.patches }
+    ensures exact { (old : GoodLink) (link : KnownLink) (range : SectionKey → Option FileRange) (before after : Results)
+        → AreChanged old link range (sections_in link.project.objects) before after → before.patches ≡ []
+        → IsComplete range old link
+        → AreOfProfile link.project → AreInFile (good_link link) → IsGood old → IsGood (good_link link)
+        → IsPlacedOnce link.project link.layout
+        → AreOneEach old (good_link link) after.patches }
 {
     sites_by_piece();
     stayed_by_part();
