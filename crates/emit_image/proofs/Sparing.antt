@@ -288,6 +288,13 @@ few_patches old new sites others patches p z =
     let parts = sum_by-append field_width sites others in
     omega (arith, wide, all, parts)
 
+pub all_patches : (old new : GoodLink) (sites : List Site) (patches : List Patch)
+    → IsPermutation sites (retargeted old new)
+    → AllZip (λ (t : Site) (q : Patch). length q.field ≡ width t.relocation.kind) sites patches
+    → patch_bytes patches ≡ retargeted_bytes old new
+all_patches old new sites patches p z =
+    patches_wide sites patches z ∙ sym (sum_by-IsPermutation field_width sites (retargeted old new) p)
+
 module _ (old new : GoodLink) where
   abbrev pub s : Layout
   s = new.layout

@@ -121,3 +121,12 @@ pub fn patches_are_few()
         → AllZip (λ (site : Site) (q : Patch). length q.field ≡ width site.relocation.kind) sites patches
         → patch_bytes patches ≤ retargeted_bytes old new }
 {}
+
+/// Patches of the sites in input sections that stayed whose symbol has another value, one of each, have as many bytes
+/// as the fields of these sites.
+pub fn patches_are_all()
+    ensures { (old new : GoodLink) (sites : List Site) (patches : List Patch)
+        → IsPermutation sites (retargeted old new)
+        → AllZip (λ (site : Site) (q : Patch). length q.field ≡ width site.relocation.kind) sites patches
+        → patch_bytes patches ≡ retargeted_bytes old new }
+{}
