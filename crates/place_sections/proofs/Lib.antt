@@ -26,6 +26,7 @@ pub mod Runs
 pub mod Still
 pub mod InParts
 pub mod Outside
+pub mod InputNumbers
 pub mod Resuming
 pub mod Noting
 pub mod Joining

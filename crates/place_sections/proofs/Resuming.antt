@@ -266,6 +266,17 @@ module _ (n : Naming) (i : Input) (script : List Statement) (s : Layout) (items 
             absurd (omega (arith, few, same, m, w))
       ]
 
+  -- no boundary is past all statements
+  pub items_within : b.items ≤ length items
+  items_within =
+      elim at.next [
+        | inl one ↦
+            let o = one_section items b.items one in
+            let l = slice_get_within items b.items (record { line = o.1.line; command = item.Section o.0 }) o.1.there in
+            omega (arith, l)
+        | inr end ↦ omega (arith, end)
+      ]
+
   -- the previous layout has it
   pub may_be_taken : (next : Boundary) → slice_get i.kept.boundaries.now (k + 1) ≡ Some next → k < i.kept.first
       → (d : PlacedOutputs) → Reached n i s items e.rows d k → d.sections.placed ≡ 0

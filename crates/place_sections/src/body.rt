@@ -1,6 +1,6 @@
 //! The body of an output section.
 
-ghost use Rattle.std.specs.Prelude.{◌≤◌, ◌≡◌, ◌+◌, length, drop, OnErr, OnOk, IfSome};
+ghost use Rattle.std.specs.Prelude.{◌≤◌, ◌<◌, ◌≡◌, ◌+◌, ◌^◌, length, drop, OnErr, OnOk, IfSome};
 ghost use Rattle.ldscript.specs.terms.DotForms.{dot_form};
 ghost use Rattle.ldscript.specs.terms.CodeTerms.{expr_of};
 ghost use Rattle.ldmodel.specs.Placement.{advanced, body_command_step, body_step, data_step, input_step, moved_on};
@@ -84,7 +84,7 @@ impl<'d, 'a> CurrentOutput<'d, 'a> {
         &self,
         here: &mut LayoutCursor<'a>,
         line: u32,
-        number: u64,
+        number: u128,
     ) -> Result<(), LayoutStop<'a>>
         ghost naming: { Naming }
         ensures gives { Gives
@@ -95,7 +95,7 @@ impl<'d, 'a> CurrentOutput<'d, 'a> {
     {
         while here.pieces.len() < self.row.len() {
             let piece = &self.row[here.pieces.len()];
-            if u64::from(piece.statement.0) != number {
+            if u128::from(piece.statement.0) != number {
                 break;
             }
             self.place_piece(here, line, piece)?;
@@ -109,7 +109,7 @@ impl<'d, 'a> CurrentOutput<'d, 'a> {
         &self,
         here: &mut LayoutCursor<'a>,
         line: u32,
-        number: u64,
+        number: u128,
         starts: &[u64],
     ) -> Result<(), LayoutStop<'a>>
         ghost naming: { Naming }
@@ -126,7 +126,7 @@ impl<'d, 'a> CurrentOutput<'d, 'a> {
         while here.pieces.len() < self.row.len() {
             let place = here.pieces.len();
             let piece = &self.row[place];
-            if u64::from(piece.statement.0) != number {
+            if u128::from(piece.statement.0) != number {
                 break;
             }
             self.put_piece(here, line, piece, starts[place])?;
@@ -137,21 +137,18 @@ impl<'d, 'a> CurrentOutput<'d, 'a> {
     /// An input statement.
     fn place_input(&self, here: &mut LayoutCursor<'a>, line: u32) -> Result<(), LayoutStop<'a>>
         ghost naming: { Naming }
-        requires { StartsThere naming here.now self.now }
+        requires kept { StartsThere naming here.now self.now }
+        requires room { here.now.inputs + 1 < 2 ^ 128 }
         ensures gives { Gives (input_step line (body_of naming here.old self.now)) (body_of naming here.new self.now)
             result }
         ensures counted { Counted here.old here.new self.now }
     {
         let number = here.inputs;
-        let Some(next) = number.checked_add(1) else {
-            // Unreachable: no script has 2^64 input statements
-            return Err(LayoutStop::NoMemory);
-        };
         match self.starts {
             Some(starts) => self.keep_pieces(here, line, number, starts)?,
             None => self.place_pieces(here, line, number)?,
         }
-        here.inputs = next;
+        here.inputs = number + 1;
         Ok(())
     }
 
@@ -258,7 +255,8 @@ impl<'d, 'a> CurrentOutput<'d, 'a> {
         command: &'a BodyCommand,
     ) -> Result<(), LayoutStop<'a>>
         ghost naming: { Naming }
-        requires { IfInput command.now (StartsThere naming here.now self.now) }
+        requires kept { IfInput command.now (StartsThere naming here.now self.now) }
+        requires room { here.now.inputs + 1 < 2 ^ 128 }
         ensures gives { Gives
             (body_command_step self.now.provided.now line (body_of naming here.old self.now) command.now)
             (body_of naming here.new self.now) result }
@@ -284,7 +282,8 @@ impl<'d, 'a> CurrentOutput<'d, 'a> {
         statement: &'a BodyStatement,
     ) -> Result<(), LayoutStop<'a>>
         ghost naming: { Naming }
-        requires { IfInput statement.now.command (StartsThere naming here.now self.now) }
+        requires kept { IfInput statement.now.command (StartsThere naming here.now self.now) }
+        requires room { here.now.inputs + 1 < 2 ^ 128 }
         ensures gives { Gives (body_step self.now.provided.now (body_of naming here.old self.now) statement.now)
             (body_of naming here.new self.now) result }
         ensures counted { Counted here.old here.new self.now }
@@ -301,7 +300,8 @@ impl<'d, 'a> CurrentOutput<'d, 'a> {
         body: &'a [BodyStatement],
     ) -> Result<(), LayoutStop<'a>>
         ghost naming: { Naming }
-        requires { IfSome self.now.starts (λ s. BodyAlongside s.now (body_of naming here.now self.now) body.now) }
+        requires kept { IfSome self.now.starts (λ s. BodyAlongside s.now (body_of naming here.now self.now) body.now) }
+        requires room { here.now.inputs + length body.now < 2 ^ 128 }
         ensures gives { Gives (run (body_step self.now.provided.now) (body_of naming here.old self.now) body.now)
             (body_of naming here.new self.now) result }
         ensures counted { Counted here.old here.new self.now }

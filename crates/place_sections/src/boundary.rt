@@ -1,5 +1,7 @@
 //! Where a layout had come to before an output section.
 
+ghost use Rattle.std.specs.Prelude.{◌≤◌, ◌*◌, ◌^◌};
+
 /// Where a layout had come to right before the statement of an output section, or after the last statement of SECTIONS.
 /// With the numbers of the output sections before it, this is all that the statements from there on begin with.
 #[derive(Clone, Copy)]
@@ -11,9 +13,11 @@ pub(crate) struct Boundary {
     /// How many values of `.` before statements there are.
     pub dots: usize,
     /// The number of the next input statement.
-    pub inputs: u64,
+    pub inputs: u128,
     /// How many symbols have values.
     pub symbols: usize,
     /// How many data commands there are.
     pub data_commands: usize,
+    // each statement of SECTIONS has fewer than 2^64 input statements
+    ghost few: { inputs ≤ items * 2 ^ 64 },
 }

@@ -1,6 +1,6 @@
 //! The statements of SECTIONS.
 
-ghost use Rattle.std.specs.Prelude.{◌≡◌, ◌≤◌, ◌<◌, ◌+◌, [], map, slice_index_or, length, IfErr, IfOk, OnOk};
+ghost use Rattle.std.specs.Prelude.{◌≡◌, ◌≤◌, ◌<◌, ◌+◌, ◌*◌, ◌^◌, [], map, slice_index_or, length, IfErr, IfOk, OnOk};
 ghost use Rattle.std.specs.Prelude.{IfNone, IfSome, false, true};
 ghost use Rattle.std.specs.Prelude.{if◌then◌else◌};
 ghost use Rattle.ldscript.specs.statements.Numbering.{item_sections};
@@ -14,7 +14,7 @@ ghost use Rattle.place_sections.specs.Alongside.{HasKept, IfSection, IsAlongside
 ghost use Rattle.place_sections.specs.Boundaries.{AreBoundaries, IsAt};
 ghost use Rattle.place_sections.specs.Counted.{Adds, CountsAlong, Resumes, entries, placed_from};
 ghost use Rattle.place_sections.specs.PreviousPlacement.{PreviousPlacement};
-ghost use Rattle.place_sections.specs.Inputs.{rows_of};
+ghost use Rattle.place_sections.specs.Inputs.{inputs_at_most, rows_of};
 ghost use Rattle.place_sections.specs.Next.{AreFirst, IsNext};
 ghost use Rattle.place_sections.specs.State.{layout_of, Gives};
 ghost use Rattle.place_sections.specs.declared.stop.LayoutStop.TheVariants.{NoMemory};
@@ -74,6 +74,7 @@ impl<'a> LayoutCursor<'a> {
     /// Where the layout has come to, after this many statements of SECTIONS.
     fn boundary(&self, done: &PlacedOutputs<'a>, items: usize) -> Boundary
         ghost naming: { Naming }
+        requires { self.now.inputs ≤ items * 2 ^ 64 }
         ensures items { result.items ≡ items }
         ensures at { IsAt result (layout_of naming self.now done.now) }
     {
@@ -120,6 +121,8 @@ impl<'i, 'a> Input<'i, 'a> {
         requires kept { IsAlongside naming self.now (layout_of naming here.now done.now) done.now.sections.list line
             command.now }
         requires there { IfSection command.now (HasKept self.now done.now.sections.list) }
+        requires room { here.now.inputs + 2 ^ 64 < 2 ^ 128 }
+        ensures small { OnOk result (inputs_at_most command.now < 2 ^ 64) }
         ensures script { here.new.symbols.script ≡ here.old.symbols.script }
         ensures anew { here.new.anew ≤ here.old.anew + entries (length done.old.sections.list)
             (map (λ v. v.items) self.now.rows.now) }
@@ -145,11 +148,7 @@ impl<'i, 'a> Input<'i, 'a> {
                 here.place_section(self.alloc, done, self.provided, row, starts, line, output)
             }
             ItemCommand::Discard(inputs) => {
-                let Some(next) = here.inputs.checked_add(inputs.as_slice().len() as u64) else {
-                    // Unreachable: no script has 2^64 input statements
-                    return Err(LayoutStop::NoMemory);
-                };
-                here.inputs = next;
+                here.inputs += inputs.as_slice().len() as u128;
                 Ok(())
             }
         }
@@ -167,6 +166,8 @@ impl<'i, 'a> Input<'i, 'a> {
         requires kept { IsAlongside naming self.now (noted (layout_of naming here.now done.now))
             done.now.sections.list item.now.line item.now.command }
         requires there { IfSection item.now.command (HasKept self.now done.now.sections.list) }
+        requires room { here.now.inputs + 2 ^ 64 < 2 ^ 128 }
+        ensures small { OnOk result (inputs_at_most item.now.command < 2 ^ 64) }
         ensures script { here.new.symbols.script ≡ here.old.symbols.script }
         ensures anew { here.new.anew ≤ here.old.anew + entries (length done.old.sections.list)
             (map (λ v. v.items) self.now.rows.now) }
@@ -203,6 +204,7 @@ impl<'i, 'a> Input<'i, 'a> {
             → PreviousPlacement naming self.now here.now.symbols.script (layout_of naming here.now done.now) items.now }
         requires alongside { self.now.kept.same_provided ≡ false → 0 < self.now.kept.first
             → ItemsAlongside naming self.now here.now.symbols.script (layout_of naming here.now done.now) items.now }
+        requires begun { here.now.inputs ≡ 0 }
         ensures script { here.new.symbols.script ≡ here.old.symbols.script }
         ensures anew { here.new.anew ≤ here.old.anew + entries 0 (map (λ v. v.items) self.now.rows.now) }
         ensures resumed { OnOk result (here.new.anew ≤ here.old.anew

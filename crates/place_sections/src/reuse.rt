@@ -1,6 +1,7 @@
 //! Output sections that are taken over from a previous layout.
 
-ghost use Rattle.std.specs.Prelude.{◌≡◌, ◌≤◌, ◌<◌, ◌-◌, min, [], length, take, IfOk, IfErr, OnOk, Ok, false, true};
+ghost use Rattle.std.specs.Prelude.{◌≡◌, ◌≤◌, ◌<◌, ◌*◌, ◌-◌, ◌^◌, min, [], length, take, false, true};
+ghost use Rattle.std.specs.Prelude.{IfOk, IfErr, OnOk, Ok};
 ghost use Rattle.ldmodel.specs.Chain.{run};
 ghost use Rattle.ldmodel.specs.Placement.{item_step};
 ghost use Rattle.place_terms.specs.PreviousLayout.{earlier_of};
@@ -131,6 +132,9 @@ impl<'i, 'a> Input<'i, 'a> {
         requires kept { done.now.sections.earlier ≡ earlier_of self.now.kept.earlier }
         requires earlier { self.now.kept.same_provided ≡ true → 0 < self.now.kept.first
             → PreviousPlacement naming self.now here.now.symbols.script (layout_of naming here.now done.now) items.now }
+        requires begun { here.now.inputs ≡ 0 }
+        ensures inputs { IfOk result (λ r. here.new.inputs ≤ r.passed * 2 ^ 64) }
+        ensures within { IfOk result (λ r. r.passed ≤ length items.now) }
         ensures script { here.new.symbols.script ≡ here.old.symbols.script }
         ensures outputs { done.new.sections.script ≡ done.old.sections.script }
         ensures anew { here.new.anew ≡ here.old.anew }

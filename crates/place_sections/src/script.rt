@@ -110,6 +110,7 @@ impl<'i, 'a> Input<'i, 'a> {
             → ScriptAlongside naming self.now here.now.symbols.script (layout_of naming here.now done.now)
             statements.now }
         requires sound { IsSound statements.now }
+        requires begun { here.now.inputs ≡ 0 }
         ensures script { here.new.symbols.script ≡ here.old.symbols.script }
         ensures anew { here.new.anew ≤ here.old.anew + entries 0 (map (λ v. v.items) self.now.rows.now) }
         ensures resumed { OnOk result (here.new.anew ≤ here.old.anew

@@ -1,6 +1,6 @@
 //! An output section.
 
-ghost use Rattle.std.specs.Prelude.{◌≡◌, ◌≤◌, ◌+◌, [], length, OnOk, IfErr, IfNone, IfSome};
+ghost use Rattle.std.specs.Prelude.{◌≡◌, ◌≤◌, ◌<◌, ◌+◌, ◌^◌, [], length, OnOk, IfErr, IfNone, IfSome};
 ghost use Rattle.ldmodel.specs.Placement.{body_step};
 ghost use Rattle.ldmodel.specs.Chain.{run};
 ghost use Rattle.ldmodel.specs.Placement.{opened, section_step};
@@ -54,6 +54,8 @@ impl<'a> LayoutCursor<'a> {
         requires kept { IfSome starts (λ s.
             BodyAlongside s.now
             (opened (layout_of naming self.now done.now) (row_named naming row.now) (head_from head)) output.now.body) }
+        requires room { self.now.inputs + 2 ^ 64 < 2 ^ 128 }
+        ensures small { OnOk result (length output.now.body < 2 ^ 64) }
         ensures script { self.new.symbols.script ≡ self.old.symbols.script }
         ensures anew { self.new.anew ≤ self.old.anew + length row.now }
         ensures none { IfSome starts.entry (λ s. self.new.anew ≡ self.old.anew) }
@@ -92,6 +94,8 @@ impl<'a> LayoutCursor<'a> {
         requires next { IsOutput done.now.sections.script (length done.now.sections.list) output.now }
         requires kept { IfSome starts (λ s.
             SectionAlongside (row_named naming row.now) (layout_of naming self.now done.now) line output.now s.now) }
+        requires room { self.now.inputs + 2 ^ 64 < 2 ^ 128 }
+        ensures small { OnOk result (length output.now.body < 2 ^ 64) }
         ensures script { self.new.symbols.script ≡ self.old.symbols.script }
         ensures outputs { done.new.sections.script ≡ done.old.sections.script }
         ensures anew { self.new.anew ≤ self.old.anew + length row.now }

@@ -14,7 +14,7 @@ pub(crate) struct LayoutCursor<'a> {
     /// `.` before each statement so far.
     pub dots: Vec<u64>,
     /// The number of the next input statement.
-    pub inputs: u64,
+    pub inputs: u128,
     /// The symbols that have values.
     pub symbols: AssignedSymbols<'a>,
     /// The input sections of the present output section that have their places.

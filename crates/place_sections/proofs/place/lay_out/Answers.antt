@@ -83,7 +83,10 @@ place_script-laid-requires g c =
                     c.new-regions.ensures)
                     (c.steps_stay_alike.ensures.begun c.args.script.now c.statements.ensures.sound))
                     (λ none. absurd (omega (arith, none, some))),
-                subst IsSound (sym c.statements.ensures.value) c.statements.ensures.sound,
+                (
+                  subst IsSound (sym c.statements.ensures.value) c.statements.ensures.sound,
+                  c.in_ok-here.ensures.inputs,
+                ),
               ),
             ),
           ),

@@ -4,6 +4,8 @@ use Rattle.std.proofs.lemmas.List.{length-map}
 use Rattle.place_terms.specs.Keyed.{section_of}
 use Rattle.place_sections.proofs.Alongside.{from_here}
 use Rattle.place_sections.proofs.AlongsideItems.{items_go_on, kept_there, next_alongside}
+use Rattle.ldmodel.specs.Layout.{noted}
+use Rattle.place_sections.proofs.InputNumbers.{item_counts}
 use Rattle.place_sections.proofs.Counting.{along_on, entries_fewer, left_at_first, none_placed}
 use Rattle.place_sections.proofs.Noting.{all_there, comes_on, is_next, more_by, more_sections, noted_more}
 use Rattle.place_sections.proofs.Noting.{stands_at, stops_there}
@@ -24,6 +26,7 @@ loop-number-init g c = record {
   outputs = c.resume.ensures.outputs;
   script = c.resume.ensures.script;
   taken = c.in_ok-resumed.ensures.all;
+  inputs = c.in_ok-resumed.ensures.inputs;
   anew =
       let f = entries_fewer (length c.resume.new.done.sections.list) (map (λ v. v.items) c.args.self.now.rows.now) in
       omega (arith, f, c.resume.ensures.anew);
@@ -47,7 +50,7 @@ loop-number-init g c = record {
       (drop c.in_ok-resumed.resumed.passed c.args.items.now)) (sym there)
       (subst (λ k. ItemsAlongside g.naming c.args.self.now c.args.here.now.symbols.script
       (layout_of g.naming c.args.here.now c.args.done.now) (drop k c.args.items.now)) (sym same.0)
-      (c.requires.1.1.1.1.1 other some));
+      (c.requires.1.1.1.1.1.0 other some));
 }
 
 pub place_item-requires : goal.place_item-requires
@@ -68,25 +71,28 @@ place_item-requires g c = (
         (layout_of g.naming c.loop-number.here c.loop-number.done))
         (from_here c.args.items.now c.loop-number.number c.index-items-number.result c.loop-number-test.true
         c.index-items-number.is) (c.loop-number.invariant.alongside other some few)),
-    kept_there g.naming c.args.self.now c.args.here.now.symbols.script
-        (layout_of g.naming c.loop-number.here c.loop-number.done) c.index-items-number.result
-        (drop (c.loop-number.number + 1) c.args.items.now) c.loop-number.done.sections.list refl
-        (λ same below o is.
-        let t = c.loop-number.invariant.taken same in
-        let e = c.requires.1.1.1.1.0 same (omega (arith, below)) in
-        let all = e.many in
-        let more = more_sections g.naming (rows_of g.naming c.args.self.now) c.args.self.now.provided.now
-        (layout_of g.naming c.args.here.now c.args.done.now) c.args.items.now c.loop-number.here c.loop-number.done
-        c.loop-number.number c.index-items-number.result c.loop-number.invariant.here c.loop-number-test.true
-        c.index-items-number.is c.args.done.now.sections.script
-        (ap (map (section_of g.naming)) c.requires.0) c.requires.1.1.0 in
-        let one = ap (λ z. length (item_sections c.index-items-number.result.line z)) is in
-        omega (arith, t, below, all, more, one))
-        (λ other some few.
-        subst (ItemsAlongside g.naming c.args.self.now c.args.here.now.symbols.script
-        (layout_of g.naming c.loop-number.here c.loop-number.done))
-        (from_here c.args.items.now c.loop-number.number c.index-items-number.result c.loop-number-test.true
-        c.index-items-number.is) (c.loop-number.invariant.alongside other some few)),
+    (
+      kept_there g.naming c.args.self.now c.args.here.now.symbols.script
+          (layout_of g.naming c.loop-number.here c.loop-number.done) c.index-items-number.result
+          (drop (c.loop-number.number + 1) c.args.items.now) c.loop-number.done.sections.list refl
+          (λ same below o is.
+          let t = c.loop-number.invariant.taken same in
+          let e = c.requires.1.1.1.1.0 same (omega (arith, below)) in
+          let all = e.many in
+          let more = more_sections g.naming (rows_of g.naming c.args.self.now) c.args.self.now.provided.now
+          (layout_of g.naming c.args.here.now c.args.done.now) c.args.items.now c.loop-number.here c.loop-number.done
+          c.loop-number.number c.index-items-number.result c.loop-number.invariant.here c.loop-number-test.true
+          c.index-items-number.is c.args.done.now.sections.script
+          (ap (map (section_of g.naming)) c.requires.0) c.requires.1.1.0 in
+          let one = ap (λ z. length (item_sections c.index-items-number.result.line z)) is in
+          omega (arith, t, below, all, more, one))
+          (λ other some few.
+          subst (ItemsAlongside g.naming c.args.self.now c.args.here.now.symbols.script
+          (layout_of g.naming c.loop-number.here c.loop-number.done))
+          (from_here c.args.items.now c.loop-number.number c.index-items-number.result c.loop-number-test.true
+          c.index-items-number.is) (c.loop-number.invariant.alongside other some few)),
+      (let l = c.loop-number.invariant.inputs in omega (arith, l, c.loop-number-test.true)),
+    ),
   ),
 )
 
@@ -138,6 +144,12 @@ loop-number-preserved g c = record {
       ];
   outputs = c.place_item.ensures.outputs ∙ c.loop-number.invariant.outputs;
   script = c.place_item.ensures.script ∙ c.loop-number.invariant.script;
+  inputs =
+      let n = item_counts (rows_of g.naming c.args.self.now) c.args.self.now.provided.now
+      c.index-items-number.result.line (noted (layout_of g.naming c.loop-number.here c.loop-number.done))
+      c.index-items-number.result.command (layout_of g.naming c.place_item.new.here c.place_item.new.done)
+      c.in_ok-place_item.ensures.gives in
+      omega (arith, n, c.in_ok-place_item.ensures.small, c.loop-number.invariant.inputs);
   taken = λ same.
       let t = c.loop-number.invariant.taken same in
       let more = more_by g.naming (rows_of g.naming c.args.self.now) c.args.self.now.provided.now

@@ -1,4 +1,4 @@
-use Rattle.std.proofs.Common.{◌≡◌, ◌+◌, ◌-◌, ◌≤◌, ◌<◌, min, length, map, take, drop, Ok, false, true}
+use Rattle.std.proofs.Common.{◌≡◌, ◌+◌, ◌*◌, ◌-◌, ◌^◌, ◌≤◌, ◌<◌, min, length, map, take, drop, Ok, false, true}
 use Rattle.ldmodel.specs.Chain.{run}
 use Rattle.ldmodel.specs.Placement.{item_step}
 use Rattle.place_terms.specs.Wholes.{counts_in}
@@ -27,6 +27,7 @@ invariant-loop-number g l = record {
   outputs : l.done.sections.script ≡ l.fn.done.sections.script;
   taken : l.self.kept.same_provided ≡ true
       → min l.self.kept.first (length l.self.kept.boundaries.now - 1) ≤ length l.done.sections.list;
+  inputs : l.here.inputs ≤ l.number * 2 ^ 64;
   script : l.here.symbols.script ≡ l.fn.here.symbols.script;
   anew : l.here.anew + entries (length l.done.sections.list) (map (λ v. v.items) l.self.rows.now)
       ≤ l.fn.here.anew + entries 0 (map (λ v. v.items) l.self.rows.now);

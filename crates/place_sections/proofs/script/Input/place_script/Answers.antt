@@ -8,6 +8,7 @@ use Rattle.place_sections.proofs.Joining.{after_goes, before_stops, earlier_item
 use Rattle.place_sections.specs.Boundaries.{AreBoundaries}
 use Rattle.place_terms.specs.Outputs.{Outputs}
 use Rattle.place_sections.proofs.Following.{are_first}
+use Rattle.place_sections.proofs.InputNumbers.{outside_leave}
 use Rattle.place_sections.proofs.Outside.{after_outside, before_outside}
 use Rattle.place_sections.specs.Inputs.{rows_of}
 use Rattle.place_sections.specs.Parts.{AreOutside}
@@ -36,7 +37,7 @@ place_statements-requires g c =
 
 pub place_statements-requires-2 : goal.place_statements-requires-2
 place_statements-requires-2 g c =
-    subst AreOutside (sym c.of-parts.ensures.after) (after_outside c.args.statements.now c.requires.1.1.1.1.1.1)
+    subst AreOutside (sym c.of-parts.ensures.after) (after_outside c.args.statements.now c.requires.1.1.1.1.1.1.0)
 
 pub place_items-requires : goal.place_items-requires
 place_items-requires g c = (
@@ -57,18 +58,25 @@ place_items-requires g c = (
               (ap (run (statement_step (rows_of g.naming c.args.self.now) c.args.self.now.provided.now)
               (layout_of g.naming c.args.here.now c.args.done.now)) (sym c.of-parts.ensures.before)
               ∙ c.in_ok-place_statements.ensures.gives) (c.requires.1.1.1.1.0 same some),
-          λ other some. items_alongside g.naming c.args.self.now c.args.here.now.symbols.script
-              c.place_statements.new.here.symbols.script (layout_of g.naming c.args.here.now c.args.done.now)
-              (layout_of g.naming c.place_statements.new.here c.place_statements.new.done) c.args.statements.now
-              c.of-parts.result.items.now c.steps_stay_alike.ensures.statements c.place_statements.ensures.script
-              c.of-parts.ensures.items
-              (ap (run (statement_step (rows_of g.naming c.args.self.now) c.args.self.now.provided.now)
-              (layout_of g.naming c.args.here.now c.args.done.now)) (sym c.of-parts.ensures.before)
-              ∙ c.in_ok-place_statements.ensures.gives)
-              (let none = ap (λ (z : Outputs). length (map (section_of g.naming) z.list))
-              c.place_statements.ensures.sections
-              ∙ ap (λ l. length (map (section_of g.naming) l)) c.requires.0 in omega (arith, none))
-              (c.requires.1.1.1.1.1.0 other some),
+          (
+            λ other some. items_alongside g.naming c.args.self.now c.args.here.now.symbols.script
+                c.place_statements.new.here.symbols.script (layout_of g.naming c.args.here.now c.args.done.now)
+                (layout_of g.naming c.place_statements.new.here c.place_statements.new.done) c.args.statements.now
+                c.of-parts.result.items.now c.steps_stay_alike.ensures.statements c.place_statements.ensures.script
+                c.of-parts.ensures.items
+                (ap (run (statement_step (rows_of g.naming c.args.self.now) c.args.self.now.provided.now)
+                (layout_of g.naming c.args.here.now c.args.done.now)) (sym c.of-parts.ensures.before)
+                ∙ c.in_ok-place_statements.ensures.gives)
+                (let none = ap (λ (z : Outputs). length (map (section_of g.naming) z.list))
+                c.place_statements.ensures.sections
+                ∙ ap (λ l. length (map (section_of g.naming) l)) c.requires.0 in omega (arith, none))
+                (c.requires.1.1.1.1.1.0 other some),
+            outside_leave (rows_of g.naming c.args.self.now) c.args.self.now.provided.now c.of-parts.result.before.now
+                (layout_of g.naming c.args.here.now c.args.done.now)
+                (layout_of g.naming c.place_statements.new.here c.place_statements.new.done)
+                (subst AreOutside (sym c.of-parts.ensures.before) (before_outside c.args.statements.now))
+                c.in_ok-place_statements.ensures.gives ∙ c.requires.1.1.1.1.1.1.1,
+          ),
         ),
       ),
     ),

@@ -1,4 +1,4 @@
-use Rattle.std.proofs.Common.{◌≡◌, drop, IfSome}
+use Rattle.std.proofs.Common.{◌≡◌, ◌+◌, ◌≤◌, drop, IfSome}
 use Rattle.ldmodel.specs.Placement.{body_step}
 use Rattle.ldmodel.specs.Chain.{run}
 use Rattle.place_sections.specs.Alongside.{BodyAlongside}
@@ -14,6 +14,7 @@ invariant-loop-statement g l = record {
   gives : run (body_step l.self.provided.now) (body_of g.naming l.fn.here l.self) l.body
       ≡ run (body_step l.self.provided.now) (body_of g.naming l.here l.self) (drop l.statement-index l.body);
   counted : Counted l.fn.here l.here l.self;
+  inputs : l.here.inputs ≤ l.fn.here.inputs + l.statement-index;
   alongside : IfSome l.self.starts (λ s.
       BodyAlongside s.now (body_of g.naming l.here l.self) (drop l.statement-index l.body));
 }
