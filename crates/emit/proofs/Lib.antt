@@ -1,5 +1,6 @@
 mod RelocatedLists
 mod Ending
+mod InFile
 mod Sizes
 mod Ordering
 mod Faulting

@@ -74,7 +74,7 @@ found_passes test (x ∷ xs) y e = go (test x) refl e (found_passes test xs y)
     go false t k rest = rest k
 
 -- a member is the first, or among the others
-first_or_later : {X : Type 0} (y : X) (ys : List X) (x : X) → Contains (y ∷ ys) x → (y ≡ x) ⊎ Contains ys x
+pub first_or_later : {X : Type 0} (y : X) (ys : List X) (x : X) → Contains (y ∷ ys) x → (y ≡ x) ⊎ Contains ys x
 first_or_later y ys x c = at c.0 c.1 c.2
   where
     at : (k : ℕ) → k < length (y ∷ ys) → get_or (y ∷ ys) k x ≡ x → (y ≡ x) ⊎ Contains ys x

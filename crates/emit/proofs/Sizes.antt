@@ -1,7 +1,7 @@
--- An input section in the output has the size that it has in its object.
+-- An input section in the output has the size that it has in its object, and its bytes in the file.
 use Rattle.std.proofs.Common.{◌≡◌, ◌<◌, ◌≤◌, ℕ, Bool, true, false, cond, not, ◌&&◌, List, [], length, map}
 use Rattle.std.proofs.Common.{filter, Option, Some, None, get_or, refl, sym, ap, ◌∙◌, arith, IfSome}
-use Rattle.std.proofs.Common.{inl, inr, ◌⊎◌, bytes_eq, ◌==◌}
+use Rattle.std.proofs.Common.{inl, inr, ◌⊎◌, bytes_eq, subst, ◌==◌}
 use Rattle.std.specs.List.{All, Contains, enumerate_from, range_with_len}
 use Rattle.std.specs.Option.{option_map_or}
 use Rattle.std.specs.Prelude.{slice_get}
@@ -11,11 +11,15 @@ use Rattle.std.proofs.lemmas.List.Elements.{All-append, All-contains_itself, All
 use Rattle.std.proofs.lemmas.List.Elements.{All-contains, All-nil}
 use Rattle.std.proofs.lemmas.Option.{get_or_from_slice_get, slice_get_within}
 use Rattle.std.proofs.lemmas.Slice.Eq.{bytes_eq-Decides}
+use Rattle.elfobj.specs.Profile.{IsRelocationOfProfile}
+use Rattle.elfobj.specs.RelocationKinds.{width}
 use Rattle.elfobj.specs.Sections.{LinkedSection, section_of}
 use Rattle.elfobj.specs.declared.relocation.Relocation.{Relocation}
 use Rattle.elfobj.specs.declared.section.Section.{Section}
 use Rattle.elfobj.specs.declared.section.SectionIndex.{SectionIndex}
+use Rattle.elfobj.specs.declared.section.SectionKind.{SectionKind}
 use Rattle.ldscript.specs.statements.Numbering.{InputStatementAt, input_statements, output_sections}
+use Rattle.ldmodel.specs.Each.{Each}
 use Rattle.ldmodel.specs.Edits.{AreNamesDistinct, has_name}
 use Rattle.ldmodel.specs.Gathering.{candidates, is_discarded}
 use Rattle.ldmodel.specs.Image.{object_named, section_numbered}
@@ -35,13 +39,14 @@ use Rattle.ldmodel.specs.Stayed.{sites_in_section}
 use Rattle.ldmodel.specs.SymbolValues.{is_part, placed_pieces}
 use Rattle.ldmodel.specs.declared.sections.Part.{Part}
 use Rattle.ldmodel.specs.declared.sections.Part.TheVariants.{InTable, InCommon}
-use Rattle.ldmodel_laws.specs.Spread.{entries_in}
+use Rattle.ldmodel_laws.specs.Spread.{IsSpread, entries_in}
 use Rattle.symres.specs.SymbolTable.{SymbolTableState}
 use Rattle.emit_relocate.specs.Filled.{EndBelow}
-use Rattle.emit_relocate.specs.Patched.{AreSized}
+use Rattle.emit_relocate.specs.Patched.{AreInFile, AreOfProfile, AreSized}
 use Rattle.emit_values.specs.LinkView.{known_link}
 use Rattle.emit.specs.Numbered.{AreAscending}
 use Rattle.emit.proofs.Ending.{AreBelow, EndsBelow}
+use Rattle.emit.proofs.InFile.{IsByContents, each_of, whole_range}
 use Rattle.emit.proofs.RelocatedLists.{all_filter_map, all_flat_map, all_of_map, all_second, all_sorted, found}
 use Rattle.emit.proofs.RelocatedLists.{found_passes, in_mapped, none_in_nil, one_passes}
 
@@ -81,19 +86,28 @@ and_right : (a b : Bool) → (a && b) ≡ true → b ≡ true
 and_right true b e = e
 and_right false b e = absurd (false≢true e)
 
+-- an input section has the size and the kind of the section of a site, which is one of an object of the project
+record IsOfSite (p : Project) (z : PlacedPiece) (t : Site) : Type 0 where
+  object : NamedObject
+  among : Contains p.objects object
+  section : Contains object.object.sections t.section
+  relocation : Contains t.section.relocations t.relocation
+  size : z.piece.size ≡ t.section.size
+  kind : z.piece.kind ≡ t.section.kind
+
 module _ (p : Project) (names : AreNamesDistinct p.objects)
     (numbers : All (λ (o : NamedObject). AreAscending o.object.sections) p.objects) where
-  -- a size is that of the section that the part is, of the object of this name
-  abbrev Sized : List ℕ → Part → ℕ → Type 0
-  Sized object part size =
+  -- a size and a kind are those of the section that the part is, of the object of this name
+  abbrev Sized : List ℕ → Part → ℕ → SectionKind → Type 0
+  Sized object part size kind =
       (o : NamedObject) (k : SectionIndex) (y : LinkedSection) → Contains p.objects o → section_numbered o k ≡ Some y
-      → bytes_eq object o.name ≡ true → is_same_part part (InTable k) ≡ true → size ≡ y.size
+      → bytes_eq object o.name ≡ true → is_same_part part (InTable k) ≡ true → (size ≡ y.size) × (kind ≡ y.kind)
 
   abbrev IsSized : InputSection → Type 0
-  IsSized s = Sized s.object s.id.part s.size
+  IsSized s = Sized s.object s.id.part s.size s.kind
 
   abbrev IsSizedPiece : Piece → Type 0
-  IsSizedPiece x = Sized x.object x.part x.size
+  IsSizedPiece x = Sized x.object x.part x.size x.kind
 
   abbrev IsSizedPlace : PlacedPiece → Type 0
   IsSizedPlace x = IsSizedPiece x.piece
@@ -111,9 +125,9 @@ module _ (p : Project) (names : AreNamesDistinct p.objects)
       let passes : (y.number.0 == k.0) ≡ true =
       found_passes (λ (x : LinkedSection). x.number.0 == k.0) q.object.sections y f in
       let number : z.number.0 ≡ y.number.0 = eqb-true z.number.0 k.0 part ∙ sym (eqb-true y.number.0 k.0 passes) in
-      ap (λ (w : LinkedSection). w.size)
-      (one_numbered o.object.sections
-      (All-contains (λ (w : NamedObject). AreAscending w.object.sections) p.objects o numbers c) z y d among number)
+      let own : z ≡ y = one_numbered o.object.sections
+      (All-contains (λ (w : NamedObject). AreAscending w.object.sections) p.objects o numbers c) z y d among number in
+      (ap (λ (w : LinkedSection). w.size) own, ap (λ (w : LinkedSection). w.kind) own)
 
   block_sized : (object : List ℕ) (e : Entry) (d : Decision) → IfSome (block_of object e d) IsSized
   block_sized object e (Common owner size alignment) = go (is_same_entry owner e)
@@ -156,33 +170,51 @@ module _ (p : Project) (names : AreNamesDistinct p.objects)
 
     in_section : (k : SectionIndex) (o : NamedObject) (y : Option LinkedSection) → z.piece.part ≡ InTable k
         → object_named p z.piece.object ≡ Some o → section_numbered o k ≡ y
-        → Contains (sites_in_section o linked y) t → z.piece.size ≡ t.section.size
+        → Contains (sites_in_section o linked y) t → IsOfSite p z t
     in_section k o None part named is c = absurd (none_in_nil t c)
     in_section k o (Some y) part named is c =
         let mapped = in_mapped (λ (r : Relocation). record { object = o; section = y; start = z.start; relocation = r })
         (filter (λ (r : Relocation). is_evaluated r.kind) y.relocations) t c in
         let passes : bytes_eq o.name z.piece.object ≡ true =
         found_passes (λ (w : NamedObject). bytes_eq w.name z.piece.object) p.objects o named in
-        h o k y (found (Contains p.objects) (λ (w : NamedObject). bytes_eq w.name z.piece.object) p.objects o
-        (All-contains_itself p.objects) named) is
+        let among : Contains p.objects o =
+        found (Contains p.objects) (λ (w : NamedObject). bytes_eq w.name z.piece.object) p.objects o
+        (All-contains_itself p.objects) named in
+        let own = h o k y among is
         ((bytes_eq-Decides z.piece.object o.name).1 (sym ((bytes_eq-Decides o.name z.piece.object).0 passes)))
-        (ap (λ (w : Part). is_same_part w (InTable k)) part ∙ eq-eqb k.0 k.0 refl)
-        ∙ ap (λ (u : Site). u.section.size) mapped.gives
+        (ap (λ (w : Part). is_same_part w (InTable k)) part ∙ eq-eqb k.0 k.0 refl) in
+        let section : y ≡ t.section = ap (λ (u : Site). u.section) mapped.gives in
+        let relocation : mapped.source ≡ t.relocation = ap (λ (u : Site). u.relocation) mapped.gives in
+        record {
+          object = o;
+          among = among;
+          section = subst (λ w. Contains o.object.sections w) section
+              (found (Contains o.object.sections) (λ (x : LinkedSection). x.number.0 == k.0) o.object.sections y
+              (All-contains_itself o.object.sections) is);
+          relocation = subst (λ (w : LinkedSection). Contains w.relocations t.relocation) section
+              (subst (λ r. Contains y.relocations r) relocation
+              (All-contains (Contains y.relocations) (filter (λ (r : Relocation). is_evaluated r.kind) y.relocations)
+              mapped.source
+              (All-filter (λ (r : Relocation). is_evaluated r.kind) (Contains y.relocations) y.relocations
+              (All-contains_itself y.relocations)) mapped.among));
+          size = own.0 ∙ ap (λ (w : LinkedSection). w.size) section;
+          kind = own.1 ∙ ap (λ (w : LinkedSection). w.kind) section;
+        }
 
     in_object : (k : SectionIndex) (o : Option NamedObject) → z.piece.part ≡ InTable k
         → object_named p z.piece.object ≡ o
         → Contains (option_map_or (λ (w : NamedObject). sites_in_section w linked (section_numbered w k)) o []) t
-        → z.piece.size ≡ t.section.size
+        → IsOfSite p z t
     in_object k None part named c = absurd (none_in_nil t c)
     in_object k (Some o) part named c = in_section k o (section_numbered o k) part named refl c
 
     in_part : (part : Part) → z.piece.part ≡ part → Contains (sites_in_part p linked part) t
-        → z.piece.size ≡ t.section.size
+        → IsOfSite p z t
     in_part (InTable k) is c = in_object k (object_named p z.piece.object) is refl c
     in_part (InCommon k) is c = absurd (none_in_nil t c)
 
-    linked_sized : Contains (sites_in p linked) t → z.piece.size ≡ t.section.size
-    linked_sized c = in_part z.piece.part refl c
+    linked_of_site : Contains (sites_in p linked) t → IsOfSite p z t
+    linked_of_site c = in_part z.piece.part refl c
 
   module _ (order : (test : InputSection → Bool) × (live p ≡ filter test (candidates p))) where
     live_sized : All IsSized (live p)
@@ -236,7 +268,45 @@ module _ (p : Project) (names : AreNamesDistinct p.objects)
         (λ (q : PlacedOutput). All IsSizedLinked (map (linked_piece p (segments s.sections) q) q.pieces))
         (λ q h. All-map IsSizedLinked (linked_piece p (segments s.sections) q) q.pieces
         (All-weaker IsSizedPlace (λ z. IsSizedLinked (linked_piece p (segments s.sections) q z))
-        (λ z k t d. linked_sized s q z k t d) q.pieces h)) s.sections (sections_sized s placed))) c t d
+        (λ z k t d. (linked_of_site s q z k t d).size) q.pieces h)) s.sections (sections_sized s placed))) c t d
+
+    -- where the relocations of each section are of the profile, and what stands in an output section decides about
+    -- its bytes in the file
+    module _ (s : Layout) (placed : map entries_in s.sections ≡ rows p) (spread : Each IsSpread s.sections)
+        (contents : All IsByContents s.sections) (profile : AreOfProfile p)
+        (wide : (x : LinkedPiece) (t : Site) → Contains (sites_in p x) t → 0 < width t.relocation.kind) where
+      abbrev IsFiled : LinkedPiece → Type 0
+      IsFiled x = (t : Site) → Contains (sites_in p x) t → x.range.length ≡ t.section.size
+
+      one_filed : (q : PlacedOutput) → Contains s.sections q → (z : PlacedPiece) → Contains q.pieces z
+          → IsFiled (linked_piece p (segments s.sections) q z)
+      one_filed q c z d = λ t e.
+          let sized = All-contains IsSizedPlace q.pieces z
+          (All-contains (λ (w : PlacedOutput). All IsSizedPlace w.pieces) s.sections q (sections_sized s placed) c) d in
+          let own = linked_of_site s q z sized t e in
+          let of_profile = profile own.object t.section own.among own.section in
+          let one = All-contains (IsRelocationOfProfile (length own.object.object.symbols) t.section.size)
+          t.section.relocations t.relocation of_profile.each own.relocation in
+          let some : 0 < z.piece.size =
+          omega (arith, one.field, wide (linked_piece p (segments s.sections) q z) t e, own.size) in
+          whole_range q (each_of IsSpread s.sections q spread c) (All-contains IsByContents s.sections q contents c) z d
+          some
+          (λ nobits.
+          none_in_nil t.relocation
+          (subst (λ rs. Contains rs t.relocation) (of_profile.none (sym own.kind ∙ nobits)) own.relocation)) p s
+          ∙ own.size
+
+      pub pieces_filed : AreInFile (record { project = p; layout = s })
+      unfolding linked_pieces
+      pieces_filed = λ x t c d.
+          All-contains IsFiled (linked_pieces p s) x
+          (all_flat_map IsFiled (λ (q : PlacedOutput). map (linked_piece p (segments s.sections) q) q.pieces) s.sections
+          (All-weaker (Contains s.sections)
+          (λ (q : PlacedOutput). All IsFiled (map (linked_piece p (segments s.sections) q) q.pieces))
+          (λ q e. All-map IsFiled (linked_piece p (segments s.sections) q) q.pieces
+          (All-weaker (Contains q.pieces) (λ z. IsFiled (linked_piece p (segments s.sections) q z))
+          (λ z f. one_filed q e z f) q.pieces (All-contains_itself q.pieces))) s.sections
+          (All-contains_itself s.sections))) c t d
 
     pub end_below : (s : Layout) → map entries_in s.sections ≡ rows p → All AreBelow s.sections → (a : SymbolTableState)
         → EndBelow (known_link p s a)
@@ -244,10 +314,10 @@ module _ (p : Project) (names : AreNamesDistinct p.objects)
         let part : is_part o.name (InTable x.number) y ≡ true =
         found_passes (is_part o.name (InTable x.number)) (placed_pieces s) y g in
         let size : y.piece.size ≡ x.size =
-        found IsSizedPlace (is_part o.name (InTable x.number)) (placed_pieces s) y (places_sized s placed) g o x.number
+        (found IsSizedPlace (is_part o.name (InTable x.number)) (placed_pieces s) y (places_sized s placed) g o x.number
         x (get_in p.objects key.0 o e) f
         (and_left (bytes_eq y.piece.object o.name) (is_same_part y.piece.part (InTable x.number)) part)
-        (and_right (bytes_eq y.piece.object o.name) (is_same_part y.piece.part (InTable x.number)) part) in
+        (and_right (bytes_eq y.piece.object o.name) (is_same_part y.piece.part (InTable x.number)) part)).0 in
         let under : EndsBelow y =
         found EndsBelow (is_part o.name (InTable x.number)) (placed_pieces s) y
         (all_flat_map EndsBelow (λ (q : PlacedOutput). q.pieces) s.sections below) g in

@@ -1,5 +1,5 @@
 -- What is evaluated of a link beside a previous one, of which input sections stayed.
-use Rattle.std.specs.Prelude.{◌≡◌, ◌≤◌, ◌+◌, ℕ, Option, None, is_some, length}
+use Rattle.std.specs.Prelude.{◌≡◌, ◌+◌, ℕ, Option, None, is_some, length}
 use Rattle.std.specs.List.{All}
 use Rattle.elfobj.specs.Raised.{raised}
 use Rattle.elfobj.specs.declared.meter.Count.TheVariants.{Fields}
@@ -29,9 +29,9 @@ new_link project layout = record { project = project; layout = layout }
 
 -- the fields of input sections that are not known to have stayed; the faults of all relocations, where the previous
 -- link is good; and patches of what stayed. Where each section that stayed is known to have stayed, these are the
--- fields of its sites whose symbol has another value, and what is counted are these sites and those outside of what
--- stayed. Where nothing is known to have stayed, all is evaluated, and each site counted whose symbol has a value.
--- Nothing else is counted in any case
+-- fields of its sites whose symbol has another value, between good links with as many bytes as all of them, and what is
+-- counted are these sites and those outside of what stayed. Where nothing is known to have stayed, all is evaluated, and
+-- each site counted whose symbol has a value. Nothing else is counted in any case
 pub record IsRelocatedBeside (old : GoodLink) (range : SectionKey → Option FileRange) (project : Project)
     (layout : Layout)
     (table : SymbolTableState) (r : Relocated) (before after : Counts) : Type 0 where
@@ -41,9 +41,9 @@ pub record IsRelocatedBeside (old : GoodLink) (range : SectionKey → Option Fil
   pub ends : IsGood (new_link project layout) → All (EndsBy (image_length project layout)) r.retargeted.items
   pub patches : IsComplete range old (known_link project layout table)
       → ArePatchesOf old (new_link project layout) r.retargeted.items
-  pub few :
+  pub patched :
       IsComplete range old (known_link project layout table) → IsGood old → IsGood (new_link project layout)
-      → patch_bytes r.retargeted.items ≤ retargeted_bytes old (new_link project layout)
+      → patch_bytes r.retargeted.items ≡ retargeted_bytes old (new_link project layout)
   pub counts : (n : ℕ) × (after ≡ raised before Fields n)
   pub counted :
       IsComplete range old (known_link project layout table) → IsGood old → IsGood (new_link project layout)

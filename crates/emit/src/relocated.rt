@@ -17,10 +17,10 @@ ghost use Rattle.emit_values.specs.LinkView.{IsLinkView, known_link};
 ghost use Rattle.emit_values.specs.Values.{AreValues};
 
 use crate::keys::keys_of;
-use crate::law::{pieces_are_sized, sections_end_below};
+use crate::law::{pieces_are_sized, pieces_in_file, sections_end_below};
 use elfobj::Meter;
 use emit_fields::patch::Patch;
-use emit_image::law::patches_are_few;
+use emit_image::law::patches_are_all;
 use emit_relocate::changed_fields::{ChangedFields, changed_fields};
 use emit_relocate::law::{
     all_is_evaluated, due_sites_count, no_fault_is_missed, patches_are_fields,
@@ -94,9 +94,10 @@ impl Relocated {
         no_fault_is_missed();
         due_sites_count();
         pieces_are_sized();
+        pieces_in_file();
         patches_are_fields();
         patches_are_those_retargeted();
-        patches_are_few();
+        patches_are_all();
         pieces_in_image();
         fields_in_image();
         stayed_in_both();

@@ -49,9 +49,11 @@ returns g c =
         all = c.patches_are_those_retargeted.ensures.all old l range _ _ changed refl complete profile
             (c.pieces_are_sized.ensures p s distinct (ascending p read) e) once;
       };
-      few = λ complete good after.
-          let few = c.patches_are_those_retargeted.ensures.few old l range _ _ changed refl complete good after once in
-          c.patches_are_few.ensures old new few.sites few.others _ few.parts few.widths;
+      patched = λ complete good after.
+          let filed = c.pieces_in_file.ensures p s distinct (ascending p read) profile e in
+          let each = c.patches_are_those_retargeted.ensures.exact old l range _ _ changed refl complete profile filed
+          good after once in
+          c.patches_are_all.ensures old new each.sites _ each.parts each.widths;
       counts = (_, changed.counts.counted);
       counted = λ complete good after.
           c.due_sites_count.ensures old l range _ _ changed complete good after once;

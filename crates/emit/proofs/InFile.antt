@@ -1,0 +1,118 @@
+-- An output section of a layout with an input section that brings bytes has bytes in the file.
+use Rattle.std.proofs.Common.{◌≡◌, ◌∙◌, ◌+◌, ◌<◌, ◌≤◌, Bool, true, false, not, ◌&&◌, List, [], ◌∷◌, length}
+use Rattle.std.proofs.Common.{◌-◌, ⊎_elim, ap, arith, cond, refl, subst, sym, ◌==◌}
+use Rattle.std.specs.Prelude.{◌||◌}
+use Rattle.std.specs.List.{All, Contains, list_any}
+use Rattle.std.proofs.lemmas.Bool.{ne_eqb}
+use Rattle.std.proofs.lemmas.List.Elements.{All-nil, All-push}
+use Rattle.elfobj.specs.declared.section.SectionKind.{SectionKind}
+use Rattle.elfobj.specs.declared.section.SectionKind.TheVariants as kinds
+use Rattle.ldscript.specs.statements.Numbering.{OutputSectionAt, output_sections, regions}
+use Rattle.ldscript.specs.statements.declared.section.OutputSection.{OutputSection}
+use Rattle.ldscript.specs.statements.declared.statement.Region.{Region}
+use Rattle.ldscript.specs.statements.declared.statement.Statement.{Statement}
+use Rattle.ldmodel_laws.specs.Spread.{IsSpread, piece_end}
+use Rattle.ldmodel_laws.specs.Traces.{AddsSection, Trace, all_added, nothing_added, region_added, section_added}
+use Rattle.ldmodel.specs.Each.{Each}
+use Rattle.ldmodel.specs.Layout.{Layout, PlacedPiece, PlacedOutput, nothing_placed}
+use Rattle.ldmodel.specs.Placement.{is_in_file, is_nobits, placed_section}
+use Rattle.ldmodel.specs.Project.{Project}
+use Rattle.ldmodel.specs.Segments.{file_offset, segments}
+use Rattle.ldmodel.specs.Stayed.{FileRange as FileBytes, linked_piece}
+use Rattle.emit.proofs.RelocatedLists.{first_or_later, none_in_nil}
+
+-- an output section has bytes in the file by what stands in it
+abbrev pub IsByContents : PlacedOutput → Type 0
+IsByContents q =
+    q.has_file_bytes
+    ≡ (not (q.size == 0) && (not (length q.data_commands == 0) || list_any is_in_file q.pieces))
+
+abbrev AllIn : Layout → Type 0
+AllIn s = All IsByContents s.sections
+
+section_in : (s : Layout) (o : OutputSection) (t : Layout) → AddsSection s o t → AllIn s → AllIn t
+unfolding placed_section
+section_in s o t h all =
+    subst AllIn h.after
+    (All-push IsByContents h.last.layout.sections (placed_section o h.head h.last)
+    (subst (All IsByContents) (sym h.nothing.sections) all) refl)
+
+traced_in : (s u : Layout) (rs : List Region) (os : List OutputSectionAt) → Trace s rs os u → AllIn s → AllIn u
+traced_in s u [] [] all_added all = all
+traced_in s u rs os (nothing_added {t = t} h more) all =
+    traced_in t u rs os more (subst (All IsByContents) (sym h.sections) all)
+traced_in s u (r ∷ rs) os (region_added origin extent more) all = traced_in _ u rs os more all
+traced_in s u rs (o ∷ os) (section_added {t = t} h more) all =
+    traced_in t u rs os more (section_in s o.section t h all)
+
+pub all_by_contents : (script : List Statement) (s : Layout)
+    → Trace nothing_placed (regions script) (output_sections script) s → All IsByContents s.sections
+all_by_contents script s trace =
+    traced_in nothing_placed s (regions script) (output_sections script) trace (All-nil IsByContents)
+
+-- ---- an input section that brings bytes
+
+any_of : {X : Type 0} (test : X → Bool) (xs : List X) (x : X) → Contains xs x → test x ≡ true → list_any test xs ≡ true
+any_of test [] x c e = absurd (none_in_nil x c)
+any_of {X} test (y ∷ ys) x c e = ⊎_elim
+    (λ same. ap (λ b. b || list_any test ys) (ap test same ∙ e))
+    (λ d. or_true (test y) (list_any test ys) (any_of test ys x d e))
+    (first_or_later y ys x c)
+  where
+    or_true : (a b : Bool) → b ≡ true → (a || b) ≡ true
+    or_true true b h = refl
+    or_true false b h = h
+
+pub each_of : {X : Type 0} (P : X → Type 0) (xs : List X) (x : X) → Each P xs → Contains xs x → P x
+each_of P [] x h c = absurd (none_in_nil x c)
+each_of P (y ∷ ys) x h c = ⊎_elim (λ same. subst P same h.0) (λ d. each_of P ys x h.1 d) (first_or_later y ys x c)
+
+not_nobits : (k : SectionKind) → (k ≡ kinds.Nobits → ⊥) → is_nobits k ≡ false
+not_nobits kinds.Progbits h = refl
+not_nobits kinds.Nobits h = absurd (h refl)
+not_nobits kinds.Note h = refl
+not_nobits kinds.InitArray h = refl
+not_nobits kinds.FiniArray h = refl
+not_nobits kinds.PreinitArray h = refl
+not_nobits kinds.Unwind h = refl
+
+module _ (q : PlacedOutput) (spread : IsSpread q) (contents : IsByContents q) (z : PlacedPiece)
+    (among : Contains q.pieces z) (some : 0 < z.piece.size) (bytes : z.piece.kind ≡ kinds.Nobits → ⊥) where
+  full : not (z.piece.size == 0) ≡ true
+  full = ap not (ne_eqb z.piece.size 0 (λ e. absurd (omega (arith, some, e))))
+
+  large : not (q.size == 0) ≡ true
+  large =
+      let inside = each_of (λ (x : PlacedPiece). (q.start ≤ x.start) × (piece_end x ≤ q.start + q.size)) q.pieces z
+      spread.pieces_inside among in
+      let low = inside.0 in
+      let high = inside.1 in
+      ap not (ne_eqb q.size 0 (λ e. absurd (omega (arith, some, low, high, e))))
+
+  brings : is_in_file z ≡ true
+  brings = ap (λ b. not b && not (z.piece.size == 0)) (not_nobits z.piece.kind bytes) ∙ full
+
+  has_bytes : q.has_file_bytes ≡ true
+  has_bytes =
+      contents
+      ∙ ap (λ b. b && (not (length q.data_commands == 0) || list_any is_in_file q.pieces)) large
+      ∙ ap (λ b. not (length q.data_commands == 0) || b) (any_of is_in_file q.pieces z among brings)
+      ∙ or_true (not (length q.data_commands == 0))
+    where
+      or_true : (a : Bool) → (a || true) ≡ true
+      or_true true = refl
+      or_true false = refl
+
+  -- it has all its bytes in the file
+  pub whole_range : (p : Project) (s : Layout)
+      → (linked_piece p (segments s.sections) q z).range.length ≡ z.piece.size
+  whole_range p s =
+      at (q.has_file_bytes && not (z.piece.size == 0))
+      (ap (λ b. b && not (z.piece.size == 0)) has_bytes ∙ full)
+    where
+      at : (b : Bool) → b ≡ true → (cond {A = FileBytes} b
+          (record { offset = file_offset (segments s.sections) q + (z.start - q.start); length = z.piece.size })
+          (record { offset = 0; length = 0 })).length
+          ≡ z.piece.size
+      at true e = refl
+      at false e = cc
