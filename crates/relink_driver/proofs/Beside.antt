@@ -129,7 +129,7 @@ known_beside p l y w v t r before after is small tables worth names relocated co
             let all = complete old (known_link p s a) (are_stays p l y w v is tables names old previous) some in
             record {
               counted = (beside old previous).counted all good new_good;
-              few = (beside old previous).few all good new_good;
+              patched = (beside old previous).patched all good new_good;
             };
       };
       reads = fields_read_nothing _ _ _ small b.counts.1;

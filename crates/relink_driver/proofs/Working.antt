@@ -6,7 +6,6 @@ use Rattle.std.proofs.lemmas.Bool.{ltb-true}
 use Rattle.elfobj.specs.Counts.{Counts, capped}
 use Rattle.elfobj.specs.Raised.{raised}
 use Rattle.elfobj.specs.declared.meter.Count.TheVariants as counts
-use Rattle.emit.specs.image.Stretches.{patch_bytes}
 use Rattle.relink_driver.specs.StayedSections.{IsPreviousOf, PreviousState, previous_of}
 use Rattle.relink_driver.specs.declared.stayed_sections.PreviousView.{PreviousView}
 use Rattle.relink_driver.specs.declared.stayed_sections.StayedSections.{StayedSections}
@@ -33,8 +32,8 @@ image_count old new r m0 m1 m2 h e = record {
   written = bytes_spent old new r;
   bytes = ap (λ (m : Counts). m.bytes) e
       ∙ ap (λ (n : ℕ). capped n (bytes_spent old new r)) (ap (λ (m : Counts). m.bytes) h.counted);
-  few = omega (arith, h.few);
-  exactly = inl (record { patched = patch_bytes r.retargeted.items; few = h.few; is = refl });
+  few = omega (arith, h.patched);
+  exactly = inl (omega (arith, h.patched));
 }
 
 within_length : (b : Bool) (fs : List Fault) (s t : Layout) → cond b (Err fs) (Ok t) ≡ Ok s → t ≡ s

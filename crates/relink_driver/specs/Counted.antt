@@ -36,11 +36,11 @@ pub record ArePlaced (project : Project) (previous : Option PreviousState) (befo
       → IsFirstChanged old.project project first
   pub anew : (x : PreviousState) → previous ≡ Some x → x.same_script ≡ false → first ≡ 0
 
--- the fields of sites outside of what stayed, and of those in it whose symbol has another value; the patches are no
--- more than the latter
+-- the fields of sites outside of what stayed, and of those in it whose symbol has another value; the patches have the
+-- bytes of the latter
 pub record CountsFields (old new : GoodLink) (r : Relocated) (before after : Counts) : Type 0 where
   pub counted : after ≡ raised before Fields (length (sites_outside old new) + length (retargeted old new))
-  pub few : patch_bytes r.retargeted.items ≤ retargeted_bytes old new
+  pub patched : patch_bytes r.retargeted.items ≡ retargeted_bytes old new
 
 -- only fields are counted, and beside a previous link these
 pub record AreEvaluated (project : Project) (layout : Layout) (stayed : StayedSections) (r : Relocated)
@@ -75,12 +75,10 @@ HasWritten project stayed r before after =
     (layout : Layout) → IsLinkLayout project layout stayed.indexed_layout.now.link_layout
     → IsWritten project layout stayed r before after
 
--- the bytes of an image that is drawn over the previous one: those outside of what stayed, with those of fields in it
--- of symbols of another value
-pub record IsDrawnCount (old new : GoodLink) (written : ℕ) : Type 0 where
-  pub patched : ℕ
-  pub few : patched ≤ retargeted_bytes old new
-  pub is : written ≡ patched + (image_length new.project new.layout - bytes_stayed old new)
+-- the bytes of an image that is drawn over the previous one: those outside of what stayed, with those of the fields in
+-- it of symbols of another value, as many as an incremental link may write
+abbrev pub IsDrawnCount : GoodLink → GoodLink → ℕ → Type 0
+IsDrawnCount old new written = written ≡ bytes_to_write old new
 
 -- the bytes of an image that differs from the previous one in what the input sections of one object hold: those of
 -- these sections
@@ -90,7 +88,7 @@ pub record IsInPlaceCount (old new : GoodLink) (written : ℕ) : Type 0 where
   pub is : written ≡ bytes_of_object new place
 
 -- the fields of sites outside of what stayed, and of those in it whose symbol has another value; and the bytes of the
--- image that are written, which are no more than an incremental link may write
+-- image that are written, which are no more than an incremental link may write, and which of the two counts they are
 pub record IsImageCount (old new : GoodLink) (before after : Counts) : Type 0 where
   pub relocations : after.fields ≡ capped before.fields (sites_to_evaluate old new)
   pub written : ℕ
