@@ -1,5 +1,5 @@
 -- How many bytes a drawing that keeps what stayed leaves unwritten.
-use Rattle.std.proofs.Common.{◌≡◌, ◌+◌, ◌-◌, ◌<◌, ◌≤◌, ℕ, zero, suc, List, [], ◌∷◌, ◌++◌, length, map, filter, flat_map}
+use Rattle.std.proofs.Common.{◌≡◌, ◌+◌, ◌-◌, ◌<◌, ◌≤◌, ℕ, zero, suc, List, [], ◌∷◌, length, map, filter, flat_map}
 use Rattle.std.proofs.Common.{get_or, Bool, true, false, cond, not, Some, refl, sym, ap, ◌∙◌, subst, inl, arith}
 use Rattle.std.specs.Prelude.{◌==◌, ◌&&◌, sum_by}
 use Rattle.std.specs.List.{AllZip, Contains, find}
@@ -277,16 +277,6 @@ patches_wide (t ∷ ts) (q ∷ qs) h =
     let left = sum_by-cons (λ (q : Patch). length q.field) q qs in
     let right = sum_by-cons field_width t ts in
     omega (arith, own, rest, left, right)
-
-pub few_patches : (old new : GoodLink) (sites others : List Site) (patches : List Patch)
-    → IsPermutation (sites ++ others) (retargeted old new)
-    → AllZip (λ (t : Site) (q : Patch). length q.field ≡ width t.relocation.kind) sites patches
-    → patch_bytes patches ≤ retargeted_bytes old new
-few_patches old new sites others patches p z =
-    let wide = patches_wide sites patches z in
-    let all = sum_by-IsPermutation field_width (sites ++ others) (retargeted old new) p in
-    let parts = sum_by-append field_width sites others in
-    omega (arith, wide, all, parts)
 
 pub all_patches : (old new : GoodLink) (sites : List Site) (patches : List Patch)
     → IsPermutation sites (retargeted old new)

@@ -1,6 +1,6 @@
 //! Laws of drawings.
 
-ghost use Rattle.std.specs.Prelude.{◌≡◌, ◌≤◌, ◌<◌, ◌+◌, ◌-◌, ◌++◌, ◌^◌, ℕ, All, List, Ok, false, length, slice_index};
+ghost use Rattle.std.specs.Prelude.{◌≡◌, ◌≤◌, ◌<◌, ◌+◌, ◌-◌, ◌^◌, ℕ, All, List, Ok, false, length, slice_index};
 ghost use Rattle.std.specs.List.{AllZip};
 ghost use Rattle.std.specs.List.Sorted.{IsPermutation};
 ghost use Rattle.elfobj.specs.RelocationKinds.{width};
@@ -112,15 +112,6 @@ pub fn kept_is_what_stayed()
 {
     sections_in_file();
 }
-
-/// Patches of sites in input sections that stayed whose symbol has another value, at most one of each, have no more
-/// bytes than the fields of all these sites.
-pub fn patches_are_few()
-    ensures { (old new : GoodLink) (sites others : List Site) (patches : List Patch)
-        → IsPermutation (sites ++ others) (retargeted old new)
-        → AllZip (λ (site : Site) (q : Patch). length q.field ≡ width site.relocation.kind) sites patches
-        → patch_bytes patches ≤ retargeted_bytes old new }
-{}
 
 /// Patches of the sites in input sections that stayed whose symbol has another value, one of each, have as many bytes
 /// as the fields of these sites.

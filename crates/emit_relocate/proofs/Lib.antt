@@ -15,5 +15,5 @@ mod Changing
 mod Settling
 mod Bare
 mod Renewing
-mod Fewer
+mod Paired
 mod Patching

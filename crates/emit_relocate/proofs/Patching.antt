@@ -8,7 +8,7 @@ use Rattle.std.specs.Option.{option_and_then}
 use Rattle.std.proofs.lemmas.Bool.{eq-eqb}
 use Rattle.std.proofs.lemmas.Bool.Decides.{nat_tests}
 use Rattle.std.proofs.lemmas.List.Elements.{All-contains, All-contains_itself, All-weaker, filter-append}
-use Rattle.std.proofs.lemmas.List.Sorted.{Contains-permutation, IsPermutation-sym, IsPermutation-trans}
+use Rattle.std.proofs.lemmas.List.Sorted.{Contains-permutation, IsPermutation-sym}
 use Rattle.elfobj.specs.Profile.{HasRelocationsOfProfile, IsRelocationOfProfile}
 use Rattle.elfobj.specs.RelocationKinds.{width}
 use Rattle.elfobj.specs.Relocations.{field_end}
@@ -30,11 +30,11 @@ use Rattle.emit_relocate.specs.Changes.{in_file, own_sites, section_key}
 use Rattle.emit_relocate.specs.PreviousLinkInfo.{IsComplete, good_link, has_moved, range_of}
 use Rattle.emit_relocate.specs.Filled.{ObjectSection, sections_in}
 use Rattle.emit_relocate.specs.KnownLink.{KnownLink}
-use Rattle.emit_relocate.specs.Patched.{AreAllPatched, AreFew, AreInFile, AreOfProfile, AreOneEach, AreSized}
+use Rattle.emit_relocate.specs.Patched.{AreAllPatched, AreInFile, AreOfProfile, AreOneEach, AreSized}
 use Rattle.emit_relocate.specs.Patched.{IsPatchOfSite, file_patch}
 use Rattle.emit_relocate.specs.declared.previous_link_info.FileRange.{FileRange}
 use Rattle.emit_relocate.proofs.Changing.{patches_of}
-use Rattle.emit_relocate.proofs.Fewer.{Some_of, all_given, both_of, given_of, none_of, zip_append}
+use Rattle.emit_relocate.proofs.Paired.{all_given, zip_append}
 use Rattle.emit_relocate.proofs.Lists.{filter_in, filter_nothing, filter_where, given_in, here, in_filter, in_given}
 use Rattle.emit_relocate.proofs.Lists.{in_joined, in_mapped, joined_in, later, none_in_nil, partner_in, partner_of}
 use Rattle.emit_relocate.proofs.Settling.{Home, all_sites, belongs, home, keyed, lies, lies_as, own, same_where}
@@ -266,75 +266,14 @@ module _ (old : GoodLink) (l : KnownLink) (range : SectionKey → Option FileRan
         c.partner (range (section_key c.related.key found.origin)) c.related refl c.related.outcome found.among
         found.gives))
 
-  -- ---- at most one patch for each site that is retargeted
+  -- ---- one patch for each site that is retargeted
 
   module _ (by_part : (x : LinkedPiece) → Contains (link_pieces (good_link l)) x
       → has_part_stayed old (good_link l) x.object x.part ≡ has_stayed old x) where
     abbrev both : Site → Bool
     both t = lies old l t && has_moved old l t
 
-    few_at : (s : ObjectSection) (c : Evaluated) (r : Option FileRange) (h : IsEvaluatedOf old l range s c)
-        → range (section_key h.key s) ≡ r → IsEvaluatedAt old l (section_key h.key s) r s c
-        → ((t : Site) → Contains (own_sites l s) t → Contains (sites l.project l.layout) t)
-        → Some_of HasWidth (filter both (own_sites l s)) c.patches
-    few_at s c None h e k inside =
-        let none : filter both (own_sites l s) ≡ filter (λ t. false) (own_sites l s) =
-        filter_where both (λ t. false) (own_sites l s) (λ t d.
-        let at : Home old l t = home old l by_piece t (inside t d) in
-        let out : lies old l t ≡ false = lies_as old l range complete by_piece by_part t at
-        ∙ complete (section_key h.key s) at.piece e (keyed old l s h.key h.named t d at) in
-        ap (λ b. b && has_moved old l t) out) in
-        subst (λ ts. Some_of HasWidth ts c.patches) (sym (none ∙ filter_nothing (own_sites l s)))
-        (subst (Some_of HasWidth []) (sym k.patches) (none_of HasWidth))
-    few_at s c (Some r) h e k inside =
-        let same : c.sites ≡ filter both (own_sites l s) =
-        k.sites
-        ∙ filter_where (has_moved old l) both (own_sites l s) (λ t d.
-        let at : Home old l t = home old l by_piece t (inside t d) in
-        let here : lies old l t ≡ true = lies_as old l range complete by_piece by_part t at
-        ∙ (k.stayed t d at.piece (keyed old l s h.key h.named t d at)).0 in
-        sym (ap (λ b. b && has_moved old l t) here)) in
-        subst (λ ts. Some_of HasWidth ts c.patches) same
-        (subst (Some_of HasWidth c.sites) (sym k.patches)
-        (given_of HasWidth (file_patch_at l r) c.sites (λ t q d g.
-        let kept = in_filter (has_moved old l) (own_sites l s) t (subst (λ ts. Contains ts t) k.sites d) in
-        let at : Home old l t = home old l by_piece t (inside t kept.0) in
-        let p = patched l r t q g in
-        ap length (ap (λ (x : Patch). x.field) p.stands_at.is) ∙ wide at.piece t p.field at.within p.is_field)))
-
-    few_of_some : (ss : List ObjectSection) (cs : List Evaluated) → AllZip (IsEvaluatedOf old l range) ss cs
-        → ((s : ObjectSection) (t : Site) → Contains ss s → Contains (own_sites l s) t
-        → Contains (sites l.project l.layout) t)
-        → Some_of HasWidth (filter both (flat_map (own_sites l) ss)) (flat_map patches_of cs)
-    few_of_some [] [] h inside = none_of HasWidth
-    few_of_some [] (c ∷ cs) h inside = absurd h
-    few_of_some (s ∷ ss) [] h inside = absurd h
-    few_of_some (s ∷ ss) (c ∷ cs) h inside =
-        subst (λ ts. Some_of HasWidth ts (c.patches ++ flat_map patches_of cs))
-        (sym (filter-append both (own_sites l s) (flat_map (own_sites l) ss)))
-        (both_of HasWidth (filter both (own_sites l s)) (filter both (flat_map (own_sites l) ss)) c.patches
-        (flat_map patches_of cs)
-        (few_at s c (range (section_key h.0.key s)) h.0 refl h.0.outcome (λ t d. inside s t (here s ss) d))
-        (few_of_some ss cs h.1 (λ z t d e. inside z t (later s ss z d) e)))
-
-    pub few_patches : (a b : Results) → a.patches ≡ [] → AreChanged old l range (sections_in l.project.objects) a b
-        → IsPermutation (filter both (sites l.project l.layout)) (retargeted old (good_link l))
-        → AreFew old (good_link l) b.patches
-    few_patches a b none h permuted =
-        let few = few_of_some (sections_in l.project.objects) h.sections h.each (λ s t d e.
-        subst (λ ts. Contains ts t) (all_sites l) (joined_in (own_sites l) (sections_in l.project.objects) s t d e)) in
-        let patches : b.patches ≡ flat_map patches_of h.sections =
-        h.patches ∙ ap (λ qs. qs ++ flat_map patches_of h.sections) none in
-        record {
-          sites = few.some;
-          others = few.others;
-          parts = IsPermutation-trans _ _ _
-              (subst (λ ts. IsPermutation (few.some ++ few.others) (filter both ts)) (all_sites l) few.parts) permuted;
-          widths = subst (AllZip HasWidth few.some) (sym patches) few.related;
-        }
-
-    -- ---- where each section with sites has its bytes in the file: exactly one
-
+    -- where each section with sites has its bytes in the file
     module _ (profile : AreOfProfile l.project) (filed : AreInFile (good_link l))
         (found : (x : LinkedPiece) → Contains (link_pieces (good_link l)) x → (t : Site)
         → Contains (sites_in l.project x) t → HasField (good_link l) t) where

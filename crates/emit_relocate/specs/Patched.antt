@@ -1,5 +1,5 @@
 -- Fields of sites in input sections that stayed, in their places in the file.
-use Rattle.std.specs.Prelude.{◌≡◌, ℕ, ◌+◌, ◌<◌, ◌≤◌, List, ◌++◌, length, Contains, Ok}
+use Rattle.std.specs.Prelude.{◌≡◌, ℕ, ◌+◌, ◌<◌, ◌≤◌, List, length, Contains, Ok}
 use Rattle.std.specs.List.{AllZip}
 use Rattle.std.specs.List.Sorted.{IsPermutation}
 use Rattle.elfobj.specs.Profile.{AreApart, HasRelocationsOfProfile}
@@ -53,13 +53,6 @@ AreAllPatched old new patches =
     (piece : LinkedPiece) (site : Site) (field : List ℕ) → Contains (stayed old new) piece → 0 < piece.range.length
     → Contains (sites_in new.project piece) site → Contains (retargeted old new) site
     → site_field new.project new.layout site ≡ Ok field → Contains patches (file_patch piece site field)
-
--- at most one for each of them
-pub record AreFew (old new : GoodLink) (patches : List Patch) : Type 0 where
-  pub sites : List Site
-  pub others : List Site
-  pub parts : IsPermutation (sites ++ others) (retargeted old new)
-  pub widths : AllZip (λ (site : Site) (q : Patch). length q.field ≡ width site.relocation.kind) sites patches
 
 -- exactly one for each of them
 pub record AreOneEach (old new : GoodLink) (patches : List Patch) : Type 0 where

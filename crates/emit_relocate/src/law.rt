@@ -15,7 +15,7 @@ ghost use Rattle.emit_relocate.specs.PreviousLinkInfo.{IsComplete, good_link};
 ghost use Rattle.emit_relocate.specs.Fields.{fault_at, faults_of};
 ghost use Rattle.emit_relocate.specs.Filled.{sections_in};
 ghost use Rattle.emit_relocate.specs.KnownLink.{KnownLink};
-ghost use Rattle.emit_relocate.specs.Patched.{AreAllPatched, AreFew, AreInFile, AreOfProfile, AreOneEach, AreSized};
+ghost use Rattle.emit_relocate.specs.Patched.{AreAllPatched, AreInFile, AreOfProfile, AreOneEach, AreSized};
 ghost use Rattle.emit_relocate.specs.Patched.{IsPatchOfSite};
 ghost use Rattle.emit_relocate.specs.declared.previous_link_info.FileRange.{FileRange};
 
@@ -69,20 +69,14 @@ pub fn patches_are_fields()
     stayed_in_both();
 }
 
-/// Where each section that stayed is known to have stayed, each site in one whose symbol has another value has a patch,
-/// and no site has two; between good links, where each section with sites has its bytes in the file, it has exactly
-/// one.
+/// Where each section that stayed is known to have stayed, each site in one whose symbol has another value has a patch;
+/// between good links, where each section with sites has its bytes in the file, it has exactly one.
 pub fn patches_are_those_retargeted()
     ensures all { (old : GoodLink) (link : KnownLink) (range : SectionKey → Option FileRange) (before after : Results)
         → AreChanged old link range (sections_in link.project.objects) before after → before.patches ≡ []
         → IsComplete range old link
         → AreOfProfile link.project → AreSized (good_link link) → IsPlacedOnce link.project link.layout
         → AreAllPatched old (good_link link) after.patches }
-    ensures few { (old : GoodLink) (link : KnownLink) (range : SectionKey → Option FileRange) (before after : Results)
-        → AreChanged old link range (sections_in link.project.objects) before after → before.patches ≡ []
-        → IsComplete range old link
-        → IsGood old → IsGood (good_link link) → IsPlacedOnce link.project link.layout
-        → AreFew old (good_link link) after.patches }
     ensures exact { (old : GoodLink) (link : KnownLink) (range : SectionKey → Option FileRange) (before after : Results)
         → AreChanged old link range (sections_in link.project.objects) before after → before.patches ≡ []
         → IsComplete range old link

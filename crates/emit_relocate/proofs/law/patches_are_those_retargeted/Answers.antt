@@ -1,5 +1,5 @@
 use Rattle.emit_relocate.specs.PreviousLinkInfo.{good_link, has_moved}
-use Rattle.emit_relocate.proofs.Patching.{all_patches, few_patches, one_each}
+use Rattle.emit_relocate.proofs.Patching.{all_patches, one_each}
 use Rattle.emit_relocate.proofs.Settling.{same_where}
 use Rattle.emit_relocate.proofs.law.patches_are_those_retargeted.Goals as goal
 
@@ -10,16 +10,6 @@ returns-clause-all c =
     all_patches old l range complete (c.sites_by_piece.ensures.same l.project l.layout placed)
     (λ x t field within is. c.fields_in_image.ensures.wide new x t field within is)
     (λ x stays. (c.stayed_in_both.ensures.stayed old new x).0 stays) profile sized a b none h
-
-pub returns-clause-few : goal.returns-clause-few
-returns-clause-few c =
-    λ old l range a b h none complete before after placed.
-    let new = good_link l in
-    few_patches old l range complete (c.sites_by_piece.ensures.same l.project l.layout placed)
-    (λ x t field within is. c.fields_in_image.ensures.wide new x t field within is)
-    (λ x among. c.stayed_by_part.ensures.piece old new placed x among) a b none h
-    (c.stayed_by_part.ensures.valued old new placed before after (has_moved old l)
-    (λ t among inside. same_where old l t))
 
 pub returns-clause-exact : goal.returns-clause-exact
 returns-clause-exact c =
