@@ -29,9 +29,9 @@ new_link project layout = record { project = project; layout = layout }
 
 -- the fields of input sections that are not known to have stayed; the faults of all relocations, where the previous
 -- link is good; and patches of what stayed. Where each section that stayed is known to have stayed, these are the
--- fields of its sites whose symbol has another value, between good links with as many bytes as all of them, and what is
--- counted are these sites and those outside of what stayed. Where nothing is known to have stayed, all is evaluated, and
--- each site counted whose symbol has a value. Nothing else is counted in any case
+-- fields of its sites whose symbol has another value, between good links with as many bytes as all of them, and what
+-- is counted are these sites and those outside of what stayed. Where nothing is known to have stayed, all is evaluated,
+-- and each site counted whose symbol has a value. Nothing else is counted in any case
 pub record IsRelocatedBeside (old : GoodLink) (range : SectionKey → Option FileRange) (project : Project)
     (layout : Layout)
     (table : SymbolTableState) (r : Relocated) (before after : Counts) : Type 0 where
