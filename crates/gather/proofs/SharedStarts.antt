@@ -1,6 +1,6 @@
 -- Names that begin alike.
-use Rattle.std.proofs.Common.{◌≡◌, ◌<◌, ◌≤◌, ◌++◌, ℕ, suc, List, [], ◌∷◌, length, drop, take, get_or, ap, refl, sym, ◌∙◌, arith}
-use Rattle.std.proofs.Common.{true, nat_eq}
+use Rattle.std.proofs.Common.{◌≡◌, ◌<◌, ◌≤◌, ◌++◌, ℕ, suc, List, [], ◌∷◌, length, drop, take, get_or}
+use Rattle.std.proofs.Common.{ap, refl, sym, ◌∙◌, arith, true, nat_eq}
 use Rattle.std.specs.List.{starts_with}
 use Rattle.std.specs.Cmp.Lexicographic.{bytes_decides}
 use Rattle.std.proofs.lemmas.List.{get_or-take}

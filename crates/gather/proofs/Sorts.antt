@@ -1,6 +1,6 @@
 -- What a stable sort of pieces makes of the pieces that they stand for.
-use Rattle.std.proofs.Common.{◌≡◌, ◌<◌, ◌+◌, ◌++◌, ◌⊎◌, inl, inr, Bool, true, false, cond, List, [], ◌∷◌, length, filter}
-use Rattle.std.proofs.Common.{map, get_or, not, ◌&&◌, refl, ap, sym, ◌∙◌, ◌↔◌, arith, Option, Result, Ok, Err}
+use Rattle.std.proofs.Common.{◌≡◌, ◌<◌, ◌+◌, ◌++◌, ◌⊎◌, inl, inr, Bool, true, false, cond, List, [], ◌∷◌, length}
+use Rattle.std.proofs.Common.{filter, map, get_or, not, ◌&&◌, refl, ap, sym, ◌∙◌, ◌↔◌, arith, Option, Result, Ok, Err}
 use Rattle.std.proofs.Common.{Bor, OnOk, ℕ, ⊎_elim}
 use Rattle.std.specs.List.{All}
 use Rattle.std.specs.List.Sorted.{IsPermutation, IsSortedBy, IsStableBy, IsSortedByClosure, IsStableByClosure, ties}

@@ -45,6 +45,7 @@ pub record HasName (project : Project) (start : List ℕ) (xs : List code.Piece)
   pub name : start ++ x.name ≡ name_of_section project (piece_at xs x).section
 
 -- the places of these pieces, each with the name of its section after a start
-pub record AreNamed (project : Project) (start : List ℕ) (xs : List code.Piece) (places : List NamedPlace) : Type 0 where
+pub record AreNamed (project : Project) (start : List ℕ) (xs : List code.Piece) (places : List NamedPlace)
+    : Type 0 where
   pub pieces : pieces_at xs places ≡ xs
   pub names : All (HasName project start xs) places

@@ -1,6 +1,6 @@
 -- A table of places that is filled key by key.
-use Rattle.std.proofs.Common.{◌≡◌, ◌∙◌, ℕ, zero, suc, ◌+◌, ◌++◌, ◌<◌, ◌≤◌, List, [], length, get_or, take, refl, ap, sym, arith, Bool}
-use Rattle.std.proofs.Common.{true, false, cond, replicate, subst}
+use Rattle.std.proofs.Common.{◌≡◌, ◌∙◌, ℕ, zero, suc, ◌+◌, ◌++◌, ◌<◌, ◌≤◌, List, [], length, get_or, take}
+use Rattle.std.proofs.Common.{refl, ap, sym, arith, Bool, true, false, cond, replicate, subst}
 use Rattle.std.specs.Prelude.{nat_eq, Option, Some, None, MatchOption, position}
 use Rattle.std.specs.List.{count_by, remove}
 use Rattle.std.proofs.lemmas.Bool.{eqb-true, eq-eqb}

@@ -155,8 +155,9 @@ step fronts old now next standing places standing' places' n from f sorted are l
           ∙ ap (λ (x : NameFront). x.place) (is ∙ get_or_default fronts n f d l)) k h;
     }
 
-pub arranged : (fronts : List NameFront) (old now : List Entry) (standing places : List ℕ) (n : ℕ) → AreSorted old fronts
-    → IsArranging fronts old now standing places n → n ≡ length fronts → IsArranged fronts old now
+pub arranged : (fronts : List NameFront) (old now : List Entry) (standing places : List ℕ) (count : ℕ)
+    → AreSorted old fronts → IsArranging fronts old now standing places count → count ≡ length fronts
+    → IsArranged fronts old now
 arranged fronts old now standing places n sorted are all = record {
   long = are.long;
   at = λ k f e l. are.is k e l ∙ ap (λ m. get_or old m e) (are.done k f (omega (arith, l, sorted.long, all)));
