@@ -90,7 +90,7 @@ class Reading:
         self.nodes, self.hashes = parse(source)
 
     def again(self) -> "Reading":
-        """The same script read anew: adapting changes statements."""
+        """The same script read anew, with another text."""
         return Reading(self.source, self.defsyms)
 
 
@@ -127,7 +127,7 @@ def with_files(reading: Reading, names: Mapping[str, str]) -> Reading:
 def adapt_reading(reading: Reading, objects: Objects | Mapping[str, bytes] | Iterable[str] | None = None,
                   orphans: bool = True, values: Mapping[str, int] | None = None, undefined: Iterable[str] = (),
                   followed: bool = False) -> Adapted:
-    """Rewrites a script that was read, with the words of `adapt`; a reading is good for one call.
+    """Rewrites a script that was read, with the words of `adapt`; what was read stays as it is.
 
     `followed` says that the caller links the files that the script names, in GNU ld's order, and keeps what EXTERN
     names.
@@ -170,6 +170,8 @@ def _adapted(reading: Reading, objects: Objects | Mapping[str, bytes] | Iterable
     source, defsyms, hashes = reading.source, reading.defsyms, reading.hashes
     if objects is not None and not isinstance(objects, Objects):
         objects = Objects(objects)
+    if objects is not None:
+        objects.ask(_names_in(source.text))
     model = Model(source, reading.nodes, objects)
     model.followed = followed
     model.values = values
@@ -189,6 +191,15 @@ def _adapted(reading: Reading, objects: Objects | Mapping[str, bytes] | Iterable
         model.note(LEFT, 0, f"an expression at {where[0]}:{where[1]} has more than 64 signs: use symbols for its parts")
     return Adapted(text.encode("latin-1"), model.report(), lines, frozenset(model.valued), segments_of(model),
                    (source, reading.nodes), model.names)
+
+
+def _names_in(text: str) -> set[str]:
+    """All words of a script that may be symbols, and the names that GNU ld gives to starts and ends of sections."""
+    words = set(_WORD.findall(text))
+    return words | {front + word for word in words for front in ("__start_", "__stop_")}
+
+
+_WORD = re.compile(r"[A-Za-z_.$][A-Za-z0-9_.$]*")
 
 
 def _checked(name: str, value: str) -> str:

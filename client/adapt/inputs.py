@@ -3,7 +3,7 @@ from __future__ import annotations
 
 from client.adapt.model import Model
 from client.adapt.notes import CHANGED, DROPPED, LEFT, REWRITTEN
-from client.adapt.patterns import is_word, matcher, word_of
+from client.adapt.patterns import is_word, name_matches, word_of
 from client.adapt.taking import file_matches, file_names, is_outside, literal, may_take, takes, taking
 from client.adapt.tree import Assert, Assign, Command, Data, Input, Node, Pattern, Section
 
@@ -19,7 +19,7 @@ def _taken(patterns: list[str], names: list[str]) -> list[str]:
     """The objects that patterns of the profile take, one after the other."""
     found: dict[str, None] = {}
     for pattern in patterns:
-        found.update((name, None) for name in names if matcher(pattern).fullmatch(name))
+        found.update((name, None) for name in names if name_matches(pattern, name))
     return list(found)
 
 

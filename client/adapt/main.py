@@ -152,7 +152,8 @@ def _differences(result: Adapted, objects: list[str]) -> list[str]:
         answer = session.script(result.text)
         if not isinstance(answer, Linked) or answer.status:
             return []
-        return Checker(result, known, Command(), own=True).lines(session.image(), session.map())
+        assert result.tree is not None
+        return Checker(result.tree, known, Command(), own=True).lines(session.image(), session.map())
     except SessionEnded:
         return []
     finally:

@@ -65,6 +65,14 @@ class Objects:
         self._definitions: dict[str, Definition] = {}
         self._undefined: set[str] = set()
         self._read = False
+        self._words: set[bytes] = set()
+        """The names that were looked up in all objects at once."""
+        self._definers: dict[bytes, list[int]] = {}
+        """Of these names: the objects that define one."""
+        self._referred: set[bytes] = set()
+        """Of these names: those that an object has undefined."""
+        self.takings: dict[object, object] = {}
+        """What statements of a script take of them, by the statements' words (taking.py)."""
 
     def files(self) -> Iterable[tuple[str, bytes]]:
         """The names of the objects and their bytes, in their order."""
@@ -80,6 +88,23 @@ class Objects:
         known = {} if other is None or other._tables is None else {tables.name: tables for tables in other._tables}
         self._tables = [known[name] if name in known and known[name].data is data else _Tables(name, data)
                         for name, data in self._files.items()]
+        self._look_up(set() if other is None else other._words)
+
+    def ask(self, names: Iterable[str]) -> None:
+        """Looks these names up in all objects at once, which is quicker than one by one."""
+        self._look_up({_key(name) for name in names})
+
+    def _look_up(self, names: set[bytes]) -> None:
+        names = names - self._words
+        if not names:
+            return
+        self._words |= names
+        for number, linkage in enumerate(self._linkages or ()):
+            for name in linkage.keys() & names:
+                if linkage[name] > 1:
+                    self._definers.setdefault(name, []).append(number)
+                else:
+                    self._referred.add(name)
 
     def _read_tables(self) -> list[_Tables]:
         """The tables of the objects, read once."""
@@ -116,16 +141,21 @@ class Objects:
 
     def _find(self, name: str, linkages: Sequence[Mapping[bytes, int]]) -> None:
         """Looks a name up in the objects that define it."""
-        key = name.encode("latin-1", "replace")
-        for number, linkage in enumerate(linkages):
-            if linkage.get(key, 0) > 1:
-                tables = self._read_tables()[number]
-                self._enter(tables, [entry for entry in tables.symbols() if entry[0] == name])
+        key = _key(name)
+        if key in self._words:
+            numbers = self._definers.get(key, [])
+        else:
+            numbers = [number for number, linkage in enumerate(linkages) if linkage.get(key, 0) > 1]
+        for number in numbers:
+            tables = self._read_tables()[number]
+            self._enter(tables, [entry for entry in tables.symbols() if entry[0] == name])
 
     def refers(self, name: str) -> bool:
         """Whether an object has the name undefined."""
         if self._linkages is not None:
-            key = name.encode("latin-1", "replace")
+            key = _key(name)
+            if key in self._words:
+                return key in self._referred
             return any(linkage.get(key, 2) < 2 for linkage in self._linkages)
         self._symbols()
         return name in self._undefined
@@ -205,6 +235,10 @@ class _Tables:
             return []
         return [InputSection(self.name, "COMMON", NOBITS, ALLOC | WRITABLE, size, max(value, 1))
                 for _, _, _, shndx, value, size in SYMBOL.iter_unpack(self._table) if shndx == COMMON]
+
+
+def _key(name: str) -> bytes:
+    return name.encode("latin-1", "replace")
 
 
 def _text(data: bytes, at: int) -> str:

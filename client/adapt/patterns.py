@@ -99,6 +99,20 @@ def has_wildcard(pattern: str) -> bool:
 
 
 _compiled: dict[str, re.Pattern[str]] = {}
+_fronts: dict[str, tuple[str, bool] | None] = {}
+_SPECIAL = frozenset("*?[\\")
+
+
+def name_matches(pattern: str, name: str) -> bool:
+    """Whether a pattern of GNU ld matches a whole name. Most are a name, or the front of one and `*`."""
+    try:
+        front = _fronts[pattern]
+    except KeyError:
+        plain = pattern[:-1] if pattern.endswith("*") else pattern
+        front = _fronts[pattern] = None if _SPECIAL.intersection(plain) else (plain, plain is pattern)
+    if front is None:
+        return matcher(pattern).fullmatch(name) is not None
+    return name == front[0] if front[1] else name.startswith(front[0])
 
 
 def matcher(pattern: str) -> re.Pattern[str]:

@@ -5,7 +5,8 @@ from client.adapt import expressions as ex
 from client.adapt.model import Model, blocks, commands
 from client.adapt.notes import CHANGED, DROPPED, LEFT, REWRITTEN, SEGMENTS
 from client.adapt.patterns import is_name
-from client.adapt.taking import all_sections, flags_of, inputs, is_outside, row, takes, taking, words
+from client.adapt.taking import (after_dropping, all_sections, flags_of, inputs, is_outside, row, takes, taking,
+                                 words)
 from client.adapt.tree import Assert, Assign, Block, Command, Expr, Input, Node, Part, Section
 
 _PLAIN = {
@@ -47,7 +48,7 @@ class Structure:
         self._entries()
         self._memory()
         self._sections()
-        self.model.taken = None
+        after_dropping(self.model)
         self._steps()
 
     # --- commands ---

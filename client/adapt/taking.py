@@ -6,7 +6,7 @@ from collections.abc import Sequence
 
 from client.adapt.model import Model
 from client.adapt.objects import InputSection
-from client.adapt.patterns import has_wildcard, matcher
+from client.adapt.patterns import has_wildcard, matcher, name_matches
 from client.adapt.tree import Input, Node, Pattern, Section
 from client.object_file import EXECUTABLE, NOBITS, WRITABLE
 
@@ -37,10 +37,10 @@ def file_matches(pattern: str, name: str) -> bool:
     if ":" in pattern:
         left, right = pattern.split(":", 1)
         if not left:
-            return not archive and bool(matcher(right).fullmatch(member))
-        return bool(archive) and bool(matcher(left).fullmatch(archive)) \
-            and (not right or bool(matcher(right).fullmatch(member)))
-    return bool(matcher(pattern).fullmatch(member))
+            return not archive and name_matches(right, member)
+        return bool(archive) and name_matches(left, archive) \
+            and (not right or name_matches(right, member))
+    return name_matches(pattern, member)
 
 
 def file_excluded(pattern: str, name: str) -> bool:
@@ -48,8 +48,7 @@ def file_excluded(pattern: str, name: str) -> bool:
     archive, member = file_names(name)
     if ":" in pattern:
         return file_matches(pattern, name)
-    found = matcher(pattern)
-    return bool(found.fullmatch(member)) or bool(archive) and bool(found.fullmatch(archive))
+    return name_matches(pattern, member) or bool(archive) and name_matches(pattern, archive)
 
 
 def takes(node: Input, section: InputSection) -> Pattern | None:
@@ -59,7 +58,7 @@ def takes(node: Input, section: InputSection) -> Pattern | None:
     if any(file_excluded(word, section.object) for word in node.file.exclude):
         return None
     for pattern in node.patterns or [Pattern("*", [], [], 0, 0, False)]:
-        if matcher(pattern.word).fullmatch(section.name) \
+        if name_matches(pattern.word, section.name) \
                 and not any(file_excluded(word, section.object) for word in pattern.exclude):
             return pattern
     return None
@@ -67,7 +66,7 @@ def takes(node: Input, section: InputSection) -> Pattern | None:
 
 def may_take(node: Input, name: str) -> bool:
     """Whether a statement has a pattern for a name, of whatever file."""
-    return node.patterns is None or any(matcher(pattern.word).fullmatch(name) for pattern in node.patterns)
+    return node.patterns is None or any(name_matches(pattern.word, name) for pattern in node.patterns)
 
 
 class Taking:
@@ -79,19 +78,37 @@ class Taking:
         self.orphans: list[InputSection] = []
         if model.objects is None:
             return
-        names: dict[str, list[_Taker]] = {}
-        takers = [_Taker(node, self.rows[id(section)], self.by_input.setdefault(id(node), []))
-                  for section in sections for node in section.body if isinstance(node, Input)]
-        index = _Index([taker.node for taker in takers])
-        for item in model.objects.sections():
+        nodes = [inputs(section) for section in sections]
+        words = tuple(tuple(map(_words, own)) for own in nodes)
+        taken = model.objects.takings.get(words)
+        if not isinstance(taken, _Taken):  # else statements of the same words were asked for before
+            taken = model.objects.takings[words] = _Taken(nodes, model.objects.sections())
+        self.rows.update((id(section), row) for section, row in zip(sections, taken.rows))
+        flat = [node for own in nodes for node in own]
+        self.by_input.update((id(node), items) for node, items in zip(flat, taken.items))
+        self.orphans = taken.orphans
+
+
+class _Taken:
+    """What statements take, those of an output section together: by their places."""
+
+    def __init__(self, nodes: Sequence[Sequence[Input]], sections: Sequence[InputSection]) -> None:
+        self.rows: list[list[InputSection]] = [[] for _ in nodes]
+        takers = [_Taker(node, row) for own, row in zip(nodes, self.rows) for node in own]
+        self.items = [taker.items for taker in takers]
+        self.orphans: list[InputSection] = []
+        index = index_of([taker.node for taker in takers])
+        names: dict[str, tuple[_Taker | None, list[_Taker]]] = {}
+        for item in sections:
             found = names.get(item.name)
             if found is None:
-                found = names[item.name] = [takers[number] for number in index.of(item.name)]
-            for taker in found:
-                if taker.takes_all or takes(taker.node, item):
-                    taker.row.append(item)
-                    taker.items.append(item)
-                    break
+                some = [takers[number] for number in index.of(item.name)]
+                found = names[item.name] = some[0] if some and some[0].takes_all else None, some
+            first, some = found
+            taker = first or next((one for one in some if one.takes_all or takes(one.node, item)), None)
+            if taker is not None:
+                taker.row.append(item)
+                taker.items.append(item)
             else:
                 self.orphans.append(item)
 
@@ -101,39 +118,69 @@ class _Taker:
 
     __slots__ = ("node", "row", "items", "takes_all")
 
-    def __init__(self, node: Input, row: list[InputSection], items: list[InputSection]) -> None:
-        self.node, self.row, self.items = node, row, items
+    def __init__(self, node: Input, row: list[InputSection]) -> None:
+        self.node, self.row = node, row
+        self.items: list[InputSection] = []
         self.takes_all = node.file.word == "*" and not node.file.exclude \
             and not any(pattern.exclude for pattern in node.patterns or ())
 
 
-class _Index:
+def _words(node: Input) -> tuple[object, ...]:
+    """All of a statement that says what it takes."""
+    patterns = None if node.patterns is None else tuple(
+        (pattern.word, tuple(pattern.exclude)) for pattern in node.patterns)
+    return node.file.word, tuple(node.file.exclude), patterns
+
+
+class Index:
     """Which of some statements have a pattern that matches a name: by what stands before a pattern's first wildcard."""
 
-    def __init__(self, nodes: Sequence[Input]) -> None:
+    def __init__(self, words: Sequence[Sequence[str]]) -> None:
+        """`words` has the patterns of each statement."""
         self._whole: dict[str, list[int]] = {}
         """By name: the numbers of the statements with a pattern that is this name."""
-        self._fronts: dict[str, list[tuple[int, re.Pattern[str]]]] = {}
-        """By what a pattern begins with: the statements' numbers, and the pattern."""
-        for number, node in enumerate(nodes):
-            for word in ["*"] if node.patterns is None else [pattern.word for pattern in node.patterns]:
+        self._fronts: dict[str, list[tuple[int, re.Pattern[str] | None]]] = {}
+        """By what a pattern begins with: the statements' numbers, and the pattern where more is in it than one `*`."""
+        self._known: dict[str, list[int]] = {}
+        for number, own in enumerate(words):
+            for word in own:
                 front = _FRONT.match(word).group()  # type: ignore[union-attr]
                 if front == word:
                     self._whole.setdefault(word, []).append(number)
                 else:
-                    self._fronts.setdefault(front, []).append((number, matcher(word)))
+                    rest = None if word == front + "*" else matcher(word)
+                    self._fronts.setdefault(front, []).append((number, rest))
         self._lengths = sorted({len(front) for front in self._fronts})
 
     def of(self, name: str) -> list[int]:
         """The numbers of the statements, in their order."""
+        known = self._known.get(name)
+        if known is not None:
+            return known
         found = set(self._whole.get(name, ()))
         for length in self._lengths:
             if length > len(name):
                 break
             for number, pattern in self._fronts.get(name[:length], ()):
-                if number not in found and pattern.fullmatch(name):
+                if number not in found and (pattern is None or pattern.fullmatch(name)):
                     found.add(number)
-        return sorted(found)
+        known = self._known[name] = sorted(found)
+        return known
+
+
+_indexes: list[tuple[list[list[str]], Index]] = []
+"""Those that were made last."""
+
+
+def index_of(nodes: Sequence[Input]) -> Index:
+    """The index of these statements; one that was made of the same words before is taken once more."""
+    words = [["*"] if node.patterns is None else [pattern.word for pattern in node.patterns] for node in nodes]
+    for known, index in _indexes:
+        if known == words:
+            return index
+    _indexes.insert(0, (words, Index(words)))
+    del _indexes[4:]
+    return _indexes[0][1]
 
 
 _FRONT = re.compile(r"[^*?\[\\]*")
@@ -147,6 +194,12 @@ def taking(model: Model) -> Taking:
         found = Taking(model, [s for s in all_sections(model.nodes) if id(s) not in model.dropped])
         model.taken = found
     return found
+
+
+def after_dropping(model: Model) -> None:
+    """The rows where sections were dropped since they were made: they stay where those take nothing."""
+    if any(row(model, section) for section in all_sections(model.nodes) if id(section) in model.dropped):
+        model.taken = None
 
 
 def taken_at(model: Model, name: str, section: str) -> tuple[int, int] | None:

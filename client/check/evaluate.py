@@ -45,6 +45,11 @@ class Evaluated:
         found = self.fold.known(name)
         return None if found is None else value_of(found)
 
+    def of_objects(self) -> dict[str, int]:
+        """The values of the symbols that the script names and does not assign."""
+        values = {name: value_of(symbol) for name, symbol in self.fold.symbols.items() if not symbol.of_script}
+        return {name: value for name, value in values.items() if value is not None}
+
 
 def value_of(symbol: Symbol) -> int | None:
     """The value of a symbol at the end. One that counts from NOWHERE, as an assignment in a section that ONLY_IF_RO or
@@ -276,16 +281,16 @@ class Evaluation:
     # --- __start_NAME and __stop_NAME ---
 
     def _starts(self) -> None:
-        wanted: set[str] = set()
+        first: dict[str, Item] = {}
         for item in self.rows.items:
-            name = item.name
-            if name in wanted or not name.isascii() or not name.replace("_", "a").isalnum():
-                continue
-            wanted.add(name)
+            first.setdefault(item.name, item)
+        names = [name for name in first if name.isascii() and name.replace("_", "a").isalnum()]
+        self.objects.ask(word + name for name in names for word in ("__start_", "__stop_"))
+        for name in names:
             for word, is_end in (("__start_", False), ("__stop_", True)):
                 symbol = self.fold.known(word + name)
                 if symbol is not None and symbol.kind in (UNDEFINED, UNDEFINED_WEAK):
-                    symbol.kind, symbol.value, symbol.item, symbol.own = DEFINED, 0, item, True
+                    symbol.kind, symbol.value, symbol.item, symbol.own = DEFINED, 0, first[name], True
                     self.started.append((symbol, name, is_end))
 
     def _undo_starts(self) -> None:

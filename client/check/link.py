@@ -9,8 +9,9 @@ from typing import TYPE_CHECKING
 from client.adapt.adapt import Adapted
 from client.adapt.objects import Objects
 from client.adapt.segments import about_segments
+from client.adapt.source import Source
 from client.adapt.taking import all_sections
-from client.adapt.tree import Input
+from client.adapt.tree import Input, Node
 from client.check.compare import Comparison, Difference, pieces_of
 from client.check.evaluate import Evaluated, evaluate
 from client.check.fixed import NotFixed, fixed_script
@@ -81,8 +82,11 @@ SMALL = 5000
 class Checker:
     """Evaluates a script once, and compares images with that."""
 
-    def __init__(self, adapted: Adapted, known: Objects, command: Command, own: bool) -> None:
-        self.adapted, self.known, self.command, self.own = adapted, known, command, own
+    def __init__(self, tree: tuple[Source, list[Node]], known: Objects, command: Command, own: bool) -> None:
+        """`tree` is the text of the script, and its statements."""
+        self.tree, self.known, self.command, self.own = tree, known, command, own
+        self.names: dict[int, str] = {}
+        """By `id` of an output section: the name that it has in the adapted script, where that is another."""
         self.done: Evaluated | None = None
         self.unknown: Unknown | None = None
         """Why the script is not evaluated."""
@@ -96,9 +100,7 @@ class Checker:
             try:
                 if self.command.gc_sections:
                     settings.live = _Live(self.known, map_text)
-                assert self.adapted.tree is not None
-                self.done = evaluate(self.adapted.tree[1], self.known, settings,
-                                      self.own and script_is_first(self.command))
+                self.done = evaluate(self.tree[1], self.known, settings, self.own and script_is_first(self.command))
             except Unknown as fault:
                 self.unknown = fault
             except Stopped as fault:
@@ -122,11 +124,10 @@ class Checker:
 
     def fixed(self) -> tuple[bytes, tuple[tuple[str, int], ...]] | None:
         """A script with the places of the evaluation, and the origins of its lines."""
-        if self.done is None or self.adapted.tree is None:
+        if self.done is None:
             return None
         try:
-            return fixed_script(self.done, dict(self.adapted.names), self.command.gc_sections,
-                                self.adapted.tree[0].place)
+            return fixed_script(self.done, self.names, self.command.gc_sections, self.tree[0].place)
         except NotFixed:
             return None
 
@@ -138,8 +139,7 @@ class Checker:
 
     def line(self, offset: int, text: str) -> str:
         """A line for people, with its place in the script."""
-        assert self.adapted.tree is not None
-        source = self.adapted.tree[0]
+        source = self.tree[0]
         path, line = source.place(offset) if offset >= 0 else (source.path, 1)
         return f"{path}:{line}: {text}"
 

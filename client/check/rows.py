@@ -4,8 +4,8 @@ from __future__ import annotations
 from collections.abc import Sequence
 
 from client.adapt.objects import InputSection, Objects
-from client.adapt.patterns import has_wildcard, matcher
-from client.adapt.taking import _Index, file_names
+from client.adapt.patterns import has_wildcard, name_matches
+from client.adapt.taking import file_names, index_of
 from client.adapt.tree import Input, Node, Pattern
 from client.check.script import (ASSERT, ASSIGN, DATA, FILL, INPUT, NOT_LOADED, OBJECTS, OUTPUT, Output, Statement,
                                  Statements)
@@ -101,7 +101,7 @@ class Matching:
         self.known: dict[int, set[tuple[int, int, str]]] = {}
         """By `id` of an output section: flags, type and name of what it has."""
         found = [s for output in statements.outputs for s in output.body if s.kind == INPUT]
-        self.index, self.found = _Index([s.node for s in found]), found  # type: ignore[misc]
+        self.index, self.found = index_of([s.node for s in found]), found  # type: ignore[misc]
         self.matches: dict[int, list[tuple[Item, Pattern | None]]] = {id(s): [] for s in found}
         plain: dict[str, list[tuple[list[tuple[Item, Pattern | None]], Pattern | None]] | None] = {}
         some: dict[str, list[Statement]] = {}
@@ -131,7 +131,7 @@ class Matching:
             matches = self.matches[id(statement)]
             if node.patterns is None:
                 result.append((matches, None))
-            result += [(matches, pattern) for pattern in patterns if matcher(pattern.word).fullmatch(name)]
+            result += [(matches, pattern) for pattern in patterns if name_matches(pattern.word, name)]
         return result
 
     def _match(self, statement: Statement, item: Item) -> None:
@@ -146,7 +146,7 @@ class Matching:
             self.matches[id(statement)].append((item, None))
             return
         for pattern in node.patterns:
-            if matcher(pattern.word).fullmatch(item.name) \
+            if name_matches(pattern.word, item.name) \
                     and not (pattern.exclude and _excluded(pattern.exclude, item.object)):
                 self.matches[id(statement)].append((item, pattern))
 
@@ -308,17 +308,17 @@ def _file_matches(pattern: str, name: str) -> bool:
     if ":" in pattern:
         left, right = pattern.split(":", 1)
         if not left:
-            return not archive and bool(matcher(right).fullmatch(member))
-        return bool(archive) and bool(matcher(left).fullmatch(archive)) \
-            and (not right or bool(matcher(right).fullmatch(member)))
-    return bool(matcher(pattern).fullmatch(member))
+            return not archive and name_matches(right, member)
+        return bool(archive) and name_matches(left, archive) \
+            and (not right or name_matches(right, member))
+    return name_matches(pattern, member)
 
 
 def _excluded(patterns: Sequence[str], name: str) -> bool:
     """Whether an object is left out by EXCLUDE_FILE, which a whole archive may be."""
     archive = file_names(name)[0]
     return any(_file_matches(word, name) or bool(archive) and ":" not in word
-               and bool(matcher(word).fullmatch(archive)) for word in patterns)
+               and name_matches(word, archive) for word in patterns)
 
 
 # --- sorts ---

@@ -10,7 +10,7 @@ from collections.abc import Iterable, Sequence, Set
 from dataclasses import dataclass, field
 from itertools import groupby
 
-from client.adapt.patterns import RESERVED, matcher
+from client.adapt.patterns import RESERVED, name_matches
 from client.ld.references import Part, Section
 from client.script_lexer import ProfileToken, profile_tokens
 
@@ -36,9 +36,9 @@ class Statement:
 
     def takes(self, name: str, section: str) -> bool:
         """Whether it takes a section of this name from an object."""
-        if not matcher(self.file).fullmatch(name):
+        if not name_matches(self.file, name):
             return False
-        return any(matcher(word).fullmatch(section) and not any(matcher(one).fullmatch(name) for one in excluded)
+        return any(name_matches(word, section) and not any(name_matches(one, name) for one in excluded)
                    for word, excluded in self.words)
 
 

@@ -10,7 +10,6 @@ from types import FrameType
 
 import client.files
 from client.adapt.segments import about_segments
-from client.check.evaluate import Evaluated
 from client.check.link import CheckedLink, Checker, Outcome, wants_map
 from client.ld.command import Command, read_command
 from client.ld.fallback import Reasons, hand_over
@@ -136,8 +135,8 @@ class Link:
         self.opened: Opened | None = None
         self.script: Script | None = None
         self.valued: Valued | None = None
-        self.evaluation: Evaluated | None = None
-        """What GNU ld makes of the script over the objects of this link, if that was evaluated for values."""
+        self.evaluation: Checker | None = None
+        """What has evaluated the script over the objects of this link, if that was done before it is compared."""
 
     def run(self) -> int:
         """Links, and gives the exit status."""
@@ -175,24 +174,24 @@ class Link:
 
     def link(self) -> int:
         """Writes the script while the objects are sent, and links."""
-        self.evaluation = None
-        opened, script = self._open(), self._written({})
+        opened, values = self._open(), self._evaluated()
+        script = self._written(values)
         if script.valued:
-            return self._link_valued(opened, script)
+            return self._link_valued(opened, script, values)
         if script.entry is not None:
             opened = self._open(script.entry)
         if refused := opened.refused():
             return self._refused(refused)
         return self._finish(opened, script, None if script.left else opened.link(script.text, self._wants_map(script)))
 
-    def _link_valued(self, opened: Opened, script: Script) -> int:
-        """Links under a script that names objects' symbols."""
+    def _link_valued(self, opened: Opened, script: Script, values: dict[str, int]) -> int:
+        """Links under a script that names objects' symbols; it has these values for them."""
         if script.entry is not None:
             opened = self._open(script.entry)
         if refused := opened.refused():
             return self._refused(refused)
         self.valued = Valued(self._written, script)
-        linked = self.valued.link(opened, self._wants_map(script), self._evaluated(script))
+        linked = self.valued.link(opened, self._wants_map(script), values)
         if linked is not None:
             return self._finish(opened, *linked)
         beforehand = opened_beforehand(self.command, script, self.objects)
@@ -201,22 +200,24 @@ class Link:
         finally:
             beforehand.end()
 
-    def _evaluated(self, script: Script) -> dict[str, int] | None:
-        """The values of objects' symbols by the evaluation with which the image is compared; None where one of them
-        has none, and where no evaluation is made."""
-        if self.command.gc_sections or script.left or self.host.is_checked(script, self.objects):
-            return None
-        evaluated = self._checker(script).evaluated()
-        values = {name: evaluated.value(name) for name in script.valued} if evaluated is not None else {}
-        found = {name: value for name, value in values.items() if value is not None}
-        self.evaluation = evaluated
-        return found if len(found) == len(script.valued) else None
+    def _evaluated(self) -> dict[str, int]:
+        """The values of objects' symbols that the script names, by the evaluation with which the image is compared;
+        nothing where none is made beforehand."""
+        self.evaluation = None
+        if self.command.gc_sections:
+            return {}
+        checker = Checker(self.source.tree, self.host.known(self.objects), self.command, self.source.own)
+        self.evaluation = checker
+        evaluated = checker.evaluated()
+        return evaluated.of_objects() if evaluated is not None else {}
 
     def _checker(self, script: Script) -> Checker:
         """What compares the images of a script; it evaluates nothing once more."""
         assert script.adapted is not None
-        checker = Checker(script.adapted, self.host.known(self.objects), self.command, self.source.own)
-        checker.done, self.evaluation = self.evaluation, None
+        checker, self.evaluation = self.evaluation, None
+        if checker is None:
+            checker = Checker(self.source.tree, self.host.known(self.objects), self.command, self.source.own)
+        checker.names = dict(script.adapted.names)
         return checker
 
     def _link_beforehand(self, opened: Opened, beforehand: Opened | None) -> int:
@@ -296,15 +297,17 @@ class Link:
         self._check_outputs()
         opened, script = self._open(), self.script
         assert script is not None
-        if self.valued is not None and not self.valued.is_free:
-            return self._link_valued(opened, self._written({}))
+        if self.valued is not None and not self.host.is_checked(script, objects):
+            values = self._evaluated()
+            if values or not self.valued.is_free:
+                return self._link_valued(opened, self._written(values), values)
         if script.entry is not None:
             opened = self._open(script.entry)
         if refused := opened.refused():
             return self._refused(refused)
         result = opened.link(script.text, self._wants_map(script))
         if self.valued is not None and (result.status or result.script_refused):
-            return self._link_valued(opened, self._written({}))
+            return self._link_valued(opened, self._written({}), {})
         return self._finish(opened, script, result)
 
     def _finish(self, opened: Opened, script: Script, result: Result | None) -> int:

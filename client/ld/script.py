@@ -21,13 +21,14 @@ from client.adapt.adapt import (
 )
 from client.adapt.objects import Objects as Known
 from client.adapt.segments import Segments
+from client.adapt.source import Source as Text
 from client.adapt.tree import Node
 from client.ld.command import Command, number
 from client.ld.default_script import DEFAULT
 from client.ld.inputs import BadInput, MissingInput, NotScript, Object
 from client.ld.programs import WITHIN, others
 from client.ld.script_commands import Commands, commands_of
-from client.ld.script_text import outline
+from client.ld.script_text import has_entry, outline
 from client.watch.quick import with_entry
 
 OWN_VERSION = "GNU ld (ldi "
@@ -54,25 +55,18 @@ class Source:
         self.files = [path] if own else []
         """The files that were read for them, with what they include."""
         self.files += [found for _, _, found in reading.source.included]
-        self._reading: Reading | None = reading
-        self._last = reading
+        self.reading = reading
+        """The text and its statements."""
 
-    def take(self) -> Reading:
-        """The statements, good for one adapting."""
-        reading, self._reading = self._reading, None
-        if reading is None:
-            reading = self._last.again()
-        self._last = reading
-        return reading
-
-    def nodes(self) -> list[Node]:
-        """The statements, as they were read."""
-        return self._last.again().nodes
+    @property
+    def tree(self) -> tuple[Text, list[Node]]:
+        """The text, and its statements as they were read."""
+        return self.reading.source, self.reading.nodes
 
     def rename_files(self, names: Mapping[str, str]) -> None:
         """Gives files that statements name the names that their objects have, as they were found in another folder."""
         if names:
-            self._reading = self._last = with_files(self._last, names)
+            self.reading = with_files(self.reading, names)
 
     @property
     def entry(self) -> str | None:
@@ -207,7 +201,7 @@ def adapt_source(
     """The script as `ldi-adapt` writes it; NotScript where it is none."""
     wanted = [*command.undefined, *command.required]
     try:
-        return adapt_reading(source.take(), known, orphans=False, values=values, undefined=wanted, followed=True)
+        return adapt_reading(source.reading, known, orphans=False, values=values, undefined=wanted, followed=True)
     except NoParse as fault:
         raise NotScript(str(fault)) from fault
 
@@ -237,7 +231,8 @@ def write_script(
     text = adapted.text
     if command.gc_sections and objects:
         text = _kept(source, command, objects, adapted)
-    for section in sorted(command.section_starts.keys() - {os.fsdecode(head.name) for head in outline(text).sections}):
+    there = {os.fsdecode(head.name) for head in outline(text).sections} if command.section_starts else set()
+    for section in sorted(command.section_starts.keys() - there):
         command.note(f"the address of {section}: the script has no such section")
     if command.entry is None:
         text, entry = _default_entry(text, command, known)
@@ -261,19 +256,18 @@ def _kept(source: Source, command: Command, objects: Sequence[Object], adapted: 
 
     entry = command.entry or source.entry
     names = [name for part in source.parts for name in part.undefined] + ([] if entry else ["start"])
-    text, notes = with_keeps(adapted.text, source.nodes(), command, objects, entry, names)
+    text, notes = with_keeps(adapted.text, source.reading.nodes, command, objects, entry, names)
     adapted.report += [Note(kind, source.path, adapted.lines[-1][1], note) for kind, note in notes]
     return text
 
 
 def _default_entry(text: bytes, command: Command, known: Known) -> tuple[bytes, bytes | None]:
     """Where neither ENTRY nor -e says it: the symbol `start` of an object, else the start of .text, as for GNU ld."""
-    found = outline(text)
-    if found.has_entry:
+    if has_entry(text):
         return text, None
     if known.definition("start") is not None:
         return text, b"start"
-    if any(head.name == b".text" for head in found.sections):
+    if any(head.name == b".text" for head in outline(text).sections):
         return text + b" %s = ADDR(.text);" % NUMBER_ENTRY, NUMBER_ENTRY
     command.note("no entry symbol: the image's e_entry is 0")
     return text, None

@@ -23,10 +23,14 @@ class Head:
 class Outline:
     """What a script has."""
 
-    has_entry: bool = False
     sections: list[Head] = field(default_factory=list)
     memory: list[bytes] = field(default_factory=list)
     """The names of the memory regions."""
+
+
+def has_entry(script: bytes) -> bool:
+    """Whether a script has an ENTRY."""
+    return b"ENTRY" in script and any(token.depth == 0 and token.text == b"ENTRY" for token in profile_tokens(script))
 
 
 def outline(script: bytes) -> Outline:
@@ -35,7 +39,6 @@ def outline(script: bytes) -> Outline:
     for token, following in zip(found, found[1:]):
         if token.depth == 0 and token.text in (b"SECTIONS", b"MEMORY"):
             block = token.text
-        result.has_entry |= token.depth == 0 and token.text == b"ENTRY"
         if token.depth == 1 and block == b"MEMORY" and following.text == b":":
             result.memory.append(token.text)
     try:

@@ -13,6 +13,7 @@ from __future__ import annotations
 
 from collections.abc import Callable, Sequence
 from dataclasses import replace
+from functools import cached_property
 
 from client.ld.command import Command
 from client.ld.inputs import Object
@@ -62,41 +63,53 @@ class Valued:
     """A script that names objects' symbols."""
 
     def __init__(self, write: Callable[[Values], Script], script: Script) -> None:
-        """`write` writes the script with values; `script` has 0 for each of the symbols."""
+        """`write` writes the script with values, and 0 for others; `script` says which symbols it names."""
         self._write = write
         self._script = script
         self.values: Values = {}
         """The values of the last link."""
-        self.is_free = False
-        """Whether the layout is the same for all values, so that values which an ASSERT proves are the only ones."""
+        self._linked: Script | None = None
+        """The script of the last good link, without its ASSERTs."""
         self.without_value: frozenset[str] = frozenset()
         """The symbols that a link gave no value, as their sections are not in the image."""
 
-    def link(self, opened: Opened, with_map: bool, evaluated: Values | None = None) -> tuple[Script, Result] | None:
-        """Links with values that the link leaves as they are; None where the links for them have faults. Values that
-        are `evaluated` need no link with 0 for each; where they are wrong, an ASSERT fails, and the next link has them.
+    @cached_property
+    def is_free(self) -> bool:
+        """Whether the layout is the same for all values, so that values which an ASSERT proves are the only ones."""
+        return self._linked is not None and is_free_of(self._write({}).text, self._linked.text)
+
+    def link(self, opened: Opened, with_map: bool, evaluated: Values) -> tuple[Script, Result] | None:
+        """Links with values that the link leaves as they are; None where the links for them have faults.
+
+        Where the script was written with values that are `evaluated`, no link with 0 for each is needed; where they are
+        wrong, an ASSERT fails, and the next link has others.
         """
-        script, found = self._script, evaluated or self._found(opened, self._script)
+        script, plain = self._script, self._script
+        found: Values | None = {name: evaluated[name] for name in script.valued if name in evaluated}
+        if found is None or len(found) < len(script.valued):
+            plain, found = self._with_found(opened, self._write({}))
         for _ in range(ROUNDS):
-            if found is None:
+            if found is None or plain.left:
                 return None
-            self.values, plain = found, self._write(found)
-            if plain.left:
-                return None
-            script = asserted(plain, found)
+            self.values, script = found, asserted(plain, found)
             result = opened.link(script.text, with_map)
             if not result.status:
-                self.is_free = is_free_of(self._script.text, plain.text)
+                self._linked = plain
                 break
-            found = self._found(opened, plain)
+            plain, found = self._with_found(opened, plain)
         return script, result
+
+    def _with_found(self, opened: Opened, script: Script) -> tuple[Script, Values | None]:
+        """The script with the values that a link under this one gives; None for them where it gives none."""
+        found = self._found(opened, script)
+        return (script if found is None else self._write(found)), found
 
     def guess(self, beforehand: Opened) -> Script | None:
         """The script with the values of a first link of a session of its own."""
-        found = self._found(beforehand, self._script)
+        plain, found = self._with_found(beforehand, self._write({}))
         if found is None:
             return None
-        self.values, plain = found, self._write(found)
+        self.values = found
         return None if plain.left else asserted(plain, found)
 
     def settled(self, beforehand: Opened) -> Script | None:
