@@ -191,18 +191,18 @@ class Comparison:
         """The values of the script's symbols, and of common blocks."""
         values = symbols_of(self.image)
         for name, value in self.evaluated.symbols.items():
-            own = values.get(name)
+            own = values.get(_key(name))
             if own != value:
                 here = "has no value" if own is None else f"is {own:#x}"
                 self._add(f"{name} {here}; to GNU ld it is {value:#x}", self._assigned(name))
         for name, symbol in self.evaluated.fold.symbols.items():
             if symbol.item is not None and symbol.item.name == "COMMON" and symbol.item.number < 0:
-                wanted, own = self.evaluated.value(name), values.get(name)
+                wanted, own = self.evaluated.value(name), values.get(_key(name))
                 if wanted is not None and own is not None and own != wanted:
                     self._add(f"the common block {name} is at {own:#x}; to GNU ld it is at {wanted:#x}", -1)
         for symbol, _, _ in self.evaluated.started:
             wanted = self.evaluated.value(symbol.name)
-            if wanted is not None and values.get(symbol.name) != wanted:
+            if wanted is not None and values.get(_key(symbol.name)) != wanted:
                 self._add(f"{symbol.name} is not {wanted:#x} as to GNU ld", -1)
 
     def _assigned(self, name: str) -> int:
@@ -214,22 +214,24 @@ class Comparison:
         return found
 
 
+def _key(name: str) -> bytes:
+    return name.encode("latin-1", "replace")
+
+
 def filled(fill: bytes | None, size: int) -> bytes:
     """The bytes of a gap: the fill from its front."""
     pattern = fill or b"\0"
     return (pattern * (size // len(pattern) + 1))[:size]
 
 
-def symbols_of(image: bytes) -> Mapping[str, int]:
+def symbols_of(image: bytes) -> Mapping[bytes, int]:
     """The values of an image's global symbols."""
     file = ObjectFile(image)
-    result: dict[str, int] = {}
+    result: dict[bytes, int] = {}
     for header in file.headers:
-        if header.kind != SYMTAB:
-            continue
-        names = file.headers[header.link].offset
-        for name, info, _, section, value, _ in SYMBOL.iter_unpack(image[header.offset:header.offset + header.size]):
-            if section and info >> 4:
-                at = names + name
-                result[image[at:image.index(b"\0", at)].decode("latin-1")] = value
+        if header.kind == SYMTAB:
+            names = file.content(header.link)
+            end = names.find
+            result.update((names[name:end(b"\0", name)], value) for name, info, _, section, value, _ in SYMBOL.iter_unpack(
+                image[header.offset:header.offset + header.size]) if section and info > 15)
     return result

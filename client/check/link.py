@@ -2,21 +2,23 @@
 from __future__ import annotations
 
 from collections import Counter
-from collections.abc import Callable
+from collections.abc import Callable, Iterable, Iterator
 from dataclasses import replace
 from typing import TYPE_CHECKING
 
 from client.adapt.adapt import Adapted
+from client.adapt.expressions import walk
 from client.adapt.objects import Objects
 from client.adapt.segments import about_segments
 from client.adapt.source import Source
 from client.adapt.taking import all_sections
-from client.adapt.tree import Input, Node
+from client.adapt.tree import Assign, Block, Data, Expr, Input, Node, Region, Section
 from client.check.compare import Comparison, Difference, pieces_of
 from client.check.evaluate import Evaluated, evaluate
 from client.check.fixed import NotFixed, fixed_script
 from client.check.merged import ONCE, merged
 from client.check.state import ALLOC, CREATED, EXCLUDE, Settings, Stopped, Unknown
+from client.object_file import ABSOLUTE
 
 if TYPE_CHECKING:
     from client.ld.command import Command
@@ -66,6 +68,37 @@ def wants_map(adapted: Adapted | None, known: Objects, command: Command) -> bool
     assert adapted is not None and adapted.tree is not None
     return any(_is_special(node) for section in all_sections(adapted.tree[1]) for node in section.body
                if isinstance(node, Input))
+
+
+def names_others(nodes: list[Node], known: Objects) -> bool:
+    """Whether expressions of a script, but for those of ASSERT, seem to name symbols of objects."""
+    names = {part.word for e in _expressions(nodes) for part in walk(e) if part.kind == "name"}
+    known.ask(names)
+    found = [known.definition(name) for name in names - _assigned(nodes)]
+    return any(one is not None and one.number != ABSOLUTE for one in found)
+
+
+def _expressions(nodes: Iterable[Node]) -> Iterator[Expr]:
+    for node in nodes:
+        if isinstance(node, (Assign, Data)):
+            yield from () if node.value is None else (node.value,)
+        elif isinstance(node, Section):
+            yield from (e for e in (node.address, *(part.value for part in node.head)) if e is not None)
+            yield from _expressions(node.body)
+        elif isinstance(node, Region):
+            yield from (node.origin, node.length)
+        elif isinstance(node, Block):
+            yield from _expressions(node.items)
+
+
+def _assigned(nodes: Iterable[Node]) -> set[str]:
+    found: set[str] = set()
+    for node in nodes:
+        if isinstance(node, Assign):
+            found.add(node.name)
+        elif isinstance(node, (Block, Section)):
+            found |= _assigned(node.items if isinstance(node, Block) else node.body)
+    return found
 
 
 def _is_special(node: Input) -> bool:

@@ -48,6 +48,10 @@ class Host:
             self._known = known
         return self._known
 
+    def is_written(self, objects: Sequence[Object], command: Command) -> bool:
+        """Whether the script for these objects is the one that was written last."""
+        return False
+
     def is_checked(self, script: Script, objects: Sequence[Object]) -> bool:
         """Whether it is known without a check what one would say of a good link."""
         return False

@@ -10,7 +10,8 @@ from types import FrameType
 
 import client.files
 from client.adapt.segments import about_segments
-from client.check.link import CheckedLink, Checker, Outcome, wants_map
+from client.check.link import CheckedLink, Checker, Outcome, names_others, wants_map
+from client.ld.beside import beside
 from client.ld.command import Command, read_command
 from client.ld.fallback import Reasons, hand_over
 from client.ld.flat import NoFlatImage, flat_binary
@@ -135,6 +136,8 @@ class Link:
         self.opened: Opened | None = None
         self.script: Script | None = None
         self.valued: Valued | None = None
+        self._notes: list[str] = []
+        """What there is to say of the words and the inputs."""
         self.evaluation: Checker | None = None
         """What has evaluated the script over the objects of this link, if that was done before it is compared."""
 
@@ -160,6 +163,7 @@ class Link:
         self._check_outputs()
         if self.source.binary and self.source.own and command.output_format is None:
             command.output_format = "binary"
+        self._notes = list(command.notes)
 
     def _open(self, entry: str | None = None) -> Opened:
         """Has the objects sent to a session; `entry` is the entry symbol where the script cannot name it."""
@@ -174,15 +178,30 @@ class Link:
 
     def link(self) -> int:
         """Writes the script while the objects are sent, and links."""
-        opened, values = self._open(), self._evaluated()
+        self.command.notes = list(self._notes)
+        self.valued = self.evaluation = None
+        opened = self._open()
+        values = self._evaluated() if names_others(self.source.reading.nodes, self.host.known(self.objects)) else {}
         script = self._written(values)
         if script.valued:
             return self._link_valued(opened, script, values)
         if script.entry is not None:
             opened = self._open(script.entry)
-        if refused := opened.refused():
-            return self._refused(refused)
-        return self._finish(opened, script, None if script.left else opened.link(script.text, self._wants_map(script)))
+        refused, result = self._sent(opened, script)
+        return self._refused(refused) if refused else self._finish(opened, script, result)
+
+    def _sent(self, opened: Opened, script: Script) -> tuple[list[tuple[Object, Refused]], Result | None]:
+        """What comes of the script when all objects are there, or the objects that are refused. The script is evaluated
+        meanwhile, where the image is to be compared by that."""
+        with_map = self._wants_map(script)
+
+        def link() -> tuple[list[tuple[Object, Refused]], Result | None]:
+            refused = opened.refused()
+            return refused, None if refused or script.left else opened.link(script.text, with_map)
+
+        if self.evaluation is not None or self.command.gc_sections or self.host.is_checked(script, self.objects):
+            return link()
+        return beside(link, self._evaluated)
 
     def _link_valued(self, opened: Opened, script: Script, values: dict[str, int]) -> int:
         """Links under a script that names objects' symbols; it has these values for them."""
@@ -288,25 +307,27 @@ class Link:
         return frozenset(required) | (self.loader.archive_names() if self.loader is not None else frozenset())
 
     def again(self, objects: list[Object]) -> int:
-        """The link once more with other bytes of objects, where the script stays as it was written.
+        """The link once more with other bytes of objects, where the choice of members finds the same in them.
 
-        That is so where the adapter and the choice of members find the same in them; the server knows.
+        The script is written anew where the adapter finds something else.
         """
-        self.objects, self.evaluation = objects, None
+        self.objects = objects
         print_asked(self.command, self.source)
         self._check_outputs()
-        opened, script = self._open(), self.script
-        assert script is not None
+        script, self.evaluation = self.script, None
+        if script is None or not self.host.is_written(objects, self.command):
+            return self.link()
+        opened = self._open()
         if self.valued is not None and not self.host.is_checked(script, objects):
             values = self._evaluated()
             if values or not self.valued.is_free:
                 return self._link_valued(opened, self._written(values), values)
         if script.entry is not None:
             opened = self._open(script.entry)
-        if refused := opened.refused():
+        refused, result = self._sent(opened, script)
+        if refused:
             return self._refused(refused)
-        result = opened.link(script.text, self._wants_map(script))
-        if self.valued is not None and (result.status or result.script_refused):
+        if self.valued is not None and result is not None and (result.status or result.script_refused):
             return self._link_valued(opened, self._written({}), {})
         return self._finish(opened, script, result)
 

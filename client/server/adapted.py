@@ -40,6 +40,11 @@ class Asked(Known):
         return super().undefined()
 
 
+def asked_of(objects: Sequence[Object]) -> Asked:
+    """What is known of the objects of a link."""
+    return Asked({item.name.decode(): item.data for item in objects}, [item.linkage for item in objects])
+
+
 def facts_of(data: bytes, names: Iterable[str]) -> object:
     """All that the adapter finds in an object, where it asks for these names alone."""
     one = Known({"": data})
@@ -59,7 +64,7 @@ class Adapted:
 
     def __init__(self) -> None:
         self._asked: Asked | None = None
-        self._read: Known | None = None
+        self._read: Asked | None = None
         """What was read of the objects last."""
         self._datas: list[bytes] = []
         self._objects: dict[bytes, bytes] = {}
@@ -71,31 +76,38 @@ class Adapted:
         """The script as `write_script` has it; it is not written again `is_same_text`, where the objects are alike."""
         are_alike = self._are_same if command.gc_sections else self._are_alike
         if self._asked is None or not (is_same_text and are_alike(objects)):
-            self._asked = Asked({item.name.decode(): item.data for item in objects}, [item.linkage for item in objects])
+            before = self._asked
+            self._asked = asked_of(objects)
+            if self._read is not None or before is not None:
+                self._asked.take_tables(self._read or before)
             self._objects = {item.name: item.data for item in objects}
             self._scripts.clear()
             self._facts.clear()
         key = None if values is None else tuple(sorted(values.items()))
         found = self._scripts.get(key)
         if found is None:
-            before = list(command.notes)
+            notes = list(command.notes)
             script = write_script(source, command, self._asked, values, objects)
             if len(self._scripts) > 2:
                 self._scripts.popitem()
-            found = self._scripts[key] = script, [note for note in command.notes if note not in before]
+            found = self._scripts[key] = script, [note for note in command.notes if note not in notes]
         for note in found[1]:
             command.note(note)
         return found[0]
 
-    def known(self, objects: Sequence[Object]) -> Known:
+    def known(self, objects: Sequence[Object]) -> Asked:
         """What is known of these objects; what was read of the same bytes is not read again."""
         datas = [item.data for item in objects]
         if self._read is not None and len(datas) == len(self._datas) and all(map(is_, datas, self._datas)):
             return self._read
-        known = Known({item.name.decode(): item.data for item in objects}, [item.linkage for item in objects])
+        known = asked_of(objects)
         known.take_tables(self._read or self._asked)
         self._read, self._datas = known, datas
         return known
+
+    def stays(self, objects: Sequence[Object], command: Command) -> bool:
+        """Whether the adapter would write of these objects what it wrote last."""
+        return self._asked is not None and (self._are_same if command.gc_sections else self._are_alike)(objects)
 
     def _are_same(self, objects: Sequence[Object]) -> bool:
         """Whether all is as it was: for --gc-sections their relocations are looked at too."""

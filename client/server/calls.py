@@ -1,7 +1,8 @@
 """The links of a server: what is still as it was read is not read again, and the session gets what is not.
 
-A call looks at all inputs. Where only objects are other, which say the same to the adapter and to the choice of archive
-members, the link before is made once more with them; else it is made from the words on. What is written for it is given
+A call looks at all inputs. Where only objects are other, which say the same to the choice of archive members, the link
+before is made once more with them, by its script where they say the same to the adapter too; else it is made from the
+words on. What is written for it is given
 to the call only where, after that, all inputs are still what was read.
 """
 from __future__ import annotations
@@ -123,7 +124,7 @@ class Calls:
             except OSError:
                 return None
             places = self._objects.get(id(before.data), [])
-            if after.data is not before.data and not self._is_alike(objects, places, before, after):
+            if after.data is not before.data and not self._takes_same(objects, places, before, after):
                 if not places and not is_archive(before.data or b""):
                     return None
                 is_alike = False
@@ -138,20 +139,14 @@ class Calls:
         self.host.is_same_text = True
         return objects if is_alike else None
 
-    def _is_alike(self, objects: list[Object], places: list[int], before: Seen, after: Seen) -> bool:
-        """Whether a file says the same to the adapter and to the choice of members as before."""
+    def _takes_same(self, objects: list[Object], places: list[int], before: Seen, after: Seen) -> bool:
+        """Whether the link has the same files and members with this one as it is now."""
         old, new = before.data, after.data
         if old is None or new is None:
             return False
         if not places:
             return is_archive(old) and is_archive(new) and have_same_members(old, new)
-        return is_plain_object(new) and all(self._is_object_alike(objects[place], new) for place in places)
-
-    def _is_object_alike(self, item: Object, new: bytes) -> bool:
-        assert self.link is not None
-        if self.link.command.gc_sections:  # the script says by the relocations what is kept
-            return False
-        return self._chooses_alike(item, new) and self.host.adapted.is_alike(item.name, item.data, new)
+        return is_plain_object(new) and all(self._chooses_alike(objects[place], new) for place in places)
 
     def _chooses_alike(self, item: Object, new: bytes) -> bool:
         """Whether the same members of archives are taken: no name of a symbol table of theirs is another."""

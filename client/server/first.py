@@ -48,7 +48,7 @@ class FirstHost(Host):
     def checked(self, script: Script, objects: Sequence[Object], outcome: Outcome, command: Command) -> None:
         """Keeps what a check said, but with --gc-sections, where the layout goes by relocations too."""
         if not command.gc_sections:
-            self.layout.keep(script, objects, outcome)
+            self.layout.keep(script, objects, outcome, self.adapted.known(objects).asked)
 
     def good(self, link: Link) -> None:
         """Keeps the link for the calls that follow."""

@@ -64,7 +64,11 @@ class ServerHost(Host):
     def checked(self, script: Script, objects: Sequence[Object], outcome: Outcome, command: Command) -> None:
         """Keeps what a check said, but with --gc-sections, where the layout goes by relocations too."""
         if not command.gc_sections:
-            self.layout.keep(script, objects, outcome)
+            self.layout.keep(script, objects, outcome, self.adapted.known(objects).asked)
+
+    def is_written(self, objects: Sequence[Object], command: Command) -> bool:
+        """Whether the script for these objects is the one that was written last."""
+        return self.adapted.stays(objects, command)
 
     def is_checked(self, script: Script, objects: Sequence[Object]) -> bool:
         """Whether the layout of a good link is the one that was checked."""
