@@ -136,7 +136,7 @@ def exchange(name: str, target: str) -> bool:
     return bool(_renameat2(AT_FDCWD, os.fsencode(name), AT_FDCWD, os.fsencode(target), RENAME_EXCHANGE) == 0)
 
 
-def write_file(path: str, data: bytes, mode: int, waits: bool = False) -> None:
+def write_file(path: str, data: bytes | Parts, mode: int, waits: bool = False) -> None:
     """Writes a file whole; OSError with its name where that fails, and then the old file stands as it was.
 
     Where it is a pipe, its reader is waited for if one `waits`; else it is an error that there is none.
@@ -157,7 +157,7 @@ def write_file(path: str, data: bytes, mode: int, waits: bool = False) -> None:
         remove(old)
 
 
-def write_in_place(path: str, data: bytes, waits: bool = False) -> None:
+def write_in_place(path: str, data: bytes | Parts, waits: bool = False) -> None:
     """Writes to something that is no regular file; OSError where it is a pipe that nobody reads, unless one `waits`."""
     descriptor = os.open(path, os.O_WRONLY | os.O_TRUNC | os.O_CLOEXEC | (0 if waits else os.O_NONBLOCK))
     try:
@@ -167,11 +167,35 @@ def write_in_place(path: str, data: bytes, waits: bool = False) -> None:
         os.close(descriptor)
 
 
-def write_all(descriptor: int, data: bytes) -> None:
+class Parts:
+    """The bytes of a file in pieces, which are written one after the other without a copy that has all."""
+
+    __slots__ = ("pieces",)
+
+    def __init__(self, *pieces: bytes | bytearray | memoryview) -> None:
+        self.pieces = pieces
+
+    def joined(self) -> bytes:
+        """All of them."""
+        return b"".join(self.pieces)
+
+
+MOST_PIECES = 1000
+"""The pieces that are written at once; the system takes 1,024."""
+
+
+def write_all(descriptor: int, data: bytes | Parts) -> None:
     """Writes all bytes."""
-    rest = memoryview(data)
+    pieces = data.pieces if isinstance(data, Parts) else (data,)
+    rest = [memoryview(piece) for piece in pieces if piece]
     while rest:
-        rest = rest[os.write(descriptor, rest) :]
+        count, done = os.writev(descriptor, rest[:MOST_PIECES]), 0
+        while done < len(rest) and count >= len(rest[done]):
+            count -= len(rest[done])
+            done += 1
+        del rest[:done]
+        if count:
+            rest[0] = rest[0][count:]
 
 
 def beside(path: str, number: int) -> str:

@@ -13,7 +13,7 @@ from client.ld.command import Command
 from client.ld.fallback import Reasons, hand_over
 from client.ld.inputs import Object
 from client.ld.link import Opened
-from client.ld.output import write_file
+from client.ld.output import Parts, write_file
 from client.ld.script import Script, Source, write_script
 from client.protocol import Options
 
@@ -63,7 +63,7 @@ class Host:
     def checked(self, script: Script, objects: Sequence[Object], outcome: Outcome, command: Command) -> None:
         """Takes note of what a check said."""
 
-    def write(self, path: str, data: bytes, mode: int) -> None:
+    def write(self, path: str, data: bytes | Parts, mode: int) -> None:
         """Writes a file of the link."""
         write_file(path, data, mode)
 

@@ -19,7 +19,7 @@ from client.ld.host import Host
 from client.ld.inputs import BadInput, CannotLink, Loader, MissingInput, Object
 from client.ld.link import Opened, Result, options_of
 from client.ld.options import WordsRefused
-from client.ld.output import PROGRAM, TEXT
+from client.ld.output import PROGRAM, TEXT, Parts
 from client.ld.page_size import PAGE, TooFar, with_pages
 from client.ld.phdrs import NotWritten, outside, with_program_headers
 from client.ld.reports import memory_usage, removed_sections
@@ -41,6 +41,10 @@ GREATEST_FAULTS = 1000
 
 FOLLOWS = "2.40"
 """The release of GNU ld whose command line this is; the last word of the version, which builds ask for."""
+
+
+RefusedObjects = list[tuple[Object, Refused]]
+"""Objects that a session refuses."""
 
 
 class Stopped(Exception):
@@ -180,34 +184,36 @@ class Link:
         """Writes the script while the objects are sent, and links."""
         self.command.notes = list(self._notes)
         self.valued = self.evaluation = None
-        opened = self._open()
-        values = self._evaluated() if names_others(self.source.reading.nodes, self.host.known(self.objects)) else {}
+        entry = self.script.entry if self.script is not None else None
+        opened, values, refused = self._open(entry), {}, None
+        if names_others(self.source.reading.nodes, self.host.known(self.objects)):
+            refused = beside(opened.refused, lambda: values.update(self._evaluated()))
         script = self._written(values)
+        if script.entry != entry:
+            opened, refused = self._open(script.entry), None
         if script.valued:
-            return self._link_valued(opened, script, values)
-        if script.entry is not None:
-            opened = self._open(script.entry)
-        refused, result = self._sent(opened, script)
+            return self._link_valued(opened, script, values, refused)
+        refused, result = self._sent(opened, script, refused)
         return self._refused(refused) if refused else self._finish(opened, script, result)
 
-    def _sent(self, opened: Opened, script: Script) -> tuple[list[tuple[Object, Refused]], Result | None]:
-        """What comes of the script when all objects are there, or the objects that are refused. The script is evaluated
-        meanwhile, where the image is to be compared by that."""
+    def _sent(self, opened: Opened, script: Script, refused: RefusedObjects | None = None
+              ) -> tuple[RefusedObjects, Result | None]:
+        """What comes of the script when all objects are there, or the objects that are refused, where that is not known
+        yet. The script is evaluated meanwhile, where the image is to be compared by that."""
         with_map = self._wants_map(script)
 
-        def link() -> tuple[list[tuple[Object, Refused]], Result | None]:
-            refused = opened.refused()
-            return refused, None if refused or script.left else opened.link(script.text, with_map)
+        def link() -> tuple[RefusedObjects, Result | None]:
+            found = opened.refused() if refused is None else refused
+            return found, None if found or script.left else opened.link(script.text, with_map)
 
         if self.evaluation is not None or self.command.gc_sections or self.host.is_checked(script, self.objects):
             return link()
         return beside(link, self._evaluated)
 
-    def _link_valued(self, opened: Opened, script: Script, values: dict[str, int]) -> int:
+    def _link_valued(self, opened: Opened, script: Script, values: dict[str, int],
+                     refused: RefusedObjects | None = None) -> int:
         """Links under a script that names objects' symbols; it has these values for them."""
-        if script.entry is not None:
-            opened = self._open(script.entry)
-        if refused := opened.refused():
+        if refused or refused is None and (refused := opened.refused()):
             return self._refused(refused)
         self.valued = Valued(self._written, script)
         linked = self.valued.link(opened, self._wants_map(script), values)
@@ -317,14 +323,13 @@ class Link:
         script, self.evaluation = self.script, None
         if script is None or not self.host.is_written(objects, self.command):
             return self.link()
-        opened = self._open()
+        opened, refused = self._open(script.entry), None
         if self.valued is not None and not self.host.is_checked(script, objects):
-            values = self._evaluated()
+            values: dict[str, int] = {}
+            refused = beside(opened.refused, lambda: values.update(self._evaluated()))
             if values or not self.valued.is_free:
-                return self._link_valued(opened, self._written(values), values)
-        if script.entry is not None:
-            opened = self._open(script.entry)
-        refused, result = self._sent(opened, script)
+                return self._link_valued(opened, self._written(values), values, refused)
+        refused, result = self._sent(opened, script, refused)
         if refused:
             return self._refused(refused)
         if self.valued is not None and result is not None and (result.status or result.script_refused):
@@ -353,7 +358,7 @@ class Link:
         self.host.good(self)
         return GOOD
 
-    def _refused(self, objects: list[tuple[Object, Refused]]) -> int:
+    def _refused(self, objects: RefusedObjects) -> int:
         """Objects that are refused go to the other linker, but not for memory."""
         def say_more() -> None:
             for item, refused in objects[:GREATEST_LIST]:
@@ -380,13 +385,13 @@ class Link:
             return path.replace("%", self.command.output, 1) + (".map" if path.endswith("%") else "")
         return path
 
-    def image(self, script: Script, image: bytes) -> bytes:
+    def image(self, script: Script, image: bytes) -> Parts:
         """The image in the form that the command asks for."""
         if self.command.output_format == "binary":
-            return flat_binary(image)
+            return Parts(flat_binary(image))
         return self._elf(script, image)
 
-    def _elf(self, script: Script, image: bytes) -> bytes:
+    def _elf(self, script: Script, image: bytes) -> Parts:
         """The image with the program headers of PHDRS, else with those of `ldi`; its segments on pages."""
         page = self.command.page_size or PAGE
         if script.segments is not None:

@@ -9,6 +9,7 @@ import struct
 from collections.abc import Iterable, Mapping, Sequence
 from dataclasses import dataclass
 
+from client.atomic_file import Parts
 from client.object_file import ALLOC, Header, ObjectFile
 
 PAGE = 4096
@@ -69,14 +70,14 @@ def moved(header: Header, segments: list[Segment]) -> int | None:
     return None
 
 
-def with_pages(image: bytes, page: int, in_file_order: bool) -> bytes:
+def with_pages(image: bytes, page: int, in_file_order: bool) -> Parts:
     """The image with segments aligned to `page`, a power of two.
 
     The program headers are in the order of addresses, as the gABI has them; with `in_file_order` in that of the script,
     as of a script that has PHDRS (`client/ld/phdrs.py`) which cannot be written.
     """
     if page <= PAGE:
-        return image
+        return Parts(image)
     segments = segments_of(image)
     end = placed(segments, page)
     if end > GREATEST:
@@ -89,11 +90,11 @@ def with_pages(image: bytes, page: int, in_file_order: bool) -> bytes:
 
 
 def with_moved(image: bytes, program_headers: list[bytes], loaded: Sequence[tuple[int, int, int]], end: int,
-               places: Mapping[int, int | None]) -> bytes:
+               places: Mapping[int, int | None]) -> Parts:
     """The image with these program headers, and what is loaded at other places up to `end`.
 
     `loaded` has the new place, the old one and the length of each part; `places` has the new place of each section that
-    is loaded. What is not loaded follows, and then the section headers. No byte is copied more than once.
+    is loaded. What is not loaded follows, and then the section headers. No byte of them is copied.
     """
     view, headers = memoryview(image), []
     pieces: list[tuple[int, bytes | memoryview]] = [(place, view[old : old + size]) for place, old, size in loaded]
@@ -113,7 +114,7 @@ def with_moved(image: bytes, program_headers: list[bytes], loaded: Sequence[tupl
     return _joined([(0, begin + b"".join(program_headers)), *pieces])
 
 
-def _joined(pieces: Iterable[tuple[int, bytes | bytearray | memoryview]]) -> bytes:
+def _joined(pieces: Iterable[tuple[int, bytes | bytearray | memoryview]]) -> Parts:
     """The pieces at their places, which ascend, with zeros between."""
     parts: list[bytes | bytearray | memoryview] = []
     at = 0
@@ -121,4 +122,4 @@ def _joined(pieces: Iterable[tuple[int, bytes | bytearray | memoryview]]) -> byt
         if len(piece):
             parts += [bytes(place - at), piece]
             at = place + len(piece)
-    return b"".join(parts)
+    return Parts(*parts)

@@ -10,6 +10,7 @@ from dataclasses import dataclass
 from itertools import pairwise
 
 from client.adapt.segments import PT_LOAD, PT_PHDR, Segments, Wanted
+from client.atomic_file import Parts
 from client.ld.page_size import (ELF_HEADER, GREATEST, PAGE, PROGRAM_HEADER, Segment, segments_of, with_moved)
 from client.object_file import ALLOC, EXECUTABLE, NOBITS, WRITABLE, Header, ObjectFile
 
@@ -69,7 +70,7 @@ def parts_of(image: bytes) -> list[Part]:
     return result
 
 
-def with_program_headers(image: bytes, segments: Segments, page: int) -> bytes:
+def with_program_headers(image: bytes, segments: Segments, page: int) -> Parts:
     """The image with the program headers of PHDRS, its segments aligned to `page` or more; NotWritten says why not."""
     if segments.problem:
         raise NotWritten(segments.problem)
@@ -229,7 +230,7 @@ def _check_apart(entries: list[Entry]) -> None:
                 raise NotWritten(f"{name} and {other_name} would share {what}")
 
 
-def _image(image: bytes, parts: list[Part], entries: list[Entry], end: int) -> bytes:
+def _image(image: bytes, parts: list[Part], entries: list[Entry], end: int) -> Parts:
     """The file: the headers, the sections at their places, and what is not loaded."""
     loaded = [(part.place, part.header.offset, part.header.size) for part in parts if part.in_file]
     program_headers = [entry.written.packed(entry.alignment) for entry in entries]

@@ -6,7 +6,7 @@ import stat
 from collections.abc import Mapping, Sequence
 
 from client.adapt.objects import Objects as Known
-from client.atomic_file import MOST_NAMES, beside, remove, umask, write_all
+from client.atomic_file import MOST_NAMES, Parts, beside, remove, umask, write_all
 from client.check.link import Outcome
 from client.ld.command import Command
 from client.ld.fallback import Reasons
@@ -78,7 +78,7 @@ class ServerHost(Host):
         """What a check of a link would say, where its layout is the one that was checked."""
         return None if result is None else self.layout.outcome(script, objects, result)
 
-    def write(self, path: str, data: bytes, mode: int) -> None:
+    def write(self, path: str, data: bytes | Parts, mode: int) -> None:
         """Writes a new file beside its place. It is closed before it is put there: who starts it finds no writer."""
         target = os.path.realpath(path)
         try:

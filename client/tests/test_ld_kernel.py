@@ -233,7 +233,7 @@ class ProgramHeaderTest(LinkTest):
         plain = self._plain()
         segments = adapt(SEGMENTS).segments
         assert segments is not None
-        (self.folder / "image").write_bytes(with_program_headers(plain, segments, 4096))
+        (self.folder / "image").write_bytes(with_program_headers(plain, segments, 4096).joined())
         for tool in (("nm",), ("objdump", "-s"), ("objdump", "-d"), ("size", "-A")):
             texts = [self.run_tool(*tool, name).replace(name, "") for name in ("plain", "image")]
             self.assertEqual(*texts, tool)

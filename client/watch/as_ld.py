@@ -28,6 +28,7 @@ from client.ld.inputs import BadInput, CannotLink, MissingInput, NotScript, Obje
 from client.ld.link import Opened, Result, result_of
 from client.ld.main import Link
 from client.ld.options import WordsRefused
+from client.ld.output import Parts
 from client.ld.page_size import PAGE, TooFar
 from client.ld.script import Script, Source
 from client.object_file import NOBITS, PROGBITS, NotElf, ObjectFile
@@ -124,7 +125,7 @@ class WatchHost(Host):
         """What is known of these objects; what the adapter has read is not read again."""
         return self._adapted.known(objects)
 
-    def write(self, path: str, data: bytes, mode: int) -> None:
+    def write(self, path: str, data: bytes | Parts, mode: int) -> None:
         """Files are put in place by the watch."""
 
     def hand_over(self, reasons: Reasons, words: Sequence[str], environment: Mapping[str, str], verbose: bool) -> int:
@@ -190,7 +191,7 @@ class WatchedLink:
     def _finished(self, image: bytes) -> bytes:
         try:
             with contextlib.redirect_stderr(io.StringIO()):  # what it says was said when the link was made
-                return self.link.image(self.script, image)
+                return self.link.image(self.script, image).joined()
         except (NoFlatImage, TooFar) as fault:
             raise NotFinished(str(fault)) from fault
 
