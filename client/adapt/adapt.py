@@ -171,7 +171,7 @@ def _adapted(reading: Reading, objects: Objects | Mapping[str, bytes] | Iterable
     if objects is not None and not isinstance(objects, Objects):
         objects = Objects(objects)
     if objects is not None:
-        objects.ask(_names_in(source.text))
+        objects.ask(source.names())
     model = Model(source, reading.nodes, objects)
     model.followed = followed
     model.values = values
@@ -191,15 +191,6 @@ def _adapted(reading: Reading, objects: Objects | Mapping[str, bytes] | Iterable
         model.note(LEFT, 0, f"an expression at {where[0]}:{where[1]} has more than 64 signs: use symbols for its parts")
     return Adapted(text.encode("latin-1"), model.report(), lines, frozenset(model.valued), segments_of(model),
                    (source, reading.nodes), model.names)
-
-
-def _names_in(text: str) -> set[str]:
-    """All words of a script that may be symbols, and the names that GNU ld gives to starts and ends of sections."""
-    words = set(_WORD.findall(text))
-    return words | {front + word for word in words for front in ("__start_", "__stop_")}
-
-
-_WORD = re.compile(r"[A-Za-z_.$][A-Za-z0-9_.$]*")
 
 
 def _checked(name: str, value: str) -> str:

@@ -9,6 +9,7 @@ from client import files
 from client.script_lexer import WORD_OR_MARK
 
 _FILE = re.compile(r'(?:\s|/\*.*?\*/)*(?:"([^"]+)"|([^\s;{}()"]+))', re.DOTALL)
+_WORD = re.compile(r"[A-Za-z_.$][A-Za-z0-9_.$]*")
 _DEPTH = 10
 
 
@@ -34,7 +35,15 @@ class Source:
     def set_text(self, text: str) -> None:
         """Takes a text of as many lines, which came from the same places."""
         self.text = text
+        self._names: set[str] = set()
         self._starts = [0, *(match.end() for match in re.finditer("\n", text))]
+
+    def names(self) -> set[str]:
+        """All words that may be symbols, and the names that GNU ld gives to starts and ends of sections."""
+        if not self._names:
+            words = set(_WORD.findall(self.text))
+            self._names = words | {front + word for word in words for front in ("__start_", "__stop_")}
+        return self._names
 
     def place(self, offset: int) -> tuple[str, int]:
         """The file and the line of an offset of the text."""

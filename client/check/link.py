@@ -70,10 +70,11 @@ def wants_map(adapted: Adapted | None, known: Objects, command: Command) -> bool
                if isinstance(node, Input))
 
 
-def names_others(nodes: list[Node], known: Objects) -> bool:
+def names_others(tree: tuple[Source, list[Node]], known: Objects) -> bool:
     """Whether expressions of a script, but for those of ASSERT, seem to name symbols of objects."""
+    nodes = tree[1]
     names = {part.word for e in _expressions(nodes) for part in walk(e) if part.kind == "name"}
-    known.ask(names)
+    known.ask(tree[0].names())
     found = [known.definition(name) for name in names - _assigned(nodes)]
     return any(one is not None and one.number != ABSOLUTE for one in found)
 
@@ -133,6 +134,7 @@ class Checker:
             try:
                 if self.command.gc_sections:
                     settings.live = _Live(self.known, map_text)
+                self.known.ask(self.tree[0].names())
                 self.done = evaluate(self.tree[1], self.known, settings, self.own and script_is_first(self.command))
             except Unknown as fault:
                 self.unknown = fault

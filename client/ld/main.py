@@ -186,7 +186,7 @@ class Link:
         self.valued = self.evaluation = None
         entry = self.script.entry if self.script is not None else None
         opened, values, refused = self._open(entry), {}, None
-        if names_others(self.source.reading.nodes, self.host.known(self.objects)):
+        if names_others(self.source.tree, self.host.known(self.objects)):
             refused = beside(opened.refused, lambda: values.update(self._evaluated()))
         script = self._written(values)
         if script.entry != entry:
