@@ -3,7 +3,12 @@ from __future__ import annotations
 
 import re
 from collections.abc import Iterable
-from dataclasses import dataclass, field
+
+TYPE_CHECKING = False
+if TYPE_CHECKING:
+    from dataclasses import dataclass, field
+else:
+    from client.record import dataclass, field
 
 NO_VALUE = b"-" * 16
 """The value of a symbol whose section is not in the output."""

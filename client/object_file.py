@@ -11,7 +11,12 @@ from __future__ import annotations
 import struct
 from collections.abc import Iterator
 from functools import cached_property
-from typing import NamedTuple
+
+TYPE_CHECKING = False
+if TYPE_CHECKING:
+    from typing import NamedTuple
+else:
+    from client.record import NamedTuple
 
 WRITABLE, ALLOC, EXECUTABLE, COMPRESSED = 1, 2, 4, 0x800
 PROGBITS, SYMTAB, STRTAB, RELA, NOTE, NOBITS = 1, 2, 3, 4, 7, 8

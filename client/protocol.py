@@ -12,10 +12,14 @@ import os
 import select
 import subprocess
 import sys
-from dataclasses import dataclass
-from typing import IO, cast
 
-from client.atomic_file import write_all
+from client.atomic_file import Parts, write_all
+
+TYPE_CHECKING = False
+if TYPE_CHECKING:
+    from dataclasses import dataclass
+else:
+    from client.record import dataclass
 
 GREATEST_PAYLOAD = 1 << 26
 """The bytes that an object or a script has at most."""
@@ -116,8 +120,8 @@ class Session:
             stderr=errors,
             start_new_session=True,
         )
-        self._to = cast(IO[bytes], self.process.stdin)
-        self._from = cast(io.BufferedReader, self.process.stdout)
+        assert self.process.stdin is not None and isinstance(self.process.stdout, io.BufferedReader)
+        self._to, self._from = self.process.stdin, self.process.stdout
         self._unwritten = 0
         """The bytes that were read of an answer, and could not be written."""
         for pipe in (self._to, self._from):
@@ -240,9 +244,7 @@ class Session:
     def write(self, *commands: bytes) -> None:
         """Sends edits whose answers are read afterwards, each by `answer`; in a session without `timeout`."""
         try:
-            for part in commands:
-                self._to.write(part)
-            self._to.flush()
+            write_all(self._to.fileno(), Parts(*commands))
         except (OSError, ValueError) as fault:
             self._is_closed = True
             raise SessionEnded(str(fault)) from fault

@@ -7,10 +7,13 @@ from __future__ import annotations
 
 import re
 from collections.abc import Iterator
-from typing import TYPE_CHECKING, NamedTuple
 
+TYPE_CHECKING = False
 if TYPE_CHECKING:
+    from typing import NamedTuple
     from client.adapt.source import Source
+else:
+    from client.record import NamedTuple
 
 SCRIPT, EXPRESSION, WILD, FILES = range(4)
 

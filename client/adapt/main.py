@@ -5,8 +5,8 @@ import re
 import subprocess
 import sys
 import tempfile
-from typing import TYPE_CHECKING
 
+TYPE_CHECKING = False
 if TYPE_CHECKING:
     from client.adapt.adapt import Adapted
 

@@ -3,8 +3,6 @@ from __future__ import annotations
 
 from collections import Counter
 from collections.abc import Callable, Iterable, Iterator
-from dataclasses import replace
-from typing import TYPE_CHECKING
 
 from client.adapt.adapt import Adapted
 from client.adapt.expressions import walk
@@ -20,10 +18,14 @@ from client.check.merged import ONCE, merged
 from client.check.state import ALLOC, CREATED, EXCLUDE, Settings, Stopped, Unknown
 from client.object_file import ABSOLUTE
 
+TYPE_CHECKING = False
 if TYPE_CHECKING:
+    from dataclasses import replace
     from client.ld.command import Command
     from client.ld.link import Result
     from client.ld.script import Script
+else:
+    from client.record import replace
 
 
 def settings_of(command: Command, own: bool) -> Settings:

@@ -2,7 +2,6 @@
 from __future__ import annotations
 
 import re
-from dataclasses import dataclass, field, replace
 
 from client.ld.options import (
     KEYWORDS_IGNORED,
@@ -13,6 +12,12 @@ from client.ld.options import (
     WordsRefused,
     find_option,
 )
+
+TYPE_CHECKING = False
+if TYPE_CHECKING:
+    from dataclasses import dataclass, field, replace
+else:
+    from client.record import dataclass, field, replace
 
 OF_LAYOUT = frozenset({"relro", "norelro", "separate-code", "noseparate-code"})
 """Words of -z that have a part in the layout (client/check)."""

@@ -5,9 +5,14 @@ import os
 import shlex
 import sys
 from collections.abc import Callable, Mapping, Sequence
-from dataclasses import dataclass
 
 from client.ld.programs import is_own, others
+
+TYPE_CHECKING = False
+if TYPE_CHECKING:
+    from dataclasses import dataclass
+else:
+    from client.record import dataclass
 
 VARIABLE = "LDI_FALLBACK"
 

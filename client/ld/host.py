@@ -6,17 +6,17 @@ The one here is that of a process that makes one link and ends. Behind `ld.ldi`'
 from __future__ import annotations
 
 from collections.abc import Mapping, Sequence
-from typing import TYPE_CHECKING
 
 from client.adapt.objects import Objects as Known
 from client.ld.command import Command
 from client.ld.fallback import Reasons, hand_over
 from client.ld.inputs import Object
-from client.ld.link import Opened
+from client.ld.link import Opened, Streamed
 from client.ld.output import Parts, write_file
 from client.ld.script import Script, Source, write_script
 from client.protocol import Options
 
+TYPE_CHECKING = False
 if TYPE_CHECKING:
     from client.check.link import Outcome
     from client.ld.link import Result
@@ -32,6 +32,10 @@ class Host:
     def opened(self, options: Options, objects: Sequence[Object]) -> Opened:
         """A session with these objects, or to which they are being sent."""
         return Opened(options, objects)
+
+    def streamed(self, options: Options) -> Streamed | None:
+        """A session for objects as they are found; None where they go to one when all are there."""
+        return Streamed(options)
 
     def script(self, source: Source, command: Command, objects: Sequence[Object],
                values: Mapping[str, int] | None) -> Script:

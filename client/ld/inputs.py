@@ -4,8 +4,7 @@ from __future__ import annotations
 import os
 import re
 import struct
-from collections.abc import Iterable, Sequence
-from dataclasses import dataclass
+from collections.abc import Callable, Iterable, Sequence
 from functools import cached_property
 
 from client import files
@@ -16,6 +15,12 @@ from client.ld.linkage import IS_COMMON, IS_DEFINED, IS_WEAK, Linkage, Names, re
 from client.ld.script_commands import Commands, read_commands
 from client.object_file import ELF_HEADER, HEADER, NotElf, ObjectFile
 from client.protocol import GREATEST_NAME
+
+TYPE_CHECKING = False
+if TYPE_CHECKING:
+    from dataclasses import dataclass
+else:
+    from client.record import dataclass
 
 STANDARD_FOLDERS = (
     "/usr/local/lib/x86_64-linux-gnu",
@@ -121,9 +126,11 @@ class Loader:
     """Takes the inputs in their order; `objects` is what the link is made of."""
 
     def __init__(self, command: Command, scripts: Sequence[Commands], own_script: bool,
-                 wanted: Iterable[str] = ()) -> None:
-        """`scripts` have the commands of the link's scripts, which are the user's if `own_script`."""
+                 wanted: Iterable[str] = (), taken: Callable[[Object], None] | None = None) -> None:
+        """`scripts` have the commands of the link's scripts, which are the user's if `own_script`; `taken` is called
+        with each object."""
         self.command = command
+        self._tell = taken
         self.objects: list[Object] = []
         self.files: list[str] = []
         self.names = Names()
@@ -350,6 +357,8 @@ class Loader:
             data, retained = without_retain(data)
             kept += retained
         self.objects.append(Object(session_name(name, self._used), data, path, kept))
+        if self._tell is not None:
+            self._tell(self.objects[-1])
 
     def archive_names(self) -> frozenset[bytes]:
         """The names of the symbol tables of archives: what objects have of others takes no member."""

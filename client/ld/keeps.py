@@ -7,12 +7,17 @@ rest.
 from __future__ import annotations
 
 from collections.abc import Iterable, Sequence, Set
-from dataclasses import dataclass, field
 from itertools import groupby
 
 from client.adapt.patterns import RESERVED, name_matches
 from client.ld.references import Part, Section
 from client.script_lexer import ProfileToken, profile_tokens
+
+TYPE_CHECKING = False
+if TYPE_CHECKING:
+    from dataclasses import dataclass, field
+else:
+    from client.record import dataclass, field
 
 PLAIN = frozenset("ABCDEFGHIJKLMNOPQRSTUVWXYZabcdefghijklmnopqrstuvwxyz0123456789_.$/-")
 GREATEST_WORD = 255

@@ -3,27 +3,29 @@ from __future__ import annotations
 
 from collections.abc import Iterable, Iterator, Mapping
 from contextlib import contextmanager
-from typing import Protocol
 
 from client.object_file import COMMON, NAMED, UNDEFINED, WEAK, NotElf, ObjectFile
+
+TYPE_CHECKING = False
+if TYPE_CHECKING:
+    from typing import Protocol
+
+    class Named(Protocol):
+        """An object whose names may have been read."""
+
+        @property
+        def data(self) -> bytes:
+            """Its bytes."""
+
+        @property
+        def linkage(self) -> Linkage:
+            """Its names."""
 
 ABSENT, IS_UNDEFINED, IS_UNDEFINED_WEAK, IS_COMMON, IS_WEAK, IS_DEFINED = range(-1, 5)
 """What an object has of a name, and what is known of it at a point of the command line."""
 
 Linkage = Mapping[bytes, int]
 """By name: what an object has of it."""
-
-
-class Named(Protocol):
-    """An object whose names may have been read."""
-
-    @property
-    def data(self) -> bytes:
-        """Its bytes."""
-
-    @property
-    def linkage(self) -> Linkage:
-        """Its names."""
 
 
 _known: dict[int, tuple[bytes, Linkage]] = {}

@@ -17,7 +17,7 @@ from client.ld.fallback import Reasons, hand_over
 from client.ld.flat import NoFlatImage, flat_binary
 from client.ld.host import Host
 from client.ld.inputs import BadInput, CannotLink, Loader, MissingInput, Object
-from client.ld.link import Opened, Result, options_of
+from client.ld.link import Opened, Result, Streamed, options_of
 from client.ld.options import WordsRefused
 from client.ld.output import PROGRAM, TEXT, Parts
 from client.ld.page_size import PAGE, TooFar, with_pages
@@ -138,6 +138,9 @@ class Link:
         self.files: list[str] = []
         self.loader: Loader | None = None
         self.opened: Opened | None = None
+        self.streamed: Streamed | None = None
+        """A session to which the objects are being sent as they are found."""
+        self._has_objects = False
         self.script: Script | None = None
         self.valued: Valued | None = None
         self._notes: list[str] = []
@@ -148,18 +151,21 @@ class Link:
     def run(self) -> int:
         """Links, and gives the exit status."""
         print_asked(self.command, self.source)
-        self.load()
         try:
+            self.load()
             return self.link()
         finally:
-            if self.opened is not None:
-                self.host.end(self.opened)
+            for one in (self.opened, self.streamed):
+                if one is not None:
+                    self.host.end(one)
 
     def load(self) -> None:
         """Reads the objects."""
         command = self.command
-        loader = Loader(command, self.source.parts, self.source.own, wanted_names(command, self.source))
+        loader = Loader(command, self.source.parts, self.source.own, wanted_names(command, self.source), self._take)
         self.objects, self.files, self.loader = loader.load(), loader.files, loader
+        if self.streamed is not None:
+            self.streamed.finish()
         self.source.rename_files(loader.renamed)
         if self.source.output is not None and not command.has_output:
             command.output = self.source.output
@@ -169,11 +175,25 @@ class Link:
             command.output_format = "binary"
         self._notes = list(command.notes)
 
+    def _take(self, item: Object) -> None:
+        """Has an object sent to a session, before the next one is looked for."""
+        if not self._has_objects:
+            self._has_objects, self.streamed = True, self.host.streamed(options_of(self.command))
+        if self.streamed is not None:
+            self.streamed.add(item)
+
     def _open(self, entry: str | None = None) -> Opened:
         """Has the objects sent to a session; `entry` is the entry symbol where the script cannot name it."""
+        options, streamed = options_of(self.command, entry), self.streamed
         if self.opened is not None:
             self.opened.end()
-        self.opened = self.host.opened(options_of(self.command, entry), self.objects)
+        if streamed is not None:
+            self.streamed = None
+            if streamed.options == options:
+                self.opened = streamed
+                return streamed
+            streamed.end()
+        self.opened = self.host.opened(options, self.objects)
         return self.opened
 
     def _written(self, values: dict[str, int] | None) -> Script:

@@ -5,8 +5,13 @@ docs/makefiles.md has the same table for people; a test compares the two, and th
 from __future__ import annotations
 
 from collections.abc import Iterator
-from dataclasses import dataclass
 from enum import Enum
+
+TYPE_CHECKING = False
+if TYPE_CHECKING:
+    from dataclasses import dataclass
+else:
+    from client.record import dataclass
 
 
 class Effect(Enum):

@@ -7,10 +7,15 @@ from __future__ import annotations
 
 import struct
 from collections.abc import Iterable, Mapping, Sequence
-from dataclasses import dataclass
 
 from client.atomic_file import Parts
 from client.object_file import ALLOC, Header, ObjectFile
+
+TYPE_CHECKING = False
+if TYPE_CHECKING:
+    from dataclasses import dataclass
+else:
+    from client.record import dataclass
 
 PAGE = 4096
 ELF_HEADER, PROGRAM_HEADER, SECTION_HEADER = 64, 56, 64

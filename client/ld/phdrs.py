@@ -6,13 +6,18 @@ GNU ld's manual has the language ('PHDRS Command'). What is loaded, all addresse
 from __future__ import annotations
 
 from collections.abc import Sequence
-from dataclasses import dataclass
 from itertools import pairwise
 
 from client.adapt.segments import PT_LOAD, PT_PHDR, Segments, Wanted
 from client.atomic_file import Parts
 from client.ld.page_size import (ELF_HEADER, GREATEST, PAGE, PROGRAM_HEADER, Segment, segments_of, with_moved)
 from client.object_file import ALLOC, EXECUTABLE, NOBITS, WRITABLE, Header, ObjectFile
+
+TYPE_CHECKING = False
+if TYPE_CHECKING:
+    from dataclasses import dataclass
+else:
+    from client.record import dataclass
 
 READ, WRITE, EXECUTE = 4, 2, 1
 GREATEST_COUNT = 0xFFFE

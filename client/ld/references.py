@@ -8,7 +8,6 @@ from __future__ import annotations
 import struct
 from bisect import bisect_left
 from collections.abc import Iterator, Mapping, Sequence
-from typing import NamedTuple
 
 from client.ld.inputs import Object
 from client.object_file import (
@@ -26,6 +25,12 @@ from client.object_file import (
     NotElf,
     ObjectFile,
 )
+
+TYPE_CHECKING = False
+if TYPE_CHECKING:
+    from typing import NamedTuple
+else:
+    from client.record import NamedTuple
 
 RELOCATION = struct.Struct("<QQq")
 HIDING = (1, 2)

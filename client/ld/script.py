@@ -5,7 +5,6 @@ import os
 import re
 import subprocess
 from collections.abc import Mapping, Sequence
-from dataclasses import dataclass
 
 from client import files
 from client.adapt.adapt import (
@@ -30,6 +29,12 @@ from client.ld.programs import WITHIN, others
 from client.ld.script_commands import Commands, commands_of
 from client.ld.script_text import has_entry, outline
 from client.watch.quick import with_entry
+
+TYPE_CHECKING = False
+if TYPE_CHECKING:
+    from dataclasses import dataclass
+else:
+    from client.record import dataclass
 
 OWN_VERSION = "GNU ld (ldi "
 """How the version of `ld.ldi` itself begins."""

@@ -2,11 +2,16 @@
 from __future__ import annotations
 
 from collections.abc import Iterator, Sequence
-from dataclasses import dataclass, field
 
 from client.adapt.adapt import NoParse, read_script
 from client.adapt.patterns import has_wildcard
 from client.adapt.tree import Block, Command, Input, Node, Section
+
+TYPE_CHECKING = False
+if TYPE_CHECKING:
+    from dataclasses import dataclass, field
+else:
+    from client.record import dataclass, field
 
 WITHOUT_EFFECT = frozenset({"OUTPUT_ARCH", "FORCE_COMMON_ALLOCATION"})
 """What an implicit script may have too."""

@@ -5,9 +5,14 @@ docs/scripts.md has the language. What stands here goes through the tokens of a 
 from __future__ import annotations
 
 from collections.abc import Iterator
-from dataclasses import dataclass, field
 
 from client.script_lexer import ProfileToken, profile_tokens
+
+TYPE_CHECKING = False
+if TYPE_CHECKING:
+    from dataclasses import dataclass, field
+else:
+    from client.record import dataclass, field
 
 
 @dataclass(frozen=True)

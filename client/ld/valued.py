@@ -12,7 +12,6 @@ not fit, the objects are linked without their relocations, which do not change t
 from __future__ import annotations
 
 from collections.abc import Callable, Sequence
-from dataclasses import replace
 from functools import cached_property
 
 from client.ld.command import Command
@@ -22,6 +21,12 @@ from client.ld.script import Script
 from client.link_map import symbol_values
 from client.object_file import HEADER, PROGBITS, RELA, NotElf, ObjectFile
 from client.script_lexer import profile_tokens
+
+TYPE_CHECKING = False
+if TYPE_CHECKING:
+    from dataclasses import replace
+else:
+    from client.record import replace
 
 ROUNDS = 8
 """Links after which values that still change are given up."""

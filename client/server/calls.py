@@ -11,7 +11,6 @@ import contextlib
 import io
 import os
 import sys
-from dataclasses import replace
 
 import client.files
 from client.files import Files, Seen
@@ -25,6 +24,12 @@ from client.ld.programs import others
 from client.ld.words import expand
 from client.protocol import SessionEnded
 from client.server.host import ByItself, ServerHost
+
+TYPE_CHECKING = False
+if TYPE_CHECKING:
+    from dataclasses import replace
+else:
+    from client.record import replace
 
 TRIES = 4
 """How often a call begins anew as inputs change meanwhile."""

@@ -12,7 +12,7 @@ from client.check.link import Outcome
 from client.ld.command import Command
 from client.ld.host import Host
 from client.ld.inputs import Object
-from client.ld.link import Opened
+from client.ld.link import Opened, Streamed
 from client.ld.main import Link, main, say
 from client.ld.script import Script, Source
 from client.protocol import Options
@@ -35,6 +35,10 @@ class FirstHost(Host):
     def opened(self, options: Options, objects: Sequence[Object]) -> Opened:
         """A session that does not hold this process's standard error, which may be a pipe of the build."""
         return Opened(options, objects, self._errors)
+
+    def streamed(self, options: Options) -> Streamed | None:
+        """The same for objects as they are found."""
+        return Streamed(options, self._errors)
 
     def script(self, source: Source, command: Command, objects: Sequence[Object],
                values: Mapping[str, int] | None) -> Script:

@@ -50,6 +50,9 @@ class ServerHost(Host):
         """Another linker is the call's to start."""
         raise ByItself("; ".join(reasons.lines))
 
+    def streamed(self, options: Options) -> None:
+        """The session is there, and gets what is other."""
+
     def script(self, source: Source, command: Command, objects: Sequence[Object],
                values: Mapping[str, int] | None) -> Script:
         """The script as `write_script` has it, or as it had it where it would write the same."""

@@ -5,12 +5,12 @@ import _socket
 import fcntl
 import os
 import sys
-from typing import TYPE_CHECKING
 
 import client.files
 from client.ld.main import Link
 from client.server.quick import Attempt, Declined, connect, output_of
 
+TYPE_CHECKING = False
 if TYPE_CHECKING:
     from client.server.first import FirstHost
 

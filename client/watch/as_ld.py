@@ -11,7 +11,6 @@ import io
 import os
 import sys
 from collections.abc import Callable, Mapping, Sequence
-from dataclasses import replace
 
 import client.files
 from client.adapt.objects import Objects as Known
@@ -41,6 +40,12 @@ from client.watch.project import Found, NotFinished, Project
 from client.watch.quick import SCRIPT_WITHOUT_LINK
 from client.watch.says import Teller
 from client.watch.words import Words
+
+TYPE_CHECKING = False
+if TYPE_CHECKING:
+    from dataclasses import replace
+else:
+    from client.record import replace
 
 
 class WatchedFiles(Files):
@@ -113,6 +118,9 @@ class WatchHost(Host):
         """The kept session."""
         assert self.kept is not None
         return KeptOpened(self.kept, options, objects)
+
+    def streamed(self, options: Options) -> None:
+        """The session is there, and gets what is other."""
 
     def script(self, source: Source, command: Command, objects: Sequence[Object],
                values: Mapping[str, int] | None) -> Script:
