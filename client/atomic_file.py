@@ -6,12 +6,13 @@ The old file then has the name beside, and is removed; `remove_left` removes tho
 """
 from __future__ import annotations
 
-import ctypes
 import errno
 import fcntl
 import os
 import re
 import stat
+
+from client.exchange import exchange
 
 PROGRAM, TEXT = 0o755, 0o644
 """The modes of a new image and of a new text, less the umask."""
@@ -19,13 +20,8 @@ PROGRAM, TEXT = 0o755, 0o644
 MOST_NAMES = 100
 """The names that are tried for a file beside another."""
 
-AT_FDCWD, RENAME_EXCHANGE = -100, 2
-
 BESIDE = re.compile(rb"\.(\d+)\.\d+\.new$")
 """How the name of a file beside another ends: with the number of the process that writes it."""
-
-_libc = ctypes.CDLL(None, use_errno=True)
-_renameat2 = getattr(_libc, "renameat2", None)
 
 
 class NewFile:
@@ -122,18 +118,6 @@ def closed(descriptor: int) -> int:
     if descriptor >= 0:
         os.close(descriptor)
     return -1
-
-
-def exchange(name: str, target: str) -> bool:
-    """Exchanges two names where the system can, and a regular file is there; says whether it did."""
-    if _renameat2 is None:
-        return False
-    try:
-        if not stat.S_ISREG(os.lstat(target).st_mode):
-            return False
-    except OSError:
-        return False
-    return bool(_renameat2(AT_FDCWD, os.fsencode(name), AT_FDCWD, os.fsencode(target), RENAME_EXCHANGE) == 0)
 
 
 def write_file(path: str, data: bytes | Parts, mode: int, waits: bool = False) -> None:

@@ -10,10 +10,10 @@ import fcntl
 import io
 import os
 import select
-import subprocess
 import sys
 
 from client.atomic_file import Parts, write_all
+from client.process import Process
 
 TYPE_CHECKING = False
 if TYPE_CHECKING:
@@ -113,14 +113,7 @@ class Session:
         self.timeout = timeout
         self._is_closed = False
         """Whether the session has closed a pipe, as it does when it ends."""
-        self.process = subprocess.Popen(
-            [program or find_program(), "session", *options.words()],
-            stdin=subprocess.PIPE,
-            stdout=subprocess.PIPE,
-            stderr=errors,
-            start_new_session=True,
-        )
-        assert self.process.stdin is not None and isinstance(self.process.stdout, io.BufferedReader)
+        self.process = Process([program or find_program(), "session", *options.words()], errors)
         self._to, self._from = self.process.stdin, self.process.stdout
         self._unwritten = 0
         """The bytes that were read of an answer, and could not be written."""
@@ -229,15 +222,12 @@ class Session:
         except OSError:
             pass
         self._from.close()
-        return self.process.wait()
+        return self.process.wait() or 0
 
     def kill(self) -> int:
         """Ends the session at once, whatever it does; gives its status, negative where a signal ended it."""
         if self._is_closed:
-            try:
-                self.process.wait(OWN_END)
-            except subprocess.TimeoutExpired:
-                pass
+            self.process.wait(OWN_END)
         self.process.kill()
         return self.close()
 

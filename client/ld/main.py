@@ -1,9 +1,8 @@
 """`ld.ldi`: GNU ld's command line in front of `ldi session`, for Makefiles."""
 from __future__ import annotations
 
+import _signal
 import os
-import signal
-import subprocess
 import sys
 from collections.abc import Mapping
 from types import FrameType
@@ -58,6 +57,8 @@ def say(text: str) -> None:
 
 def version() -> str:
     """`GNU ld (ldi VERSION) RELEASE`."""
+    import subprocess
+
     try:
         done = subprocess.run([find_program(), "--version"], capture_output=True, text=True, check=False)
         own = done.stdout.split()[-1] if done.returncode == 0 and done.stdout.split() else "unknown"
@@ -484,8 +485,8 @@ def _stop(number: int, _frame: FrameType | None) -> None:
 
 def main(words: list[str], host: Host | None = None) -> int:
     """Runs the program with these words; gives its exit status. `host` is the process of its link."""
-    for number in (signal.SIGTERM, signal.SIGHUP, signal.SIGINT):
-        signal.signal(number, _stop)
+    for number in (_signal.SIGTERM, _signal.SIGHUP, _signal.SIGINT):
+        _signal.signal(number, _stop)
     try:
         return run(words, os.environ, host)
     except BadInput as fault:

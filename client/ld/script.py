@@ -3,7 +3,6 @@ from __future__ import annotations
 
 import os
 import re
-import subprocess
 from collections.abc import Mapping, Sequence
 
 from client import files
@@ -151,6 +150,8 @@ def read_text(command: Command, path: str, text: str, scripts: int) -> Reading:
 
 def default_script(command: Command, environment: Mapping[str, str]) -> Source:
     """GNU ld's default script where GNU ld is there, else one of the same sections."""
+    import subprocess
+
     for program in others("ld.bfd", environment) if WITHIN not in environment else ():
         words = [program, "-m", "elf_x86_64", "-static", *(["-N"] if command.omagic else []), "--verbose"]
         done = subprocess.run(words, capture_output=True, text=True, check=False, stdin=subprocess.DEVNULL,

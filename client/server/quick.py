@@ -11,7 +11,6 @@ import _signal
 import _socket
 import marshal
 import os
-import stat
 import sys
 
 from client.runtime_folder import runtime_folder
@@ -33,7 +32,6 @@ VARIABLES = ("LDI", "LDI_FALLBACK", "PATH", "LC_ALL", "LC_CTYPE", "LANG")
 """The environment that has a part in a link."""
 
 HEAD = 5
-AT_FDCWD, RENAME_EXCHANGE = -100, 2
 
 
 class Declined(Exception):
@@ -200,33 +198,10 @@ def _bytes(socket: _socket.socket, count: int) -> bytes:
 
 def put(beside: str, target: str) -> None:
     """Puts a new file in place: the names are exchanged where there is a file already, which is quicker on ext4."""
-    try:
-        if stat.S_ISREG(os.lstat(target).st_mode) and _exchange(beside, target):
-            return
-    except OSError:
-        pass
-    os.rename(beside, target)
+    from client.exchange import exchange
 
-
-def _exchange(beside: str, target: str) -> bool:
-    """`renameat2`, without the time that importing `ctypes` takes; the server removes the old file."""
-    try:
-        import _ctypes
-
-        class Number(_ctypes._SimpleCData):  # type: ignore[misc, name-defined]
-            """A C int."""
-
-            _type_ = "i"
-
-        class Call(_ctypes.CFuncPtr):  # type: ignore[misc, name-defined]
-            """A C function."""
-
-            _flags_, _restype_ = 1, Number
-
-        call = Call(_ctypes.dlsym(_ctypes.dlopen(None, 0), "renameat2"))  # type: ignore[attr-defined]
-        return bool(call(AT_FDCWD, os.fsencode(beside), AT_FDCWD, os.fsencode(target), RENAME_EXCHANGE) == 0)
-    except (ImportError, AttributeError, OSError):
-        return False
+    if not exchange(beside, target):
+        os.rename(beside, target)
 
 
 def show(texts: list[tuple[int, bytes]], status: int) -> int:

@@ -144,10 +144,11 @@ class WholeFileTest(FolderTest):
     def test_without_exchange(self) -> None:
         """Where the system has none, the new file is renamed."""
         path = str(self.folder / "out")
-        for there in (False, True):
-            with mock.patch.object(atomic_file, "_renameat2", None if there else lambda *_: -1):
-                write_file(path, b"%d" % there, 0o644)
-            self.assertEqual(((self.folder / "out").read_bytes(), self.folder.left_over()), (b"%d" % there, []))
+        without = mock.patch("_ctypes.dlsym", side_effect=OSError)
+        for number, patch in enumerate((without, without, mock.patch("client.exchange._renameat2", return_value=False))):
+            with patch:
+                write_file(path, b"%d" % number, 0o644)
+            self.assertEqual(((self.folder / "out").read_bytes(), self.folder.left_over()), (b"%d" % number, []))
 
     def test_no_file(self) -> None:
         """A folder is not exchanged, and stays."""
