@@ -19,6 +19,8 @@ from client.object_file import (
 )
 
 
+_texts: dict[bytes, str] = {}
+"""Names of sections, each once."""
 COMMON_BYTES = COMMON.to_bytes(2, "little")
 
 
@@ -205,14 +207,21 @@ class _Tables:
         headers = file.rows()
         if not headers:
             return
-        names = headers[file.names_in][4]
-        for number, (word, kind, flags, _, _, size, _, _, align, _) in enumerate(headers):
+        names, find, table = headers[file.names_in][4], data.find, None
+        for number, header in enumerate(headers):
+            kind = header[1]
             if kind in LINKED:
-                self.sections[number] = InputSection(name, _text(data, names + word), kind, flags, size, max(align, 1))
-        header = next((header for header in headers if header[1] == SYMTAB), None)
-        if header is not None:
-            self._table = data[header[4] + SYMBOL.size * header[7]:header[4] + header[5]]
-            self._names = headers[header[6]][4]
+                begin = names + header[0]
+                word = data[begin:find(b"\0", begin)]
+                text = _texts.get(word)
+                if text is None:
+                    text = _texts[word] = word.decode("latin-1")
+                self.sections[number] = InputSection(name, text, kind, header[2], header[5], header[8] or 1)
+            elif kind == SYMTAB and table is None:
+                table = header
+        if table is not None:
+            self._table = data[table[4] + SYMBOL.size * table[7]:table[4] + table[5]]
+            self._names = headers[table[6]][4]
 
     def section_name(self, shndx: int) -> str:
         """The name of a symbol's section."""

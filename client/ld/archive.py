@@ -2,16 +2,12 @@
 from __future__ import annotations
 
 import os
+import re
 from collections.abc import Iterator
 from functools import cached_property
 
 from client import files
 
-TYPE_CHECKING = False
-if TYPE_CHECKING:
-    from dataclasses import dataclass, field
-else:
-    from client.record import dataclass, field
 
 PLAIN = b"!<arch>\n"
 THIN = b"!<thin>\n"
@@ -22,22 +18,19 @@ class BadArchive(Exception):
     """A file that begins as an archive and is none."""
 
 
-@dataclass(frozen=True)
 class Member:
     """A member: its name, where its header stands, and its bytes or the file that has them."""
 
-    name: str
-    offset: int
-    archive: Archive
-    start: int
-    size: int
+    def __init__(self, name: str, offset: int, archive: Archive, start: int, size: int) -> None:
+        self.name, self.offset, self.archive, self.start, self.size = name, offset, archive, start, size
 
     @cached_property
     def path(self) -> str:
         """The file of a member of a thin archive, or the archive."""
         if not self.archive.thin:
             return self.archive.path
-        return os.path.normpath(os.path.join(os.path.dirname(self.archive.path), self.name))
+        path = os.path.join(self.archive.folder, self.name)
+        return path if _PLAIN_PATH(path) else os.path.normpath(path)
 
     @property
     def full_name(self) -> str:
@@ -51,16 +44,21 @@ class Member:
         return files.read(self.path)
 
 
-@dataclass
 class Archive:
     """An archive's members in their order, and its symbol table: names with the offsets of members' headers."""
 
-    path: str
-    data: bytes
-    thin: bool
-    members: list[Member] = field(default_factory=list)
-    symbols: list[tuple[bytes, int]] = field(default_factory=list)
-    has_index: bool = False
+    def __init__(self, path: str, data: bytes, thin: bool) -> None:
+        self.path, self.data, self.thin = path, data, thin
+        self.folder = os.path.dirname(path)
+        self.members: list[Member] = []
+        self.index: tuple[int, bytes] | None = None
+        """The symbol table: the bytes of its numbers, and its own."""
+        self._offsets: dict[int, Member] = {}
+
+    @cached_property
+    def symbols(self) -> list[tuple[bytes, int]]:
+        """The entries of the symbol table."""
+        return [] if self.index is None else list(_symbols(*self.index))
 
     def member_at(self, offset: int) -> Member | None:
         """The member whose header stands there."""
@@ -71,23 +69,31 @@ class Archive:
             self._offsets.update((member.offset, member) for member in self.members)
         return self._offsets
 
-    _offsets: dict[int, Member] = field(default_factory=dict)
-
 
 def is_archive(data: bytes) -> bool:
     """Whether a file begins as an archive."""
     return data[:8] in (PLAIN, THIN)
 
 
-def _symbols(data: bytes, width: int) -> Iterator[tuple[bytes, int]]:
+_PLAIN_PATH = re.compile(r"(?!.*(?://|\./|/\.{0,2}$)).*[^/.].*", re.DOTALL).fullmatch
+"""Of a path that `normpath` leaves as it is."""
+
+
+def _symbols(width: int, data: bytes) -> Iterator[tuple[bytes, int]]:
     """The entries of a symbol table whose numbers have so many bytes."""
     count = int.from_bytes(data[:width], "big")
     names = data[width * (count + 1) :].split(b"\0")
-    if len(names) < count:
-        raise BadArchive("its symbol table ends too early")
     for index in range(count):
         at = width * (index + 1)
         yield names[index], int.from_bytes(data[at : at + width], "big")
+
+
+def _index(width: int, data: bytes) -> tuple[int, bytes]:
+    """A symbol table; BadArchive where it has fewer names than it says."""
+    count = int.from_bytes(data[:width], "big")
+    if data.count(b"\0", width * (count + 1)) + 1 < count:
+        raise BadArchive("its symbol table ends too early")
+    return width, data
 
 
 def _member_name(raw: bytes, long_names: bytes) -> str:
@@ -121,8 +127,7 @@ def read_archive(path: str, data: bytes) -> Archive:
         if raw.startswith(b"// "):
             long_names = body
         elif special:
-            archive.has_index = True
-            archive.symbols = list(_symbols(body, 8 if raw.startswith(b"/SYM64/") else 4))
+            archive.index = _index(8 if raw.startswith(b"/SYM64/") else 4, body)
         elif raw.startswith(b"#1/"):
             length = int(raw[3:].strip() or b"0")
             name = data[start : start + length].rstrip(b"\0").decode(errors="surrogateescape")

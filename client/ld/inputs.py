@@ -37,7 +37,8 @@ STANDARD_FOLDERS = (
 
 ELF, SHARED = b"\x7fELF", b"\3\0"
 BITCODE = b"BC\xc0\xde"
-SLIM = b"__gnu_lto_slim\0"
+SLIM = b"__gnu_lto_slim"
+"""A name that objects of slim LTO have."""
 
 RETAIN = 0x200000
 GNU_SYSTEMS = (b"\3", b"\t")
@@ -102,9 +103,13 @@ def without_retain(data: bytes) -> tuple[bytes, tuple[int, ...]]:
     return (bytes(changed), retained) if retained else (data, ())
 
 
+IN_NAMES = bytes(byte if 0x21 <= byte <= 0x7E else 0x5F for byte in range(256))
+"""For each byte what a name has in its place."""
+
+
 def session_name(name: str, used: set[bytes]) -> bytes:
     """A name that the session takes, and none of those in use: other bytes are `_`, and long names lose their front."""
-    raw = bytes(byte if 0x21 <= byte <= 0x7E else 0x5F for byte in os.fsencode(name))[-GREATEST_NAME:] or b"_"
+    raw = os.fsencode(name).translate(IN_NAMES)[-GREATEST_NAME:] or b"_"
     candidate, count = raw, 1
     while candidate in used:
         count += 1
@@ -297,9 +302,8 @@ class Loader:
 
     def _scan(self, archive: Archive) -> bool:
         """Takes the members that define what is undefined now, as GNU ld does; says whether it took any."""
-        if not archive.has_index:
+        if archive.index is None and archive.path not in self._taken:
             archive.symbols = [(name, member.offset) for member in archive.members for name in self._defines(member)]
-            archive.has_index = True
         if archive.path not in self._taken:
             self.names.ask(name for name, _ in archive.symbols)
         self._enter()
@@ -349,8 +353,6 @@ class Loader:
         """Takes an object."""
         if data.startswith(ELF) and data[16:18] == SHARED:
             raise CannotLink(f"{name}: a shared library")
-        if SLIM in data:
-            raise CannotLink(f"{name}: an object of slim LTO, which has no code (-ffat-lto-objects gives it code)")
         if self.command.trace:
             print(name, flush=True)
         if data.startswith(ELF) and len(data) >= ELF_HEADER:
@@ -362,10 +364,14 @@ class Loader:
 
     def archive_names(self) -> frozenset[bytes]:
         """The names of the symbol tables of archives: what objects have of others takes no member."""
-        return frozenset(name for archive in self._archives.values() for name, _ in archive.symbols)
+        scanned = [archive for path, archive in self._archives.items() if path in self._taken]
+        return frozenset(name for archive in scanned for name, _ in archive.symbols)
 
     def _enter(self) -> None:
         """Goes through the names of the objects taken since the last time."""
         for entered in self.objects[self._entered :]:
+            if SLIM in entered.linkage:
+                raise CannotLink(f"{entered.name.decode()}: an object of slim LTO, which has no code (-ffat-lto-objects "
+                                 "gives it code)")
             self.names.add(entered.linkage)
         self._entered = len(self.objects)

@@ -42,6 +42,28 @@ def remembered(objects: Iterable[Named]) -> Iterator[None]:
         _known.clear()
 
 
+class Kinds(dict[tuple[int, int, int], int]):
+    """What an object has of a name, by three bytes of its entry: type with binding, and the section's two."""
+
+    def __missing__(self, key: tuple[int, int, int]) -> int:
+        info, section = key[0], key[1] | key[2] << 8
+        self[key] = _kind(info, section)
+        return self[key]
+
+
+def _kind(info: int, section: int) -> int:
+    if section == UNDEFINED:
+        return IS_UNDEFINED_WEAK if info >> 4 == WEAK else IS_UNDEFINED
+    if section == COMMON:
+        return IS_COMMON
+    return IS_WEAK if info >> 4 == WEAK else IS_DEFINED
+
+
+_kinds = Kinds()
+WORDS = 6
+"""The words of an entry of a symbol table."""
+
+
 def read_linkage(data: bytes) -> Linkage:
     """The names of an object; none where it is not an object of this machine, which the linker will say."""
     known = _known.get(id(data))
@@ -51,17 +73,19 @@ def read_linkage(data: bytes) -> Linkage:
     try:
         table, names = ObjectFile(data).global_table()
         find = names.find
-        for begin, info, section in NAMED.iter_unpack(table):  # a kernel has 100,000 of them: no call for each
+        begins = memoryview(table).cast("I").tolist()[::WORDS]
+        if begins and max(begins) < len(names) and names[-1] == 0:  # then each name has an end
+            found = [names[begin:find(b"\0", begin)] for begin in begins]
+            kinds.update(zip(found, map(_kinds.__getitem__, zip(table[4::24], table[6::24], table[7::24]))))
+            if len(kinds) == len(found):
+                return kinds
+            kinds.clear()
+        for begin, info, section in NAMED.iter_unpack(table):
             stop = find(b"\0", begin)
             if stop < 0:
                 return {}
             name = names[begin:stop]
-            if section == UNDEFINED:
-                kind = IS_UNDEFINED_WEAK if info >> 4 == WEAK else IS_UNDEFINED
-            elif section == COMMON:
-                kind = IS_COMMON
-            else:
-                kind = IS_WEAK if info >> 4 == WEAK else IS_DEFINED
+            kind = _kind(info, section)
             if name in kinds:  # of a symbol table that has a name twice
                 kind = max(kind, kinds[name]) if max(kind, kinds[name]) > IS_UNDEFINED_WEAK else IS_UNDEFINED
             kinds[name] = kind

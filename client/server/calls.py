@@ -216,7 +216,6 @@ def have_same_members(old: bytes, new: bytes) -> bool:
         one, other = read_archive("", old), read_archive("", new)
     except BadArchive:
         return False
-    if not (one.thin and other.thin and one.has_index == other.has_index):
-        return False
-    return ([(member.name, member.offset) for member in one.members]
-            == [(member.name, member.offset) for member in other.members]) and one.symbols == other.symbols
+    return one.thin and other.thin and one.index == other.index and (
+        [(member.name, member.offset) for member in one.members]
+        == [(member.name, member.offset) for member in other.members])
