@@ -20,6 +20,10 @@ OWN = ((".rela.got", 4, READONLY), (".got", 1, WRITTEN), (".got.plt", 0, WRITTEN
 """What GNU ld makes in every link, with types and flags; empty in a static link."""
 
 
+TABLES = {".init_array": ".ctors", ".fini_array": ".dtors"}
+"""By output section: input sections that GNU ld copies into it in reverse."""
+
+
 def flags_of(section: InputSection) -> int:
     """The flags of an object's section as GNU ld has them."""
     bits = section.flags
@@ -99,7 +103,7 @@ class Matching:
         self.statements, self.rows = statements, rows
         self.expand = expand
         self.known: dict[int, set[tuple[int, int, str]]] = {}
-        """By `id` of an output section: flags, type and name of what it has."""
+        """By `id` of an output section: flags and type of what it has, and the name where that counts."""
         found = [s for output in statements.outputs for s in output.body if s.kind == INPUT]
         self.index, self.found = index_of([s.node for s in found]), found  # type: ignore[misc]
         self.matches: dict[int, list[tuple[Item, Pattern | None]]] = {id(s): [] for s in found}
@@ -131,7 +135,8 @@ class Matching:
             matches = self.matches[id(statement)]
             if node.patterns is None:
                 result.append((matches, None))
-            result += [(matches, pattern) for pattern in patterns if name_matches(pattern.word, name)]
+            result += [(matches, pattern) for pattern in patterns  # one alone matches, as the index says
+                       if len(patterns) == 1 or name_matches(pattern.word, name)]
         return result
 
     def _match(self, statement: Statement, item: Item) -> None:
@@ -212,6 +217,7 @@ class Matching:
     def _add_all(self, statement: Statement, found: list[tuple[Item, Pattern | None]], output: Output) -> None:
         """The same of many, where nothing but the section's flags matters."""
         known = self.known.setdefault(id(output), set())
+        is_table = output.name in TABLES
         add = statement.items.append
         for item, _ in found:
             if item.out is not None:
@@ -219,7 +225,7 @@ class Matching:
             if item.flags & EXCLUDE:
                 item.out = NUMBERS
                 continue
-            key = item.flags, item.kind, item.name
+            key = item.flags, item.kind, item.name if is_table else ""
             place = output.place
             if key in known and place is not None:
                 if item.align > place.align:
@@ -261,8 +267,8 @@ def add_to(output: Output, item: Item, expand: object) -> None:
             place.kind = item.kind
     place.has_input = True
     place.align = max(place.align, item.align)
-    if (item.name.startswith(".ctors") and output.name == ".init_array"
-            or item.name.startswith(".dtors") and output.name == ".fini_array") and item.name[6:7] in ("", "."):
+    front = TABLES.get(output.name)
+    if front is not None and item.name.startswith(front) and item.name[6:7] in ("", "."):
         raise Unknown(f"{item.name} in {output.name}, which GNU ld copies in reverse",
                       output.node.start if output.node else -1)
     item.out = place
