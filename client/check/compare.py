@@ -3,7 +3,8 @@ from __future__ import annotations
 
 import re
 import struct
-from collections.abc import Mapping
+from collections.abc import Container, Mapping
+from functools import lru_cache
 
 from client.adapt.tree import Data
 from client.check.evaluate import Evaluated
@@ -14,6 +15,8 @@ from client.object_file import NOBITS, SYMBOL, SYMTAB, ObjectFile
 
 _PIECE = re.compile(rb"^piece ([0-9a-f]+) ([0-9a-f]+) (\S+) (\S+)$", re.M)
 _SEGMENT = struct.Struct("<IIQQQQQQ")
+GAP = 256
+"""The bytes of a gap that is compared with its fill as a whole."""
 MOST = 10
 """The differences that are looked for."""
 
@@ -149,7 +152,7 @@ class Comparison:
 
     def _gap(self, output: Output, section: Loaded, at: int, size: int, fill: bytes | None, offset: int) -> None:
         own = self._at(section, at, size)
-        if len(own) != size or own != filled(fill, size):
+        if len(own) != size or not is_filled(own, fill):
             self._add(f"a gap of {output.name} at {at:#x} is filled otherwise than by GNU ld", offset)
 
     # --- input sections ---
@@ -189,21 +192,36 @@ class Comparison:
 
     def _symbols(self) -> None:
         """The values of the script's symbols, and of common blocks."""
+        wanted = self._wanted()
+        if wanted.items() <= symbols_of(self.image, set(wanted.values())).items():
+            return
         values = symbols_of(self.image)
         for name, value in self.evaluated.symbols.items():
             own = values.get(_key(name))
             if own != value:
-                here = "has no value" if own is None else f"is {own:#x}"
-                self._add(f"{name} {here}; to GNU ld it is {value:#x}", self._assigned(name))
+                what = "has no value" if own is None else f"is {own:#x}"
+                self._add(f"{name} {what}; to GNU ld it is {value:#x}", self._assigned(name))
         for name, symbol in self.evaluated.fold.symbols.items():
             if symbol.item is not None and symbol.item.name == "COMMON" and symbol.item.number < 0:
-                wanted, own = self.evaluated.value(name), values.get(_key(name))
-                if wanted is not None and own is not None and own != wanted:
-                    self._add(f"the common block {name} is at {own:#x}; to GNU ld it is at {wanted:#x}", -1)
+                place, own = self.evaluated.value(name), values.get(_key(name))
+                if place is not None and own is not None and own != place:
+                    self._add(f"the common block {name} is at {own:#x}; to GNU ld it is at {place:#x}", -1)
         for symbol, _, _ in self.evaluated.started:
-            wanted = self.evaluated.value(symbol.name)
-            if wanted is not None and values.get(_key(symbol.name)) != wanted:
-                self._add(f"{symbol.name} is not {wanted:#x} as to GNU ld", -1)
+            here = self.evaluated.value(symbol.name)
+            if here is not None and values.get(_key(symbol.name)) != here:
+                self._add(f"{symbol.name} is not {here:#x} as to GNU ld", -1)
+
+    def _wanted(self) -> dict[bytes, int]:
+        """The names that are looked at, and the values that they are to have."""
+        evaluated = self.evaluated
+        wanted = {_key(name): value for name, value in evaluated.symbols.items()}
+        others = [name for name, symbol in evaluated.fold.symbols.items()
+                  if symbol.item is not None and symbol.item.name == "COMMON" and symbol.item.number < 0]
+        for name in [*others, *(symbol.name for symbol, _, _ in evaluated.started)]:
+            value = evaluated.value(name)
+            if value is not None:
+                wanted[_key(name)] = value
+        return wanted
 
     def _assigned(self, name: str) -> int:
         """The last assignment of a symbol."""
@@ -224,14 +242,26 @@ def filled(fill: bytes | None, size: int) -> bytes:
     return (pattern * (size // len(pattern) + 1))[:size]
 
 
-def symbols_of(image: bytes) -> Mapping[bytes, int]:
-    """The values of an image's global symbols."""
+_known = lru_cache(1000)(filled)
+
+
+def is_filled(own: bytes, fill: bytes | None) -> bool:
+    """Whether a gap has the fill from its front."""
+    step = len(fill or b"\0")
+    if len(own) <= max(GAP, step):
+        return own == _known(fill, len(own))
+    return own[:step] == _known(fill, step) and own[step:] == own[:-step]  # each part is the one before it
+
+
+def symbols_of(image: bytes, some: Container[int] | None = None) -> Mapping[bytes, int]:
+    """The values of an image's global symbols, or of those alone that have one of some values."""
     file = ObjectFile(image)
     result: dict[bytes, int] = {}
     for header in file.headers:
         if header.kind == SYMTAB:
             names = file.content(header.link)
             end = names.find
-            result.update((names[name:end(b"\0", name)], value) for name, info, _, section, value, _ in SYMBOL.iter_unpack(
-                image[header.offset:header.offset + header.size]) if section and info > 15)
+            entries = SYMBOL.iter_unpack(image[header.offset:header.offset + header.size])
+            result.update((names[name:end(b"\0", name)], value) for name, info, _, section, value, _ in entries
+                          if (some is None or value in some) and section and info > 15)
     return result
