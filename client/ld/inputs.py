@@ -86,6 +86,11 @@ def may_retain(data: bytes) -> bool:
     return data[7:8] in GNU_SYSTEMS
 
 
+def is_plain_object(data: bytes) -> bool:
+    """Whether a file is an object, as far as that is looked at before it is linked."""
+    return data.startswith(ELF) and data[16:18] != SHARED and SLIM not in data and not may_retain(data)
+
+
 def without_retain(data: bytes) -> tuple[bytes, tuple[int, ...]]:
     """An object without the flag GNU_RETAIN, which counts for --gc-sections alone, and the sections that had it."""
     if not may_retain(data):

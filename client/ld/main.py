@@ -5,6 +5,7 @@ import _signal
 import os
 import sys
 from collections.abc import Mapping
+from functools import cached_property
 from types import FrameType
 
 import client.files
@@ -15,8 +16,9 @@ from client.ld.command import Command, read_command
 from client.ld.fallback import Reasons, hand_over
 from client.ld.flat import NoFlatImage, flat_binary
 from client.ld.host import Host
-from client.ld.inputs import BadInput, CannotLink, Loader, MissingInput, Object
+from client.ld.inputs import BadInput, CannotLink, Loader, MissingInput, Object, is_plain_object
 from client.ld.link import Opened, Result, Streamed, options_of
+from client.ld.linkage import read_linkage
 from client.ld.options import WordsRefused
 from client.ld.output import PROGRAM, TEXT, Parts
 from client.ld.page_size import PAGE, TooFar, with_pages
@@ -328,7 +330,14 @@ class Link:
             if name is not None:
                 raise BadInput(f"input file '{name}' is the same as output file")
 
-    def choosing_names(self) -> frozenset[bytes]:
+    def takes_same(self, item: Object, data: bytes) -> bool:
+        """Whether the same members of archives are taken, and no name is missing, where an object's bytes are these."""
+        old, names = item.linkage, read_linkage(data)
+        others = {name for name in old.keys() | names.keys() if old.get(name) != names.get(name)}
+        return is_plain_object(data) and (not others or others.isdisjoint(self._choosing))
+
+    @cached_property
+    def _choosing(self) -> frozenset[bytes]:
         """The names of which what objects have of them decides about members of archives, or about a refusal."""
         required = [os.fsencode(name) for name in self.command.required]
         return frozenset(required) | (self.loader.archive_names() if self.loader is not None else frozenset())

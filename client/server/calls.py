@@ -16,8 +16,8 @@ import client.files
 from client.files import Files, Seen
 from client.ld.archive import BadArchive, is_archive, read_archive
 from client.ld.command import read_command
-from client.ld.inputs import ELF, SHARED, SLIM, Object, may_retain
-from client.ld.linkage import read_linkage, remembered
+from client.ld.inputs import Object
+from client.ld.linkage import remembered
 from client.ld.main import Link
 from client.ld.options import WordsRefused
 from client.ld.programs import others
@@ -68,8 +68,6 @@ class Calls:
         self.count = 0
         """The links that were made."""
         self._objects: dict[int, list[int]] = {}
-        self._choosing: frozenset[bytes] | None = None
-        """The names that decide which members of archives are taken."""
         self._note_objects()
         self._default = self._default_script()
 
@@ -151,20 +149,12 @@ class Calls:
             return False
         if not places:
             return is_archive(old) and is_archive(new) and have_same_members(old, new)
-        return is_plain_object(new) and all(self._chooses_alike(objects[place], new) for place in places)
-
-    def _chooses_alike(self, item: Object, new: bytes) -> bool:
-        """Whether the same members of archives are taken: no name of a symbol table of theirs is another."""
-        old, names = item.linkage, read_linkage(new)
-        others = {name for name in old.keys() | names.keys() if old.get(name) != names.get(name)}
-        if others and self._choosing is None:
-            assert self.link is not None
-            self._choosing = self.link.choosing_names()
-        return not others or others.isdisjoint(self._choosing or ())
+        link = self.link
+        return link is not None and all(link.takes_same(objects[place], new) for place in places)
 
     def _note_objects(self) -> None:
         """Notes which objects are whole files, by their bytes."""
-        self._objects, self._choosing = {}, None
+        self._objects = {}
         whole = {id(one.data) for one in self.files.seen.values()}
         for place, item in enumerate(self.link.objects if self.link is not None else ()):
             if id(item.data) in whole:
@@ -203,11 +193,6 @@ class Calls:
             self._note_objects()
             self._default = self._default_script()
         return status
-
-
-def is_plain_object(data: bytes) -> bool:
-    """Whether a file is an object, as far as that is looked at before it is linked."""
-    return data.startswith(ELF) and data[16:18] != SHARED and SLIM not in data and not may_retain(data)
 
 
 def have_same_members(old: bytes, new: bytes) -> bool:

@@ -4,32 +4,26 @@ from __future__ import annotations
 import gc
 import os
 import sys
-from collections.abc import Mapping, Sequence
+from collections.abc import Sequence
 
 import client.server.later  # noqa: F401  # before what imports dataclasses
-from client.adapt.objects import Objects as Known
-from client.check.link import Outcome
-from client.ld.command import Command
-from client.ld.host import Host
 from client.ld.inputs import Object
 from client.ld.link import Opened, Streamed
 from client.ld.main import Link, main, say
-from client.ld.script import Script, Source
 from client.protocol import Options
 from client.server.adapted import Adapted
 from client.server.checked import CheckedLayout
 from client.server.quick import Attempt
+from client.server.remembering import Remembering
 
 
-class FirstHost(Host):
+class FirstHost(Remembering):
     """The process of a link whose session is kept where the link is good."""
 
     def __init__(self) -> None:
-        super().__init__()
+        super().__init__(Adapted(), CheckedLayout())
         self.link: Link | None = None
         """The link, where it was good."""
-        self.adapted = Adapted()
-        self.layout = CheckedLayout()
         self._errors = os.memfd_create("ldi")
 
     def opened(self, options: Options, objects: Sequence[Object]) -> Opened:
@@ -39,20 +33,6 @@ class FirstHost(Host):
     def streamed(self, options: Options) -> Streamed | None:
         """The same for objects as they are found."""
         return Streamed(options, self._errors)
-
-    def script(self, source: Source, command: Command, objects: Sequence[Object],
-               values: Mapping[str, int] | None) -> Script:
-        """The script as `write_script` has it; what it was written from is kept."""
-        return self.adapted.script(source, command, objects, values, is_same_text=True)
-
-    def known(self, objects: Sequence[Object]) -> Known:
-        """What is known of these objects; what the adapter has read is not read again."""
-        return self.adapted.known(objects)
-
-    def checked(self, script: Script, objects: Sequence[Object], outcome: Outcome, command: Command) -> None:
-        """Keeps what a check said, but with --gc-sections, where the layout goes by relocations too."""
-        if not command.gc_sections:
-            self.layout.keep(script, objects, outcome, self.adapted.known(objects).asked)
 
     def good(self, link: Link) -> None:
         """Keeps the link for the calls that follow."""

@@ -5,34 +5,28 @@ import os
 import stat
 from collections.abc import Mapping, Sequence
 
-from client.adapt.objects import Objects as Known
 from client.atomic_file import MOST_NAMES, Parts, beside, remove, umask, write_all
-from client.check.link import Outcome
-from client.ld.command import Command
 from client.ld.fallback import Reasons
-from client.ld.host import Host
 from client.ld.inputs import Object
-from client.ld.link import Opened, Result
+from client.ld.link import Opened
 from client.ld.main import Link
-from client.ld.script import Script, Source
 from client.protocol import Options
 from client.server.adapted import Adapted
 from client.server.checked import CheckedLayout
 from client.server.kept import KeptOpened, KeptSession
+from client.server.remembering import Remembering
 
 
 class ByItself(Exception):
     """The server does not make this link, and the call is to make it by itself; the text says why."""
 
 
-class ServerHost(Host):
+class ServerHost(Remembering):
     """The process of many links of one output."""
 
     def __init__(self, kept: KeptSession, adapted: Adapted, layout: CheckedLayout) -> None:
-        super().__init__()
-        self.kept, self.adapted, self.layout = kept, adapted, layout
-        self.is_same_text = True
-        """Whether nothing but objects is other than in the link before."""
+        super().__init__(adapted, layout)
+        self.kept = kept
         self.places: list[tuple[str, str]] = []
         """The new files of this call, each with the name of its place."""
 
@@ -52,34 +46,6 @@ class ServerHost(Host):
 
     def streamed(self, options: Options) -> None:
         """The session is there, and gets what is other."""
-
-    def script(self, source: Source, command: Command, objects: Sequence[Object],
-               values: Mapping[str, int] | None) -> Script:
-        """The script as `write_script` has it, or as it had it where it would write the same."""
-        script = self.adapted.script(source, command, objects, values, self.is_same_text)
-        self.is_same_text = True
-        return script
-
-    def known(self, objects: Sequence[Object]) -> Known:
-        """What is known of these objects; what the adapter has read is not read again."""
-        return self.adapted.known(objects)
-
-    def checked(self, script: Script, objects: Sequence[Object], outcome: Outcome, command: Command) -> None:
-        """Keeps what a check said, but with --gc-sections, where the layout goes by relocations too."""
-        if not command.gc_sections:
-            self.layout.keep(script, objects, outcome, self.adapted.known(objects).asked)
-
-    def is_written(self, objects: Sequence[Object], command: Command) -> bool:
-        """Whether the script for these objects is the one that was written last."""
-        return self.adapted.stays(objects, command)
-
-    def is_checked(self, script: Script, objects: Sequence[Object]) -> bool:
-        """Whether the layout of a good link is the one that was checked."""
-        return self.layout.is_same(script, objects)
-
-    def checked_before(self, script: Script, objects: Sequence[Object], result: Result | None) -> Outcome | None:
-        """What a check of a link would say, where its layout is the one that was checked."""
-        return None if result is None else self.layout.outcome(script, objects, result)
 
     def write(self, path: str, data: bytes | Parts, mode: int) -> None:
         """Writes a new file beside its place. It is closed before it is put there: who starts it finds no writer."""

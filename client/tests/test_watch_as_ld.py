@@ -9,7 +9,7 @@ from unittest import mock
 
 from client.tests.test_watch_commands import FolderTest
 from client.tests.watching import PATIENCE, SCRIPT, Watching, numbered, run_once, wait_until
-from client.watch.as_ld import KeptLink
+from client.watch.as_ld import WatchedLink
 from client.watch.loop import Watch
 from client.watch.says import Teller
 from client.watch.words import read_words
@@ -222,7 +222,7 @@ class AsLdTest(FolderTest):
             one.drain()
             one.inputs.mark(one.inputs.all())
             one.gathering.first = None
-            with mock.patch.object(KeptLink, "link", autospec=True, side_effect=KeptLink.link) as made:
+            with mock.patch.object(WatchedLink, "make", autospec=True, side_effect=WatchedLink.make) as made:
                 one.step()
             self.assertEqual(made.called, is_whole, version)
             self.assertIsNone(one.gathering.first)

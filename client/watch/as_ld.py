@@ -13,7 +13,6 @@ import sys
 from collections.abc import Callable, Mapping, Sequence
 
 import client.files
-from client.adapt.objects import Objects as Known
 from client.check.link import Outcome
 from client.files import Files
 from client.inputs import Message
@@ -22,17 +21,18 @@ from client.ld.command import Command, read_command
 from client.ld.command import Input as Named
 from client.ld.fallback import Reasons
 from client.ld.flat import NoFlatImage
-from client.ld.host import Host
 from client.ld.inputs import BadInput, CannotLink, MissingInput, NotScript, Object
 from client.ld.link import Opened, Result, result_of
 from client.ld.main import Link
 from client.ld.options import WordsRefused
 from client.ld.output import Parts
 from client.ld.page_size import PAGE, TooFar
-from client.ld.script import Script, Source
+from client.ld.script import Script
 from client.object_file import NOBITS, PROGBITS, NotElf, ObjectFile
 from client.protocol import Options, Refused
 from client.server.adapted import Adapted
+from client.server.checked import CheckedLayout
+from client.server.remembering import Remembering
 from client.watch.inputs import Inputs, NotThere
 from client.watch.kept import SCRIPT, Kept
 from client.watch.listing import names_in
@@ -103,16 +103,11 @@ class KeptOpened(Opened):
         """The session is kept."""
 
 
-class WatchHost(Host):
+class WatchHost(Remembering):
     """The watch as what a link uses of its process."""
 
-    def __init__(self, adapted: Adapted, is_same_text: bool) -> None:
-        """What was adapted for the links before is taken where the script's text is the same."""
-        super().__init__()
-        self.kept: Kept | None = None
-        """The session, from when it is used on."""
-        self._adapted = adapted
-        self._is_same_text = is_same_text
+    kept: Kept | None = None
+    """The session, from when it is used on."""
 
     def opened(self, options: Options, objects: Sequence[Object]) -> Opened:
         """The kept session."""
@@ -121,17 +116,6 @@ class WatchHost(Host):
 
     def streamed(self, options: Options) -> None:
         """The session is there, and gets what is other."""
-
-    def script(self, source: Source, command: Command, objects: Sequence[Object],
-               values: Mapping[str, int] | None) -> Script:
-        """The script as `write_script` has it, or as it had it where it would write the same."""
-        script = self._adapted.script(source, command, objects, values, self._is_same_text)
-        self._is_same_text = True
-        return script
-
-    def known(self, objects: Sequence[Object]) -> Known:
-        """What is known of these objects; what the adapter has read is not read again."""
-        return self._adapted.known(objects)
 
     def write(self, path: str, data: bytes | Parts, mode: int) -> None:
         """Files are put in place by the watch."""
@@ -176,7 +160,7 @@ class WatchedLink:
         printed = io.StringIO()
         with contextlib.redirect_stderr(printed), contextlib.redirect_stdout(io.StringIO()):
             try:
-                self.status = self.link.link()
+                self.status = self.link.link() if self.link.script is None else self.link.again(objects)
             except (BadInput, CannotLink, NoFlatImage, TooFar) as fault:
                 self.status = 2
                 print(f"ld.ldi: {fault}", file=sys.stderr)
@@ -214,7 +198,7 @@ class AsLd:
         """The last link that came to an image."""
         self.is_no_script = False
         """Whether the script is none of GNU ld."""
-        self._adapted = Adapted()
+        self._adapted, self._layout = Adapted(), CheckedLayout()
         self._is_known_text = False
         """Whether what was adapted is of the script as it was read last."""
         self._objects: list[Object] = []
@@ -227,12 +211,15 @@ class AsLd:
         if changed is not None and self._link is not None and self._take(changed):
             inputs.keep()
             return self._alike(self._link)
-        self._link = None
+        last, self._link = self._link, None
+        if changed is not None and last is not None and self._takes_same(last, changed):
+            inputs.keep()
+            return self._to_be_linked(last)
         is_same_text = self._is_known_text and changed is not None and all(one.path in self._whole for one in changed)
         self._is_known_text = False
         client.files.begin(WatchedFiles(inputs))
         try:
-            host = WatchHost(self._adapted, is_same_text)
+            host = WatchHost(self._adapted, self._layout, is_same_text)
             watched = WatchedLink(self._command(inputs), list(self._words.as_ld), host)
             self._is_known_text = True
         except MissingInput as fault:
@@ -244,9 +231,7 @@ class AsLd:
             return self._refused(str(fault))
         self._objects = watched.link.objects
         self._note_whole(inputs)
-        found = self._found(watched)
-        found.linked = lambda kept: self._linked(watched, kept)
-        return found
+        return self._to_be_linked(watched)
 
     def _command(self, inputs: Inputs) -> Command:
         """The command of the words, with the names of the lists in their places."""
@@ -281,12 +266,29 @@ class AsLd:
         self._objects = objects
         return True
 
+    def _takes_same(self, watched: WatchedLink, changed: list[Input]) -> bool:
+        """Takes the changed files, where these are objects with which the same members of archives are linked."""
+        objects = list(self._objects)
+        for one in changed:
+            places, data = self._whole.get(one.path), one.data
+            if not places or data is None or not all(watched.link.takes_same(objects[place], data) for place in places):
+                return False
+            for place in places:
+                objects[place] = replace(objects[place], data=data)
+        self._objects = objects
+        return True
+
     def _found(self, watched: WatchedLink) -> Found:
         objects = {item.name.decode(): item.data for item in self._objects}
         script = watched.script
         found = Found(Project(script.text, objects, watched.options()), script.path)
         found.paths = {item.name.decode(): item.path for item in self._objects}
         found.lines, found.entry, found.finish = script.lines, watched.command.entry, watched.finish()
+        return found
+
+    def _to_be_linked(self, watched: WatchedLink) -> Found:
+        found = self._found(watched)
+        found.linked = lambda kept: self._linked(watched, kept)
         return found
 
     def _alike(self, watched: WatchedLink) -> Found:
