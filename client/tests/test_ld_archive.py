@@ -42,7 +42,7 @@ class ArchiveTest(LinkTest):
             data = self.archive(name, flags, f"{long_name}.o", "sub/b.o")
             archive = read_archive(str(self.folder / name), data)
             self.assertEqual(archive.thin, flags == "rcsT")
-            self.assertTrue(archive.has_index)
+            self.assertIsNotNone(archive.index)
             first, second = archive.members
             self.assertEqual(first.read(), (self.folder / f"{long_name}.o").read_bytes())
             self.assertEqual(second.read(), (self.folder / "sub/b.o").read_bytes())
@@ -53,7 +53,7 @@ class ArchiveTest(LinkTest):
             else:
                 self.assertEqual(second.full_name, f"{self.folder}/{name}(b.o)")
         odd = read_archive("x.a", self.archive("x.a", "rcS", "odd.txt", "sub/b.o"))
-        self.assertFalse(odd.has_index)
+        self.assertIsNone(odd.index)
         self.assertEqual([member.name for member in odd.members], ["odd.txt", "b.o"])
         self.assertEqual(odd.members[0].read(), b"odd")
 

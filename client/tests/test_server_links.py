@@ -2,6 +2,7 @@
 from __future__ import annotations
 
 import os
+import random
 
 from client.tests.serving import SCRIPT, SOURCES, WORDS, ServerTest
 
@@ -17,8 +18,70 @@ SECTIONS {
 """
 
 
+NAMING = """copy = jiffies_64 + 8; half = end / 2;
+ENTRY(_start)
+SECTIONS {
+  . = 0x401000;
+  .text : { *(.text .text.*) }
+  .rodata : { *(.rodata .rodata.*) *(SORT(table+*)) }
+  .data : { PROVIDE(wanted = .); is_there = DEFINED(optional) ? 1 : 2; *(.data .data.*) }
+  notes : { *(notes) }
+  .bss : { *(.bss .bss.*) *(COMMON) . = ALIGN(0x1000); end = .; }
+  /DISCARD/ : { *(.eh_frame .note.* .comment) }
+}
+ASSERT(end > _start, "order")
+"""
+"""A script that names symbols of objects, asks whether they are there, and provides some."""
+
+JIFFIES = """int before[4] = {1}; unsigned long jiffies_64 = 7;
+__attribute__((section("notes"))) int kept = 1;"""
+
+CHANGES = (
+    "int other = 5; int b(int x) { return x + 2; }",
+    "int other = 5; int b(int x) { return x * x * x + other; }",
+    "int other = 5; int b(int x) { return x; } int longer(int x) { return x * x * x * x * other; }",
+    "int other = 5; int optional; int b(int x) { return x; }",
+    "extern int wanted; int other = 5; int b(int x) { return wanted + x; }",
+    "int wanted = 9; int other = 5; int b(int x) { return wanted + x; }",
+    "extern int __start_notes[]; int other = 5; int b(int x) { return __start_notes[x]; }",
+    "__attribute__((section(\"notes\"))) int note = 3; int other = 5; int b(int x) { return x; }",
+    "__attribute__((section(\"table+b\"))) const int row = 3; int other = 5; int b(int x) { return x; }",
+    "int block[100] __attribute__((common)); int other = 5; int b(int x) { return block[x]; }",
+    "int block[50] __attribute__((common)); int other = 5; int b(int x) { return block[x]; }",
+    "__attribute__((weak)) int jiffies_64 = 4; int other = 5; int b(int x) { return x; }",
+    "int other __attribute__((aligned(256))) = 5; int b(int x) { return x; }",
+    "const int table[2000] = {1}; int other = 5; int b(int x) { return table[x]; }",
+    "int other = 5; int b(int x) { return x + 1; }",
+)
+"""An object in which there is more or less of what a script, a layout and a check go by."""
+
+
 class EditTest(ServerTest):
     """One change after the other."""
+
+    def test_script_that_names(self) -> None:
+        """All that a script asks of objects comes and goes: the image is that of a call without a server each time."""
+        self.compile("j.c", JIFFIES)
+        self.write("t.ld", NAMING)
+        words = (*WORDS, "j.o")
+        for more in ((), ("--gc-sections", "-u", "jiffies_64")):
+            self.start(*more, *words)
+            for text in CHANGES:
+                with self.subTest(text=text, more=more):
+                    self.compile("b.c", text)
+                    self.assert_same(*more, *words)
+
+    def test_random_edits(self) -> None:
+        """Random changes of two objects at once, after which nothing is taken over that is another."""
+        chance = random.Random(8)
+        self.compile("j.c", JIFFIES)
+        self.write("t.ld", NAMING)
+        words = (*WORDS, "j.o")
+        self.start(*words)
+        for _ in range(15):
+            self.compile("b.c", chance.choice(CHANGES))
+            self.compile("c.c", f"int more_{chance.randrange(3)}[{chance.choice((1, 9, 900))}] = {{1}};")
+            self.assert_same(*words)
 
     def test_objects(self) -> None:
         """Nothing, the same sizes, longer, more names, fewer; each image is that of a call without a server."""
