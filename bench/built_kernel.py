@@ -1,4 +1,4 @@
-"""The kernel that tools/check-kernel built, for tools/time-kernel and bench/watch: its last link, and edits of an object.
+"""The kernel that tools/check-kernel built, for tools/time-kernel and bench/watch: its last link, edits of an object.
 
 An edit puts an object in place by a rename, as a build does: with another letter in a string, with a longer function at
 the end of its code, or with a symbol more.

@@ -376,7 +376,7 @@ class Loader:
         """Goes through the names of the objects taken since the last time."""
         for entered in self.objects[self._entered :]:
             if SLIM in entered.linkage:
-                raise CannotLink(f"{entered.name.decode()}: an object of slim LTO, which has no code (-ffat-lto-objects "
-                                 "gives it code)")
+                name = entered.name.decode()
+                raise CannotLink(f"{name}: an object of slim LTO, which has no code (-ffat-lto-objects gives it code)")
             self.names.add(entered.linkage)
         self._entered = len(self.objects)

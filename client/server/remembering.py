@@ -1,4 +1,4 @@
-"""What a process of many links of one output remembers for the next one: scripts, what was read of objects, the check."""
+"""What a process of many links of one output remembers for the next one: scripts, what objects have, the check."""
 from __future__ import annotations
 
 from collections.abc import Mapping, Sequence

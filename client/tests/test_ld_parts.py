@@ -55,7 +55,7 @@ class PlainTest(unittest.TestCase):
         self.assertEqual(texts[0], texts[2])
 
     def test_names_of_objects(self) -> None:
-        """Whether expressions name symbols that objects define: not in ASSERT and ENTRY, nor what the script assigns."""
+        """Whether expressions name symbols of objects: not in ASSERT and ENTRY, nor what the script assigns."""
         for text, expected in ((b"a = there;", True), (b"a = 1; SECTIONS { .b a : { BYTE(there + 1) } }", True),
                                (b"SECTIONS { .b : AT(there) { } }", True), (b"ENTRY(there)", False),
                                (b"ASSERT(there, \"\")", False), (b"there = 5; a = there;", False),
@@ -200,7 +200,8 @@ class ObjectsTest(LinkTest):
         for name in names:
             for other in (together, taken):
                 one, two = alone.definition(name), other.definition(name)
-                self.assertEqual(one and (one.object, one.section, one.weak), two and (two.object, two.section, two.weak))
+                found = [one and (one.object, one.section, one.weak) for one in (one, two)]
+                self.assertEqual(found[0], found[1], name)
                 self.assertEqual(alone.refers(name), other.refers(name), name)
 
     def test_refused(self) -> None:

@@ -145,7 +145,8 @@ class WholeFileTest(FolderTest):
         """Where the system has none, the new file is renamed."""
         path = str(self.folder / "out")
         without = mock.patch("_ctypes.dlsym", side_effect=OSError)
-        for number, patch in enumerate((without, without, mock.patch("client.exchange._renameat2", return_value=False))):
+        refused = mock.patch("client.exchange._renameat2", return_value=False)
+        for number, patch in enumerate((without, without, refused)):
             with patch:
                 write_file(path, b"%d" % number, 0o644)
             self.assertEqual(((self.folder / "out").read_bytes(), self.folder.left_over()), (b"%d" % number, []))
