@@ -80,8 +80,8 @@ class Objects:
         """The names of the objects and their bytes, in their order."""
         return self._files.items()
 
-    def has_same(self, objects: Sequence[bytes]) -> bool:
-        """Whether these are its objects."""
+    def has_same_bytes(self, objects: Sequence[bytes]) -> bool:
+        """Whether these are its objects, the same in memory."""
         own = list(self._files.values())
         return len(own) == len(objects) and all(one is other for one, other in zip(own, objects))
 

@@ -46,7 +46,7 @@ class Host:
 
     def known(self, objects: Sequence[Object]) -> Known:
         """What is known of these objects; of those that are the same bytes as before it is not read again."""
-        if self._known is None or not self._known.has_same([item.data for item in objects]):
+        if self._known is None or not self._known.has_same_bytes([item.data for item in objects]):
             known = Known({item.name.decode(): item.data for item in objects}, [item.linkage for item in objects])
             known.take_tables(self._known)
             self._known = known

@@ -6,7 +6,6 @@ whose definitions of these names are as they were is adapted alike, whatever els
 from __future__ import annotations
 
 from collections.abc import Iterable, Mapping, Sequence
-from operator import is_
 
 from client.adapt.objects import Definition
 from client.adapt.objects import Objects as Known
@@ -33,6 +32,11 @@ class Asked(Known):
         """Whether an object has the name undefined."""
         self.asked.add(name)
         return super().refers(name)
+
+    def has_same(self, objects: Sequence[Object]) -> bool:
+        """Whether these are its objects, by their names too."""
+        return self.names == [item.name.decode() for item in objects] and \
+            self.has_same_bytes([item.data for item in objects])
 
     def undefined(self) -> set[str]:
         """The names that objects have undefined."""
@@ -66,7 +70,6 @@ class Adapted:
         self._asked: Asked | None = None
         self._read: Asked | None = None
         """What was read of the objects last."""
-        self._datas: list[bytes] = []
         self._objects: dict[bytes, bytes] = {}
         self._scripts: dict[object, tuple[Script, list[str]]] = {}
         self._facts: dict[bytes, tuple[bytes, object]] = {}
@@ -76,10 +79,7 @@ class Adapted:
         """The script as `write_script` has it; it is not written again `is_same_text`, where the objects are alike."""
         are_alike = self._are_same if command.gc_sections else self._are_alike
         if self._asked is None or not (is_same_text and are_alike(objects)):
-            before = self._asked
-            self._asked = asked_of(objects)
-            if self._read is not None or before is not None:
-                self._asked.take_tables(self._read or before)
+            self._asked = self.known(objects)
             self._objects = {item.name: item.data for item in objects}
             self._scripts.clear()
             self._facts.clear()
@@ -97,13 +97,11 @@ class Adapted:
 
     def known(self, objects: Sequence[Object]) -> Asked:
         """What is known of these objects; what was read of the same bytes is not read again."""
-        datas = [item.data for item in objects]
-        if self._read is not None and len(datas) == len(self._datas) and all(map(is_, datas, self._datas)):
-            return self._read
-        known = asked_of(objects)
-        known.take_tables(self._read or self._asked)
-        self._read, self._datas = known, datas
-        return known
+        if self._read is None or not self._read.has_same(objects):
+            known = asked_of(objects)
+            known.take_tables(self._read)
+            self._read = known
+        return self._read
 
     def stays(self, objects: Sequence[Object], command: Command) -> bool:
         """Whether the adapter would write of these objects what it wrote last."""
