@@ -202,6 +202,24 @@ class StoppedTest(ServerTest):
         self.wait(lambda: not is_running(pid), "the old server stays")
         self.assertNotEqual(self.server(), pid)
 
+    def test_another_version_of_the_client(self) -> None:
+        """The same where a file of the client is another, also one that the server does not import."""
+        client = self.folder / "copy" / "client"
+        shutil.copytree(Path(LD_LDI).parent.parent, client, ignore=shutil.ignore_patterns("tests", "__pycache__"))
+        program = str(client / "bin" / "ld.ldi")
+        self.assertEqual(self.run_program(program, *WORDS, env=self.env()).returncode, 0)
+        pid = self.server()
+        self.started.add(pid)
+        other = client / "gdb" / "lines.py"
+        other.write_text(other.read_text(encoding="utf-8") + "\n", encoding="utf-8")
+        done = self.run_program(program, "--verbose", *WORDS, env=self.env())
+        self.assertIn("the server did not link: it is of another version", done.stderr)
+        self.wait(lambda: not is_running(pid), "the old server stays")
+        self.assertEqual(self.image(), self.expected())
+        self.assertEqual(self.run_program(program, *WORDS, env=self.env()).returncode, 0)
+        self.started.add(self.server())
+        self.assertEqual(self.image(), self.expected())
+
 
 class WantedTest(ServerTest):
     """Where there is a server, and when it ends."""
