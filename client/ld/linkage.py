@@ -73,7 +73,7 @@ def read_linkage(data: bytes) -> Linkage:
     try:
         table, names = ObjectFile(data).global_table()
         find = names.find
-        begins = memoryview(table).cast("I").tolist()[::WORDS]
+        begins = memoryview(table).cast("I")[::WORDS].tolist()
         if begins and max(begins) < len(names) and names[-1] == 0:  # then each name has an end
             found = [names[begin:find(b"\0", begin)] for begin in begins]
             kinds.update(zip(found, map(_kinds.__getitem__, zip(table[4::24], table[6::24], table[7::24]))))
