@@ -1,7 +1,6 @@
 """A call of `ld.ldi` that links by itself. After a good link its process goes on as the server of the output."""
 from __future__ import annotations
 
-import gc
 import os
 import sys
 from collections.abc import Sequence
@@ -59,7 +58,6 @@ def link_by_itself(attempt: Attempt) -> int:
         return run(words, attempt)
     if attempt.why and "--verbose" in words:
         say(f"the server did not link: {attempt.why}")
-    gc.disable()  # a process of one link ends before that pays
     if not (attempt.is_wanted and attempt.is_gone and attempt.path and may_start(attempt)):
         return main(words)
     host = FirstHost()
