@@ -8,12 +8,17 @@ from __future__ import annotations
 
 import io
 import os
+import sys
 from bisect import bisect_right
 from collections.abc import Iterator
 from functools import cached_property
 from itertools import islice
 from typing import NamedTuple
 
+if sys.flags.no_site:  # as of `ld.ldi`, which starts without the folders of packages
+    import site
+
+    site.main()
 try:
     from elftools.dwarf.compileunit import CompileUnit
     from elftools.dwarf.die import DIE
