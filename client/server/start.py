@@ -31,11 +31,9 @@ def go_on(attempt: Attempt, link: Link, words: list[str], first: FirstHost) -> N
     handle = os.pidfd_open(link.opened.session.process.pid)
     for stream in (sys.stdout, sys.stderr):
         stream.flush()
-    if os.fork():
+    if os.fork():  # each fork of a process of this size takes 5 ms: there is one
         os._exit(0)
     os.setsid()
-    if os.fork():
-        os._exit(0)
     _detach({listener.fileno(), handle, *link.opened.session.filenos()})
     from client.server.calls import Calls
     from client.server.host import ServerHost
@@ -95,7 +93,7 @@ def _is_served(path: str) -> bool:
 
 def _detach(kept: set[int]) -> None:
     """Closes all that the build may wait for; the standard streams lead nowhere."""
-    nowhere = os.open(os.devnull, os.O_RDWR)
+    nowhere = os.open(os.devnull, os.O_RDWR | os.O_NOCTTY)
     for number in range(3):
         os.dup2(nowhere, number)
     for number in [int(name) for name in os.listdir("/proc/self/fd")]:
