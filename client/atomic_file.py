@@ -159,6 +159,9 @@ class Parts:
     def __init__(self, *pieces: bytes | bytearray | memoryview) -> None:
         self.pieces = pieces
 
+    def __len__(self) -> int:
+        return sum(map(len, self.pieces))
+
     def joined(self) -> bytes:
         """All of them."""
         return b"".join(self.pieces)

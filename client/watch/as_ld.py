@@ -175,15 +175,15 @@ class WatchedLink:
         """The options of the session."""
         return Options(self.command.gc_sections, self.script.entry, self.command.orphan_handling)
 
-    def finish(self) -> Callable[[bytes], bytes] | None:
+    def finish(self) -> Callable[[bytes], Parts] | None:
         """What makes the image that `ld.ldi` writes of the session's; none where that is the same."""
         is_plain = self.command.output_format != "binary" and (self.command.page_size or PAGE) <= PAGE
         return None if is_plain and self.script.segments is None else self._finished
 
-    def _finished(self, image: bytes) -> bytes:
+    def _finished(self, image: bytes) -> Parts:
         try:
             with contextlib.redirect_stderr(io.StringIO()):  # what it says was said when the link was made
-                return self.link.image(self.script, image).joined()
+                return self.link.image(self.script, image)
         except (NoFlatImage, TooFar) as fault:
             raise NotFinished(str(fault)) from fault
 

@@ -12,7 +12,7 @@ from collections.abc import Callable
 from concurrent.futures import Executor
 from contextlib import AbstractContextManager, nullcontext
 
-from client.atomic_file import PROGRAM, TEXT, NewFile, remove, remove_left, write_all, write_in_place
+from client.atomic_file import PROGRAM, TEXT, NewFile, Parts, remove, remove_left, write_all, write_in_place
 from client.inputs_state import Stamp, stamp_of
 from client.protocol import Session
 from client.watch.here import real
@@ -41,12 +41,12 @@ class Output:
     def __init__(self, path: str, mode: int) -> None:
         self.path = path
         self._new = NewFile(path, mode)
-        self._data = b""
+        self._data: bytes | Parts = b""
         self._placed: Stamp | None = None
         self._other: Stamp | None = None
         """The file of somebody else that was noticed in its place."""
 
-    def prepare(self, data: bytes) -> None:
+    def prepare(self, data: bytes | Parts) -> None:
         """Writes the bytes beside the file; NotWritten where that cannot be done, and then nothing is left."""
 
         def write(descriptor: int | None) -> None:

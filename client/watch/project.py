@@ -5,6 +5,7 @@ from collections.abc import Callable, Mapping
 from dataclasses import dataclass, field
 from typing import TYPE_CHECKING
 
+from client.atomic_file import Parts
 from client.protocol import Options
 
 if TYPE_CHECKING:
@@ -38,7 +39,7 @@ class Found:
     """The entry symbol of the words."""
     refused: tuple[tuple[str, Message], ...] = ()
     """Inputs with which there is no link, and why."""
-    finish: Callable[[bytes], bytes] | None = None
+    finish: Callable[[bytes], Parts] | None = None
     """What is made of an image that the session gives."""
     linked: Callable[[Kept], Found] | None = None
     """What makes the link over the kept session, where more than one edit after the other is to be sent."""
