@@ -118,7 +118,7 @@ class OtherHandsTest(FolderTest):
         used = beside(str(self.folder / "image"), 7)
         with open(used, "wb"):
             self.opened()
-        self.assertEqual(self.folder.left_over(), [os.path.basename(used)])
+        self.assertTrue(wait_until(lambda: self.folder.left_over() == [os.path.basename(used)]))
 
 
 class WholeFileTest(FolderTest):
