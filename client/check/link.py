@@ -142,6 +142,8 @@ class Checker:
                 self.unknown = fault
             except Stopped as fault:
                 self.stopped = fault
+            except RecursionError:  # what is too deep the adapter refuses, which may come later
+                self.unknown = Unknown("an expression of the script has hundreds of signs")
         return self.done
 
     def differences(self, image: bytes, map_text: bytes) -> list[Difference]:
