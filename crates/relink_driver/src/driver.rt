@@ -32,11 +32,11 @@ use crate::passes::{
 };
 use crate::stayed_sections::{PreviousView, StayedSections};
 use crate::symbol_values::{SymbolValues, symbol_values};
+use emit::map_members::{MapMembers, PreviousNames};
+use emit::text::maps::LinkMap;
 use emit::values::given::GivenValues;
 use emit::values::link_view::LinkView;
 use emit::values::values::Values;
-use emit::map_members::{MapMembers, PreviousNames};
-use emit::text::maps::LinkMap;
 use emit::{Canvas, map_text};
 use gather::Gathering;
 use gather::matches::Matches;
