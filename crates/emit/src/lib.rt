@@ -4,11 +4,10 @@
 //! - `relocated` over `keys`: the fields of all relocations, or their faults; `law`;
 //! - `drawing` over `output`, `parts`, `pieces`, `data_runs`, `section_fields`, `symbols`: the image; `length`;
 //! - `good`: a link without faults is one that the laws on two links speak of;
-//! - `map` over `map_members`, `fault_lines`, both over `by_place`: the texts;
+//! - `map`, `fault_lines` over `map_members`: the texts;
 //! - the parts `fields`, `relocate`, `values`, `image`, `in_place`, `text`. Other families name this crate alone.
 #![tactic(auto)]
 
-mod by_place;
 mod data_runs;
 pub mod drawing;
 pub mod fault_lines;

@@ -6,7 +6,7 @@ use Rattle.emit_text.specs.declared.byte_strings.Span.{Span}
 abbrev pub bytes_at : (bytes : List ℕ) → Span → List ℕ
 bytes_at bytes s = take (s.end - s.begin) (drop s.begin bytes)
 
--- a span lies within so many bytes
+-- a span lies within this number of bytes
 pub record StandsIn (count : ℕ) (s : Span) : Type 0 where
   pub order : s.begin ≤ s.end
   pub within : s.end ≤ count

@@ -15,10 +15,10 @@ returns-clause-text c =
     (record {
       entry = c.number_or_0.ensures;
       sections = ap shown_sections c.deref-2.ensures.value
-          ∙ (c.in_ok-sections.ensures ∙ ap output_sections (c.script-script.ensures ∙ ap (λ (q : Project). q.script) c.project.ensures));
+          ∙ (c.in_ok-sections.ensures
+          ∙ ap output_sections (c.script-script.ensures ∙ ap (λ (q : Project). q.script) c.project.ensures));
       outputs = λ s l.
-          c.outputs_are_of_script.ensures p (rows p) (provided p) s
-          l.placed;
+          c.outputs_are_of_script.ensures p (rows p) (provided p) s l.placed;
       placement = λ s l. c.view.ensures.placement p.script s l.places;
       lent = c.requires;
       placed = λ s l. c.placed_are_rows.ensures p (provided p) s l.placed;

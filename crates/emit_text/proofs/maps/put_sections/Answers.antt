@@ -93,9 +93,11 @@ loop-k-preserved g c =
           _ c.loop-k.k _ (shown_one c.in-Some.section.now) (vec_items c.in-Some-get.row.now)
           c.as_bytes.result.now c.deref.result.now
           c.loop-k-test.true
-          (some_left shown_one c.args.parts.now.sections.now c.loop-k.k c.in-Some.section.now c.in-Some.ensures.lookup.3.0
+          (some_left shown_one c.args.parts.now.sections.now c.loop-k.k c.in-Some.section.now
+          c.in-Some.ensures.lookup.3.0
           c.in-Some.ensures.lookup.1)
-          (some_left vec_items c.args.parts.now.rows.now c.loop-k.k c.in-Some-get.row.now c.in-Some-get.ensures.lookup.3.0
+          (some_left vec_items c.args.parts.now.rows.now c.loop-k.k c.in-Some-get.row.now
+          c.in-Some-get.ensures.lookup.3.0
           c.in-Some-get.ensures.lookup.1)
           c.as_bytes.ensures c.deref.ensures.value c.in_ok-put_section.ensures c.in_ok-put_pieces.ensures.text
           (starts_left c.deref.result.now starts c.min.result
@@ -108,7 +110,8 @@ loop-k-preserved g c =
           (vec_items c.in-Some-get.row.now) c.deref.result.now c.put_pieces.new.names (length starts)
           c.in_ok-push.ensures.items
           (ap (slice_get rows) c.loop-k.invariant.count
-          ∙ some_at vec_items c.args.parts.now.rows.now c.loop-k.k c.in-Some-get.row.now c.in-Some-get.ensures.lookup.3.0
+          ∙ some_at vec_items c.args.parts.now.rows.now c.loop-k.k c.in-Some-get.row.now
+          c.in-Some-get.ensures.lookup.3.0
           c.in-Some-get.ensures.lookup.1)
           c.deref.ensures.value
           (c.in_ok-put_pieces.ensures.names

@@ -38,8 +38,8 @@ returns-clause-good c =
       names = f.names;
       is = k.link_layout.layout ∙ of_short p s f.short.length;
       rest = all.rest;
-      link = ends_shown c.args.context.with_map p s _ _ same (c.in_ok-map.ensures.text s h.symbol_table k.link_layout h.values)
-          all.rest;
+      link = ends_shown c.args.context.with_map p s _ _ same
+          (c.in_ok-map.ensures.text s h.symbol_table k.link_layout h.values) all.rest;
       image = same;
     }
 

@@ -17,4 +17,5 @@ returns c = λ project known.
     c.in_ok-texts.texts.now near.0 c.in_ok-names.names.now (sym c.in_ok-place.ensures)
     (some_at vec_items c.args.self.now.rows.now c.args.row c.in_ok-pieces.pieces.now rows.3.0 rows.1)
     (ap (λ l. slice_get l c.in_ok-at.at) (sym c.deref.ensures.value) ∙ near.1) near.2
-    (at_place c.args.self.now.names.now c.args.row c.in_ok-texts.texts.now texts.3.0 texts.1) (sym c.in_ok-names.ensures)
+    (at_place c.args.self.now.names.now c.args.row c.in_ok-texts.texts.now texts.3.0 texts.1)
+    (sym c.in_ok-names.ensures)
