@@ -5,7 +5,7 @@ LDI ?= $(CURDIR)/crates/ldi/out/ldi
 PREFIX ?= /usr/local
 export LDI
 
-.PHONY: help demo ldi install check test test-client fmt examples bench check-real check-images check-model \
+.PHONY: help demo ldi install check test test-client rules fmt examples bench check-real check-images check-model \
         check-link check-readers check-session check-counts check-no-memory check-memory mutants soak-client row lint
 .PHONY: self dist dist-test
 
@@ -47,6 +47,9 @@ soak-client: ## runs ldi-watch over 2,000 rounds of random rewrites and ld.ldi o
 
 lint: ## looks over the client's programs by `mypy --strict`, and by ruff where that is installed
 	@tools/lint
+
+rules: ## writes the tables of the client and of the documents that are made of the crates' rules
+	@tools/rules
 
 fmt: ## lays out every crate; prints what changed, needless names in crates.txt, ways past a face, and dead links
 	@tools/fmt

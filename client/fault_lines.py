@@ -10,36 +10,21 @@ from collections.abc import Iterator
 from typing import NamedTuple
 
 from client.elf_object import plain
+from client.rules import FAULTS
 
-_HEX = "([0-9a-f]{16})"
-_NUMBER = "([0-9]+)"
-_NAME = r"(\S+)"
-_FORMS = {
-    "F1": (_NAME, _NAME, _NAME),
-    "F2": ("(.*)",),
-    "F3": (_NAME, _NAME),
-    "F4": (_NUMBER, _NAME),
-    "F5": (_NUMBER,),
-    "F6": (_NUMBER,),
-    "F7": (_NAME, _NAME),
-    "F8": (_NUMBER,),
-    "F9": (_NAME, _NAME),
-    "F10": (_NAME, _NAME),
-    "F11": (_NUMBER,),
-    "F12": (_NAME, _NAME, _HEX, _NAME),
-    "F13": (_NAME, _NAME, _HEX, _NUMBER),
-    "F14": (_NAME, _NAME, _HEX, _NUMBER, _HEX),
-    "F15": (_NUMBER, "(.*)"),
-}
-_PATTERNS = {code: re.compile(" ".join((code, *words))) for code, words in _FORMS.items()}
+_WORDS = {"name": r"(\S+)", "number": "([0-9]+)", "hex": "([0-9a-f]{16})", "text": "(.*)"}
+_PATTERNS = [
+    (rule, re.compile(" ".join([code, *(_WORDS.get(word, word) for word in words)])))
+    for rule, (code, words) in FAULTS.items()
+]
 
 
 class FaultLine(NamedTuple):
-    """A fault line: its text, its number from `F1` to `F15`, and its other words. Of a line that is none of the
-    manual's the number is empty."""
+    """A fault line: its text, its rule, and its words after the number. Of a line that is none of the manual's the
+    rule is empty."""
 
     text: str
-    code: str
+    rule: str
     words: tuple[str, ...]
 
 
@@ -47,12 +32,8 @@ def fault_lines(faults: bytes) -> Iterator[FaultLine]:
     """The lines of a link's faults, in their order."""
     for line in _lines(faults):
         text = plain(line)
-        code = text.partition(" ")[0]
-        if text == "F13 entry":
-            yield FaultLine(text, code, ())
-            continue
-        found = _PATTERNS[code].fullmatch(text) if code in _PATTERNS else None
-        yield FaultLine(text, code, found.groups()) if found else FaultLine(text, "", ())
+        found = ((rule, pattern.fullmatch(text)) for rule, pattern in _PATTERNS)
+        yield next((FaultLine(text, rule, match.groups()) for rule, match in found if match), FaultLine(text, "", ()))
 
 
 def count_lines(faults: bytes) -> int:

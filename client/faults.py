@@ -7,6 +7,7 @@ from client.elf_object import plain
 from client.fault_lines import FaultLine
 from client.inputs import Inputs
 from client.link_names import SLIM, LinkNames, Site, is_section
+from client.rules import PC_RELATIVE, RANGES, RELOCATIONS, WIDTHS
 from client.script_text import ScriptText
 
 PROGRAM = "ldi"
@@ -14,36 +15,7 @@ PROGRAM = "ldi"
 
 MOST_IMAGE_BYTES = 1 << 28
 
-RELOCATIONS = {
-    0: "R_X86_64_NONE",
-    1: "R_X86_64_64",
-    2: "R_X86_64_PC32",
-    4: "R_X86_64_PLT32",
-    10: "R_X86_64_32",
-    11: "R_X86_64_32S",
-    12: "R_X86_64_16",
-    13: "R_X86_64_PC16",
-    14: "R_X86_64_8",
-    15: "R_X86_64_PC8",
-    24: "R_X86_64_PC64",
-}
-"""The psABI's names of relocation types, by their numbers."""
-
-RANGES = {
-    2: (-(1 << 31), (1 << 31) - 1),
-    4: (-(1 << 31), (1 << 31) - 1),
-    10: (0, (1 << 32) - 1),
-    11: (-(1 << 31), (1 << 31) - 1),
-    12: (-(1 << 15), (1 << 16) - 1),
-    13: (-(1 << 15), (1 << 15) - 1),
-    14: (-(1 << 7), (1 << 8) - 1),
-    15: (-(1 << 7), (1 << 7) - 1),
-}
-"""What fits, by the types of relocations: the least and the greatest value (docs/layout.md, 'Relocations')."""
-
-PC_RELATIVE = frozenset({2, 4, 13, 15, 24})
-
-WORD_TYPES = frozenset({2, 4, 10, 11})
+WORD_TYPES = frozenset(kind for kind, width in WIDTHS.items() if width == 4)
 """The types that a compiler's code model decides between."""
 
 SECTION_TYPES = frozenset({"COPY", "INFO", "OVERLAY", "DSECT", "READONLY"})
@@ -57,29 +29,28 @@ class FaultSentences:
         self.inputs = inputs
         self.names = LinkNames(inputs.objects)
         self.script = ScriptText(inputs.script_path, inputs.script, inputs.script_lines)
-        self._makers: dict[str, Callable[..., str]] = {
-            "F1": self.duplicate,
-            "F2": self.undefined_entry,
-            "F3": self.orphan,
-            "F4": self.not_ready,
-            "F5": self.no_value,
-            "F6": self.moved_back,
-            "F7": self.region_full,
-            "F8": self.past_address_space,
-            "F9": self.addresses_meet,
-            "F10": self.load_addresses_meet,
-            "F11": self.image_too_long,
-            "F12": self.undefined,
-            "F13": self.left_out,
-            "F14": self.overflow,
-            "F15": self.assertion,
+        self.makers: dict[str, Callable[..., str]] = {
+            "DuplicateDefinition": self.duplicate,
+            "UndefinedEntry": self.undefined_entry,
+            "Orphan": self.orphan,
+            "NotReady": self.not_ready,
+            "NoValue": self.no_value,
+            "MovedBack": self.moved_back,
+            "RegionFull": self.region_full,
+            "PastAddressSpace": self.past_address_space,
+            "AddressesMeet": self.addresses_meet,
+            "LoadAddressesMeet": self.load_addresses_meet,
+            "ImageTooLong": self.image_too_long,
+            "UndefinedSymbol": self.undefined,
+            "TargetNotInOutput": self.left_out,
+            "EntryNotInOutput": self.entry_left_out,
+            "FieldOverflow": self.overflow,
+            "AssertionFailed": self.assertion,
         }
 
     def sentence(self, fault: FaultLine) -> str:
         """The sentence of a fault; the line itself where it is none of the manual's."""
-        if fault.code == "F13" and not fault.words:
-            return self.entry_left_out()
-        return self._makers[fault.code](*fault.words) if fault.code else fault.text
+        return self.makers[fault.rule](*fault.words) if fault.rule else fault.text
 
     # Names
 

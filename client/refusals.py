@@ -8,6 +8,7 @@ from collections.abc import Sequence
 
 from client.elf_object import plain
 from client.protocol import GREATEST_PAYLOAD, Refused, find_program, is_name
+from client.rules import EDITS, LIMIT, NOT_A_SCRIPT, NOT_AN_OBJECT, OBJECTS, SCRIPTS
 from client.script_text import ScriptText
 
 SECONDS = 10.0
@@ -15,45 +16,6 @@ SECONDS = 10.0
 
 MOST_PLACES = 20
 """The places of a refusal that are said."""
-
-NAME_IN_USE, NO_OBJECT, PAST_THE_END, NO_OBJECT_FILE, NO_SCRIPT, LIMIT, NO_MEMORY = 1, 2, 3, 4, 5, 6, 7
-
-EDITS = {
-    NAME_IN_USE: "an object of this name is there already",
-    NO_OBJECT: "there is no object of this name",
-    PAST_THE_END: "the position is past the end of the objects",
-    NO_OBJECT_FILE: "this is no object that can be linked",
-    NO_SCRIPT: "this is no script of the profile",
-    LIMIT: "there are 4,096 objects already, which is the most that a link may have",
-    NO_MEMORY: "out of memory",
-}
-
-OBJECTS = {
-    1: "the file has fewer than 64 bytes, less than an ELF header",
-    2: "the file does not begin with 7F 45 4C 46: it is no ELF file",
-    3: "the ELF header is not that of a relocatable 64-bit object for x86-64",
-    4: "the section headers are not of 64 bytes, or end past the end of the file",
-    5: "the ELF header has no section headers, too many, or a wrong number of the table of names",
-    6: "a section ends past the end of the file, is longer than 2^31 bytes or has a wrong alignment,"
-    " or the table of names is no string table",
-    7: "an allocated section has a type, a flag or a name that is not in the profile: TLS, COMDAT and the like are not",
-    8: "the symbol table is not as it must be, or there are two",
-    9: "a symbol has a binding, type, section or name that is not in the profile",
-    10: "a relocation section is not as it must be",
-    11: "a relocation has a type that is not in the profile: compile with -fno-pic, and without TLS",
-    12: "the field of a relocation ends past the end of its section",
-    13: "the fields of two relocations share a byte",
-}
-"""What docs/objects.md says of each number, for where `readobj` cannot be had."""
-
-SCRIPTS = {
-    1: "somewhere no token begins, or a comment or string has no end",
-    2: "the text does not follow the grammar",
-    3: "something is given twice, or a region is named before it is declared",
-    4: "`.' is used where it may not be",
-    5: "a limit of scripts is passed",
-}
-"""What docs/scripts.md says of each number, for where `readscript` cannot be had."""
 
 ARCHIVE = "it is an archive"
 """What `readobj` itself says of an archive; it does not name LLVM's bitcode."""
@@ -77,12 +39,12 @@ def refusal_sentences(
 ) -> list[str]:
     """The sentences of a refusal, one for each place that is known; at least one."""
     shown = plain(name.encode(errors="surrogateescape"))
-    if refused.number == NO_OBJECT_FILE:
-        reasons = _reasons("readobj", refused, data) or [OBJECTS.get(refused.inner, EDITS[NO_OBJECT_FILE])]
+    if refused.number == NOT_AN_OBJECT:
+        reasons = _reasons("readobj", refused, data) or [OBJECTS.get(refused.inner, EDITS[NOT_AN_OBJECT])]
         return [f"{shown}: {reason}{'' if ARCHIVE in reason else _form(data)}" for reason in reasons]
-    if refused.number == NO_SCRIPT:
+    if refused.number == NOT_A_SCRIPT:
         script = ScriptText(name, data or b"", script_lines)
-        reasons = _reasons("readscript", refused, data) or [SCRIPTS.get(refused.inner, EDITS[NO_SCRIPT])]
+        reasons = _reasons("readscript", refused, data) or [SCRIPTS.get(refused.inner, EDITS[NOT_A_SCRIPT])]
         return [_at_line(script, reason) for reason in reasons]
     return [f"{shown}: {_of_edit(name, refused, data)}"]
 

@@ -8,6 +8,8 @@ from __future__ import annotations
 import re
 from collections.abc import Iterator
 
+from client.rules import EXPRESSION_WORDS
+
 TYPE_CHECKING = False
 if TYPE_CHECKING:
     from typing import NamedTuple
@@ -168,7 +170,7 @@ _PROFILE_EXPRESSION = re.compile(
     rb"|<<|<=|>>|>=|==|!=|&&|\|\||\+=|.", re.DOTALL
 )
 _PROFILE_PATTERN = re.compile(rb"(?:[A-Za-z0-9_.$/*?\[\]-]|\\[!-~])+|\+=|.", re.DOTALL)
-_STRETCHES = frozenset({b"BYTE", b"SHORT", b"LONG", b"QUAD", b"PROVIDE", b"ASSERT"})
+_STRETCHES = frozenset(word.encode() for word in EXPRESSION_WORDS)
 """What has an expression in its parentheses, between the braces of an output section."""
 
 

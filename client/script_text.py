@@ -11,12 +11,13 @@ from functools import cached_property
 from typing import NamedTuple
 
 from client.elf_object import plain
+from client.rules import NAME_FUNCTIONS
 from client.script_lexer import PROFILE_NAME, PROFILE_SPACE, ProfileToken, profile_tokens
 
 LONGEST_TEXT = 160
 """A longer line is cut."""
 
-NO_SYMBOLS = frozenset({b"ADDR", b"LOADADDR", b"SIZEOF", b"ORIGIN", b"LENGTH"})
+NO_SYMBOLS = frozenset(word.encode() for word in NAME_FUNCTIONS)
 """What takes the name of a section or region."""
 OTHER_NAMES = frozenset({b".", b"ALIGN"})
 

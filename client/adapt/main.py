@@ -163,7 +163,8 @@ def _differences(result: Adapted, objects: list[str]) -> list[str]:
 def _refusals(path: str, result: Adapted) -> list[str]:
     """Why `readscript` refuses the adapted script, where it does and can be had."""
     from client.protocol import Refused, find_program
-    from client.refusals import NO_SCRIPT, refusal_sentences
+    from client.refusals import refusal_sentences
+    from client.rules import NOT_A_SCRIPT
     with tempfile.NamedTemporaryFile(prefix="ldi-adapt-") as file:
         file.write(result.text)
         file.flush()
@@ -174,4 +175,4 @@ def _refusals(path: str, result: Adapted) -> list[str]:
     found = re.search(rb"refused 5 ([0-9]+)", done.stdout)
     if done.returncode == 0 or found is None:
         return []
-    return refusal_sentences(path, Refused(NO_SCRIPT, int(found.group(1))), result.text, result.lines)
+    return refusal_sentences(path, Refused(NOT_A_SCRIPT, int(found.group(1))), result.text, result.lines)

@@ -4,9 +4,8 @@ from __future__ import annotations
 import re
 from collections.abc import Set as AbstractSet
 
-RESERVED = frozenset("""ADDR ALIGN ASSERT AT BYTE CONSTANT DEFINED ENTRY EXCLUDE_FILE FILL HIDDEN INPUT_SECTION_FLAGS
-    KEEP LENGTH LOADADDR LONG MAX MEMORY MIN NOLOAD ORIGIN PROVIDE PROVIDE_HIDDEN QUAD SECTIONS SHORT SIZEOF
-    SIZEOF_HEADERS SORT SORT_BY_ALIGNMENT SORT_BY_NAME SQUAD""".split())
+from client.rules import RESERVED
+
 _PLAIN = frozenset("ABCDEFGHIJKLMNOPQRSTUVWXYZabcdefghijklmnopqrstuvwxyz0123456789_.$/*?-")
 _NAME = re.compile(r"[A-Za-z_.][A-Za-z0-9_.$-]*")
 _WORD = re.compile(r"(?:[A-Za-z0-9_.$/*?-]|\[[A-Za-z0-9_.$/*?-]+\]|\\[!-~])+")

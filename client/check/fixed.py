@@ -7,12 +7,13 @@ from __future__ import annotations
 
 from collections.abc import Callable
 
-from client.adapt.patterns import RESERVED, is_name
+from client.adapt.patterns import is_name
 from client.adapt.tree import Data
 from client.check.compare import filled, has_bits
 from client.check.evaluate import Evaluated
 from client.check.script import ASSIGN, DATA, INPUT, SIZES, Output
 from client.check.state import ALLOC, CODE, CREATED, EXCLUDE, MASK, NUMBERS, Item
+from client.rules import RESERVED
 
 MOST = 8000
 """The input sections that such a script has at most."""

@@ -9,8 +9,9 @@ from __future__ import annotations
 from collections.abc import Iterable, Sequence, Set
 from itertools import groupby
 
-from client.adapt.patterns import RESERVED, name_matches
+from client.adapt.patterns import name_matches
 from client.ld.references import Part, Section
+from client.rules import RESERVED
 from client.script_lexer import ProfileToken, profile_tokens
 
 TYPE_CHECKING = False

@@ -30,6 +30,7 @@ from client.ld.words import expand
 from client.link_map import read_map
 from client.inputs import Inputs
 from client.protocol import Refused, SessionEnded, find_program
+from client.rules import NO_MEMORY
 
 GOOD, FAULTS, REFUSED, DEVICE, MEMORY = range(5)
 """The statuses of `ldi link`."""
@@ -394,7 +395,7 @@ class Link:
             for item, refused in objects[:GREATEST_LIST]:
                 print_refusal(item.name.decode(), refused, item.data, (), 3)
 
-        if any(refused.number == 7 for _, refused in objects):
+        if any(refused.number == NO_MEMORY for _, refused in objects):
             say_more()
             return MEMORY
         first = objects[0][0].name.decode()
@@ -404,7 +405,7 @@ class Link:
 
     def _script_refused(self, refused: Refused, script: Script) -> int:
         print_refusal(script.path, refused, script.text, script.lines, GREATEST_LIST)
-        return MEMORY if refused.number == 7 else REFUSED
+        return MEMORY if refused.number == NO_MEMORY else REFUSED
 
     def _map_path(self) -> str | None:
         """The file of the map: in a folder the image's name with `.map`; `%` stands for the image's path."""

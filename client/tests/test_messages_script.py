@@ -95,13 +95,13 @@ class FaultLinesTest(unittest.TestCase):
         """Words, also of a symbol of `-e` with spaces and line feeds, and of a message with spaces."""
         faults = b"F1 a b c\nF2 x  y\nF1 a b c\n\n"
         self.assertEqual(list(fault_lines(faults)), [
-            FaultLine("F1 a b c", "F1", ("a", "b", "c")),
-            FaultLine(r"F2 x  y\nF1 a b c\n", "F2", (r"x  y\nF1 a b c\n",)),
+            FaultLine("F1 a b c", "DuplicateDefinition", ("a", "b", "c")),
+            FaultLine(r"F2 x  y\nF1 a b c\n", "UndefinedEntry", (r"x  y\nF1 a b c\n",)),
         ])
         self.assertEqual(count_lines(faults), 2)
         self.assertEqual(list(fault_lines(b"F15 3  a b \nF13 entry\nF13 entry x")), [
-            FaultLine("F15 3  a b ", "F15", ("3", " a b ")),
-            FaultLine("F13 entry", "F13", ()),
+            FaultLine("F15 3  a b ", "AssertionFailed", ("3", " a b ")),
+            FaultLine("F13 entry", "EntryNotInOutput", ()),
             FaultLine("F13 entry x", "", ()),
         ])
         self.assertEqual(list(fault_lines(b"")), [])

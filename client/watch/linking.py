@@ -6,6 +6,7 @@ from contextlib import AbstractContextManager
 from typing import TYPE_CHECKING
 
 from client.protocol import Options, Session
+from client.rules import NO_MEMORY, NOT_A_SCRIPT
 from client.watch.kept import SCRIPT, Kept
 from client.watch.project import Found
 
@@ -14,9 +15,6 @@ if TYPE_CHECKING:
 
 MOST_ENDS = 3
 """Sessions that ended one after the other, without an image between, after which the next waits for a period."""
-
-NO_SCRIPT, NO_MEMORY = 5, 7
-"""The numbers of refusals of a text that is no script of the profile, and of memory."""
 
 Named = tuple[str, "Message"]
 
@@ -56,7 +54,7 @@ class Linking:
     def is_no_script(self) -> bool:
         """Whether the session refused the script, and another search finds another one."""
         refused = self.kept.refused.get(SCRIPT)
-        is_asked = refused is not None and refused.number == NO_SCRIPT
+        is_asked = refused is not None and refused.number == NOT_A_SCRIPT
         return is_asked and self.found is not None and self.found.is_no_script is not None and self.found.is_no_script()
 
     def refusals(self) -> list[Named]:

@@ -6,6 +6,7 @@ symbol goes into the script that is sent.
 """
 from __future__ import annotations
 
+from client.rules import RESERVED
 from client.script_lexer import PROFILE_NAME, profile_tokens
 
 SCRIPT_WITHOUT_LINK = b"ENTRY(a_name_that_nothing_defines)"
@@ -17,11 +18,7 @@ GREATEST_SCRIPT = 1 << 20
 GREATEST_NAME = 255
 """The bytes that a name in a script has at most."""
 
-RESERVED = frozenset(
-    b"ADDR ALIGN ASSERT AT BYTE CONSTANT DEFINED ENTRY EXCLUDE_FILE FILL HIDDEN INPUT_SECTION_FLAGS KEEP LENGTH "
-    b"LOADADDR LONG MAX MEMORY MIN NOLOAD ORIGIN PROVIDE PROVIDE_HIDDEN QUAD SECTIONS SHORT SIZEOF SIZEOF_HEADERS "
-    b"SORT SORT_BY_ALIGNMENT SORT_BY_NAME SQUAD".split()
-)
+_RESERVED = frozenset(word.encode() for word in RESERVED)
 
 
 def is_script_name(symbol: bytes) -> bool:
@@ -30,7 +27,7 @@ def is_script_name(symbol: bytes) -> bool:
         PROFILE_NAME.fullmatch(symbol) is not None
         and len(symbol) <= GREATEST_NAME
         and symbol != b"."
-        and symbol not in RESERVED
+        and symbol not in _RESERVED
     )
 
 

@@ -17,13 +17,13 @@ class Names:
         return self.output.name_value(name)
 
     def function(self, function, name):
-        """ORIGIN and LENGTH of a region; ADDR, LOADADDR and SIZEOF of an output section."""
-        if function in ("ORIGIN", "LENGTH"):
-            return self.output.placement.regions[name][("ORIGIN", "LENGTH").index(function)]
+        """A function of a region, or of an output section."""
+        if function in tree.OF_REGION:
+            return self.output.placement.regions[name][tree.OF_REGION.index(function)]
         placed = self.output.placement.section(name)
         if placed is None:
             raise NotReady(name)
-        return {"ADDR": placed.start, "LOADADDR": placed.load, "SIZEOF": placed.size}[function]
+        return getattr(placed, tree.OF_SECTION[function])
 
 
 def holds(statement, output):

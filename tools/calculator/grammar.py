@@ -279,7 +279,7 @@ class Parser:
             return self.in_parentheses(self.expression)
         if self.accept("."):
             return tree.Dot()
-        for function in ("ORIGIN", "LENGTH", "ADDR", "LOADADDR", "SIZEOF"):
+        for function in (*tree.OF_REGION, *tree.OF_SECTION):
             if self.accept(function):
                 return tree.Of(function, self.in_parentheses(self.name))
         if self.accept("ALIGN"):

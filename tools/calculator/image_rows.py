@@ -100,7 +100,7 @@ RANGES = [
     ("32", 10, 4, 0, 0xFFFFFFFF), ("32S", 11, 4, -0x80000000, 0x7FFFFFFF), ("16", 12, 2, -0x8000, 0xFFFF),
     ("PC16", 13, 2, -0x8000, 0x7FFF), ("8", 14, 1, -0x80, 0xFF), ("PC8", 15, 1, -0x80, 0x7F),
     ("PC64", 24, 8, 0, 2 ** 64 - 1)]
-RELATIVE = (2, 4, 13, 15, 24)
+RELATIVE = [kind for name, kind, *_ in RANGES if name.startswith(("PC", "PLT"))]
 SYMBOL = 0x10  # the value of `v`
 
 

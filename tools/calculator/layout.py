@@ -97,13 +97,13 @@ class Names:
         return self.layout.symbols[name]
 
     def function(self, function, name):
-        """ORIGIN and LENGTH of a region; ADDR, LOADADDR and SIZEOF of an output section."""
-        if function in ("ORIGIN", "LENGTH"):
-            return self.layout.regions[name][("ORIGIN", "LENGTH").index(function)]
+        """A function of a region, or of an output section."""
+        if function in tree.OF_REGION:
+            return self.layout.regions[name][tree.OF_REGION.index(function)]
         placed = next((placed for placed in self.layout.sections if placed.section.name == name), None)
         if placed is None:
             raise NotReady(name)
-        return {"ADDR": placed.start, "LOADADDR": placed.load, "SIZEOF": placed.size}[function]
+        return getattr(placed, tree.OF_SECTION[function])
 
 
 class Layout:

@@ -4,17 +4,36 @@ From the x86-64 psABI (relocation types), narrowed to the profile of static link
 addend, P the address of the field.
 """
 from dataclasses import dataclass
+from typing import NamedTuple
 
 from . import elf
 
-R_NONE, R_64, R_PC32, R_PLT32, R_32, R_32S, R_16, R_PC16, R_8, R_PC8, R_PC64 = 0, 1, 2, 4, 10, 11, 12, 13, 14, 15, 24
 
-WIDTHS = {R_NONE: 0, R_64: 8, R_PC32: 4, R_PLT32: 4, R_32: 4, R_32S: 4, R_16: 2, R_PC16: 2, R_8: 1, R_PC8: 1,
-          R_PC64: 8}
-RELATIVE = (R_PC32, R_PLT32, R_PC16, R_PC8, R_PC64)
-SIGNED_RANGES = {R_PC32: (-2 ** 31, 2 ** 31 - 1), R_PLT32: (-2 ** 31, 2 ** 31 - 1), R_32S: (-2 ** 31, 2 ** 31 - 1),
-                 R_16: (-2 ** 15, 2 ** 16 - 1), R_PC16: (-2 ** 15, 2 ** 15 - 1), R_8: (-2 ** 7, 2 ** 8 - 1),
-                 R_PC8: (-2 ** 7, 2 ** 7 - 1)}
+class Type(NamedTuple):
+    """A type of relocations: its name without R_X86_64_, the bytes of its field, whether it counts from the place, and
+    the least and the greatest value, read as a signed number, where not every value fits."""
+    name: str
+    width: int
+    is_relative: bool = False
+    range: tuple = None
+
+
+R_NONE = 0
+SIGNED_32 = (-2 ** 31, 2 ** 31 - 1)
+TYPES = {
+    R_NONE: Type("NONE", 0),
+    1: Type("64", 8),
+    2: Type("PC32", 4, True, SIGNED_32),
+    4: Type("PLT32", 4, True, SIGNED_32),
+    10: Type("32", 4, False, (0, 2 ** 32 - 1)),
+    11: Type("32S", 4, False, SIGNED_32),
+    12: Type("16", 2, False, (-2 ** 15, 2 ** 16 - 1)),
+    13: Type("PC16", 2, True, (-2 ** 15, 2 ** 15 - 1)),
+    14: Type("8", 1, False, (-2 ** 7, 2 ** 8 - 1)),
+    15: Type("PC8", 1, True, (-2 ** 7, 2 ** 7 - 1)),
+    24: Type("PC64", 8, True),
+}
+WIDTHS = {number: kind.width for number, kind in TYPES.items()}
 
 
 @dataclass(frozen=True)
@@ -31,18 +50,15 @@ class Overflow:
 
 def computed(kind, s, a, p):
     """S + A, or S + A - P for the types that are relative to the place, modulo 2^64."""
-    return (s + a - (p if kind in RELATIVE else 0)) % 2 ** 64
+    return (s + a - (p if TYPES[kind].is_relative else 0)) % 2 ** 64
 
 
 def in_range(kind, value):
-    """Whether a value fits its field: type 32 is unsigned; the other narrow ones read it as a signed number."""
-    if kind == R_32:
-        return value < 2 ** 32
-    if kind in SIGNED_RANGES:
-        least, greatest = SIGNED_RANGES[kind]
-        signed = value - 2 ** 64 if value >= 2 ** 63 else value
-        return least <= signed <= greatest
-    return True
+    """Whether a value, read as a signed number, fits its field."""
+    if TYPES[kind].range is None:
+        return True
+    least, greatest = TYPES[kind].range
+    return least <= (value - 2 ** 64 if value >= 2 ** 63 else value) <= greatest
 
 
 def field(kind, s, a, p):

@@ -14,7 +14,7 @@ import random
 import re
 import sys
 
-from . import answers, edits, elf, objects, relocation, rows
+from . import answers, edits, elf, objects, relocation, rows, tree
 from .build import Rel, Sec, Sym, build
 from .link import link
 from .names import Case, Decisions
@@ -273,8 +273,8 @@ class Expressions(Chance):
         if self.bad(0.15):
             return self.one("late", "nope", "SIZEOF(.nope)", "w", "ADDR(.rest)")
         choices = known["symbols"][:] + [f"{function}({name})" for name in known["sections"]
-                                         for function in ("ADDR", "LOADADDR", "SIZEOF")]
-        choices += [f"{function}({name})" for name in known["regions"] for function in ("ORIGIN", "LENGTH")]
+                                         for function in tree.OF_SECTION]
+        choices += [f"{function}({name})" for name in known["regions"] for function in tree.OF_REGION]
         return self.of(choices) if choices else self.number()
 
 

@@ -53,9 +53,13 @@ class Align:
     alignment: object
 
 
+OF_REGION = ("ORIGIN", "LENGTH")
+OF_SECTION = {"ADDR": "start", "LOADADDR": "load", "SIZEOF": "size"}  # which field of a placed section each asks for
+
+
 @dataclass(frozen=True)
 class Of:
-    """A function of a region (ORIGIN, LENGTH) or of an output section (ADDR, LOADADDR, SIZEOF)."""
+    """A function of a region or of an output section."""
     function: str
     name: str
 

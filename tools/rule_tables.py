@@ -1,0 +1,225 @@
+"""What stands outside the crates of the rules that are tables: the client's module, and the tables of the documents.
+
+The rows come from the crates (tools/rule_rows.py), words for people from tools/rules.toml. In a document a table stands
+between `<!-- rules: NAME -->` and `<!-- /rules -->`.
+"""
+from __future__ import annotations
+
+import json
+import re
+import textwrap
+import tomllib
+from collections.abc import Iterator
+from pathlib import Path
+from typing import Any, NamedTuple
+
+import rule_rows
+from rule_rows import Fault, Refusal
+
+ROOT = Path(__file__).resolve().parent.parent
+WORDS = "tools/rules.toml"
+CLIENT = "client/rules.py"
+LONGEST = 120
+NO_MEMORY = "NoMemory"
+
+
+class Rules(NamedTuple):
+    """All rows, and the words for people."""
+
+    relocations: list[rule_rows.Relocation]
+    faults: list[Fault]
+    refusals: dict[str, list[Refusal]]
+    reserved: list[rule_rows.Reserved]
+    words: dict[str, Any]
+
+
+def read() -> Rules:
+    """All rules. Fails where a rule has no words, or words have no rule."""
+    with open(ROOT / WORDS, "rb") as file:
+        words = tomllib.load(file)
+    found = Rules(rule_rows.relocations(), rule_rows.faults(),
+                  {of: rule_rows.refusals(of) for of in rule_rows.REFUSALS}, rule_rows.reserved(), words)
+    named = {"phase": [rule for phase in words["phase"] for rule in phase["faults"]],
+             **{of: list(words[of]) for of in found.refusals}}
+    there = {"phase": [fault.rule for fault in found.faults],
+             **{of: [row.rule for row in rows] for of, rows in found.refusals.items()}}
+    for part, rules in there.items():
+        if named[part] != rules:
+            odd = sorted(set(named[part]) ^ set(rules)) or "another order"
+            raise rule_rows.Unread(f"{WORDS}: [{part}] has not the rules of the crates in their order: {odd}")
+    return found
+
+
+# The client
+
+def _python(value: object) -> str:
+    """A value as Python has it, with texts in double quotes."""
+    if isinstance(value, tuple):
+        return "(" + ", ".join(map(_python, value)) + ("," if len(value) == 1 else "") + ")"
+    return json.dumps(value, ensure_ascii=False) if isinstance(value, str) else repr(value)
+
+
+def _dictionary(name: str, kind: str, rows: dict[Any, Any], about: str) -> list[str]:
+    """A table of the client's module. A text that is too long for its line stands in parts."""
+    lines = [f"{name}: {kind} = {{"]
+    for key, value in rows.items():
+        line = f"    {_python(key)}: {_python(value)},"
+        if len(line) > LONGEST:
+            parts = textwrap.wrap(value, LONGEST - 12, drop_whitespace=False)
+            line = "\n".join([f"    {_python(key)}:", *(f"        {_python(part)}" for part in parts)]) + ","
+        lines.append(line)
+    return [*lines, "}", f'"""{about}"""', ""]
+
+
+def _set(name: str, members: list[str], about: str) -> list[str]:
+    """A set of words of the client's module."""
+    text = textwrap.wrap(" ".join(members), LONGEST - 16)
+    if len(text) == 1:
+        return [f'{name} = frozenset("{text[0]}".split())', f'"""{about}"""', ""]
+    return [f"{name} = frozenset(", *(f'    "{line} "' for line in text[:-1]), f'    "{text[-1]}".split()', ")",
+            f'"""{about}"""', ""]
+
+
+def _forms(rules: Rules) -> dict[str, tuple[str, tuple[str, ...]]]:
+    """The number of each fault line, and what each of its words is: a literal word stands for itself."""
+    spaced = rules.words["spaced"]
+    found = {}
+    for fault in rules.faults:
+        kinds = [word.name if word.kind == "literal" else word.kind for word in fault.words]
+        if fault.rule in spaced:
+            kinds[[word.name for word in fault.words].index(spaced[fault.rule])] = "text"
+        found[fault.rule] = fault.code, tuple(kinds)
+    return found
+
+
+def _sentences(rules: Rules, of: str) -> dict[int, str]:
+    """The client's sentence for each refusal, by number."""
+    words = rules.words[of]
+    texts = {rule: word if isinstance(word, str) else word["sentence"] for rule, word in words.items()}
+    return {row.number: re.sub(r"\s+", " ", texts[row.rule])
+            for row in rules.refusals[of] if of == "edit" or row.rule != NO_MEMORY}
+
+
+def client(rules: Rules) -> str:
+    """The client's module."""
+    edits = rules.refusals["edit"]
+    names = [re.sub(r"(?<=[a-z])(?=[A-Z])|(?<=A)(?=[A-Z][a-z])", "_", row.rule).upper() for row in edits]
+    lines: list[str] = [
+        '"""The rules of `ldi` that are tables, for the client. `tools/rules` writes this file: change nothing here."""',
+        "from __future__ import annotations", "",
+        *_dictionary("RELOCATIONS", "dict[int, str]", {row.number: row.name for row in rules.relocations},
+                     "The psABI's names of relocation types, by their numbers."),
+        *_dictionary("WIDTHS", "dict[int, int]", {row.number: row.width for row in rules.relocations},
+                     "The bytes of their fields."),
+        *_dictionary("RANGES", "dict[int, tuple[int, int]]",
+                     {row.number: row.range for row in rules.relocations if row.range},
+                     "The least and the greatest value that fits, where not every value does."),
+        "PC_RELATIVE = frozenset({%s})" % ", ".join(
+            str(row.number) for row in rules.relocations if row.calculation.endswith("P")),
+        '"""The types that count from the place of the field."""', "",
+        *_dictionary("FAULTS", "dict[str, tuple[str, tuple[str, ...]]]", _forms(rules),
+                     "The number of each fault line, and its words: `name`, `number`, `hex`, `text`, or a literal one."),
+        ", ".join(names) + " = " + ", ".join(str(row.number) for row in edits),
+        '"""The refusals of edits."""', "",
+        *_dictionary("EDITS", "dict[int, str]", _sentences(rules, "edit"), "A sentence for each refusal of an edit."),
+        *_dictionary("OBJECTS", "dict[int, str]", _sentences(rules, "object"),
+                     "What docs/objects.md says of each number, for where `readobj` cannot be had."),
+        *_dictionary("SCRIPTS", "dict[int, str]", _sentences(rules, "script"),
+                     "What docs/scripts.md says of each number, for where `readscript` cannot be had."),
+        *_set("RESERVED", [row.word for row in rules.reserved], "The words that scripts keep for themselves."),
+        *_set("EXPRESSION_WORDS", [row.word for row in rules.reserved if row.opens_expression],
+              "Those whose parentheses hold an expression between the braces of an output section."),
+        *_set("NAME_FUNCTIONS", [row.word for row in rules.reserved if row.asks],
+              "The functions that have the name of a section or of a region in their parentheses."),
+    ]
+    return "\n".join(lines)
+
+
+# The documents
+
+def _table(head: list[str], rows: list[list[str]]) -> list[str]:
+    lines = ["| " + " | ".join(row) + " |" for row in [head, *rows]]
+    return [lines[0], "|" + "---|" * len(head), *lines[1:]]
+
+
+def _number(value: int) -> str:
+    """A number beside a power of two."""
+    if value < 0:
+        return f"-{_number(-value)}"
+    for add in (0, 1):
+        if value + add > 1 and (value + add) & (value + add - 1) == 0:
+            return f"2^{(value + add).bit_length() - 1}" + " - 1" * add
+    return str(value)
+
+
+def _relocations(rules: Rules) -> list[str]:
+    rows = [[row.name, str(row.number), row.calculation or "none", str(row.width),
+             f"{_number(row.range[0])} to {_number(row.range[1])}" if row.range
+             else "any" if row.calculation else "none"]
+            for row in rules.relocations]
+    return _table(["psABI name", "Number", "v", "Bytes", "Range of v"], rows)
+
+
+def _phases(rules: Rules) -> list[str]:
+    codes = {fault.rule: fault.code for fault in rules.faults}
+    rows = []
+    for phase in rules.words["phase"]:
+        found = list(dict.fromkeys(codes[rule] for rule in phase["faults"]))
+        between = ", " if len(found) == 2 else " to "
+        rows.append([phase["name"], between.join([found[0], found[-1]][:len(found)]), phase["order"]])
+    return _table(["Phase", "Faults", "Order of the lines"], rows)
+
+
+def _edit_refusals(rules: Rules) -> list[str]:
+    words = rules.words["edit"]
+    rows = [[str(row.number), *(words[row.rule][part] for part in ("meaning", "edits", "inner"))]
+            for row in rules.refusals["edit"]]
+    return _table(["N", "Meaning", "Of which edits", "M"], rows)
+
+
+def _script_refusals(rules: Rules) -> list[str]:
+    words = rules.words["script"]
+    rows = [[str(row.number), f"`{row.rule}`", words[row.rule]["condition"]] for row in rules.refusals["script"]]
+    return _table(["No.", "Name", "Condition"], rows)
+
+
+def _reserved(rules: Rules) -> list[str]:
+    listed = textwrap.wrap("  ".join(row.word for row in rules.reserved), 96)
+    unused = [f"`{row.word}`" for row in rules.reserved if not row.has_rule]
+    said = f"{', '.join(unused[:-1])} and {unused[-1]} are reserved, but no rule of the grammar uses them."
+    return ["", *(f"    {line}" for line in listed), "", *textwrap.wrap(said, LONGEST), ""]
+
+
+TABLES = {
+    "docs/layout.md": {"relocations": _relocations},
+    "docs/manual.md": {"phases": _phases, "edit refusals": _edit_refusals},
+    "docs/scripts.md": {"reserved words": _reserved, "script refusals": _script_refusals},
+}
+
+
+def with_tables(path: str, text: str, rules: Rules) -> str:
+    """A document with its tables as the rules have them."""
+    for name, make in TABLES[path].items():
+        begin, end = f"<!-- rules: {name} -->\n", "<!-- /rules -->"
+        before, found, rest = text.partition(begin)
+        if not found or end not in rest:
+            raise rule_rows.Unread(f"{path} has no place for the table: {begin.strip()} and {end}")
+        text = before + begin + "".join(f"{line}\n" for line in make(rules)) + end + rest.partition(end)[2]
+    return text
+
+
+def heads(rules: Rules) -> Iterator[tuple[str, list[str], list[str]]]:
+    """What begins the entries of lists that are written by hand, as it must be, and as it is."""
+    manual = (ROOT / "docs/manual.md").read_text(encoding="utf-8")
+    yield ("docs/manual.md, 'Fault lines'", [fault.head for fault in rules.faults],
+           re.findall(r"^(?:- |  )`(F\d+ [^`]*)`(?=:)", manual.partition("\n## Fault lines")[2], re.M))
+    objects = (ROOT / "docs/objects.md").read_text(encoding="utf-8")
+    yield ("docs/objects.md, 'Refusals'", [f"{row.number} `{row.rule}`" for row in rules.refusals["object"]],
+           re.findall(r"^- \*\*(\d+ `\w+`)\*\*", objects, re.M))
+
+
+def files(rules: Rules) -> Iterator[tuple[str, str]]:
+    """Each file that is written, and what must stand in it."""
+    yield CLIENT, client(rules)
+    for path in TABLES:
+        yield path, with_tables(path, (ROOT / path).read_text(encoding="utf-8"), rules)
