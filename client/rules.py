@@ -1,4 +1,4 @@
-"""The rules of `ldi` that are tables, for the client. `tools/rules` writes this file: change nothing here."""
+"""The rules of `ldi` that are tables, for the client. `tools/rules` writes this file: do not edit it."""
 from __future__ import annotations
 
 RELOCATIONS: dict[int, str] = {
@@ -64,7 +64,7 @@ FAULTS: dict[str, tuple[str, tuple[str, ...]]] = {
     "FieldOverflow": ("F14", ("name", "name", "hex", "number", "hex")),
     "AssertionFailed": ("F15", ("number", "text")),
 }
-"""The number of each fault line, and its words: `name`, `number`, `hex`, `text`, or a literal one."""
+"""The number of each fault line, and its words: `name`, `number`, `hex`, `text`, or itself."""
 
 IN_USE, UNKNOWN, PAST_END, NOT_AN_OBJECT, NOT_A_SCRIPT, LIMIT, NO_MEMORY = 1, 2, 3, 4, 5, 6, 7
 """The refusals of edits."""

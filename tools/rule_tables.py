@@ -103,9 +103,9 @@ def _sentences(rules: Rules, of: str) -> dict[int, str]:
 def client(rules: Rules) -> str:
     """The client's module."""
     edits = rules.refusals["edit"]
-    names = [re.sub(r"(?<=[a-z])(?=[A-Z])|(?<=A)(?=[A-Z][a-z])", "_", row.rule).upper() for row in edits]
+    names = ["_".join(re.findall("[A-Z][a-z]*", row.rule)).upper() for row in edits]
     lines: list[str] = [
-        '"""The rules of `ldi` that are tables, for the client. `tools/rules` writes this file: change nothing here."""',
+        '"""The rules of `ldi` that are tables, for the client. `tools/rules` writes this file: do not edit it."""',
         "from __future__ import annotations", "",
         *_dictionary("RELOCATIONS", "dict[int, str]", {row.number: row.name for row in rules.relocations},
                      "The psABI's names of relocation types, by their numbers."),
@@ -118,7 +118,7 @@ def client(rules: Rules) -> str:
             str(row.number) for row in rules.relocations if row.calculation.endswith("P")),
         '"""The types that count from the place of the field."""', "",
         *_dictionary("FAULTS", "dict[str, tuple[str, tuple[str, ...]]]", _forms(rules),
-                     "The number of each fault line, and its words: `name`, `number`, `hex`, `text`, or a literal one."),
+                     "The number of each fault line, and its words: `name`, `number`, `hex`, `text`, or itself."),
         ", ".join(names) + " = " + ", ".join(str(row.number) for row in edits),
         '"""The refusals of edits."""', "",
         *_dictionary("EDITS", "dict[int, str]", _sentences(rules, "edit"), "A sentence for each refusal of an edit."),
