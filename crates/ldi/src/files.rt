@@ -17,47 +17,53 @@ pub const MAP_MODE: u32 = 0o644;
 /// long is seen to be, and one without an end is not read for ever.
 const MOST: usize = MAX_PAYLOAD + 1;
 
-/// The longest buffer that one read is to fill. A buffer is zeros before it is read into: those of a longer one would
-/// have left the processor's cache by then, so a longer file is read piece by piece.
+/// How many bytes one read is to give at most. A buffer is zeros before it is read into, so that all files are read into
+/// one of this length, and copied from there; a longer file is read piece by piece.
 const AT_ONCE: usize = 131_072;
 
-/// The first bytes of a file, as many as one read gives into this buffer. Gives whether it did read: a signal may
-/// interrupt it.
-fn read_once(file: &mut File, buffer: &mut Vec<u8>) -> io::Result<bool> {
+/// A buffer that files are read into, one after the other.
+///
+/// # Errors
+///
+/// Where memory runs out.
+fn read_buffer(rt: &HostRuntime) -> io::Result<Vec<u8>> {
+    Ok(vec![in rt.alloc(); 0; AT_ONCE]?)
+}
+
+/// Reads the first bytes of a file, as many as one read gives. Gives how many, or nothing where a signal interrupts it.
+fn read_once(file: &mut File, buffer: &mut [u8]) -> io::Result<Option<usize>> {
     match file.read(buffer) {
-        Ok(count) => {
-            buffer.truncate(count);
-            Ok(true)
-        }
-        Err(error) if error.kind() == ErrorKind::Interrupted => {
-            buffer.clear();
-            Ok(false)
-        }
+        Ok(count) => Ok(Some(count)),
+        Err(error) if error.kind() == ErrorKind::Interrupted => Ok(None),
         Err(error) => Err(error),
     }
 }
 
-/// The bytes of a file. A read that has room for more than the size that the system tells and gives just that many has
-/// met the end, so that most files take one.
+/// The bytes of a file, of which the first are read into a buffer. A read that has room for more than the size that the
+/// system tells and gives just that many has met the end, so that most files take one.
+fn read_by_buffer(rt: &HostRuntime, name: &str, buffer: &mut [u8]) -> io::Result<Vec<u8>> {
+    let mut file = File::open(rt, name)?;
+    let size = usize::try_from(file.metadata()?.len()).unwrap_or(MOST);
+    let count = read_once(&mut file, buffer)?.unwrap_or(0);
+    let first = &buffer[..count.min(buffer.len())];
+    if !first.is_empty() && first.len() == size && size < buffer.len() {
+        return Ok(Vec::from_slice(rt.alloc(), first)?);
+    }
+    let mut bytes = Vec::with_capacity(rt.alloc(), size.saturating_add(1).min(MOST))?;
+    bytes.extend_from_slice(first)?;
+    let rest = MOST.saturating_sub(bytes.len()) as u64;
+    file.take(rest).read_to_end(&mut bytes)?;
+    Ok(bytes)
+}
+
+/// The bytes of a file.
 ///
 /// # Errors
 ///
 /// Where the file can't be read; of kind `OutOfMemory` where memory runs out.
 pub fn read_file(rt: &HostRuntime, name: &str) -> io::Result<Vec<u8>> {
-    let mut file = File::open(rt, name)?;
-    let size = usize::try_from(file.metadata()?.len()).unwrap_or(MOST);
-    let room = size.saturating_add(1).min(MOST);
-    let mut bytes = Vec::with_capacity(rt.alloc(), room)?;
-    if room <= AT_ONCE {
-        bytes.resize(room, 0)?;
-        let has_read = read_once(&mut file, &mut bytes)?;
-        if has_read && bytes.len() == size && size < room {
-            return Ok(bytes);
-        }
-    }
-    let rest = MOST.saturating_sub(bytes.len()) as u64;
-    file.take(rest).read_to_end(&mut bytes)?;
-    Ok(bytes)
+    let mut buffer = read_buffer(rt)?;
+    read_by_buffer(rt, name, &mut buffer)
 }
 
 /// The object files of these names, each under its name.
@@ -66,10 +72,11 @@ pub fn read_file(rt: &HostRuntime, name: &str) -> io::Result<Vec<u8>> {
 ///
 /// As `read_file`, for the first that fails.
 pub fn read_objects(rt: &HostRuntime, names: &[String]) -> io::Result<Vec<ObjectFile>> {
+    let mut buffer = read_buffer(rt)?;
     let mut files = Vec::with_capacity(rt.alloc(), names.len())?;
     for name in names {
         let word = Vec::from_slice(rt.alloc(), name.as_bytes())?;
-        let bytes = read_file(rt, name.as_str())?;
+        let bytes = read_by_buffer(rt, name.as_str(), &mut buffer)?;
         files.push(ObjectFile { word, bytes })?;
     }
     Ok(files)
