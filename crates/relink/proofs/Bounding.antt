@@ -1,7 +1,7 @@
 -- How much an edit between two links without faults counts.
 use Rattle.std.proofs.Common.{◌≡◌, ◌∙◌, ◌<◌, ◌≤◌, ◌^◌, ℕ, Bool, true, false, List, [], ◌∷◌, Option, Some}
 use Rattle.std.proofs.Common.{None}
-use Rattle.std.proofs.Common.{Global, Vec, ap, arith, inl, inr, length, refl, subst, sym}
+use Rattle.std.proofs.Common.{ap, arith, inl, inr, length, refl, subst, sym}
 use Rattle.std.specs.Prelude.{◌&&◌, Err, IfSome, Ok, if◌then◌else◌, is_some, nat_lt, take}
 use Rattle.elfobj.specs.Counts.{Counts, capped}
 use Rattle.relink_driver.specs.Resume.{AreSameBefore, IsFirstChanged, IsNext}
@@ -20,15 +20,14 @@ use Rattle.ldmodel.specs.Stayed.{GoodLink}
 use Rattle.symres.specs.decisions.Counted.{CountsNames}
 use Rattle.ldmodel_project.specs.ProjectState.{ProjectState, Listing, StandsAsNamed, EditsOne, held}
 use Rattle.ldmodel_project.specs.ProjectState.{listing_of, next_listing, project_of}
-use Rattle.ldmodel_project.specs.Listing.{keys_of}
 use Rattle.ldmodel_project.specs.Next.{edited_key}
 use Rattle.ldmodel_project.specs.declared.staged.Staged.{Staged}
 use Rattle.ldscript.specs.statements.declared.statement.Statement.{Statement}
 use Rattle.relink_driver.specs.Counted.{IsImageCount}
 use Rattle.relink_driver.specs.Worked.{IsLinkWork, IsWorkBeside}
 use Rattle.relink.specs.Outcome.{is_good, shown}
-use Rattle.relink.specs.PreviousLink.{HasUpdateOutcome, IsCurrent, IsEffect, IsFrom, IsPreviousLink, lent}
-use Rattle.relink.specs.PreviousLink.{previous_view_with, origin_of}
+use Rattle.relink.specs.PreviousLink.{HasUpdateOutcome, IsCurrent, IsEffect, IsPreviousLink, lent, next_view}
+use Rattle.relink.specs.PreviousLink.{origin_of}
 use Rattle.relink.specs.Work.{HasWorked, IsCounted, IsReadingWork, IsWholeWork, decided_by}
 use Rattle.relink.specs.declared.outcome.LinkOutcome.{LinkOutcome}
 use Rattle.relink.specs.declared.outcome.LinkOutcome.TheVariants as outcome
@@ -200,25 +199,22 @@ both_are true b h k = k
 both_are false b h k = absurd (cc)
 
 pub whole_work : (h : ProjectState) (s : Staged) (same : Bool) (bytes new : List ℕ) (a : LinkOutcome) (e : EditEffect)
-    (previous : Option PreviousLink) (from : Option (Vec (Option ℕ) Global)) (f : UpdateOutcome) (change : Change)
+    (previous : Option PreviousLink) (f : UpdateOutcome) (change : Change)
     (m0 m1 m2 : Counts) → IsFollowing h s same bytes a previous e → shown bytes a ≡ link (held h)
-    → IsFrom previous e.known e.gone (keys_of (next_listing h s).entries) from
-    → HasUpdateOutcome (next_listing h s) (lent previous from e h.contents.entries s.objects) bytes new f
-    → HasWorked (project_of (next_listing h s)) (lent previous from e h.contents.entries s.objects) m1 m2 f
+    → HasUpdateOutcome (next_listing h s) (lent previous e.known e h s) bytes new f
+    → HasWorked (project_of (next_listing h s)) (lent previous e.known e h s) m1 m2 f
     → AreSmall m0 → ReadsObjects (objects_read change) m0 m1 → m2.objects ≡ m1.objects
     → m2.names ≡ capped m0.names (length (distinct (decided_by (held h) change (project_of (next_listing h s)))))
     → LeavesScript change s → IsReadingWork (held h) change (project_of (next_listing h s)) m0 m2
     → IsWholeWork (held h) change (project_of (next_listing h s)) m0 m2
-whole_work h s same bytes new a e previous from f change m0 m1 m2 given answers origins updated worked small read none
+whole_work h s same bytes new a e previous f change m0 m1 m2 given answers updated worked small read none
     exact leaves reading = (
       reading,
       (λ t u zero zero_too laid laid_too.
-          (between a previous from f e.known refl given.effect given.kept answers origins updated worked t u zero
-          zero_too
+          (between a previous f e.known refl given.effect given.kept answers updated worked t u zero zero_too
           laid laid_too).0),
       (λ t u zero zero_too laid laid_too. inr
-          (between a previous from f e.known refl given.effect given.kept answers origins updated worked t u zero
-          zero_too
+          (between a previous f e.known refl given.effect given.kept answers updated worked t u zero zero_too
           laid laid_too).1),
     )
   where
@@ -228,35 +224,33 @@ whole_work h s same bytes new a e previous from f change m0 m1 m2 given answers 
     q : Project
     q = project_of (next_listing h s)
 
-    next_of : (m : _) (x : PreviousLink) (v : Vec (Option ℕ) Global) (c : IsCurrent (listing_of h) bytes x)
-        → IsEffect h s same (outcome.Good m) (Some x) e
-        → IsFrom (Some x) true e.gone (keys_of (next_listing h s).entries) (Some v) → s.script ≡ None
-        → IsNext c.kept.old.project q (previous_view_with x v.items e h.contents.entries s.objects)
-    next_of m x v c effect origins stays =
+    next_of : (m : _) (x : PreviousLink) (c : IsCurrent (listing_of h) bytes x)
+        → IsEffect h s same (outcome.Good m) (Some x) e → s.script ≡ None
+        → IsNext c.kept.old.project q (next_view x e h s)
+    next_of m x c effect stays =
         is_next c.kept.old.project q h.contents.entries (next_listing h s).entries s.objects.step
         s.objects.places.after same (origin_of x.origins.items)
-        (previous_view_with x v.items e h.contents.entries s.objects) (ap (λ (r : Project). r.objects) c.project)
+        (next_view x e h s) (ap (λ (r : Project). r.objects) c.project)
         refl given.edit.found given.edit.keys given.edit.placed given.edit.arranged.place_after given.edit.named
         given.edit.puts c.kept.since
         (both_are x.same_script e.same_script c.script (effect.stays stays))
-        (from_edit h s same x e v effect.lost origins) refl
+        (from_edit h s same x e effect.lost) refl
 
     -- over the previous link, whatever is kept of this one
-    over_last : (m : _) (x : PreviousLink) (v : Vec (Option ℕ) Global) (kept : IsCurrent (listing_of h) bytes x)
+    over_last : (m : _) (x : PreviousLink) (kept : IsCurrent (listing_of h) bytes x)
         → e.known ≡ true → IsEffect h s same (outcome.Good m) (Some x) e
-        → IsFrom (Some x) true e.gone (keys_of (next_listing h s).entries) (Some v)
-        → IsWorkBeside q (Some (previous_view_with x v.items e h.contents.entries s.objects)) m1 m2 → (t u : Layout)
+        → IsWorkBeside q (Some (next_view x e h s)) m1 m2 → (t u : Layout)
         → layout p ≡ Ok t → layout q ≡ Ok u
         → IsWork (record { project = p; layout = t }) change (record { project = q; layout = u }) m0 m2
         × IsCounted (record { project = p; layout = t }) change (record { project = q; layout = u }) m0 m2
-    over_last m x v kept are effect origins worked t u laid laid_too =
-        let state : PreviousState = previous_view_with x v.items e h.contents.entries s.objects in
+    over_last m x kept are effect worked t u laid laid_too =
+        let state : PreviousState = next_view x e h s in
         let old : GoodLink = record { project = p; layout = t } in
         let now : GoodLink = record { project = q; layout = u } in
         let of_last : IsPreviousOf kept.kept.old q state =
-        is_last_of h s same bytes x v.items e kept.kept given.edit
+        is_last_of h s same bytes x e kept.kept given.edit
         (none_of_last h s same bytes (outcome.Good m) x e kept given.edit effect are) effect.changed
-        (from_edit h s same x e v effect.lost origins) in
+        effect.lost in
         let work : IsLinkWork kept.kept.old now state m0 m2 =
         link_work_from kept.kept.old now state m0 m1 m2 (objects_link_nothing (objects_read change) m0 m1 read)
         (worked kept.kept.old state u refl of_last laid_too) in
@@ -267,7 +261,7 @@ whole_work h s same bytes new a e previous from f change m0 m1 m2 given answers 
             objects = reading.objects;
             names = reading.names;
             pieces = placed kept.kept.old now state p change s m0 m2 kept.project small.pieces
-                (next_of m x v kept effect origins) leaves work;
+                (next_of m x kept effect) leaves work;
             relocations = rises_by m0.fields m2.fields _ (sites_to_evaluate old now) small.fields image.relocations
                 (omega arith);
             bytes = rises_by m0.bytes m2.bytes _ (bytes_to_write old now) small.bytes image.bytes image.few;
@@ -282,45 +276,33 @@ whole_work h s same bytes new a e previous from f change m0 m1 m2 given answers 
           },
         )
 
-    between : (b : LinkOutcome) (previous : Option PreviousLink) (from : Option (Vec (Option ℕ) Global))
-        (f : UpdateOutcome)
-        (known : Bool) → e.known ≡ known → IsEffect h s same b previous e
+    between : (b : LinkOutcome) (previous : Option PreviousLink) (f : UpdateOutcome) (known : Bool)
+        → e.known ≡ known → IsEffect h s same b previous e
         → IsPreviousLink (listing_of h) bytes b previous
         → shown bytes b ≡ link p
-        → IsFrom previous known e.gone (keys_of (next_listing h s).entries) from
-        → HasUpdateOutcome (next_listing h s) (lent previous from e h.contents.entries s.objects) bytes new f
-        → HasWorked q (lent previous from e h.contents.entries s.objects) m1 m2 f → (t u : Layout)
+        → HasUpdateOutcome (next_listing h s) (lent previous known e h s) bytes new f
+        → HasWorked q (lent previous known e h s) m1 m2 f → (t u : Layout)
         → (link p).status ≡ 0 → (link q).status ≡ 0 → layout p ≡ Ok t → layout q ≡ Ok u
         → IsWork (record { project = p; layout = t }) change (record { project = q; layout = u }) m0 m2
         × IsCounted (record { project = p; layout = t }) change (record { project = q; layout = u }) m0 m2
-    between (outcome.Faulty text) previous from f known are effect kept answers origins updated worked =
+    between (outcome.Faulty text) previous f known are effect kept answers updated worked =
         λ t u zero zero_too
         laid laid_too. absurd (not_zero bytes (outcome.Faulty text) (link p) refl answers zero)
-    between (outcome.Good m) None from f known are effect kept answers origins updated worked = λ t u zero zero_too
+    between (outcome.Good m) None f known are effect kept answers updated worked = λ t u zero zero_too
         laid laid_too. absurd kept
-    between (outcome.Good m) (Some x) from (Faulty text) known are effect kept answers origins updated worked =
+    between (outcome.Good m) (Some x) (Faulty text) known are effect kept answers updated worked =
         λ t u zero zero_too laid laid_too. (
         let one : 0 ≡ 1 = sym zero_too ∙ ap (λ (k : Link). k.status) updated.0 in
         absurd (omega (arith, one)))
-    between (outcome.Good m) (Some x) None (Good y n) true are effect kept answers origins updated worked =
-        λ t u zero zero_too laid laid_too. absurd origins
-    between (outcome.Good m) (Some x) None (Good y n) false are effect kept answers origins updated worked =
+    between (outcome.Good m) (Some x) (Good y n) false are effect kept answers updated worked =
         λ t u zero zero_too laid laid_too. (
         let no : true ≡ false = sym (effect.current refl) ∙ are in
         absurd (cc))
-    between (outcome.Good m) (Some x) (Some v) (Good y n) false are effect kept answers origins updated worked =
-        λ t u zero zero_too laid laid_too. absurd origins
-    between (outcome.Good m) (Some x) (Some v) (Good y n) true are effect kept answers origins updated worked =
-        λ t u zero zero_too laid laid_too. over_last m x v kept are effect origins worked t u laid laid_too
-    between (outcome.Good m) (Some x) None (RewrittenInPlace w) true are effect kept answers origins updated worked =
-        λ t u zero zero_too laid laid_too. absurd origins
-    between (outcome.Good m) (Some x) None (RewrittenInPlace w) false are effect kept answers origins updated worked =
+    between (outcome.Good m) (Some x) (Good y n) true are effect kept answers updated worked =
+        λ t u zero zero_too laid laid_too. over_last m x kept are effect worked t u laid laid_too
+    between (outcome.Good m) (Some x) (RewrittenInPlace w) false are effect kept answers updated worked =
         λ t u zero zero_too laid laid_too. (
         let no : true ≡ false = sym (effect.current refl) ∙ are in
         absurd (cc))
-    between (outcome.Good m) (Some x) (Some v)
-        (RewrittenInPlace w) false are effect kept answers origins updated worked =
-        λ t u zero zero_too laid laid_too. absurd origins
-    between (outcome.Good m) (Some x) (Some v)
-        (RewrittenInPlace w) true are effect kept answers origins updated worked =
-        λ t u zero zero_too laid laid_too. over_last m x v kept are effect origins worked t u laid laid_too
+    between (outcome.Good m) (Some x) (RewrittenInPlace w) true are effect kept answers updated worked =
+        λ t u zero zero_too laid laid_too. over_last m x kept are effect worked t u laid laid_too

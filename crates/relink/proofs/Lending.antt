@@ -33,9 +33,9 @@ use Rattle.relink_driver.specs.InPlace.{IsInPlaceOutcome}
 use Rattle.relink.specs.Outcome.{shown}
 use Rattle.relink.specs.Kept.{IsKept}
 use Rattle.relink.specs.PreviousLink.{HasUpdateOutcome, IsOfGoodLink, IsAfterFault, IsCurrent, IsEffect, IsRecorded}
-use Rattle.relink.specs.PreviousLink.{IsFrom, IsPreviousLink}
+use Rattle.relink.specs.PreviousLink.{IsPreviousLink}
 use Rattle.relink.specs.PreviousLink.{AreOriginsRefreshed, IsRewrittenBy, IsSince}
-use Rattle.relink.specs.PreviousLink.{PutsByName, PutsNoneOf, PutsSame, lent, previous_view_with, lost_key}
+use Rattle.relink.specs.PreviousLink.{PutsByName, PutsNoneOf, PutsSame, lent, lost_key, next_view}
 use Rattle.relink.specs.PreviousLink.{origin_of, replaced_by, replaced_in, without}
 use Rattle.relink.specs.declared.outcome.LinkOutcome.{LinkOutcome}
 use Rattle.relink.specs.declared.outcome.LinkOutcome.TheVariants as outcome
@@ -163,15 +163,21 @@ replaced_right old h s same origin edit since =
     by_step (Move moved) found place can = tt
     by_step Stay found place can = tt
 
+-- the origins of what is lent, by the edit
+pub from_edit : (h : ProjectState) (s : Staged) (same : Bool) (x : PreviousLink) (e : EditEffect)
+    → e.gone ≡ lost_key same s.objects.step
+    → (next_view x e h s).from ≡ map (without (origin_of x.origins.items) (lost_key same s.objects.step))
+    (keys_of (next_listing h s).entries)
+from_edit h s same x e gone =
+    ap (λ (lost : Option ℕ). map (without (origin_of x.origins.items) lost) (keys_of (next_listing h s).entries)) gone
+
 -- what is lent is the previous link, for the next project
 pub is_last_of : (h : ProjectState) (s : Staged) (same : Bool) (bytes : List ℕ) (x : PreviousLink)
-    (from : List (Option ℕ))
     (e : EditEffect) (kept : IsOfGoodLink (listing_of h) bytes x) → IsKnownEdit h s same
     → (same ≡ false → PutsNoneOf kept.old.project.objects s.objects.step) → (e.same_script ≡ true → s.script ≡ None)
-    → from ≡ map (without (origin_of x.origins.items) (lost_key same s.objects.step))
-    (keys_of (next_listing h s).entries)
-    → IsPreviousOf kept.old (project_of (next_listing h s)) (previous_view_with x from e h.contents.entries s.objects)
-is_last_of h s same bytes x from e kept edit none script is =
+    → e.gone ≡ lost_key same s.objects.step
+    → IsPreviousOf kept.old (project_of (next_listing h s)) (next_view x e h s)
+is_last_of h s same bytes x e kept edit none script gone =
     let p = project_of (next_listing h s) in
     let es = (next_listing h s).entries in
     let origin : ℕ → Option ℕ = origin_of x.origins.items in
@@ -186,8 +192,8 @@ is_last_of h s same bytes x from e kept edit none script is =
           let objects = length-map kept.old.project.objects (λ (o : NamedObject). o.name) in
           omega (arith, same, objects));
       options = kept.options;
-      origins = subst (λ (from : List (Option ℕ)). AreOrigins kept.old.project p from) (sym is)
-          (origins_by_place kept.old.project p es after edit.keys refl since);
+      origins = subst (λ (from : List (Option ℕ)). AreOrigins kept.old.project p from)
+          (sym (from_edit h s same x e gone)) (origins_by_place kept.old.project p es after edit.keys refl since);
       script = λ stay.
           let both = both_true x.same_script e.same_script stay in
           kept.script both.0
@@ -195,36 +201,20 @@ is_last_of h s same bytes x from e kept edit none script is =
       replaced = replaced_right kept.old.project h s same origin edit kept.since;
     }
 
--- the origins of what is lent, by the edit
-pub from_edit : (h : ProjectState) (s : Staged) (same : Bool) (x : PreviousLink) (e : EditEffect)
-    (v : Vec (Option ℕ) Global)
-    → e.gone ≡ lost_key same s.objects.step
-    → IsFrom (Some x) true e.gone (keys_of (next_listing h s).entries) (Some v)
-    → v.items ≡ map (without (origin_of x.origins.items) (lost_key same s.objects.step))
-    (keys_of (next_listing h s).entries)
-from_edit h s same x e v gone is =
-    is
-    ∙ ap (λ (lost : Option ℕ). map (without (origin_of x.origins.items) lost) (keys_of (next_listing h s).entries)) gone
-
 module _ (h : ProjectState) (s : Staged) (same : Bool) (bytes : List ℕ) (a : LinkOutcome) (e : EditEffect)
     (edit : IsKnownEdit h s same) where
-  -- the previous link, lent with its origins, is one whose image this is
-  pub last_lent : (previous : Option PreviousLink) (known : Bool) (from : Option (Vec (Option ℕ) Global)) → e.known
-      ≡ known
+  -- the previous link, where it is lent, is one whose image this is
+  pub last_lent : (previous : Option PreviousLink) (known : Bool) → e.known ≡ known
       → IsPreviousLink (listing_of h) bytes a previous → IsEffect h s same a previous e
-      → IsFrom previous known e.gone (keys_of (next_listing h s).entries) from
-      → IfSome (lent previous from e h.contents.entries s.objects)
-      (HasPreviousImage (project_of (next_listing h s)) bytes)
-  last_lent None known from are is effect origins = tt
-  last_lent (Some x) known None are is effect origins = tt
-  last_lent (Some x) false (Some v) are is effect origins = absurd (origins)
-  last_lent (Some x) true (Some v) are is effect origins =
+      → IfSome (lent previous known e h s) (HasPreviousImage (project_of (next_listing h s)) bytes)
+  last_lent None known are is effect = tt
+  last_lent (Some x) false are is effect = tt
+  last_lent (Some x) true are is effect =
       let kept = kept_of (listing_of h) bytes a x is in
       record {
         old = kept.old;
-        is = is_last_of h s same bytes x v.items e kept edit
-            (none_of_last h s same bytes a x e is edit effect are) effect.changed
-            (from_edit h s same x e v effect.lost origins);
+        is = is_last_of h s same bytes x e kept edit
+            (none_of_last h s same bytes a x e is edit effect are) effect.changed effect.lost;
         image = kept.image;
       }
 
@@ -320,26 +310,23 @@ ended l state old new (RewrittenInPlace v) e previous after b a updated end kept
 
 -- the previous link with another image is that of the next project
 renewed_with : (h : ProjectState) (s : Staged) (same : Bool) (bytes new : List ℕ) (a : LinkOutcome) (e : EditEffect)
-    (x y : PreviousLink)
-    (u v : Vec (Option ℕ) Global) → IsKnownEdit h s same → e.known ≡ true
-    → IsPreviousLink (listing_of h) bytes a (Some x)
-    → IsEffect h s same a (Some x) e → IsFrom (Some x) true e.gone (keys_of (next_listing h s).entries) (Some u)
+    (x y : PreviousLink) (v : Vec (Option ℕ) Global) → IsKnownEdit h s same → e.known ≡ true
+    → IsPreviousLink (listing_of h) bytes a (Some x) → IsEffect h s same a (Some x) e
     → shown bytes a ≡ link (held h)
-    → IsRewrittenBy (next_listing h s) (Some (previous_view_with x u.items e h.contents.entries s.objects)) new v.items
+    → IsRewrittenBy (next_listing h s) (Some (next_view x e h s)) new v.items
     → AreOriginsRefreshed v (Some x) (Some y)
     → (shown new a ≡ link (project_of (next_listing h s))) × IsPreviousLink (next_listing h s) new a (Some y)
-renewed_with h s same bytes new (outcome.Faulty t) e x y u v edit are is effect from answers by renewed =
+renewed_with h s same bytes new (outcome.Faulty t) e x y v edit are is effect answers by renewed =
     let no : false ≡ true =
     sym effect.answered ∙ ap (λ (z : PreviousState). z.is_current) (same_Some _ _ by.end.was) ∙ by.end.current in
     absurd (cc)
-renewed_with h s same bytes new (outcome.Good m) e x y u v edit are is effect from answers by renewed =
+renewed_with h s same bytes new (outcome.Good m) e x y v edit are is effect answers by renewed =
     let q : Project = project_of (next_listing h s) in
     let old : GoodLink = is.kept.old in
-    let lent_as : PreviousState = previous_view_with x u.items e h.contents.entries s.objects in
+    let lent_as : PreviousState = next_view x e h s in
     let of_lent : IsPreviousOf old q lent_as =
-    is_last_of h s same bytes x u.items e is.kept edit
-    (none_of_last h s same bytes (outcome.Good m) x e is edit effect are) effect.changed
-    (from_edit h s same x e u effect.lost from) in
+    is_last_of h s same bytes x e is.kept edit
+    (none_of_last h s same bytes (outcome.Good m) x e is edit effect are) effect.changed effect.lost in
     let lent_is : lent_as ≡ by.end.before = same_Some _ _ by.end.was in
     let of_last : IsPreviousOf old q by.end.before = subst (IsPreviousOf old q) lent_is of_lent in
     let map_is : m.items ≡ map_text q by.end.layout =
@@ -366,43 +353,36 @@ renewed_with h s same bytes new (outcome.Good m) e x y u v edit are is effect fr
     )
 
 pub renewed_last : (h : ProjectState) (s : Staged) (same : Bool) (bytes new : List ℕ) (a : LinkOutcome) (e : EditEffect)
-    (previous after : Option PreviousLink) (known : Bool) (from : Option (Vec (Option ℕ) Global))
-    (v : Vec (Option ℕ) Global)
+    (previous after : Option PreviousLink) (known : Bool) (v : Vec (Option ℕ) Global)
     → IsKnownEdit h s same → e.known ≡ known → IsPreviousLink (listing_of h) bytes a previous
-    → IsEffect h s same a previous e
-    → IsFrom previous known e.gone (keys_of (next_listing h s).entries) from → shown bytes a ≡ link (held h)
-    → IsRewrittenBy (next_listing h s) (lent previous from e h.contents.entries s.objects) new v.items
+    → IsEffect h s same a previous e → shown bytes a ≡ link (held h)
+    → IsRewrittenBy (next_listing h s) (lent previous known e h s) new v.items
     → AreOriginsRefreshed v previous after
     → (shown new a ≡ link (project_of (next_listing h s))) × IsPreviousLink (next_listing h s) new a after
-renewed_last h s same bytes new a e None after known from v edit are is effect origins answers by renewed =
+renewed_last h s same bytes new a e None after known v edit are is effect answers by renewed =
     absurd (let was = by.end.was in let never : ⊥ = cc in never)
-renewed_last h s same bytes new a e (Some x) after known None v edit are is effect origins answers by renewed =
+renewed_last h s same bytes new a e (Some x) after false v edit are is effect answers by renewed =
     absurd (let was = by.end.was in let never : ⊥ = cc in never)
-renewed_last h s same bytes new a e (Some x) None known (Some u) v edit are is effect origins answers by renewed =
+renewed_last h s same bytes new a e (Some x) None true v edit are is effect answers by renewed =
     absurd renewed
-renewed_last h s same bytes new a e (Some x) (Some y) false (Some u) v edit are is effect origins answers by renewed =
-    absurd origins
-renewed_last h s same bytes new a e (Some x) (Some y) true (Some u) v edit are is effect origins answers by renewed =
-    renewed_with h s same bytes new a e x y u v edit are is effect origins answers by renewed
+renewed_last h s same bytes new a e (Some x) (Some y) true v edit are is effect answers by renewed =
+    renewed_with h s same bytes new a e x y v edit are is effect answers by renewed
 
 -- so it is after an edit that is linked over the previous link
 pub ended_after : (h : ProjectState) (s : Staged) (same : Bool) (bytes new : List ℕ) (a b : LinkOutcome)
     (e : EditEffect)
-    (previous after : Option PreviousLink) (from : Option (Vec (Option ℕ) Global)) (f : UpdateOutcome)
-    (later : ProjectState)
+    (previous after : Option PreviousLink) (f : UpdateOutcome) (later : ProjectState)
     (symbol_table : SymbolTableState) (ms : List Matches) → IsFollowing h s same bytes a previous e
-    → IsFrom previous e.known e.gone (keys_of (next_listing h s).entries) from → shown bytes a ≡ link (held h)
-    → HasUpdateOutcome (next_listing h s) (lent previous from e h.contents.entries s.objects) bytes new f
+    → shown bytes a ≡ link (held h)
+    → HasUpdateOutcome (next_listing h s) (lent previous e.known e h s) bytes new f
     → IsRecorded f e previous after a b → IsKept (next_listing h s) symbol_table ms → listing_of later
     ≡ next_listing h s
     → (shown new b ≡ link (held later)) × IsKept (listing_of later) symbol_table ms
     × IsPreviousLink (listing_of later) new b after
-ended_after h s same bytes new a b e previous after from f later symbol_table ms x origins answers updated end kept is =
-    let both = ended (next_listing h s) (lent previous from e h.contents.entries s.objects) bytes new f e previous after
-    a b
+ended_after h s same bytes new a b e previous after f later symbol_table ms x answers updated end kept is =
+    let both = ended (next_listing h s) (lent previous e.known e h s) bytes new f e previous after a b
     updated end (λ later. kept_after_fault h s same bytes a e x.edit previous later e.known refl x.kept x.effect)
-    (λ v by renewed. renewed_last h s same bytes new a e previous after e.known from v x.edit refl x.kept x.effect
-    origins
+    (λ v by renewed. renewed_last h s same bytes new a e previous after e.known v x.edit refl x.kept x.effect
     answers by renewed) in (
       subst (λ (l : Listing). shown new b ≡ link (project_of l)) (sym is) both.0,
       subst (λ (l : Listing). IsKept l symbol_table ms) (sym is) kept,

@@ -11,14 +11,14 @@ use Rattle.ldmodel.specs.Image.{image}
 use Rattle.ldmodel.specs.Link.{link}
 use Rattle.ldmodel.specs.Project.{NamedObject}
 use Rattle.ldmodel.specs.Stayed.{GoodLink}
-use Rattle.ldmodel_project.specs.ProjectState.{ProjectState, Listing, project_of}
-use Rattle.ldmodel_project.specs.Listing.{Listed, found_under, objects_of}
+use Rattle.ldmodel_project.specs.ProjectState.{ProjectState, Listing, next_listing, project_of}
+use Rattle.ldmodel_project.specs.Listing.{Listed, found_under, keys_of, objects_of}
 use Rattle.ldmodel_project.specs.Edited.{is_other}
 use Rattle.ldmodel_project.specs.declared.staged.Staged.{Staged}
-use Rattle.ldmodel_project.specs.declared.staged.StagedObjects.{StagedObjects}
 use Rattle.ldmodel_project.specs.declared.staged.Step.{Step}
 use Rattle.ldmodel_project.specs.declared.staged.Step.TheVariants.{Put, Remove, Move, Stay}
 use Rattle.relink.specs.Outcome.{is_good}
+use Rattle.relink.specs.declared.lent_link.LentLink.{LentLink}
 use Rattle.relink.specs.declared.outcome.LinkOutcome.{LinkOutcome}
 use Rattle.relink.specs.declared.outcome.LinkOutcome.TheVariants as outcome
 use Rattle.relink.specs.declared.previous.EditEffect.{EditEffect}
@@ -164,33 +164,37 @@ replaced_in origin es (Remove removed) after = None
 replaced_in origin es (Move moved) after = None
 replaced_in origin es Stay after = None
 
--- the previous link as a next project takes it, beside these origins of its objects
-abbrev pub previous_view_with : PreviousLink → List (Option ℕ) → EditEffect → List Listed → StagedObjects
-    → PreviousState
-previous_view_with x from e es s = record {
+-- the previous link as a project takes it whose objects have these keys
+abbrev pub view_for : List ℕ → PreviousLink → EditEffect → ProjectState → Staged → PreviousState
+view_for keys x e h s = record {
   snapshot = x.snapshot;
   objects = length x.names.names;
-  from = from;
+  from = map (without (origin_of x.origins.items) e.gone) keys;
   same_script = x.same_script && e.same_script;
-  replaced = replaced_in (origin_of x.origins.items) es s.step s.places.after;
+  replaced = replaced_in (origin_of x.origins.items) h.contents.entries s.objects.step s.objects.places.after;
   is_current = e.is_current;
 }
 
--- where there are both
-abbrev pub lent : Option PreviousLink → Option (Vec (Option ℕ) Global) → EditEffect → List Listed → StagedObjects
-    → Option PreviousState
-lent None from e es s = None
-lent (Some x) None e es s = None
-lent (Some x) (Some v) e es s = Some (previous_view_with x v.items e es s)
+-- as the next project takes it
+abbrev pub next_view : PreviousLink → EditEffect → ProjectState → Staged → PreviousState
+next_view x e h s = view_for (keys_of (next_listing h s).entries) x e h s
 
--- the origins of these keys, if the previous link is known to have none of what comes
-abbrev pub IsFrom : Option PreviousLink → Bool → (lost : Option ℕ) → List ℕ → Option (Vec (Option ℕ) Global) → Type 0
-IsFrom None known lost keys None = ⊤
-IsFrom None known lost keys (Some v) = ⊥
-IsFrom (Some x) true lost keys None = ⊥
-IsFrom (Some x) true lost keys (Some v) = v.items ≡ map (without (origin_of x.origins.items) lost) keys
-IsFrom (Some x) false lost keys None = ⊤
-IsFrom (Some x) false lost keys (Some v) = ⊥
+-- if it is known to have none of what comes
+abbrev pub lent : Option PreviousLink → (known : Bool) → EditEffect → ProjectState → Staged → Option PreviousState
+lent None known e h s = None
+lent (Some x) false e h s = None
+lent (Some x) true e h s = Some (next_view x e h s)
+
+-- what is lent
+abbrev pub lent_state : LentLink → PreviousState
+lent_state x = view_for x.keys.now x.previous.now x.effect x.project.now x.staged.now
+
+abbrev pub lent_of : Option LentLink → Option PreviousState
+lent_of x = option_map lent_state x
+
+-- the origins of the objects of the next project, if a previous link is lent
+abbrev pub AreOriginsFor : Option PreviousState → List (Option ℕ) → Type 0
+AreOriginsFor previous from = IfSome previous (λ x. from ≡ x.from)
 
 -- after an edit to a link with faults: the previous link stays, without the origin of this key, and the script may have
 -- changed; it goes, where it isn't known to have none of what came

@@ -10,6 +10,7 @@
 #![tactic(auto)]
 
 mod change;
+mod lent_link;
 mod link_tables;
 mod match_table;
 mod name_list;

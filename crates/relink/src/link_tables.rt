@@ -1,14 +1,15 @@
 //! What a session keeps of a project beside the project and its link, and how it follows an edit.
 
 ghost use Rattle.std.specs.Prelude.{◌≡◌, IfOk, List, None, OnErr, Some};
-ghost use Rattle.relink_driver.specs.StayedSections.{previous_of};
 ghost use Rattle.symres.specs.decisions.Change.{Fits as FitsTables};
 ghost use Rattle.symres.specs.decisions.Decisions.{AreKept};
 ghost use Rattle.ldmodel_project.specs.Next.{edited_key};
+ghost use Rattle.relink.specs.PreviousLink.{lent_of};
 ghost use Rattle.relink.specs.Update.{CanUpdate, HasRoom, IsUpdated, IsRolledBack, KeepsObjects};
 ghost use Rattle.ldscript.specs.statements.declared.statement.Statement.{Statement};
 
 use crate::change::{object_change, place_of};
+use crate::lent_link::LentLink;
 use crate::match_table::{match_under, swap_matches};
 use crate::previous::UpdateOutcome;
 use crate::session_link::link_next;
@@ -20,7 +21,6 @@ use ldmodel_project::order::Order;
 use ldmodel_project::project::{Next, Project};
 use ldmodel_project::staged::Staged;
 use relink_driver::Canvas;
-use relink_driver::stayed_sections::PreviousView;
 use std::alloc::Global;
 use symres::SymbolTable;
 use symres::decisions::change::ObjectChange;
@@ -91,13 +91,13 @@ impl LinkTables {
         project: &Project,
         staged: &Staged,
         key: ObjectKey,
-        previous: Option<PreviousView<'_>>,
+        previous: Option<LentLink<'_>>,
         canvas: &mut Canvas,
         meter: &mut Meter,
     ) -> Result<UpdateOutcome, NoMemory>
-        requires given { CanUpdate project.now staged.now self.old (previous_of previous) canvas.old.bytes }
+        requires given { CanUpdate project.now staged.now self.old (lent_of previous) canvas.old.bytes }
         requires edited { edited_key staged.now.objects.step ≡ Some key.0 }
-        ensures updated { IfOk result (IsUpdated project.now staged.now (previous_of previous.entry) self.new
+        ensures updated { IfOk result (IsUpdated project.now staged.now (lent_of previous.entry) self.new
             canvas.old.bytes canvas.new.bytes meter.old meter.new) }
         ensures back { OnErr result (IsRolledBack project.now self.new canvas.old.bytes canvas.new.bytes) }
     {
@@ -139,13 +139,13 @@ impl LinkTables {
         alloc: Global,
         project: &Project,
         staged: &Staged,
-        previous: Option<PreviousView<'_>>,
+        previous: Option<LentLink<'_>>,
         canvas: &mut Canvas,
         meter: &mut Meter,
     ) -> Result<UpdateOutcome, NoMemory>
-        requires given { CanUpdate project.now staged.now self.old (previous_of previous) canvas.old.bytes }
+        requires given { CanUpdate project.now staged.now self.old (lent_of previous) canvas.old.bytes }
         requires edited { edited_key staged.now.objects.step ≡ None }
-        ensures updated { IfOk result (IsUpdated project.now staged.now (previous_of previous.entry) self.new
+        ensures updated { IfOk result (IsUpdated project.now staged.now (lent_of previous.entry) self.new
             canvas.old.bytes canvas.new.bytes meter.old meter.new) }
         ensures back { OnErr result (IsRolledBack project.now self.new canvas.old.bytes canvas.new.bytes) }
     {
@@ -183,12 +183,12 @@ impl LinkTables {
         alloc: Global,
         project: &Project,
         staged: &Staged,
-        previous: Option<PreviousView<'_>>,
+        previous: Option<LentLink<'_>>,
         canvas: &mut Canvas,
         meter: &mut Meter,
     ) -> Result<UpdateOutcome, NoMemory>
-        requires { CanUpdate project.now staged.now self.old (previous_of previous) canvas.old.bytes }
-        ensures updated { IfOk result (IsUpdated project.now staged.now (previous_of previous.entry) self.new
+        requires { CanUpdate project.now staged.now self.old (lent_of previous) canvas.old.bytes }
+        ensures updated { IfOk result (IsUpdated project.now staged.now (lent_of previous.entry) self.new
             canvas.old.bytes canvas.new.bytes meter.old meter.new) }
         ensures back { OnErr result (IsRolledBack project.now self.new canvas.old.bytes canvas.new.bytes) }
     {

@@ -6,18 +6,20 @@ ghost use Rattle.std.specs.Option.{option_copied, option_map};
 ghost use Rattle.relink_driver.specs.StayedSections.{previous_of, replaced_state};
 ghost use Rattle.ldmodel.specs.Project.{NamedObject};
 ghost use Rattle.ldmodel_project.specs.Listing.{keys_of};
-ghost use Rattle.relink.specs.PreviousLink.{IsAfterFault, IsEffect, IsRecorded, IsFrom, IsNoneOf};
+ghost use Rattle.ldmodel_project.specs.ProjectState.{next_listing};
+ghost use Rattle.relink.specs.PreviousLink.{AreOriginsFor, IsAfterFault, IsEffect, IsRecorded, IsNoneOf};
 ghost use Rattle.relink.specs.PreviousLink.{AreOriginsRefreshed, IsSince};
-ghost use Rattle.relink.specs.PreviousLink.{Knows, PutsNoneOf, changed_key, lent, lost_key, origin_of, replaced_by};
-ghost use Rattle.relink.specs.PreviousLink.{replaced_in, without};
+ghost use Rattle.relink.specs.PreviousLink.{Knows, PutsNoneOf, changed_key, lent, lent_of, lost_key};
+ghost use Rattle.relink.specs.PreviousLink.{origin_of, replaced_by, replaced_in, without};
 
+use crate::lent_link::LentLink;
 use crate::name_list::NameList;
 use crate::outcome::LinkOutcome;
 use elfobj::Object;
 use ldmodel::memory::NoMemory;
 use ldmodel::names::{ObjectKey, ObjectPlace};
 use ldmodel_project::named::NamedObject;
-use ldmodel_project::project::{Next, Project};
+use ldmodel_project::project::Project;
 use ldmodel_project::staged::Staged;
 use relink_driver::link_snapshot::LinkSnapshot;
 use relink_driver::stayed_sections::{PreviousView, ReplacedObject};
@@ -161,7 +163,11 @@ impl PreviousLink {
     }
 
     /// The object of the previous link in whose place an edit puts one, if it is still there.
-    fn replaced<'a>(&self, project: &'a Project, staged: &Staged) -> Option<ReplacedObject<'a>>
+    pub(crate) fn replaced<'a>(
+        &self,
+        project: &'a Project,
+        staged: &Staged,
+    ) -> Option<ReplacedObject<'a>>
         ensures { option_map replaced_state result ≡ replaced_in (origin_of self.now.origins.items)
             project.now.contents.entries staged.now.objects.step staged.now.objects.places.after }
     {
@@ -175,19 +181,17 @@ impl PreviousLink {
         }
     }
 
-    /// The origins of the objects of a next project, in their order; that which comes has none. Fails where memory runs
-    /// out.
-    fn origins_of(
+    /// The origins of the objects under these keys, in their order; that under the key `gone` has none. Fails where
+    /// memory runs out.
+    pub(crate) fn origins_of(
         &self,
         alloc: Global,
-        next: &Next<'_>,
+        keys: &[usize],
         gone: Option<usize>,
     ) -> Result<Vec<Option<usize>>, NoMemory>
-        ensures { IfOk result (λ v. v.items
-            ≡ map (without (origin_of self.now.origins.items) gone) (keys_of next.now.entries)) }
+        ensures { IfOk result (λ v. v.items ≡ map (without (origin_of self.now.origins.items) gone) keys.now) }
     {
-        next.keys()
-            .iter()
+        keys.iter()
             .map(|key| self.origin_unless(gone, *key))
             .collect(alloc)
     }
@@ -269,48 +273,58 @@ pub(crate) fn effect_of(
     }
 }
 
-/// The origins of the objects of a next project in the previous link, where that is known to have none of what comes.
+/// The previous link, lent to the link of the next project, whose objects have these keys, if it is known to have none
+/// of what comes.
+pub(crate) fn lend_previous<'a>(
+    previous: &'a Option<PreviousLink>,
+    effect: EditEffect,
+    project: &'a Project,
+    staged: &'a Staged,
+    keys: &'a [usize],
+) -> Option<LentLink<'a>>
+    requires { keys.now ≡ keys_of (next_listing project.now staged.now).entries }
+    ensures { lent_of result ≡ lent previous.now effect.known effect project.now staged.now }
+{
+    match previous {
+        Some(previous) if effect.known => Some(LentLink {
+            previous,
+            effect,
+            project,
+            staged,
+            keys,
+        }),
+        _ => None,
+    }
+}
+
+/// The origins of the objects of the next project, if a previous link is lent.
 ///
 /// # Errors
 ///
 /// Where memory runs out.
 pub(crate) fn origins_for(
     alloc: Global,
-    previous: &Option<PreviousLink>,
-    effect: EditEffect,
-    next: &Next<'_>,
-) -> Result<Option<Vec<Option<usize>>>, NoMemory>
-    ensures { IfOk result (λ from. IsFrom previous.now effect.known effect.gone (keys_of next.now.entries) from) }
+    previous: &Option<LentLink<'_>>,
+) -> Result<Vec<Option<usize>>, NoMemory>
+    ensures { IfOk result (λ from. AreOriginsFor (lent_of previous.now) from.items) }
 {
     match previous {
-        Some(previous) if effect.known => Ok(Some(previous.origins_of(alloc, next, effect.gone)?)),
-        _ => Ok(None),
+        None => Ok(Vec::new(alloc)),
+        Some(previous) => previous.origins(alloc),
     }
 }
 
-/// The previous link with these origins, lent to the next link.
+/// The previous link that is lent, beside the origins of the objects of the next project.
 pub(crate) fn view_previous<'a>(
-    previous: &'a Option<PreviousLink>,
-    from: &'a Option<Vec<Option<usize>>>,
-    effect: EditEffect,
-    project: &'a Project,
-    staged: &Staged,
+    previous: &Option<LentLink<'a>>,
+    from: &'a [Option<usize>],
 ) -> Option<PreviousView<'a>>
-    ensures { previous_of result ≡ lent previous.now from.now effect project.now.contents.entries staged.now.objects }
+    requires { AreOriginsFor (lent_of previous.now) from.now }
+    ensures { previous_of result ≡ lent_of previous.now }
 {
     match previous {
         None => None,
-        Some(previous) => match from {
-            None => None,
-            Some(from) => Some(PreviousView {
-                snapshot: &previous.snapshot,
-                objects: previous.names.len(),
-                from,
-                same_script: previous.same_script && effect.same_script,
-                replaced: previous.replaced(project, staged),
-                is_current: effect.is_current,
-            }),
-        },
+        Some(previous) => Some(previous.view(from)),
     }
 }
 

@@ -11,9 +11,7 @@ ghost use Rattle.relink_driver.specs.Applied.{Applied};
 
 use crate::link_tables::LinkTables;
 use crate::outcome::LinkOutcome;
-use crate::previous::{
-    EditEffect, PreviousLink, effect_of, origins_for, record_outcome, view_previous,
-};
+use crate::previous::{EditEffect, PreviousLink, effect_of, lend_previous, record_outcome};
 use crate::session_link::link_first;
 use crate::unchanged::{is_unchanged, puts_same};
 use ldmodel::edit::{Edit, EditRefusal, Linked};
@@ -148,14 +146,9 @@ impl Session {
             return Ok(self.outcome.summary(&self.canvas));
         }
         let next = self.project.next(&staged);
-        // so that it is known that each object has a key of its own
-        let _keys = next.keys();
+        let keys = next.keys();
         let effect = effect_of(&self.previous, &self.outcome, &self.project, &staged, same);
-        let from = match origins_for(self.alloc, &self.previous, effect, &next) {
-            Err(_) => return Err(EditRefusal::NoMemory),
-            Ok(from) => from,
-        };
-        let previous = view_previous(&self.previous, &from, effect, &self.project, &staged);
+        let previous = lend_previous(&self.previous, effect, &self.project, &staged, keys);
         match self.kept.update(
             self.alloc,
             &self.project,

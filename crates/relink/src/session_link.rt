@@ -2,18 +2,18 @@
 
 ghost use Rattle.std.specs.Prelude.{◌≡◌, IfOk, IfSome, None, OnErr, OnOk};
 ghost use Rattle.gather.specs.ProjectMatches.{AreMatched};
-ghost use Rattle.relink_driver.specs.StayedSections.{previous_of};
 ghost use Rattle.symres.specs.SymbolTable.{IsSymbolTable};
 ghost use Rattle.ldmodel_project.specs.ProjectState.{Listing, listing_of, project_of};
 ghost use Rattle.ldmodel_project.specs.Listing.{AreKeysDistinct, keys_of};
 ghost use Rattle.relink.specs.Kept.{IsKept};
-ghost use Rattle.relink.specs.PreviousLink.{HasUpdateOutcome};
+ghost use Rattle.relink.specs.PreviousLink.{HasUpdateOutcome, lent_of};
 ghost use Rattle.relink.specs.Work.{HasWorked};
 ghost use Rattle.relink_driver.specs.RelinkOutcome.{HasPreviousImage};
 ghost use Rattle.relink_driver.specs.Reads.{ReadsNothing};
 
+use crate::lent_link::LentLink;
 use crate::name_list::{names_in_room, room_for_names};
-use crate::previous::{PreviousLink, UpdateOutcome};
+use crate::previous::{PreviousLink, UpdateOutcome, origins_for, view_previous};
 use gather::matches::{Matches, lend_all};
 use ldmodel::memory::NoMemory;
 use ldmodel::meter::Meter;
@@ -24,7 +24,6 @@ use ldmodel_project::view::ProjectView;
 use relink_driver::Canvas;
 use relink_driver::driver::{RelinkOutcome, relink};
 use relink_driver::name_faults::name_fault_lines;
-use relink_driver::stayed_sections::PreviousView;
 use std::alloc::Global;
 use symres::SymbolTable;
 
@@ -36,19 +35,19 @@ fn link_keyed(
     keys: &[usize],
     symbol_table: &SymbolTable,
     matches: &[Matches],
-    previous: Option<PreviousView<'_>>,
+    previous: Option<LentLink<'_>>,
     canvas: &mut Canvas,
     meter: &mut Meter,
 ) -> Result<UpdateOutcome, NoMemory>
     requires distinct { AreKeysDistinct keys.now }
     requires symbol_table { IsSymbolTable project.now symbol_table.now }
     requires matches { AreMatched project.now matches.now }
-    requires previous { IfSome (previous_of previous) (HasPreviousImage project.now canvas.old.bytes) }
+    requires previous { IfSome (lent_of previous) (HasPreviousImage project.now canvas.old.bytes) }
     ensures updated { IfOk result (λ r. (l : Listing) → project.now ≡ project_of l → keys.now ≡ keys_of l.entries
-        → HasUpdateOutcome l (previous_of previous.entry) canvas.old.bytes canvas.new.bytes r) }
+        → HasUpdateOutcome l (lent_of previous.entry) canvas.old.bytes canvas.new.bytes r) }
     ensures unchanged { OnErr result (canvas.new.bytes ≡ canvas.old.bytes) }
     ensures reads { OnOk result (ReadsNothing meter.old meter.new) }
-    ensures worked { IfOk result (HasWorked project.now (previous_of previous.entry) meter.old meter.new) }
+    ensures worked { IfOk result (HasWorked project.now (lent_of previous.entry) meter.old meter.new) }
 {
     found_where_placed();
     // while a project is opened its names mostly have a fault: what goes over all objects is made only after them
@@ -59,6 +58,8 @@ fn link_keyed(
     let origins = places_of(alloc, keys)?;
     let inputs = project.inputs();
     let names = room_for_names(alloc, inputs)?;
+    let from = origins_for(alloc, &previous)?;
+    let previous = view_previous(&previous, &from);
     match relink(alloc, project, symbol_table, &lent, previous, canvas, meter) {
         Err(refused) => Err(refused),
         Ok(RelinkOutcome::Faulty(text)) => Ok(UpdateOutcome::Faulty(text)),
@@ -86,17 +87,17 @@ pub(crate) fn link_next(
     next: &Next<'_>,
     symbol_table: &SymbolTable,
     matches: &[Matches],
-    previous: Option<PreviousView<'_>>,
+    previous: Option<LentLink<'_>>,
     canvas: &mut Canvas,
     meter: &mut Meter,
 ) -> Result<UpdateOutcome, NoMemory>
     requires kept { IsKept next.now symbol_table.now matches.now }
-    requires previous { IfSome (previous_of previous) (HasPreviousImage (project_of next.now) canvas.old.bytes) }
+    requires previous { IfSome (lent_of previous) (HasPreviousImage (project_of next.now) canvas.old.bytes) }
     ensures updated { IfOk result (HasUpdateOutcome next.now
-        (previous_of previous.entry) canvas.old.bytes canvas.new.bytes) }
+        (lent_of previous.entry) canvas.old.bytes canvas.new.bytes) }
     ensures unchanged { OnErr result (canvas.new.bytes ≡ canvas.old.bytes) }
     ensures reads { OnOk result (ReadsNothing meter.old meter.new) }
-    ensures worked { IfOk result (HasWorked (project_of next.now) (previous_of previous.entry) meter.old meter.new) }
+    ensures worked { IfOk result (HasWorked (project_of next.now) (lent_of previous.entry) meter.old meter.new) }
 {
     symbol_table.names_kept();
     let inputs = next.inputs(alloc)?;

@@ -1,8 +1,10 @@
-use Rattle.std.proofs.Common.{◌∙◌, ap, map, refl, subst, true}
+use Rattle.std.proofs.Common.{◌∙◌, Option, ap, map, refl, subst, true}
 use Rattle.ldmodel.specs.Project.{NamedObject}
-use Rattle.relink_driver.specs.StayedSections.{previous_of}
+use Rattle.relink_driver.specs.StayedSections.{PreviousState, previous_of}
+use Rattle.relink_driver.specs.InPlace.{IsInPlaceOutcome}
 use Rattle.relink_driver.specs.RelinkOutcome.{HasRelinkOutcome}
-use Rattle.relink_driver.specs.Worked.{HasWorked}
+use Rattle.relink.specs.PreviousLink.{lent_of}
+use Rattle.relink_driver.specs.Worked.{HasWorked, IsWorkBeside}
 use Rattle.relink.proofs.Lending.{followed_again, followed_good}
 use Rattle.relink.proofs.session_link.link_keyed.Goals as goal
 
@@ -17,21 +19,25 @@ returns-clause-updated c = λ l is keys.
     })
     c.in-Ok-Good.map.items is keys c.requires.distinct
     (subst (HasRelinkOutcome c.args.project.now
-    (previous_of c.args.previous) c.args.canvas.now.bytes c.relink.new.canvas.bytes)
+    (previous_of c.view_previous-previous.result) c.args.canvas.now.bytes c.relink.new.canvas.bytes)
     c.in-Ok-Good.field-0-is c.in-Ok-Good.ensures.ended)
     (c.names_in_room.ensures ∙ ap (map (λ (o : NamedObject). o.name)) c.inputs-inputs.ensures.same) c.in_ok-origins.ensures
     (c.found_where_placed.ensures l.entries) refl
 
 pub returns-clause-worked : goal.returns-clause-worked
 returns-clause-worked c =
-    subst (HasWorked c.args.project.now (previous_of c.args.previous) c.args.meter.now c.relink.new.meter)
-    c.in-Ok-Good.field-0-is c.in-Ok-Good.ensures.worked
+    subst (λ (x : Option PreviousState). IsWorkBeside c.args.project.now x c.args.meter.now c.relink.new.meter)
+    c.view_previous-previous.ensures
+    (subst (HasWorked c.args.project.now (previous_of c.view_previous-previous.result) c.args.meter.now
+    c.relink.new.meter) c.in-Ok-Good.field-0-is c.in-Ok-Good.ensures.worked)
 
 pub returns-in-Ok-RewrittenInPlace-clause-updated : goal.returns-in-Ok-RewrittenInPlace-clause-updated
 returns-in-Ok-RewrittenInPlace-clause-updated c = λ l is keys.
-    followed_again l c.args.project.now c.args.keys.now (previous_of c.args.previous) c.relink.new.canvas.bytes
+    followed_again l c.args.project.now c.args.keys.now (lent_of c.args.previous) c.relink.new.canvas.bytes
     c.in_ok-origins.origins.items is keys c.requires.distinct
+    (subst (λ (x : Option PreviousState). IsInPlaceOutcome c.args.project.now x c.relink.new.canvas.bytes)
+    c.view_previous-previous.ensures
     (subst (HasRelinkOutcome c.args.project.now
-    (previous_of c.args.previous) c.args.canvas.now.bytes c.relink.new.canvas.bytes)
-    c.in-Ok-RewrittenInPlace.field-0-is c.in-Ok-RewrittenInPlace.ensures.ended) c.in_ok-origins.ensures
+    (previous_of c.view_previous-previous.result) c.args.canvas.now.bytes c.relink.new.canvas.bytes)
+    c.in-Ok-RewrittenInPlace.field-0-is c.in-Ok-RewrittenInPlace.ensures.ended)) c.in_ok-origins.ensures
     (c.found_where_placed.ensures l.entries)

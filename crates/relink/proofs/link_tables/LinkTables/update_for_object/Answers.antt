@@ -1,7 +1,6 @@
 use Rattle.std.proofs.Common.{◌∙◌, ℕ, List, Option, ap, arith, length, map, refl, subst, sym}
 use Rattle.std.specs.Vec.{vec_len}
 use Rattle.gather.specs.declared.matches.Matches.{Matches}
-use Rattle.relink_driver.specs.StayedSections.{previous_of}
 use Rattle.symres.specs.decisions.Change.{Table, changed_tables}
 use Rattle.symres.specs.decisions.Decisions.{AreKept}
 use Rattle.ldmodel_project.specs.ProjectState.{Listing, next_listing}
@@ -11,6 +10,7 @@ use Rattle.ldscript.specs.statements.declared.statement.Statement.{Statement}
 use Rattle.relink.specs.Change.{place_at}
 use Rattle.relink.specs.Kept.{IsKept}
 use Rattle.relink.specs.Matches.{exchanged, gone_at}
+use Rattle.relink.specs.PreviousLink.{lent_of}
 use Rattle.relink.proofs.Exchanged.{MayStand, Stands, added_within, exchanged_as, gone_as, into_within, may_after}
 use Rattle.relink.proofs.Exchanged.{out_within, stands_after}
 use Rattle.relink.proofs.Following.{both_come, coming_of, kept_after, kept_back, kept_forgetting}
@@ -193,7 +193,7 @@ returns-in-Ok-clause-updated c =
     (c.script-script.ensures ∙ ap (λ (l : Listing). l.script) c.next-next.ensures.next) c.change-order.ensures.kept)
     (coming_of h s c.args.key.0 c.next-next.result x coming c.next-next.ensures.next c.object_change-change.ensures.is
     c.in_ok-coming.ensures.room.coming))) in
-    is_followed h s (previous_of c.args.previous) _ c.args.canvas.now.bytes c.link_next.new.canvas.bytes
+    is_followed h s (lent_of c.args.previous) _ c.args.canvas.now.bytes c.link_next.new.canvas.bytes
     c.args.meter.now
     c.change-order.new.meter c.link_next.new.meter c.in-Ok.updated c.next-next.result _ c.next-next.ensures.next kept
     c.change-order.ensures.counted

@@ -1,12 +1,12 @@
 use Rattle.std.proofs.Common.{◌∙◌, List, ap, subst, sym}
 use Rattle.gather.specs.ProjectMatches.{AreMatched}
-use Rattle.relink_driver.specs.StayedSections.{previous_of}
 use Rattle.symres.specs.decisions.Counted.{declared_names}
 use Rattle.symres.specs.decisions.Decisions.{AreKept}
 use Rattle.ldmodel.specs.Project.{Project}
 use Rattle.ldmodel_project.specs.ProjectState.{Listing, project_of}
 use Rattle.ldscript.specs.statements.declared.statement.Statement.{Statement}
 use Rattle.relink.specs.Change.{names_of_step}
+use Rattle.relink.specs.PreviousLink.{lent_of}
 use Rattle.relink.proofs.Followed.{is_followed}
 use Rattle.relink.proofs.Following.{kept_scripted}
 use Rattle.relink.proofs.link_tables.LinkTables.update_for_script.Goals as goal
@@ -24,7 +24,7 @@ returns-in-Ok-clause-updated c =
     (c.script.ensures ∙ ap (λ (l : Listing). l.script) c.next-next.ensures.next) c.redecide.ensures.kept)
     (subst (λ (p : Project). AreMatched p all)
     (c.view.ensures ∙ ap project_of c.next-next.ensures.next) c.in_ok-matches.ensures) in
-    is_followed h s (previous_of c.args.previous) _ c.args.canvas.now.bytes c.link_next.new.canvas.bytes
+    is_followed h s (lent_of c.args.previous) _ c.args.canvas.now.bytes c.link_next.new.canvas.bytes
     c.args.meter.now
     c.redecide.new.meter c.link_next.new.meter c.in-Ok.updated c.next-next.result _ c.next-next.ensures.next kept
     c.redecide.ensures.counted

@@ -6,14 +6,14 @@ use Rattle.ldmodel.specs.Edits.{Change}
 use Rattle.ldmodel.specs.Link.{link}
 use Rattle.ldmodel.specs.Project.{Project}
 use Rattle.ldmodel_project.specs.ProjectState.{ProjectState, Listing, held, listing_of, next_listing, project_of}
-use Rattle.ldmodel_project.specs.Listing.{Listed, keys_of}
+use Rattle.ldmodel_project.specs.Listing.{Listed}
 use Rattle.ldmodel_project.specs.Next.{KeysAreStable}
 use Rattle.ldmodel_project.specs.declared.staged.Staged.{Staged}
 use Rattle.relink_driver.specs.RelinkOutcome.{HasPreviousImage}
 use Rattle.relink.specs.Outcome.{shown}
 use Rattle.relink.specs.Change.{names_of_edit}
 use Rattle.relink.specs.Kept.{IsKept}
-use Rattle.relink.specs.PreviousLink.{HasUpdateOutcome, IsFrom, IsPreviousLink}
+use Rattle.relink.specs.PreviousLink.{HasUpdateOutcome, IsPreviousLink}
 use Rattle.relink.specs.Work.{HasWorked, IsWholeWork}
 use Rattle.relink.specs.declared.outcome.LinkOutcome.{LinkOutcome}
 use Rattle.relink.specs.declared.previous.EditEffect.{EditEffect}
@@ -22,7 +22,6 @@ use Rattle.relink.proofs.Bounding.{leaves_script, unchanged_work, whole_work}
 use Rattle.relink.proofs.Following.{same_held}
 use Rattle.relink.proofs.Lending.{IsFollowing, ended_after, following, last_lent, same_listing}
 use Rattle.relink.proofs.Working.{AreSmall, decided_from, is_work, objects_of_edit, same_touched}
-use Rattle.relink.proofs.session.Session.apply_edit.Goals.{in-Some-5, in-None-5}
 use Rattle.relink.proofs.session.Session.apply_edit.Goals as goal
 
 pub returns-then-is_unchanged-clause-counted : goal.returns-then-is_unchanged-clause-counted
@@ -65,9 +64,6 @@ update-requires c =
     c.found_where_placed.ensures c.puts_same-same.ensures.same c.puts_same-same.ensures.other
     c.puts_same-same.ensures.named c.effect_of-effect.ensures in
     let next : Listing = next_listing h s in
-    let from : IsFrom previous e.known e.gone (keys_of next.entries) c.in-Ok-origins_for.from =
-    subst (λ (l : Listing). IsFrom previous e.known e.gone (keys_of l.entries) c.in-Ok-origins_for.from)
-    c.next-next.ensures.next c.in-Ok-origins_for.ensures in
     record {
       fits = c.in-Ok.ensures.staged.0;
       arranged = c.in-Ok.ensures.staged.2;
@@ -75,10 +71,8 @@ update-requires c =
       kept = subst (λ (l : Listing). IsKept l c.self.inside.kept.symbol_table c.self.inside.kept.matches.items)
           (same_listing c.self.inside.project h c.in-Ok.ensures.same) c.self.invariant.1;
       previous = subst (λ (x : Option PreviousState). IfSome x (HasPreviousImage (project_of next) bytes))
-          (sym c.view_previous-previous.ensures)
-          (last_lent h s same bytes a e given.edit previous e.known c.in-Ok-origins_for.from refl given.kept
-          given.effect
-          from);
+          (sym c.lend_previous-previous.ensures)
+          (last_lent h s same bytes a e given.edit previous e.known refl given.kept given.effect);
     }
 
 pub invariant_of-self-in-Ok-update : goal.invariant_of-self-in-Ok-update
@@ -97,47 +91,14 @@ invariant_of-self-in-Ok-update c =
     c.found_where_placed.ensures c.puts_same-same.ensures.same c.puts_same-same.ensures.other
     c.puts_same-same.ensures.named c.effect_of-effect.ensures in
     let next : Listing = next_listing h s in
-    let from : IsFrom previous e.known e.gone (keys_of next.entries) c.in-Ok-origins_for.from =
-    subst (λ (l : Listing). IsFrom previous e.known e.gone (keys_of l.entries) c.in-Ok-origins_for.from)
-    c.next-next.ensures.next c.in-Ok-origins_for.ensures in
     let answers : shown bytes a ≡ link (held h) =
     c.self.invariant.0 ∙ ap link (sym (same_held c.self.inside.project h c.in-Ok.ensures.same)) in
     let updated = subst (λ (x : Option PreviousState). HasUpdateOutcome next x bytes c.update.new.canvas.bytes
-    c.in-Ok-update.updated) c.view_previous-previous.ensures c.in-Ok-update.ensures.updated.link in
+    c.in-Ok-update.updated) c.lend_previous-previous.ensures c.in-Ok-update.ensures.updated.link in
     ended_after h s same bytes c.update.new.canvas.bytes a c.record_outcome.new.outcome e previous
     c.record_outcome.new.previous
-    c.in-Ok-origins_for.from c.in-Ok-update.updated c.commit.new.self c.update.new.self.symbol_table
-    c.update.new.self.matches.items given from answers updated c.record_outcome.ensures
-    c.in-Ok-update.ensures.updated.kept
-    c.commit.ensures.next
-
-pub invariant_of-self-in-Ok-update-2 : goal.invariant_of-self-in-Ok-update-2
-invariant_of-self-in-Ok-update-2 c =
-    let h : ProjectState = c.stage.new.self in
-    let s : Staged = c.in-Ok.staged in
-    let same = c.puts_same-same.result in
-    let a : LinkOutcome = c.self.inside.outcome in
-    let e : EditEffect = c.effect_of-effect.result in
-    let previous : Option PreviousLink = c.self.inside.previous in
-    let bytes : List ℕ = c.self.inside.canvas.bytes in
-    let given : IsFollowing h s same bytes a previous e =
-    following c.self.inside.project h s same bytes a previous e c.next-next.result c.keys-keys.result.now
-    c.in-Ok.ensures.same c.self.invariant.2 c.in-Ok.ensures.staged.0 c.in-Ok.ensures.staged.2
-    c.next-next.ensures.next c.next-next.ensures.found c.keys-keys.ensures.value c.keys-keys.ensures.distinct
-    c.found_where_placed.ensures c.puts_same-same.ensures.same c.puts_same-same.ensures.other
-    c.puts_same-same.ensures.named c.effect_of-effect.ensures in
-    let next : Listing = next_listing h s in
-    let from : IsFrom previous e.known e.gone (keys_of next.entries) c.in-Ok-origins_for.from =
-    subst (λ (l : Listing). IsFrom previous e.known e.gone (keys_of l.entries) c.in-Ok-origins_for.from)
-    c.next-next.ensures.next c.in-Ok-origins_for.ensures in
-    let answers : shown bytes a ≡ link (held h) =
-    c.self.invariant.0 ∙ ap link (sym (same_held c.self.inside.project h c.in-Ok.ensures.same)) in
-    let updated = subst (λ (x : Option PreviousState). HasUpdateOutcome next x bytes c.update.new.canvas.bytes
-    c.in-Ok-update.updated) c.view_previous-previous.ensures c.in-Ok-update.ensures.updated.link in
-    ended_after h s same bytes c.update.new.canvas.bytes a c.record_outcome.new.outcome e previous
-    c.record_outcome.new.previous
-    c.in-Ok-origins_for.from c.in-Ok-update.updated c.commit.new.self c.update.new.self.symbol_table
-    c.update.new.self.matches.items given from answers updated c.record_outcome.ensures
+    c.in-Ok-update.updated c.commit.new.self c.update.new.self.symbol_table
+    c.update.new.self.matches.items given answers updated c.record_outcome.ensures
     c.in-Ok-update.ensures.updated.kept
     c.commit.ensures.next
 
@@ -157,9 +118,6 @@ returns-in-Ok-update-clause-counted c =
     c.found_where_placed.ensures c.puts_same-same.ensures.same c.puts_same-same.ensures.other
     c.puts_same-same.ensures.named c.effect_of-effect.ensures in
     let next : Listing = next_listing h s in
-    let from : IsFrom previous e.known e.gone (keys_of next.entries) c.in-Ok-origins_for.from =
-    subst (λ (l : Listing). IsFrom previous e.known e.gone (keys_of l.entries) c.in-Ok-origins_for.from)
-    c.next-next.ensures.next c.in-Ok-origins_for.ensures in
     let change : Change = change_of c.args.edit in
     let stable = subst (λ (es : List Listed). KeysAreStable h.contents.entries es)
     (ap (λ (l : Listing). l.entries) c.commit.ensures.next) c.commit.ensures.stable in
@@ -181,22 +139,15 @@ returns-in-Ok-update-clause-counted c =
     let answers : shown bytes a ≡ link (held h) =
     c.self.invariant.0 ∙ ap link (sym (same_held c.self.inside.project h c.in-Ok.ensures.same)) in
     let worked = subst (λ (x : Option PreviousState). HasWorked (project_of next) x c.stage.new.meter c.update.new.meter
-    c.in-Ok-update.updated) c.view_previous-previous.ensures c.in-Ok-update.ensures.updated.worked in
+    c.in-Ok-update.updated) c.lend_previous-previous.ensures c.in-Ok-update.ensures.updated.worked in
     let updated = subst (λ (x : Option PreviousState). HasUpdateOutcome next x bytes c.update.new.canvas.bytes
-    c.in-Ok-update.updated) c.view_previous-previous.ensures c.in-Ok-update.ensures.updated.link in
+    c.in-Ok-update.updated) c.lend_previous-previous.ensures c.in-Ok-update.ensures.updated.link in
     let work : IsWholeWork (held h) change (project_of next) c.args.meter.now c.update.new.meter =
-    whole_work h s same bytes c.update.new.canvas.bytes a e previous c.in-Ok-origins_for.from c.in-Ok-update.updated
-    change
-    c.args.meter.now c.stage.new.meter c.update.new.meter given answers from updated worked small read
+    whole_work h s same bytes c.update.new.canvas.bytes a e previous c.in-Ok-update.updated change
+    c.args.meter.now c.stage.new.meter c.update.new.meter given answers updated worked small read
     c.in-Ok-update.ensures.updated.decides.objects exact
     (leaves_script h change s c.in-Ok.ensures.staged.3 c.in-Ok.ensures.named) reading in
-    let counted = subst (λ (p : Project). IsWholeWork p change (held c.commit.new.self) c.args.meter.now
+    subst (λ (p : Project). IsWholeWork p change (held c.commit.new.self) c.args.meter.now
     c.update.new.meter) (same_held c.self.inside.project h c.in-Ok.ensures.same ∙ c.self.view_is)
     (subst (λ (l : Listing). IsWholeWork (held h) change (project_of l) c.args.meter.now c.update.new.meter)
-    (sym c.commit.ensures.next) work) in
-    elim c.match-from-2.branch [
-      | in-Some-5 w ↦ subst (λ (p : Project). IsWholeWork c.args.self.now change p c.args.meter.now
-          c.update.new.meter) (sym w.self-is) counted
-      | in-None-5 w ↦ subst (λ (p : Project). IsWholeWork c.args.self.now change p c.args.meter.now
-          c.update.new.meter) (sym w.self-is) counted
-    ]
+    (sym c.commit.ensures.next) work)
