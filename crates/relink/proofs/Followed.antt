@@ -1,5 +1,7 @@
 -- An edit has been followed: its link, what is kept, and the counts.
-use Rattle.std.proofs.Common.{◌≡◌, ◌∙◌, ◌++◌, ℕ, List, Option, Some, ap, subst, sym}
+use Rattle.std.proofs.Common.{◌≡◌, ◌∙◌, ◌++◌, ℕ, List, Option, Some, None, ap, subst, sym}
+use Rattle.std.specs.Prelude.{IfSome}
+use Rattle.std.proofs.lemmas.Option.{same_Some}
 use Rattle.elfobj.specs.Counts.{Counts}
 use Rattle.relink_driver.specs.Reads.{ReadsNothing}
 use Rattle.relink_driver.specs.StayedSections.{PreviousState}
@@ -20,6 +22,11 @@ use Rattle.relink.specs.declared.link_tables.LinkTables.{LinkTables}
 use Rattle.relink.specs.declared.previous.UpdateOutcome.{UpdateOutcome}
 use Rattle.relink.proofs.Bounding.{names_link_nothing, worked_from}
 use Rattle.relink.proofs.Working.{decides}
+
+-- what holds of what there is
+pub of_some : {A : Type 0} (F : A → Type 0) (o : Option A) (x : A) → o ≡ Some x → IfSome o F → F x
+of_some F None x is holds = absurd (cc)
+of_some F (Some y) x is holds = subst F (same_Some y x is) holds
 
 -- what a change of an object declares is what the edit touches
 pub names_of_change : (entries : List Listed) (s : StagedObjects) (key : ℕ) (x : ObjectChange)

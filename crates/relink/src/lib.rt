@@ -5,7 +5,8 @@
 //!   nothing;
 //! - `change`, `match_table`: what an edit changes under a key; the matches of all objects;
 //! - `name_list`: the names of the objects of a link;
-//! - `previous`, `session_link`: the previous link without faults, and a link over it; `outcome`: what the queries get;
+//! - `previous`, `lent_link`, `session_link`: the previous link without faults, lent to the next one, and a link over it;
+//!   `outcome`: what the queries get;
 //! - the parts `project` (the crate `ldmodel_project`) and `driver`. Programs name this crate alone.
 #![tactic(auto)]
 

@@ -23,7 +23,7 @@ use ldmodel_project::project::{Next, Project};
 use ldmodel_project::view::ProjectView;
 use relink_driver::Canvas;
 use relink_driver::driver::{RelinkOutcome, relink};
-use relink_driver::name_faults::name_fault_lines;
+use relink_driver::name_faults::{entry_fault_line, name_fault_lines};
 use std::alloc::Global;
 use symres::SymbolTable;
 
@@ -100,6 +100,10 @@ pub(crate) fn link_next(
     ensures worked { IfOk result (HasWorked (project_of next.now) (lent_of previous.entry) meter.old meter.new) }
 {
     symbol_table.names_kept();
+    // while a project is opened it mostly has no entry symbol: its objects are gone over only after that
+    if let Some(text) = entry_fault_line(alloc, next.script(), next.options(), symbol_table)? {
+        return Ok(UpdateOutcome::Faulty(text));
+    }
     let inputs = next.inputs(alloc)?;
     let view = next.view(&inputs);
     link_keyed(

@@ -1,20 +1,26 @@
 -- Early ends of a link, and its end.
 use Rattle.std.proofs.Common.{◌≡◌, ◌∙◌, ◌<◌, ◌≤◌, ℕ, Bool, true, false, cond, List, [], ◌∷◌, length, map, arith}
 use Rattle.std.proofs.Common.{ap, refl, sym}
-use Rattle.std.specs.Prelude.{Some, None, Ok, Err, nat_lt}
+use Rattle.std.specs.Prelude.{Some, None, Ok, Option, Err, nat_lt, unwrap_or}
+use Rattle.std.specs.Option.{option_or}
 use Rattle.std.proofs.lemmas.Bool.{ltb-false}
 use Rattle.std.proofs.lemmas.Simd.{map-map}
 use Rattle.ldmodel.specs.Fault as model
 use Rattle.ldmodel.specs.FaultCode.{fault_of}
 use Rattle.ldmodel.specs.Image.{image}
 use Rattle.ldmodel.specs.Layout.{Layout}
-use Rattle.ldmodel.specs.Link.{Link, faulty, good, link, max_image_length, of_length, placed, relocated, unless}
+use Rattle.ldmodel.specs.Link.{Link, faulty, gathering_faults, good, layout, link, max_image_length, name_faults}
+use Rattle.ldmodel.specs.Link.{of_length, placed, relocated, unless}
 use Rattle.ldmodel.specs.MapText.{map_text}
+use Rattle.ldmodel.specs.Names.{entry_symbol}
+use Rattle.ldmodel.specs.Options.{LinkOptions}
 use Rattle.ldmodel.specs.Project.{Project}
 use Rattle.ldmodel.specs.declared.fault.Fault as code
 use Rattle.ldmodel.specs.declared.fault.Fault.TheVariants as variant
 use Rattle.ldmodel.specs.declared.sections.SectionKey.{SectionKey}
 use Rattle.ldmodel_project.specs.ByPlace.{faults_in}
+use Rattle.ldscript.specs.statements.Numbering.{entry_of}
+use Rattle.ldscript.specs.statements.declared.statement.Statement.{Statement}
 use Rattle.relink_driver.specs.WithoutMap.{shown, shown_map, without_map}
 
 -- without faults the link goes on
@@ -40,6 +46,18 @@ none_of (f ∷ fs) h =
 pub orphans_as_faults : (p : Project) (keys : List SectionKey)
     → faults_in p (map variant.Orphan keys) ≡ map (λ (k : SectionKey). fault_of p (λ key. key) (variant.Orphan k)) keys
 orphans_as_faults p keys = map-map (fault_of p (λ key. key)) variant.Orphan keys
+
+-- the line of an entry symbol that nothing defines, where it is the only fault of the names: any project of the same
+-- script and options has the same
+pub entry_line : (p q : Project) → p.script ≡ q.script → p.options ≡ q.options
+    → faults_in p (variant.UndefinedEntry ∷ []) ≡ name_faults p
+    → link p ≡ faulty (faults_in q (variant.UndefinedEntry ∷ []))
+unfolding link fault_of entry_symbol
+entry_line p q script options alone =
+    let line : Option (List ℕ) → Link = λ entry. faulty (model.UndefinedEntry (unwrap_or entry []) ∷ []) in
+    ap (λ (fs : List model.Fault). unless fs (unless (gathering_faults p) (placed p (layout p)))) (sym alone)
+    ∙ (ap (λ (o : LinkOptions). line (option_or o.entry (entry_of p.script))) options
+    ∙ ap (λ (s : List Statement). line (option_or q.options.entry (entry_of s))) script)
 
 -- an image that is not too long
 pub short_of : (b : Bool) (m n : ℕ) (f : code.Fault) → nat_lt m n ≡ b → None ≡ cond b (Some f) None → n ≤ m

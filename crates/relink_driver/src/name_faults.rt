@@ -2,11 +2,16 @@
 
 ghost use Rattle.std.specs.Prelude.{◌≡◌, [], IfOk, IfSome};
 ghost use Rattle.ldmodel.specs.Link.{link};
+ghost use Rattle.ldmodel.specs.Project.{Project};
 ghost use Rattle.symres.specs.SymbolTable.{IsSymbolTable};
 
 use crate::pass_error::{PassError, end_if_faulty};
+use emit::fault_text;
+use ldmodel::fault::Fault;
 use ldmodel::memory::NoMemory;
+use ldmodel::options::Options;
 use ldmodel_project::view::ProjectView;
+use ldscript::Script;
 use std::alloc::{AllocError, Global};
 use symres::SymbolTable;
 
@@ -32,4 +37,36 @@ pub fn name_fault_lines(
         Err(PassError::Faulty(lines)) => Ok(Some(lines)),
         Err(PassError::NoMemory) => Err(AllocError),
     }
+}
+
+/// The project without objects that has this script and these options.
+fn without_objects<'a>(script: &'a Script, options: &'a Options) -> ProjectView<'a>
+    ensures { result ≡ record { objects = []; script = script.now; options = options.now } }
+{
+    ProjectView::new(&[], script, options)
+}
+
+/// The fault line of the entry symbol of the project with this script and these options, if that is the only fault of
+/// its names, as mostly while it is opened. No object is looked at.
+///
+/// # Errors
+///
+/// Where memory runs out.
+pub fn entry_fault_line(
+    alloc: Global,
+    script: &Script,
+    options: &Options,
+    symbol_table: &SymbolTable,
+) -> Result<Option<Vec<u8>>, NoMemory>
+    ensures { IfOk result (λ line. IfSome line (λ text. (project : Project)
+        → IsSymbolTable project symbol_table.now → project.script ≡ script.now → project.options ≡ options.now
+        → link project ≡ record { status = 1; image = []; map = []; faults = text.items })) }
+{
+    // the name of the entry symbol is all that the line needs of the project
+    let view = without_objects(script, options);
+    if !symbol_table.lacks_entry_alone(&view) {
+        return Ok(None);
+    }
+    let text = fault_text(alloc, &view, &[Fault::UndefinedEntry])?;
+    Ok(Some(text))
 }

@@ -1,6 +1,7 @@
 -- The fault of an entry symbol that nothing defines.
 use Rattle.std.proofs.Common.{◌≡◌, ◌∙◌, ℕ, Bool, true, false, List, [], ◌∷◌, ◌++◌, map, refl, ap, sym}
 use Rattle.std.specs.Prelude.{Option, Some, None, is_some, option_to_list, unwrap_or}
+use Rattle.std.specs.Option.{option_or}
 use Rattle.std.proofs.lemmas.List.{map-append}
 use Rattle.ldmodel.specs.Fault.{Fault, UndefinedEntry}
 use Rattle.ldmodel.specs.FaultCode.{fault_of}
@@ -9,8 +10,12 @@ use Rattle.ldmodel.specs.Link.{duplicate_fault, name_faults}
 use Rattle.ldmodel.specs.NameFaults.{duplicates, if_undefined, undefined_among, undefined_entry}
 use Rattle.ldmodel.specs.Names.{Decision, Undefined, decision, entry_symbol}
 use Rattle.ldmodel.specs.Names as names
+use Rattle.ldmodel.specs.Options.{LinkOptions}
+use Rattle.ldscript.specs.statements.Numbering.{entry_of}
+use Rattle.ldscript.specs.statements.declared.statement.Statement.{Statement}
 use Rattle.ldmodel.specs.Project.{Project}
 use Rattle.ldmodel.specs.declared.fault.Fault as code
+use Rattle.ldmodel.specs.declared.fault.Fault.TheVariants as variant
 use Rattle.ldmodel.specs.declared.names.Case.{Case}
 use Rattle.ldmodel.specs.declared.names.Case.TheVariants as case
 use Rattle.ldmodel_project.specs.ByPlace.{faults_in}
@@ -69,3 +74,18 @@ all_faults p old new first is =
     ∙ (ap (λ (fs : List Fault). fs ++ faults_in p (faults_if (is_some (undefined_entry p)))) first
     ∙ ap (λ (fs : List Fault). map duplicate_fault (duplicates p) ++ fs)
     (entry_fault p (entry_symbol p) (is_some (undefined_entry p)) refl refl)))
+
+-- projects of the same script and options have the same entry symbol
+same_entry : (p q : Project) → p.script ≡ q.script → p.options ≡ q.options → entry_symbol p ≡ entry_symbol q
+unfolding entry_symbol
+same_entry p q script options =
+    ap (λ (o : LinkOptions). option_or o.entry (entry_of p.script)) options
+    ∙ ap (λ (s : List Statement). option_or q.options.entry (entry_of s)) script
+
+-- where no name is defined twice, the fault of the entry symbol is the only one
+pub entry_alone : (p view : Project) (name : List ℕ) (c : Case) → p.script ≡ view.script → p.options ≡ view.options
+    → Some name ≡ entry_symbol view → decision_of (λ key. key) c ≡ decision p name → is_undefined c ≡ true
+    → duplicates p ≡ [] → faults_in p (variant.UndefinedEntry ∷ []) ≡ name_faults p
+entry_alone p view name c script options entry is undefined none =
+    all_faults p [] (variant.UndefinedEntry ∷ []) (ap (map duplicate_fault) (sym none))
+    (ap faults_if (entry_of_case p name c true (entry ∙ sym (same_entry p view script options)) is undefined))

@@ -1,7 +1,7 @@
 //! Names that are defined twice.
 
 ghost use Rattle.std.specs.Prelude.{◌≡◌, ◌<◌, ◌++◌, ◌&&◌, ℕ, IfOk, List, None, OnOk, Some, length, map, slice_index_or};
-ghost use Rattle.std.specs.Prelude.{[], count_by, replicate, slice_set, unwrap_or};
+ghost use Rattle.std.specs.Prelude.{[], count_by, false, replicate, slice_set, unwrap_or};
 ghost use Rattle.elfobj.specs.Symbols.{NamedSymbol};
 ghost use Rattle.ldmodel.specs.Link.{duplicate_fault};
 ghost use Rattle.ldmodel.specs.NameFaults.{duplicates};
@@ -105,16 +105,26 @@ impl SymbolTable {
         let _names = self.decisions.listed();
     }
 
-    /// Where no case is that of a name that is defined twice, no name of the project is defined twice. The call does
+    /// Where no case is that of a name that is defined twice, no name of a project is defined twice. The call does
     /// nothing.
-    fn none_doubled(&self, project: &ProjectView<'_>)
-        requires symbol_table { IsSymbolTable project.now self.now }
-        requires none { count_by is_doubled self.now.kept.cases ≡ 0 }
-        ensures { duplicates project.now ≡ [] }
+    fn none_doubled(&self)
+        requires { count_by is_doubled self.now.kept.cases ≡ 0 }
+        ensures { (project : Project) → IsSymbolTable project self.now → duplicates project ≡ [] }
     {
         self.decided_by_keys();
         // so that the number of known names is known to fit
         let _count = self.decisions.known();
+    }
+
+    /// Whether a name is defined twice. No symbol is looked at.
+    pub(crate) fn has_doubled(&self) -> bool
+        ensures { result ≡ false → (project : Project) → IsSymbolTable project self.now → duplicates project ≡ [] }
+    {
+        if self.decisions.doubled() == 0 {
+            self.none_doubled();
+            return false;
+        }
+        true
     }
 
     /// Whether the name of a key is defined twice.
@@ -233,8 +243,7 @@ impl SymbolTable {
         requires { IsSymbolTable project.now self.now }
         ensures { IfOk result (λ fs. faults_in project.now fs.items ≡ map duplicate_fault (duplicates project.now)) }
     {
-        if self.decisions.doubled() == 0 {
-            self.none_doubled(project);
+        if !self.has_doubled() {
             return Ok(Vec::new(alloc));
         }
         let mut firsts = no_entries(alloc, self.limit())?;

@@ -1,8 +1,10 @@
 //! The faults of names: names that are defined twice, and an entry symbol that nothing defines.
 
-ghost use Rattle.std.specs.Prelude.{◌≡◌, ◌++◌, IfOk, OnOk, is_some};
+ghost use Rattle.std.specs.Prelude.{◌≡◌, ◌++◌, ◌∷◌, [], IfOk, OnOk, is_some, true};
 ghost use Rattle.ldmodel.specs.Link.{name_faults};
 ghost use Rattle.ldmodel.specs.NameFaults.{undefined_entry};
+ghost use Rattle.ldmodel.specs.Project.{Project};
+ghost use Rattle.ldmodel.specs.declared.fault.Fault.TheVariants.{UndefinedEntry};
 ghost use Rattle.symres.specs.SymbolTable.{IsSymbolTable};
 ghost use Rattle.symres.specs.Undefined.{faults_if, is_undefined};
 ghost use Rattle.ldmodel_project.specs.ByPlace.{faults_in};
@@ -37,6 +39,22 @@ impl SymbolTable {
     {
         match project.entry_symbol() {
             Some(name) => is_undefined(self.case_named(project.script(), name)),
+            None => false,
+        }
+    }
+
+    /// Whether the names of a project have one fault alone, that of its entry symbol: nothing defines that, and no name
+    /// is defined twice. No object is looked at: any view with the script and the options of the project will do.
+    pub fn lacks_entry_alone(&self, view: &ProjectView<'_>) -> bool
+        ensures { result ≡ true → (project : Project) → IsSymbolTable project self.now
+            → project.script ≡ view.now.script → project.options ≡ view.now.options
+            → faults_in project (UndefinedEntry ∷ []) ≡ name_faults project }
+    {
+        if self.has_doubled() {
+            return false;
+        }
+        match view.entry_symbol() {
+            Some(name) => is_undefined(self.case_named(view.script(), name)),
             None => false,
         }
     }

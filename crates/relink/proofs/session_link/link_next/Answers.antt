@@ -1,10 +1,21 @@
-use Rattle.std.proofs.Common.{◌∙◌, ap, map, subst, sym}
+use Rattle.std.proofs.Common.{◌∙◌, ap, map, refl, subst, sym}
 use Rattle.ldmodel.specs.Project.{Project}
 use Rattle.symres.specs.decisions.Change.{Table}
 use Rattle.symres.specs.SymbolTable.{IsSymbolTable}
 use Rattle.ldmodel_project.specs.ProjectState.{project_of}
+use Rattle.relink.proofs.Followed.{of_some}
 use Rattle.relink.proofs.Following.{tables_of_objects}
 use Rattle.relink.proofs.session_link.link_next.Goals as goal
+
+pub returns-in-Some-clause-updated : goal.returns-in-Some-clause-updated
+returns-in-Some-clause-updated c =
+    let l = c.args.next.now in (
+      of_some _ c.in_ok-text.field-0 c.in-Some.text c.in-Some.is c.in_ok-text.ensures (project_of l)
+          (c.names_kept.ensures (project_of l) c.requires.kept.names
+          (tables_of_objects l.entries ∙ ap (map (λ (t : Table). t.1)) (sym c.requires.kept.tables)))
+          (sym c.script.ensures) (sym c.options.ensures),
+      refl,
+    )
 
 pub link_keyed-requires-clause-symbol_table : goal.link_keyed-requires-clause-symbol_table
 link_keyed-requires-clause-symbol_table c =

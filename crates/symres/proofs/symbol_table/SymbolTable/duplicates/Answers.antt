@@ -10,9 +10,10 @@ use Rattle.std.proofs.lemmas.List.{length-replicate}
 use Rattle.symres.proofs.Doubling.{is_table_at, none_found, object_more, objects_all}
 use Rattle.symres.proofs.symbol_table.SymbolTable.duplicates.Goals as goal
 
-pub returns-then-doubled-eq0 : goal.returns-then-doubled-eq0
-returns-then-doubled-eq0 c =
-    ap (faults_in c.args.project.now) c.new.ensures.items ∙ ap (map duplicate_fault) (sym c.none_doubled.ensures)
+pub returns-then-not-has_doubled : goal.returns-then-not-has_doubled
+returns-then-not-has_doubled c =
+    ap (faults_in c.args.project.now) c.new.ensures.items
+    ∙ ap (map duplicate_fault) (sym (c.has_doubled.ensures c.if-not-has_doubled.true c.args.project.now c.requires))
 
 pub loop-place-init : goal.loop-place-init
 loop-place-init c = record {
