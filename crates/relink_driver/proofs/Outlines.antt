@@ -1,19 +1,19 @@
 -- Objects of which the code finds that they differ in what their sections hold alone.
 use Rattle.std.proofs.Common.{◌≡◌, ◌∙◌, ◌⊎◌, inl, inr, ◌<◌, ◌≤◌, ℕ, ◌+◌, List, [], ◌∷◌, Option, Some, None, ap, arith}
-use Rattle.std.proofs.Common.{length, map}
+use Rattle.std.proofs.Common.{Bool, true, false, length, map}
 use Rattle.std.proofs.Common.{refl, slice_get, subst, sym}
 use Rattle.std.specs.Option.{option_map}
 use Rattle.std.specs.Prelude.{slice_index_or}
 use Rattle.std.proofs.lemmas.Bool.{cases_lt}
 use Rattle.std.proofs.lemmas.List.{length-map, same_lists}
 use Rattle.std.proofs.lemmas.Option.{get_or_from_slice_get, same_Some, slice_get-get_or, slice_get-map}
-use Rattle.elfobj.specs.Sections.{LinkedSection}
+use Rattle.elfobj.specs.Sections.{LinkedSection, section_of}
 use Rattle.elfobj.specs.Symbols.{NamedSymbol}
 use Rattle.elfobj.specs.declared.relocation.Relocation.{Relocation}
 use Rattle.elfobj.specs.declared.relocation.SymbolIndex.{SymbolIndex}
 use Rattle.elfobj.specs.declared.section.Section.{Section}
 use Rattle.elfobj.specs.declared.symbol.Symbol.{Symbol}
-use Rattle.ldmodel_laws.specs.Outline.{SectionOutline, section_targets}
+use Rattle.ldmodel_laws.specs.Outline.{SectionOutline, section_outline, section_targets}
 
 -- lists that have the same at each place
 pub same_at : {X : Type 0} (xs ys : List X) → length xs ≡ length ys
@@ -135,3 +135,41 @@ all_mapped f xs ys n long is same =
     let a = length-map xs f in
     let b = length-map ys f in
     same_at (map f xs) (map f ys) (omega (arith, long, a, b)) (λ k less. same k (omega (arith, is, a, less)))
+
+-- ---- lists that are the same have the same at each place
+
+-- what a boolean says cannot be
+pub never : {X : Type 0} → false ≡ true → X
+never e = absurd (let none : ⊥ = cc in none)
+
+-- what an index reads of each
+pub mapped_read : {X Y : Type 0} (f : X → Y) (xs ys : List X) (n : ℕ) (d : X) → n < length xs → length xs ≡ length ys
+    → map f xs ≡ map f ys → f (slice_index_or xs n d) ≡ f (slice_index_or ys n d)
+mapped_read f xs ys n d less long same =
+    same_Some _ _ (sym (mapped xs less) ∙ ap (λ l. slice_get l n) same ∙ mapped ys (omega (arith, less, long)))
+  where
+    mapped : (l : List _) → n < length l → slice_get (map f l) n ≡ Some (f (slice_index_or l n d))
+    mapped l within = slice_get-map f l n ∙ ap (option_map f) (slice_get-get_or l n d within)
+
+-- a section without its name
+abbrev bare : SectionOutline → Section
+bare x = record { number = x.number; kind = x.kind; flags = x.flags; size = x.size; alignment = x.alignment }
+
+pub same_bare : (xs ys : List LinkedSection) (us vs : List Section) (n : ℕ) (d : Section) → us ≡ map section_of xs
+    → vs ≡ map section_of ys → map section_outline xs ≡ map section_outline ys
+    → slice_index_or us n d ≡ slice_index_or vs n d
+same_bare xs ys us vs n d e f same =
+    ap (λ l. slice_index_or l n d) (e ∙ of xs ∙ ap (map bare) same ∙ sym (of ys) ∙ sym f)
+  where
+    of : (l : List LinkedSection) → map section_of l ≡ map bare (map section_outline l)
+    of [] = refl
+    of (x ∷ l) = ap (λ rest. section_of x ∷ rest) (of l)
+
+pub same_section_names : (xs ys : List LinkedSection) → map section_outline xs ≡ map section_outline ys
+    → map (λ (x : LinkedSection). x.name) xs ≡ map (λ (x : LinkedSection). x.name) ys
+same_section_names xs ys same = of xs ∙ ap (map (λ (o : SectionOutline). o.name)) same ∙ sym (of ys)
+  where
+    of : (l : List LinkedSection)
+        → map (λ (x : LinkedSection). x.name) l ≡ map (λ (o : SectionOutline). o.name) (map section_outline l)
+    of [] = refl
+    of (x ∷ l) = ap (λ rest. x.name ∷ rest) (of l)

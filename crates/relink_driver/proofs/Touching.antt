@@ -118,6 +118,19 @@ faultless p s laid is =
     (none_before (relocation_faults p s) (unless (assertion_faults p s) (model.good p s))
     (ap (λ r. (placed p r).status) (sym laid) ∙ gathered.1)).0
 
+-- a link without faults has a layout, at which no relocation has one
+pub no_fault : (p : Project) → (model.link p).status ≡ 0 → HasFault p → ⊥
+unfolding model.link
+no_fault p is faulty =
+    let names = none_before (model.name_faults p)
+    (unless (model.gathering_faults p) (placed p (model.layout p))) is in
+    go (model.layout p) refl (none_before (model.gathering_faults p) (placed p (model.layout p)) names.1).1
+  where
+    go : (m : Result Layout (List Fault)) → model.layout p ≡ m → (placed p m).status ≡ 0 → ⊥
+    go (Err fs) e f = let none : ⊥ = cc in none
+    go (Ok s) e f = faulty s e
+        (none_before (relocation_faults p s) (unless (assertion_faults p s) (model.good p s)) f).0
+
 none_in : {X Y : Type 0} (f : X → Option Y) (xs : List X) (x : X) → filter_map f xs ≡ [] → Contains xs x → f x ≡ None
 none_in f [] x e c = absurd (none_in_nil x c)
 none_in {X} {Y} f (y ∷ ys) x e c = go (f y) refl e (first_or_later y ys x c) (λ l. none_in f ys x l)

@@ -9,6 +9,7 @@ pub mod SameRows
 pub mod Applied
 pub mod Counted
 pub mod InPlace
+pub mod Rewritable
 pub mod LocatedSections
 pub mod RelinkOutcome
 pub mod Context

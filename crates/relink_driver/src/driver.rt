@@ -13,6 +13,8 @@ ghost use Rattle.symres.specs.SymbolTable.{IsSymbolTable, SymbolTableState};
 ghost use Rattle.emit.specs.values.Values.{AreValues};
 ghost use Rattle.emit.specs.relocate.SymbolValues.{AreSymbolValues};
 ghost use Rattle.relink_driver.specs.Counted.{AreDrawn, ArePlaced};
+ghost use Rattle.relink_driver.specs.Rewritable.{IsRewritable};
+ghost use Rattle.relink_driver.specs.declared.driver.RelinkOutcome.TheVariants.{RewrittenInPlace};
 ghost use Rattle.relink_driver.specs.RelinkOutcome.{HasRelinkOutcome, HasPreviousImage, HasShownOutcome, IsEmitted};
 ghost use Rattle.relink_driver.specs.Context.{IsPassContext, project_of};
 ghost use Rattle.relink_driver.specs.Phases.{HasPreviousLink, IsLaidOut, IsShort};
@@ -248,6 +250,8 @@ pub(crate) fn relink_shown(
         (previous_of previous.entry) canvas.old.bytes canvas.new.bytes) }
     ensures reads { OnOk result (ReadsNothing meter.old meter.new) }
     ensures worked { IfOk result (HasWorked project.now (previous_of previous.entry) meter.old meter.new) }
+    ensures in_place { IfOk result (λ ended. IsRewritable project.now (previous_of previous.entry)
+        → ended ≡ RewrittenInPlace) }
     ensures unchanged { OnErr result (canvas.new.bytes ≡ canvas.old.bytes) }
 {
     let context = PassContext {
@@ -273,8 +277,8 @@ pub(crate) fn relink_shown(
 /// fields are written whose symbols have other values. Where it has faults, the canvas is as it was.
 ///
 /// Where an object came that differs from the one in its place in what its sections hold alone, and the previous link
-/// is answered, nothing is made anew but these sections of the image. Else the layout of the previous link is resumed
-/// where its script was the same.
+/// is answered, nothing is made anew but these sections of the image, if the project has no faults. Else the layout of
+/// the previous link is resumed where its script was the same.
 ///
 /// Where the project has no faults, exactly this is counted: the input sections that are placed from the first row on
 /// that differs, the fields outside of what stayed and those in it whose symbols have other values, and the bytes that
@@ -299,6 +303,8 @@ pub fn relink(
         (previous_of previous.entry) canvas.old.bytes canvas.new.bytes) }
     ensures reads { OnOk result (ReadsNothing meter.old meter.new) }
     ensures worked { IfOk result (HasWorked project.now (previous_of previous.entry) meter.old meter.new) }
+    ensures in_place { IfOk result (λ ended. IsRewritable project.now (previous_of previous.entry)
+        → ended ≡ RewrittenInPlace) }
     ensures unchanged { OnErr result (canvas.new.bytes ≡ canvas.old.bytes) }
 {
     relink_shown(

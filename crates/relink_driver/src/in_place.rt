@@ -1,13 +1,15 @@
 //! Links whose project differs from that of a previous one in what the input sections of one object hold.
 
-ghost use Rattle.std.specs.Prelude.{◌≡◌, ◌<◌, ℕ, IfOk, IfSome, None, OnErr, OnOk, Some, false, slice_index_or, true};
+ghost use Rattle.std.specs.Prelude.{◌≡◌, ◌↔◌, ◌<◌, ℕ, IfNone, IfOk, IfSome, None, OnErr, OnOk, Some, false};
+ghost use Rattle.std.specs.Prelude.{slice_index_or, true};
 ghost use Rattle.ldmodel.specs.Project.{Project};
 ghost use Rattle.ldmodel.specs.Stayed.{GoodLink};
 ghost use Rattle.ldmodel_laws.specs.Outline.{DiffersInContents};
 ghost use Rattle.relink_driver.specs.RelinkOutcome.{HasPreviousImage};
 ghost use Rattle.relink_driver.specs.Context.{project_of};
 ghost use Rattle.relink_driver.specs.InPlace.{IsNextLink, IsKeptLink, IsInPlaceOutcome, origin_beside};
-ghost use Rattle.relink_driver.specs.StayedSections.{previous_of, previous_state, replaced_state};
+ghost use Rattle.relink_driver.specs.Rewritable.{IsRewritable};
+ghost use Rattle.relink_driver.specs.StayedSections.{ReplacedObjectState, previous_of, previous_state, replaced_state};
 ghost use Rattle.relink_driver.specs.Reads.{ReadsNothing};
 ghost use Rattle.relink_driver.specs.Touched.{HasFault, HasTouched, IsTouchedWork};
 
@@ -19,7 +21,6 @@ use emit::Canvas;
 use emit::good::is_good;
 use emit::in_place::located_section::nobits_are_bare;
 use emit::in_place::rewrite::rewrite_in_place;
-use ldmodel::impossible::impossible;
 use ldmodel::memory::NoMemory;
 use ldmodel::meter::Meter;
 use ldmodel::names::ObjectPlace;
@@ -36,8 +37,8 @@ use std::alloc::Global;
 /// Whether each of these objects stood in the previous link where it stands, but for the one of a place, which was not
 /// there.
 fn is_alone(previous: &PreviousView<'_>, count: usize, place: ObjectPlace) -> bool
-    ensures { result ≡ true → (i : ℕ) → i < count → slice_index_or previous.now.from.now i None
-        ≡ origin_beside place.0 i }
+    ensures { (result ≡ true) ↔ ((i : ℕ) → i < count
+        → slice_index_or previous.now.from.now i None ≡ origin_beside place.0 i) }
 {
     for i in 0..count {
         let origin = if i == place.0 { None } else { Some(i) };
@@ -55,7 +56,9 @@ fn find_replaced<'a>(
     previous: &PreviousView<'a>,
     project: &ProjectView<'_>,
 ) -> Option<ReplacedObject<'a>>
-    ensures { IfSome result (λ r. IsNextLink (previous_state previous.now) project.now (replaced_state r)) }
+    ensures found { IfSome result (λ r. IsNextLink (previous_state previous.now) project.now (replaced_state r)) }
+    ensures none { IfNone result ((r : ReplacedObjectState)
+        → IsNextLink (previous_state previous.now) project.now r → ⊥) }
 {
     if !previous.same_script || !previous.is_current {
         return None;
@@ -128,8 +131,8 @@ fn rewrite_object(
     let indexed_layout = &previous.snapshot.indexed_layout;
     is_good(context.project, &indexed_layout.link_layout);
     let Some(object) = context.project.object(replaced.new) else {
-        // the object in whose place it came was compared with it
-        return Err(impossible());
+        // it was compared with the object in whose place it came
+        unreachable!()
     };
     let located = locate_sections(context.alloc, indexed_layout, replaced.new, object)?;
     let values = previous
@@ -148,8 +151,8 @@ fn rewrite_object(
 }
 
 /// Where the project follows the previous one by an object that differs in what its sections hold alone, writes these
-/// sections over the previous image. Answers whether it did: not where a relocation has a fault. Then the canvas is as
-/// it was.
+/// sections over the previous image. Answers whether it did: not, and only then, where the project does not follow so,
+/// or a relocation has a fault. Then the canvas is as it was.
 ///
 /// # Errors
 ///
@@ -163,6 +166,8 @@ pub(crate) fn rewrite_if_alone(
     ensures done { IfOk result (HasTouched (project_of context.entry)
         (previous_of context.entry.previous) canvas.old.bytes
         canvas.new.bytes meter.old meter.new) }
+    ensures passed { IfOk result (λ done. done ≡ false
+        → IsRewritable (project_of context.entry) (previous_of context.entry.previous) → ⊥) }
     ensures unchanged { OnErr result (canvas.new.bytes ≡ canvas.old.bytes) }
 {
     let Some(previous) = context.previous else {

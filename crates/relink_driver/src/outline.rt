@@ -1,6 +1,6 @@
 //! Whether two objects differ in what their sections hold alone, and whether these refer to the same symbols.
 
-ghost use Rattle.std.specs.Prelude.{◌≡◌, map, true};
+ghost use Rattle.std.specs.Prelude.{◌≡◌, ◌↔◌, map, true};
 ghost use Rattle.ldmodel_laws.specs.Outline.{section_outline, section_targets};
 
 use elfobj::relocation::{Relocation, SymbolIndex};
@@ -9,35 +9,35 @@ use elfobj::{Object, Section, Symbol};
 
 /// Whether two names are the same.
 fn is_same_name(a: &[u8], b: &[u8]) -> bool
-    ensures { result ≡ true → a.now ≡ b.now }
+    ensures { (result ≡ true) ↔ (a.now ≡ b.now) }
 {
     a == b
 }
 
 /// Whether two symbols are the same.
 fn is_same_symbol(a: Symbol, b: Symbol) -> bool
-    ensures { result ≡ true → a ≡ b }
+    ensures { (result ≡ true) ↔ (a ≡ b) }
 {
     a == b
 }
 
 /// Whether two sections are the same, whatever they hold.
 fn is_same_section(a: Section, b: Section) -> bool
-    ensures { result ≡ true → a ≡ b }
+    ensures { (result ≡ true) ↔ (a ≡ b) }
 {
     a == b
 }
 
 /// Whether two indices are the same.
 fn is_same_index(a: SymbolIndex, b: SymbolIndex) -> bool
-    ensures { result ≡ true → a ≡ b }
+    ensures { (result ≡ true) ↔ (a ≡ b) }
 {
     a == b
 }
 
 /// Whether two objects have the same symbol table.
 fn same_symbols(a: &Object, b: &Object) -> bool
-    ensures { result ≡ true → a.now.symbols ≡ b.now.symbols }
+    ensures { (result ≡ true) ↔ (a.now.symbols ≡ b.now.symbols) }
 {
     let before = a.symbols();
     let now = b.symbols();
@@ -57,7 +57,7 @@ fn same_symbols(a: &Object, b: &Object) -> bool
 
 /// Whether two objects have the same sections, whatever these hold.
 fn same_sections(a: &Object, b: &Object) -> bool
-    ensures { result ≡ true → map section_outline a.now.sections ≡ map section_outline b.now.sections }
+    ensures { (result ≡ true) ↔ (map section_outline a.now.sections ≡ map section_outline b.now.sections) }
 {
     let before = a.sections();
     let now = b.sections();
@@ -79,13 +79,16 @@ fn same_sections(a: &Object, b: &Object) -> bool
 pub(crate) fn same_outline(a: &Object, b: &Object) -> bool
     ensures symbols { result ≡ true → a.now.symbols ≡ b.now.symbols }
     ensures sections { result ≡ true → map section_outline a.now.sections ≡ map section_outline b.now.sections }
+    ensures found { a.now.symbols ≡ b.now.symbols
+        → map section_outline a.now.sections ≡ map section_outline b.now.sections
+        → result ≡ true }
 {
     same_symbols(a, b) && same_sections(a, b)
 }
 
 /// Whether two lists of relocations name the same symbols, in their order.
 fn same_references(a: &[Relocation], b: &[Relocation]) -> bool
-    ensures { result ≡ true → map (λ r. r.symbol) a.now ≡ map (λ r. r.symbol) b.now }
+    ensures { (result ≡ true) ↔ (map (λ r. r.symbol) a.now ≡ map (λ r. r.symbol) b.now) }
 {
     if a.len() != b.len() {
         return false;
@@ -100,7 +103,7 @@ fn same_references(a: &[Relocation], b: &[Relocation]) -> bool
 
 /// Whether the relocations of each section of two objects name the same symbols, in their order.
 pub(crate) fn same_targets(a: &Object, b: &Object) -> bool
-    ensures { result ≡ true → map section_targets a.now.sections ≡ map section_targets b.now.sections }
+    ensures { (result ≡ true) ↔ (map section_targets a.now.sections ≡ map section_targets b.now.sections) }
 {
     let before = a.sections();
     let now = b.sections();
