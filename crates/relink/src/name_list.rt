@@ -1,13 +1,12 @@
 //! The names of the objects of a link, one after the other in one text.
 
-ghost use Rattle.std.specs.Prelude.{◌≡◌, ◌≤◌, ◌<◌, ◌+◌, ◌++◌, [], ◌∷◌, IfOk, Some, length, map, true};
+ghost use Rattle.std.specs.Prelude.{◌≡◌, ◌≤◌, ◌<◌, ◌+◌, ◌^◌, ◌++◌, [], ◌∷◌, IfOk, OnOk, Some, length, map, true};
 ghost use Rattle.std.specs.List.{sum_by};
 ghost use Rattle.ldmodel.specs.Project.{NamedObject};
 ghost use Rattle.ldmodel_project.specs.Inputs.{shown_inputs};
 ghost use Rattle.relink.specs.NameList.{HasRoomFor};
 ghost use Rattle.relink.specs.PreviousLink.{IsNamedAt};
 
-use ldmodel::impossible::impossible;
 use ldmodel::memory::NoMemory;
 use ldmodel_project::input::InputObject;
 use std::alloc::Global;
@@ -57,6 +56,8 @@ impl NameList {
         ensures names { IfOk result (λ n. n.names ≡ []) }
         ensures count { IfOk result (λ n. count ≤ n.count_room) }
         ensures bytes { IfOk result (λ n. bytes ≤ n.byte_room) }
+        // no memory holds more
+        ensures few { OnOk result (bytes < 2 ^ 63) }
     {
         let text = Vec::with_capacity(alloc, bytes)?;
         let lengths = Vec::with_capacity(alloc, count)?;
@@ -100,19 +101,15 @@ impl NameList {
     }
 }
 
-/// How many bytes the names of these objects have in all. Fails where no memory holds so many.
-fn name_bytes(inputs: &[InputObject<'_>]) -> Result<usize, NoMemory>
-    ensures { IfOk result (λ n. n ≡ sum_by (λ (o : NamedObject). length o.name) (shown_inputs inputs.now)) }
+/// How many bytes the names of these objects have in all, where that is below 2^63; else no number below.
+fn name_bytes(inputs: &[InputObject<'_>]) -> usize
+    ensures { result < 2 ^ 63 → result ≡ sum_by (λ (o : NamedObject). length o.name) (shown_inputs inputs.now) }
 {
     let mut bytes: usize = 0;
     for input in inputs {
-        let Some(more) = bytes.checked_add(input.name.len()) else {
-            // names that are in memory have fewer bytes
-            return Err(impossible());
-        };
-        bytes = more;
+        bytes = bytes.saturating_add(input.name.len());
     }
-    Ok(bytes)
+    bytes
 }
 
 /// No name, with room for those of these objects.
@@ -127,8 +124,7 @@ pub(crate) fn room_for_names(
     ensures names { IfOk result (λ n. n.names ≡ []) }
     ensures room { IfOk result (HasRoomFor (shown_inputs inputs.now)) }
 {
-    let bytes = name_bytes(inputs)?;
-    NameList::with_room(alloc, inputs.len(), bytes)
+    NameList::with_room(alloc, inputs.len(), name_bytes(inputs))
 }
 
 /// The names of these objects, in room that was taken for them. It takes no memory.
