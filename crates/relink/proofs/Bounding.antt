@@ -80,8 +80,11 @@ pub worked_from : (p : Project) (previous : Option PreviousState) (m0 m1 m2 : Co
     → LinksNothing m0 m1
     → HasWorked p previous m1 m2 f → HasWorked p previous m0 m2 f
 worked_from p previous m0 m1 m2 (Faulty t) none w = tt
-worked_from p previous m0 m1 m2 (Good x m) none w = λ old y s is of_new laid.
-    link_work_from old (record { project = p; layout = s }) y m0 m1 m2 none (w old y s is of_new laid)
+worked_from p previous m0 m1 m2 (Good x m) none w = (
+  λ old y s is of_new laid.
+      link_work_from old (record { project = p; layout = s }) y m0 m1 m2 none (w.0 old y s is of_new laid),
+  w.1,
+)
 worked_from p previous m0 m1 m2 (RewrittenInPlace v) none w = λ old y s is of_new laid.
     link_work_from old (record { project = p; layout = s }) y m0 m1 m2 none (w old y s is of_new laid)
 
@@ -299,7 +302,7 @@ whole_work h s same bytes new a e previous f change m0 m1 m2 given answers updat
         let no : true ≡ false = sym (effect.current refl) ∙ are in
         absurd (cc))
     between (outcome.Good m) (Some x) (Good y n) true are effect kept answers updated worked =
-        λ t u zero zero_too laid laid_too. over_last m x kept are effect worked t u laid laid_too
+        λ t u zero zero_too laid laid_too. over_last m x kept are effect worked.0 t u laid laid_too
     between (outcome.Good m) (Some x) (RewrittenInPlace w) false are effect kept answers updated worked =
         λ t u zero zero_too laid laid_too. (
         let no : true ≡ false = sym (effect.current refl) ∙ are in

@@ -2,6 +2,7 @@
 use Rattle.std.specs.Prelude.{◌≡◌, ◌≤◌, ◌⊎◌, ⊤, ℕ, List, Ok, Option, length}
 use Rattle.elfobj.specs.Counts.{Counts, capped}
 use Rattle.relink_driver.specs.Resume.{AreSameBefore}
+use Rattle.relink_driver.specs.Rewritable.{IsRewritable}
 use Rattle.relink_driver.specs.StayedSections.{PreviousState}
 use Rattle.ldmodel.specs.Edits.{Change, Remove, SetScript}
 use Rattle.ldmodel.specs.Layout.{Layout}
@@ -25,10 +26,12 @@ pub record Decides (old new : Counts) (decided : List (List ℕ)) : Type 0 where
   pub fields : old.fields ≤ new.fields
   pub bytes : old.bytes ≤ new.bytes
 
--- a link over the previous one places, evaluates and writes what it has to beside it, and counts exactly that
+-- a link over the previous one places, evaluates and writes what it has to beside it, and counts exactly that; it is
+-- made anew only where the previous image cannot be rewritten in place
 abbrev pub HasWorked : Project → Option PreviousState → Counts → Counts → UpdateOutcome → Type 0
 HasWorked project previous before after (Faulty text) = ⊤
-HasWorked project previous before after (Good x m) = IsWorkBeside project previous before after
+HasWorked project previous before after (Good x m) =
+    IsWorkBeside project previous before after × (IsRewritable project previous → ⊥)
 HasWorked project previous before after (RewrittenInPlace origins) = IsWorkBeside project previous before after
 
 -- at most one object is read, and none but for an edit that brings one; and at most the names that the edit touches are

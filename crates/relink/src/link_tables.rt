@@ -1,8 +1,9 @@
 //! What a session keeps of a project beside the project and its link, and how it follows an edit.
 
-ghost use Rattle.std.specs.Prelude.{◌≡◌, IfOk, List, None, OnErr, Some};
+ghost use Rattle.std.specs.Prelude.{◌≡◌, IfOk, List, None, OnErr, Some, true};
 ghost use Rattle.symres.specs.decisions.Change.{Fits as FitsTables};
 ghost use Rattle.symres.specs.decisions.Decisions.{AreKept};
+ghost use Rattle.symres.specs.table.State.{Forgets};
 ghost use Rattle.ldmodel_project.specs.Next.{edited_key};
 ghost use Rattle.relink.specs.PreviousLink.{lent_of};
 ghost use Rattle.relink.specs.Update.{CanUpdate, HasRoom, IsUpdated, IsRolledBack, KeepsObjects};
@@ -42,6 +43,7 @@ struct IncomingChange {
 /// Forgets the names that no object declares any more, where an object went. It takes no memory.
 fn forget_if(symbol_table: &mut SymbolTable, went: bool)
     ensures tables { symbol_table.new.kept.names.objects ≡ symbol_table.old.kept.names.objects }
+    ensures forgotten { went ≡ true → Forgets symbol_table.old.kept.names symbol_table.new.kept.names }
     ensures kept { (script : List Statement) → AreKept script symbol_table.old.kept
         → AreKept script symbol_table.new.kept }
 {

@@ -1,12 +1,22 @@
-use Rattle.std.proofs.Common.{◌∙◌, Option, ap, map, refl, subst, true}
+use Rattle.std.proofs.Common.{◌≡◌, ◌∙◌, ℕ, Option, ap, map, refl, subst, sym, true}
+use Rattle.std.specs.Global.{Global}
+use Rattle.std.specs.Prelude.{Vec}
 use Rattle.ldmodel.specs.Project.{NamedObject}
 use Rattle.relink_driver.specs.StayedSections.{PreviousState, previous_of}
 use Rattle.relink_driver.specs.InPlace.{IsInPlaceOutcome}
 use Rattle.relink_driver.specs.RelinkOutcome.{HasRelinkOutcome}
 use Rattle.relink.specs.PreviousLink.{lent_of}
+use Rattle.relink_driver.specs.Rewritable.{IsRewritable}
 use Rattle.relink_driver.specs.Worked.{HasWorked, IsWorkBeside}
+use Rattle.relink_driver.specs.declared.driver.RelinkOutcome.{RelinkOutcome}
+use Rattle.relink_driver.specs.declared.driver.RelinkOutcome.TheVariants as ended
+use Rattle.relink_driver.specs.declared.link_snapshot.LinkSnapshot.{LinkSnapshot}
 use Rattle.relink.proofs.Lending.{followed_again, followed_good}
 use Rattle.relink.proofs.session_link.link_keyed.Goals as goal
+
+not_rewritten : (e : RelinkOutcome) (g : LinkSnapshot) (m : Vec ℕ Global) → e ≡ ended.Good g m
+    → e ≡ ended.RewrittenInPlace → ⊥
+not_rewritten e g m is other = let none : ⊥ = cc in none
 
 pub returns-clause-updated : goal.returns-clause-updated
 returns-clause-updated c = λ l is keys.
@@ -25,11 +35,15 @@ returns-clause-updated c = λ l is keys.
     (c.found_where_placed.ensures l.entries) refl
 
 pub returns-clause-worked : goal.returns-clause-worked
-returns-clause-worked c =
-    subst (λ (x : Option PreviousState). IsWorkBeside c.args.project.now x c.args.meter.now c.relink.new.meter)
-    c.view_previous-previous.ensures
-    (subst (HasWorked c.args.project.now (previous_of c.view_previous-previous.result) c.args.meter.now
-    c.relink.new.meter) c.in-Ok-Good.field-0-is c.in-Ok-Good.ensures.worked)
+returns-clause-worked c = (
+  subst (λ (x : Option PreviousState). IsWorkBeside c.args.project.now x c.args.meter.now c.relink.new.meter)
+      c.view_previous-previous.ensures
+      (subst (HasWorked c.args.project.now (previous_of c.view_previous-previous.result) c.args.meter.now
+      c.relink.new.meter) c.in-Ok-Good.field-0-is c.in-Ok-Good.ensures.worked),
+  λ can. not_rewritten _ _ _ c.in-Ok-Good.field-0-is
+      (c.in-Ok-Good.ensures.in_place
+      (subst (IsRewritable c.args.project.now) (sym c.view_previous-previous.ensures) can)),
+)
 
 pub returns-in-Ok-RewrittenInPlace-clause-updated : goal.returns-in-Ok-RewrittenInPlace-clause-updated
 returns-in-Ok-RewrittenInPlace-clause-updated c = λ l is keys.
