@@ -11,13 +11,11 @@ ghost use Rattle.ldmodel.specs.MapText as definition;
 ghost use Rattle.place.specs.LinkLayout.{IsLinkLayout};
 ghost use Rattle.symres.specs.SymbolTable.{IsSymbolTable, SymbolTableState};
 ghost use Rattle.emit.specs.values.Values.{AreValues};
-ghost use Rattle.emit.specs.relocate.SymbolValues.{AreSymbolValues};
-ghost use Rattle.relink_driver.specs.Counted.{AreDrawn, ArePlaced};
 ghost use Rattle.relink_driver.specs.Rewritable.{IsRewritable};
 ghost use Rattle.relink_driver.specs.declared.driver.RelinkOutcome.TheVariants.{RewrittenInPlace};
-ghost use Rattle.relink_driver.specs.RelinkOutcome.{HasRelinkOutcome, HasPreviousImage, HasShownOutcome, IsEmitted};
+ghost use Rattle.relink_driver.specs.RelinkOutcome.{HasRelinkOutcome, HasPreviousImage, HasShownOutcome};
 ghost use Rattle.relink_driver.specs.Context.{IsPassContext, project_of};
-ghost use Rattle.relink_driver.specs.Phases.{HasPreviousLink, IsLaidOut, IsShort};
+ghost use Rattle.relink_driver.specs.Phases.{HasPreviousLink, IsLaidOut};
 ghost use Rattle.relink_driver.specs.Reads.{EndsReadingNothing, ReadsNothing};
 ghost use Rattle.relink_driver.specs.PassErrors.{IsPassError};
 ghost use Rattle.relink_driver.specs.WithoutMap.{shown_map};
@@ -30,17 +28,16 @@ use crate::link_snapshot::LinkSnapshot;
 use crate::pass_error::PassError;
 use crate::passes::{
     assign_addresses, check_assertions, check_names, compute_values, draw_output,
-    evaluate_relocations, gather_inputs,
+    evaluate_relocations, gather_inputs, index_layout,
 };
 use crate::stayed_sections::{PreviousView, StayedSections};
-use crate::symbol_values::{SymbolValues, symbol_values};
+use crate::symbol_values::symbol_values;
 use emit::map_members::{MapMembers, PreviousNames};
 use emit::text::maps::LinkMap;
 use emit::values::given::GivenValues;
 use emit::values::link_view::LinkView;
 use emit::values::values::Values;
 use emit::{Canvas, map_text};
-use gather::Gathering;
 use gather::matches::Matches;
 use ldmodel::memory::NoMemory;
 use ldmodel::meter::Meter;
@@ -59,25 +56,6 @@ pub enum RelinkOutcome {
     /// It has none, and differs from the previous link in what the input sections of one object hold: the image is the
     /// new one; the map, and what is kept of the previous link, are right for this one.
     RewrittenInPlace,
-}
-
-/// Where everything stands: the phases of a link up to its layout. Without faults, that is.
-fn lay_out(context: PassContext<'_, '_>, meter: &mut Meter) -> Result<IndexedLayout, PassError>
-    requires context { IsPassContext context }
-    requires previous { IfSome (previous_of context.previous) (HasPreviousLink (project_of context)) }
-    ensures good { IfOk result (λ a. IsLaidOut (project_of context.entry) a) }
-    ensures stop { IfErr result (λ stop. IsPassError (link (project_of context.entry)) stop) }
-    ensures reads { ReadsNothing meter.old meter.new }
-    ensures counted { OnOk result
-        (ArePlaced (project_of context.entry) (previous_of context.entry.previous) meter.old meter.new) }
-{
-    check_names(context)?;
-    let Gathering { table, rows, .. } = gather_inputs(context)?;
-    let link_layout = assign_addresses(context, &rows, meter)?;
-    match IndexedLayout::of(context.alloc, context.project, table, rows, link_layout) {
-        Ok(indexed_layout) => Ok(indexed_layout),
-        Err(_) => Err(PassError::NoMemory),
-    }
 }
 
 /// The objects of a project, with what the previous link has of the names in its map, if there is one.
@@ -132,47 +110,6 @@ fn map_if_asked(
     )
 }
 
-/// What is put out at a layout whose symbols have their values: the image, drawn over that of the previous link, and
-/// the map, if it is asked for.
-fn emit_output(
-    context: PassContext<'_, '_>,
-    indexed_layout: &IndexedLayout,
-    view: &LinkView<'_, '_>,
-    values: &Values<'_>,
-    symbols: &SymbolValues,
-    canvas: &mut Canvas,
-    meter: &mut Meter,
-) -> Result<LinkMap, PassError>
-    requires indexed_layout { IsLaidOut (project_of context) indexed_layout.now }
-    requires short { IsShort (project_of context) indexed_layout.now.link_layout view.now values.now }
-    requires symbols { (layout : Layout) → IsLinkLayout (project_of context) layout indexed_layout.now.link_layout
-        → AreSymbolValues (project_of context) layout symbols.now }
-    requires previous { IfSome (previous_of context.previous) (HasPreviousImage (project_of context) canvas.old.bytes) }
-    ensures good { IfOk result (λ made. IsEmitted context.entry.with_map
-        (project_of context.entry) indexed_layout.now canvas.new.bytes made.text.items) }
-    ensures names { IfOk result (λ made. AreNamesOfRows (project_of context.entry) (λ key. key)
-        (map vec_items indexed_layout.now.rows.items) made.names.items) }
-    ensures stop { IfErr result (λ stop. IsPassError (link (project_of context.entry)) stop) }
-    ensures reads { OnOk result (ReadsNothing meter.old meter.new) }
-    ensures counted { OnOk result
-        (AreDrawn (project_of context.entry) (previous_of context.entry.previous) meter.old meter.new) }
-    ensures early { IfErr result (λ stop. EndsReadingNothing meter.old meter.new stop) }
-    ensures unchanged { OnErr result (canvas.new.bytes ≡ canvas.old.bytes) }
-{
-    let dirty = dirty_objects(context.alloc, context.project, context.previous, symbols)?;
-    let stayed_sections = StayedSections {
-        previous: context.previous,
-        indexed_layout,
-        dirty: &dirty,
-    };
-    let fields = evaluate_relocations(context, &stayed_sections, view, values, symbols, meter)?;
-    check_assertions(context, &stayed_sections, values, &fields)?;
-    let map = map_if_asked(context, indexed_layout, values)?;
-    // the last pass that may fail, since it changes the canvas
-    draw_output(context, canvas, &stayed_sections, values, &fields, meter)?;
-    Ok(map)
-}
-
 /// The passes of a link over a previous one, in their order.
 fn run_passes(
     context: PassContext<'_, '_>,
@@ -197,7 +134,10 @@ fn run_passes(
         symbol_table,
         ..
     } = context;
-    let indexed_layout = lay_out(context, meter)?;
+    check_names(context)?;
+    let gathering = gather_inputs(context)?;
+    let link_layout = assign_addresses(context, &gathering.rows, meter)?;
+    let indexed_layout = index_layout(context, gathering, link_layout)?;
     let given = GivenValues::of(
         alloc,
         &*project,
@@ -207,15 +147,17 @@ fn run_passes(
     let view = LinkView::new(alloc, &*project, &*symbol_table, &indexed_layout, &given)?;
     let values = compute_values(context, &indexed_layout.link_layout, &view, &given)?;
     let symbols = symbol_values(alloc, project, &view, &values.names)?;
-    let map = emit_output(
-        context,
-        &indexed_layout,
-        &view,
-        &values,
-        &symbols,
-        canvas,
-        meter,
-    )?;
+    let dirty = dirty_objects(alloc, project, context.previous, &symbols)?;
+    let stayed_sections = StayedSections {
+        previous: context.previous,
+        indexed_layout: &indexed_layout,
+        dirty: &dirty,
+    };
+    let fields = evaluate_relocations(context, &stayed_sections, &view, &values, &symbols, meter)?;
+    check_assertions(context, &stayed_sections, &values, &fields)?;
+    let map = map_if_asked(context, &indexed_layout, &values)?;
+    // the last pass that may fail, since it changes the canvas
+    draw_output(context, canvas, &stayed_sections, &values, &fields, meter)?;
     // what lends a table goes before the table is kept
     drop(view);
     Ok(RelinkOutcome::Good(

@@ -15,10 +15,11 @@ ghost use Rattle.relink_driver.specs.Counted.{ArePlaced, HasEvaluated, HasWritte
 ghost use Rattle.relink_driver.specs.RelinkOutcome.{HasPreviousImage};
 ghost use Rattle.relink_driver.specs.Context.{IsPassContext, project_of};
 ghost use Rattle.relink_driver.specs.Phases.{HasPreviousLink, IsBeside, IsFaultless, IsFilled, IsImage, IsKnown};
-ghost use Rattle.relink_driver.specs.Phases.{IsPlaced};
+ghost use Rattle.relink_driver.specs.Phases.{IsLaidOut, IsPlaced};
 ghost use Rattle.relink_driver.specs.Phases.{IsShort};
 ghost use Rattle.relink_driver.specs.Reads.{EndsReadingNothing, ReadsNothing};
 ghost use Rattle.relink_driver.specs.PassErrors.{IsPassError};
+ghost use Rattle.relink_driver.specs.declared.pass_error.PassError.TheVariants.{NoMemory};
 
 use crate::context::PassContext;
 use crate::pass_error::{PassError, end_if_faulty};
@@ -41,6 +42,7 @@ use ldmodel::meter::Meter;
 use ldmodel::rows::Piece;
 use ldmodel::sections::SectionKey;
 use ldmodel_laws::layout::placed_are_rows;
+use place::indexed_layout::IndexedLayout;
 use place::length::length_fault;
 use place::link_layout::{LayoutFault, LinkLayout};
 use std::alloc::Global;
@@ -129,7 +131,26 @@ pub(crate) fn assign_addresses(
     }
 }
 
-/// The end of layout: the image is not too long.
+/// The end of layout: where each input section stands, by its number.
+pub(crate) fn index_layout(
+    context: PassContext<'_, '_>,
+    gathering: Gathering,
+    link_layout: LinkLayout,
+) -> Result<IndexedLayout, PassError>
+    requires gathering { IsGathering (project_of context) gathering }
+    requires link_layout { HasLayout (project_of context) link_layout }
+    requires rest { link (project_of context) ≡ placed (project_of context) (layout (project_of context)) }
+    ensures good { IfOk result (λ a. IsLaidOut (project_of context.entry) a) }
+    ensures stop { IfErr result (λ stop. stop ≡ NoMemory) }
+{
+    let Gathering { table, rows, .. } = gathering;
+    match IndexedLayout::of(context.alloc, context.project, table, rows, link_layout) {
+        Ok(indexed_layout) => Ok(indexed_layout),
+        Err(_) => Err(PassError::NoMemory),
+    }
+}
+
+/// The image is not too long.
 fn check_length(
     context: PassContext<'_, '_>,
     link_layout: &LinkLayout,
