@@ -53,15 +53,20 @@ pub fn put_section_line(
 }
 
 /// How long a line is at most that is put together beside the text.
-const LINE_ROOM: usize = 256;
+const LINE_ROOM: usize = 128;
 
-/// How long the front and each name of such a line are at most.
-const PART_ROOM: usize = 80;
+/// How long the front of such a line of two names is at most, and both names.
+const FRONT_ROOM: usize = 24;
+const NAMES_ROOM: usize = 102;
+
+/// How long the front of such a line of an input section is at most, and the rest.
+const PIECE_FRONT_ROOM: usize = 40;
+const REST_ROOM: usize = 88;
 
 /// Puts the next part into a line that reaches to `at`. Returns how far it reaches then.
 #[inline(always)]
 fn put_part(line: &mut [u8; LINE_ROOM], at: usize, part: &[u8]) -> usize
-    requires { at + length part.now ≤ 256 }
+    requires { at + length part.now ≤ 128 }
     ensures end { result ≡ at + length part.now }
     ensures written { take result line.new ≡ take at line.old ++ part.now }
 {
@@ -81,7 +86,10 @@ fn put_line_of_names(
     ensures { OnOk result (text.new.items
         ≡ text.old.items ++ (front.now ++ (first.now ++ 32 ∷ [] ++ second.now ++ 10 ∷ []))) }
 {
-    if front.len() > PART_ROOM || first.len() > PART_ROOM || second.len() > PART_ROOM {
+    if front.len() > FRONT_ROOM
+        || first.len() > NAMES_ROOM
+        || second.len() > NAMES_ROOM - first.len()
+    {
         text.extend_from_slice(front)?;
         put_names(text, first, second)?;
         return Ok(());
@@ -128,7 +136,7 @@ fn piece_front(start: u64, size: u64) -> [u8; 40]
 fn put_front_and_rest(text: &mut Vec<u8>, front: &[u8], rest: &[u8]) -> Result<(), AllocError>
     ensures { OnOk result (text.new.items ≡ text.old.items ++ (front.now ++ rest.now)) }
 {
-    if front.len() > PART_ROOM || rest.len() > PART_ROOM {
+    if front.len() > PIECE_FRONT_ROOM || rest.len() > REST_ROOM {
         text.extend_from_slice(front)?;
         text.extend_from_slice(rest)?;
         return Ok(());
