@@ -1,5 +1,5 @@
 -- What the map of a previous link has of the names of input sections.
-use Rattle.std.proofs.Common.{◌≡◌, ◌∙◌, ◌++◌, ◌∷◌, [], ℕ, List, None, Option, Some, ap, map, refl, slice_get, sym}
+use Rattle.std.proofs.Common.{◌≡◌, ◌∙◌, ◌++◌, ◌∷◌, [], ℕ, ap, map, refl, slice_get, sym}
 use Rattle.std.specs.Option.{option_and_then, option_map_or}
 use Rattle.std.specs.Vec.{vec_items}
 use Rattle.elfobj.specs.Sections.{LinkedSection}

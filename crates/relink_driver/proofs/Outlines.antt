@@ -1,6 +1,6 @@
 -- Objects of which the code finds that they differ in what their sections hold alone.
 use Rattle.std.proofs.Common.{◌≡◌, ◌∙◌, ◌⊎◌, inl, inr, ◌<◌, ◌≤◌, ℕ, ◌+◌, List, [], ◌∷◌, Option, Some, None, ap, arith}
-use Rattle.std.proofs.Common.{Bool, true, false, length, map}
+use Rattle.std.proofs.Common.{true, false, length, map}
 use Rattle.std.proofs.Common.{refl, slice_get, subst, sym}
 use Rattle.std.specs.Option.{option_map}
 use Rattle.std.specs.Prelude.{slice_index_or}
