@@ -45,8 +45,9 @@ fn read_by_buffer(rt: &HostRuntime, name: &str, buffer: &mut [u8]) -> io::Result
     let mut file = File::open(rt, name)?;
     let size = usize::try_from(file.metadata()?.len()).unwrap_or(MOST);
     let count = read_once(&mut file, buffer)?.unwrap_or(0);
-    let first = &buffer[..count.min(buffer.len())];
-    if !first.is_empty() && first.len() == size && size < buffer.len() {
+    let room = buffer.len();
+    let first = &buffer[..count.min(room)];
+    if !first.is_empty() && first.len() == size && size < room {
         return Ok(Vec::from_slice(rt.alloc(), first)?);
     }
     let mut bytes = Vec::with_capacity(rt.alloc(), size.saturating_add(1).min(MOST))?;
