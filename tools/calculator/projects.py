@@ -19,6 +19,7 @@ SECTIONS {
 
 FUNCTIONS, DATA_OBJECTS, RELOCATIONS = 10, 5, 250
 PLT32, ABS32 = 4, 10
+LONGER, VALUE, CALL, FUNCTION, SECTION = range(5)
 
 
 def called(number, count, chance):
@@ -27,17 +28,20 @@ def called(number, count, chance):
     return f"f{other}_{chance.randrange(FUNCTIONS)}"
 
 
-def project_object(number, count, size=512, code=b"\x90", another=False):
+def project_object(number, count, size=512, code=b"\x90", another=False, other=None):
     """Object `number` of `count`: ten functions of 25 relocations each, calls and addresses, and five data objects.
 
-    `code` is what a function is filled with; `another` asks for one more global symbol.
+    `code` is what a function is filled with; `another` asks for one more global symbol. `other` is one thing besides
+    that is otherwise: LONGER, the first function by 16 bytes; VALUE, the first data object's symbol by 8; CALL,
+    FUNCTION or SECTION, one more.
     """
     chance = random.Random(number)
     sections, symbols, relocations, wanted = [], [], [], {}
     for k in range(FUNCTIONS):
         name = "_start" if number == 0 and k == 0 else f"f{number}_{k}"
         section = ".text.start" if name == "_start" else f".text.{name}"
-        sections.append(Sec(section, code * size, CODE, alignment=16))
+        longer = 16 if k == 0 and other == LONGER else 0
+        sections.append(Sec(section, code * (size + longer), CODE, alignment=16))
         symbols.append(Sym(name, len(sections), 0, size, elf.STB_GLOBAL, elf.STT_FUNC))
         if name == "_start":
             symbols.append(Sym(f"f{number}_{k}", len(sections), 0, size, elf.STB_GLOBAL, elf.STT_FUNC))
@@ -48,8 +52,17 @@ def project_object(number, count, size=512, code=b"\x90", another=False):
                 relocations.append((len(sections), 1 + 20 * i, PLT32, called(number, count, chance), -4))
     for k in range(DATA_OBJECTS):
         sections.append(Sec(f".data.d{number}_{k}", bytes(64), DATA, alignment=8))
-        symbols.append(Sym(f"d{number}_{k}", len(sections), 0, 64, elf.STB_GLOBAL, elf.STT_OBJECT))
+        value = 8 if k == 0 and other == VALUE else 0
+        symbols.append(Sym(f"d{number}_{k}", len(sections), value, 64 - value, elf.STB_GLOBAL, elf.STT_OBJECT))
     sections.append(Sec(f".rodata.r{number}", b"text\0" * 20, READ_ONLY))
+    if other == CALL:
+        relocations.append((1, 501, PLT32, "f0_1", -4))
+    if other == FUNCTION:
+        sections.append(Sec(f".text.f{number}_{FUNCTIONS}", code * size, CODE, alignment=16))
+        symbols.append(Sym(f"f{number}_{FUNCTIONS}", len(sections), 0, size, elf.STB_GLOBAL, elf.STT_FUNC))
+        relocations.append((len(sections), 1, PLT32, "f0_1", -4))
+    if other == SECTION:
+        sections.append(Sec(f".data.more{number}", bytes(64), DATA, alignment=8))
     if another:
         symbols.append(Sym(f"another{number}", 1, 0, size, elf.STB_GLOBAL, elf.STT_FUNC))
     have = {symbol.name for symbol in symbols}
