@@ -2,8 +2,8 @@
 
     count(options, data)    how many edits of each class a stream has, by the calculator's links
 
-An edit is in each class that holds of it. The links are those right before and right after it; only for the two classes
-at the end others were between.
+An edit is in each class that holds of it. The links are those right before and right after it; only for the last class
+others were between.
 """
 import collections
 import re
@@ -359,8 +359,8 @@ CLASSES = {
     "the image longer": lambda step: len(step.before.linked.image) < len(step.after.linked.image),
     "the image shorter": lambda step: len(step.before.linked.image) > len(step.after.linked.image),
 }
-REFUSED, FAULTY = "right after a refused edit", "after links with faults"
-TITLES = ["edits", "between good links", *CLASSES, REFUSED, FAULTY]
+REFUSED, BACK, FAULTY = "right after a refused edit", "takes back the edit before", "after links with faults"
+TITLES = ["edits", "between good links", *CLASSES, BACK, REFUSED, FAULTY]
 
 
 class Counter:
@@ -370,6 +370,7 @@ class Counter:
         self.project = edits.Project(options=options)
         self.linked = link(self.project)
         self.good = Good(self.project, self.linked) if self.linked.status == 0 else None
+        self.earlier = None
         self.found, self.latest = collections.Counter(), {}
         self.has_refused = self.has_faults = False
 
@@ -390,7 +391,8 @@ class Counter:
         if self.linked.status != 0:
             self.has_faults = True
             return
-        before, self.good = self.good, Good(self.project, self.linked)
+        earlier, before, self.good = self.earlier, self.good, Good(self.project, self.linked)
+        self.earlier = before
         if before is None or self.has_faults:
             self.found[FAULTY] += before is not None
             self.has_faults = False
@@ -399,6 +401,7 @@ class Counter:
         step = Step(command, latest, before, self.good)
         self.found["between good links"] += 1
         self.found[REFUSED] += self.has_refused
+        self.found[BACK] += earlier is not None and earlier.project == self.project != before.project
         for title, holds in CLASSES.items():
             self.found[title] += bool(holds(step))
 

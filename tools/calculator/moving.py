@@ -188,8 +188,8 @@ class Moving:
         self.project = edits.Project(options=self.options)
         self.linked = link(self.project)
         self.data, self.serial = b"", 0
-        self.gone, self.full, self.back = {}, {}, []
-        self.state = State((), {}, self.first_plan())
+        self.gone, self.back = {}, []
+        self.state = self.last = State((), {}, self.first_plan())
 
     def chance(self, probability):
         return self.random.random() < probability
@@ -582,10 +582,11 @@ class Moving:
         """To another state by one edit. A way back is kept while there are faults."""
         self.send(command(self.state, state))
         self.back = [] if self.linked.status == 0 else self.back + [self.state]
-        self.state = state
+        self.last, self.state = self.state, state
 
     def step(self):
-        """One edit: where there are faults, mostly the one that takes back the last; else a new one."""
+        """One edit: where there are faults, mostly the one that takes back the last; now and then that without a need;
+        else a new one."""
         if self.back and (len(self.back) > 2 or self.chance(0.7)):
             back, self.back = self.back[-1], self.back[:-1]
             earlier = self.back
@@ -593,6 +594,8 @@ class Moving:
             self.back = earlier if self.linked.status != 0 else []
         elif self.chance(0.06):
             self.send(self.refused())
+        elif self.chance(0.12):
+            self.go(self.last)
         else:
             self.go(self.one(*self.STEPS)(self))
 
