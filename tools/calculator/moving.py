@@ -180,10 +180,12 @@ def command(old, new):
 
 
 class Moving:
-    """A list of edits from a seed: `options`, and `data`, the commands."""
+    """A list of edits from a seed: `options`, and `data`, the commands. In one of eight lists objects have dozens of
+    sections."""
 
     def __init__(self, seed):
         self.random = random.Random(f"moving {seed}")
+        self.sections = (20, 60) if seed % 8 == 0 else (2, 5)
         self.options = edits.Options(self.chance(0.4), None, "discard" if self.chance(0.2) else "error")
         self.project = edits.Project(options=self.options)
         self.linked = link(self.project)
@@ -202,7 +204,7 @@ class Moving:
     def parts(self, is_start=False):
         """The parts of a new object."""
         self.serial += 1
-        count = self.random.randint(2, 5)
+        count = self.random.randint(*self.sections)
         sections = [self.section(number) for number in range(count)]
         symbols = [self.own(number, section) for number, section in enumerate(sections, 1) if self.chance(0.8)]
         symbols += [Sym("L", 1, self.random.randint(0, 8), 0, elf.STB_LOCAL)]
