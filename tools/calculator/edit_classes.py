@@ -2,8 +2,8 @@
 
     count(options, data)    how many edits of each class a stream has, by the calculator's links
 
-An edit is in each class that holds of it. The links are those right before and right after it; only for the last class
-others were between.
+An edit is in each class that holds of it. The links are those right before and right after it; only for the last two
+classes others were between.
 """
 import collections
 import re
@@ -359,8 +359,9 @@ CLASSES = {
     "the image longer": lambda step: len(step.before.linked.image) < len(step.after.linked.image),
     "the image shorter": lambda step: len(step.before.linked.image) > len(step.after.linked.image),
 }
-REFUSED, BACK, FAULTY = "right after a refused edit", "takes back the edit before", "after links with faults"
-TITLES = ["edits", "between good links", *CLASSES, BACK, REFUSED, FAULTY]
+REFUSED, BACK = "right after a refused edit", "takes back the edit before"
+FAULTY, OTHERS = "after links with faults", "  and another project than before them"
+TITLES = ["edits", "between good links", *CLASSES, BACK, REFUSED, FAULTY, OTHERS]
 
 
 class Counter:
@@ -395,6 +396,7 @@ class Counter:
         self.earlier = before
         if before is None or self.has_faults:
             self.found[FAULTY] += before is not None
+            self.found[OTHERS] += before is not None and before.project != self.project
             self.has_faults = False
             return
         latest = self.latest.get(command.arguments[0]) if command.word == "add" else None

@@ -190,7 +190,8 @@ class Moving:
         self.project = edits.Project(options=self.options)
         self.linked = link(self.project)
         self.data, self.serial = b"", 0
-        self.gone, self.back = {}, []
+        self.gone, self.back, self.fix = {}, [], None
+        self.patience, self.haste = (5, 0.3) if seed % 4 == 1 else (2, 0.7)
         self.state = self.last = State((), {}, self.first_plan())
 
     def chance(self, probability):
@@ -581,15 +582,24 @@ class Moving:
         self.data += edit + rows.MAP + rows.FAULTS + rows.IMAGE
 
     def go(self, state):
-        """To another state by one edit. A way back is kept while there are faults."""
+        """To another state by one edit. While there are faults the way back is kept, and what the object was that brought
+        the first."""
+        was_good = self.linked.status == 0
         self.send(command(self.state, state))
+        if was_good:
+            changed = [name for name in self.state.order if state.parts.get(name, self.state.parts[name])
+                       != self.state.parts[name]]
+            self.fix = (changed[0], self.state.parts[changed[0]]) if changed else None
         self.back = [] if self.linked.status == 0 else self.back + [self.state]
         self.last, self.state = self.state, state
 
     def step(self):
-        """One edit: where there are faults, mostly the one that takes back the last; now and then that without a need;
-        else a new one."""
-        if self.back and (len(self.back) > 2 or self.chance(0.7)):
+        """One edit: where there are faults, mostly the one that takes back the last, or the first of them; now and then
+        that without a need; else a new one."""
+        if self.back and self.fix and self.fix[0] in self.state.order and len(self.back) > 1:
+            (name, parts), self.fix = self.fix, None
+            self.go(self.state.put(name, parts))
+        elif self.back and (len(self.back) > self.patience or self.chance(self.haste)):
             back, self.back = self.back[-1], self.back[:-1]
             earlier = self.back
             self.go(back)
