@@ -91,13 +91,15 @@ class Good:
 
 
 class Step:
-    """An edit from a good link to a good one. `latest` are the bytes that came last under the name of an object that is
-    added. `others` are the input sections of other objects that are in both links."""
+    """An edit from a good link to a good one. `sent` are the bytes that came last under each name. `others` are the
+    input sections of other objects that are in both links."""
 
-    def __init__(self, command, latest, before, after):
+    def __init__(self, command, sent, before, after):
         self.word, self.before, self.after = command.word, before, after
         self.name = command.arguments[0] if command.word != "script" else None
-        self.is_same, self.is_other = latest == command.payload, latest not in (command.payload, None)
+        latest, data = sent.get(self.name), command.payload
+        self.is_same, self.is_other = latest == data, latest not in (data, None)
+        self.is_renamed = latest is None and data in sent.values()
         self.both = [(old, after.places[key]) for key, old in before.places.items() if key in after.places]
         self.others = [(old, new) for old, new in self.both
                        if old.piece.owner != self.name or command.word == "move"]
@@ -305,6 +307,8 @@ CLASSES = {
     "add": lambda step: step.word == "add",
     "  again, with other bytes": lambda step: step.word == "add" and step.is_other,
     "  again, with the same bytes": lambda step: step.word == "add" and step.is_same,
+    "  the bytes of an object that is gone, under another name": lambda step: step.word == "add" and step.is_renamed,
+    "  an object without sections": lambda step: step.word == "add" and not step.member(step.after).sections,
     "remove": lambda step: step.word == "remove",
     "script": lambda step: step.word == "script",
     "  nothing otherwise in the image": lambda step: (step.word == "script"
@@ -372,7 +376,7 @@ class Counter:
         self.linked = link(self.project)
         self.good = Good(self.project, self.linked) if self.linked.status == 0 else None
         self.earlier = None
-        self.found, self.latest = collections.Counter(), {}
+        self.found, self.sent = collections.Counter(), {}
         self.has_refused = self.has_faults = False
 
     def edit(self, command):
@@ -384,7 +388,7 @@ class Counter:
             return
         self.between(command)
         if command.word in ("add", "replace"):
-            self.latest[command.arguments[0]] = command.payload
+            self.sent[command.arguments[0]] = command.payload
         self.has_refused = False
 
     def between(self, command):
@@ -399,8 +403,7 @@ class Counter:
             self.found[OTHERS] += before is not None and before.project != self.project
             self.has_faults = False
             return
-        latest = self.latest.get(command.arguments[0]) if command.word == "add" else None
-        step = Step(command, latest, before, self.good)
+        step = Step(command, self.sent, before, self.good)
         self.found["between good links"] += 1
         self.found[REFUSED] += self.has_refused
         self.found[BACK] += earlier is not None and earlier.project == self.project != before.project

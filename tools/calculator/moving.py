@@ -19,8 +19,9 @@ START = "crt.o"
 SIZES = [1, 2, 3, 4, 8, 12, 16, 24, 40, 64]
 GROWTHS = [1, 1, 2, 3, 4, 7, 8, 15, 16, 17, 33, 64] * 2 + [4100]
 # What an output section takes besides its own.
-ALSO = ["", "", "*(.text.[a-b])", "*(.data.x .data.y)", "KEEP(*(.data.[a-d]))", "KEEP(*(.text.*_1 .data.*_2))",
-        "o2.o(.rodata*)", "*(EXCLUDE_FILE(o3.o o4.o) .rodata.[a-z])", "*(SORT_BY_ALIGNMENT(.*_[13]))"]
+ALSO = ["", "*(.rodata.*)", "*(.data.[a-z])", "*(.bss.* .data.*_[12])", "*(.text.[a-b])", "*(.data.x .data.y)",
+        "KEEP(*(.data.[a-d]))", "KEEP(*(.text.*_1 .data.*_2))", "o2.o(.rodata*)",
+        "*(EXCLUDE_FILE(o3.o o4.o) .rodata.[a-z])", "*(SORT_BY_ALIGNMENT(.*_[13]))"]
 # of no width; 64, PC32, PLT32, 32, PC64
 TYPES = [0, 1, 1, 2, 2, 4, 4, 10, 24]
 
@@ -189,7 +190,7 @@ class Moving:
         self.options = edits.Options(self.chance(0.4), None, "discard" if self.chance(0.2) else "error")
         self.project = edits.Project(options=self.options)
         self.linked = link(self.project)
-        self.data, self.serial = b"", 0
+        self.data, self.serial, self.objects = b"", 0, 0
         self.gone, self.back, self.fix = {}, [], None
         self.patience, self.haste = (5, 0.3) if seed % 4 == 1 else (2, 0.7)
         self.state = self.last = State((), {}, self.first_plan())
@@ -487,12 +488,18 @@ class Moving:
         """One object becomes another by one change, now and then by two. Where sections without references are dropped,
         it is often the object from which all others are reached."""
         name = START if self.options.gc and self.chance(0.3) else self.one(*self.state.order)
-        parts = self.one(*self.OF_OBJECT)(self, self.state.parts[name])
+        parts = self.changed(self.state.parts[name], 1)
         for _ in range(10):
             if parts != self.state.parts[name] and not self.chance(0.2):
                 break
-            parts = self.one(*self.OF_OBJECT)(self, parts)
+            parts = self.changed(parts, 1)
         return self.state.put(name, parts)
+
+    def changed(self, parts, times):
+        """An object after so many changes. One without sections first gets one."""
+        for _ in range(times):
+            parts = self.one(*self.OF_OBJECT)(self, parts) if parts.sections else self.one_section_more(parts)
+        return parts
 
     def move(self):
         """An object to the front, to the end or between."""
@@ -502,16 +509,21 @@ class Moving:
         return self.state.placed(others[:at] + [name] + others[at:])
 
     def add(self):
-        """An object that was there before, mostly with other bytes; or a new one."""
+        """An object that was there before, mostly with other bytes, at times under another name; or a new one, at times
+        without any section."""
         at = self.random.randint(0, len(self.state.order))
         free = sorted(name for name in self.gone if name not in self.state.order)
         if free and self.chance(0.7):
             name = self.one(*free)
-            parts = self.gone[name]
-            for _ in range(self.random.randint(0, 2)):
-                parts = self.one(*self.OF_OBJECT)(self, parts)
-            return self.state.added(name, at, parts)
-        return self.state.added(f"o{self.serial}.o", at, self.parts())
+            if self.chance(0.4):
+                return self.state.added(self.new_name(), at, self.gone.pop(name))
+            return self.state.added(name, at, self.changed(self.gone[name], self.random.randint(0, 2)))
+        return self.state.added(self.new_name(), at, Parts((), ()) if self.chance(0.1) else self.parts())
+
+    def new_name(self):
+        """The name of an object that was never there."""
+        self.objects += 1
+        return f"o{self.objects}.o"
 
     def remove(self):
         """An object goes, but for the one with the entry symbol."""
@@ -582,8 +594,8 @@ class Moving:
         self.data += edit + rows.MAP + rows.FAULTS + rows.IMAGE
 
     def go(self, state):
-        """To another state by one edit. While there are faults the way back is kept, and what the object was that brought
-        the first."""
+        """To another state by one edit. While there are faults the way back is kept, and what the object was that
+        brought the first."""
         was_good = self.linked.status == 0
         self.send(command(self.state, state))
         if was_good:
@@ -617,7 +629,8 @@ class Moving:
         self.state = self.state.added(START, 0, self.parts(True))
         self.send(rows.add(START, 0, self.state.parts[START].data))
         for _ in range(self.random.randint(2, 7)):
-            self.go(self.state.added(f"o{self.serial}.o", self.random.randint(0, len(self.state.order)), self.parts()))
+            at = self.random.randint(0, len(self.state.order))
+            self.go(self.state.added(self.new_name(), at, self.parts()))
         for _ in range(count):
             self.step()
         return self
