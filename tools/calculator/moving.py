@@ -515,9 +515,9 @@ class Moving:
         free = sorted(name for name in self.gone if name not in self.state.order)
         if free and self.chance(0.7):
             name = self.one(*free)
-            if self.chance(0.4):
+            if self.chance(0.25):
                 return self.state.added(self.new_name(), at, self.gone.pop(name))
-            return self.state.added(name, at, self.changed(self.gone[name], self.random.randint(0, 2)))
+            return self.state.added(name, at, self.changed(self.gone[name], self.one(0, 1, 1, 2)))
         return self.state.added(self.new_name(), at, Parts((), ()) if self.chance(0.1) else self.parts())
 
     def new_name(self):
@@ -575,7 +575,7 @@ class Moving:
             {"comment": self.one("", "/* a */", "/* b, and\nmore */")},
         )
 
-    STEPS = [replace] * 14 + [move] * 3 + [add] * 2 + [remove] * 2 + [script] * 4
+    STEPS = [replace] * 14 + [move] * 3 + [add] * 4 + [remove] * 4 + [script] * 4
 
     def refused(self):
         """An edit that is refused."""
