@@ -55,12 +55,16 @@ pub fn put_section_line(
 /// How long a line is at most that is put together beside the text.
 const LINE_ROOM: usize = 128;
 
-/// How long the front of such a line of two names is at most, and both names.
+/// How long the front of such a line of two names is at most.
 const FRONT_ROOM: usize = 24;
+
+/// How long its two names are at most, together.
 const NAMES_ROOM: usize = 102;
 
-/// How long the front of such a line of an input section is at most, and the rest.
+/// How long the front of such a line of an input section is at most.
 const PIECE_FRONT_ROOM: usize = 40;
+
+/// How long the rest of it is at most.
 const REST_ROOM: usize = 88;
 
 /// Puts the next part into a line that reaches to `at`. Returns how far it reaches then.
