@@ -126,8 +126,8 @@ impl SectionHeader {
         }
     }
 
-    /// What its section holds, and where its name lies in the file, if the section is linked and within the profile, with
-    /// the table of names of this header. Each call looks through the name.
+    /// What its section holds, and where its name lies in the file, if the section is linked and within the profile,
+    /// with the table of names of this header. Each call looks through the name.
     pub fn looked_section(&self, file: &[u8], names: &SectionHeader) -> Option<(SectionKind, Span)>
         requires { names.now.sh_offset + names.now.sh_size ≤ length file.now }
         ensures kind { IfSome result (λ section. linked_kind self.now ≡ Some section.0) }

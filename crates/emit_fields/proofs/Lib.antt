@@ -2,3 +2,4 @@ pub mod FieldBytes
 pub mod Order
 pub mod Patches
 pub mod Runs
+mod Zeros

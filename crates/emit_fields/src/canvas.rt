@@ -1,6 +1,7 @@
 //! The buffer that the image is written into.
 
-ghost use Rattle.std.specs.Prelude.{◌≡◌, ◌↔◌, ◌≤◌, ◌<◌, ◌+◌, ℕ, [], IsTrue, OnErr, OnOk, length, max, slice_index};
+ghost use Rattle.std.specs.Prelude.{◌≡◌, ◌↔◌, ◌≤◌, ◌<◌, ◌+◌, ◌*◌, ℕ, [], IsTrue, OnErr, OnOk, length, max, slice_index};
+ghost use Rattle.std.specs.Prelude.{slice_index_or, vec_capacity, vec_len};
 ghost use Rattle.elfobj.specs.Raised.{raised};
 
 use elfobj::{Count, Meter};
@@ -21,6 +22,24 @@ fn copy_over(to: &mut [u8], from: &[u8])
         to.copy_from_slice(&word);
     } else {
         to.copy_from_slice(from);
+    }
+}
+
+/// How many zeros are added at once.
+const ZERO_BLOCK: usize = 256;
+
+/// Adds a block of zeros this many times, for which there is room.
+fn add_zero_blocks(bytes: &mut Vec<u8>, zeros: &[u8], count: usize)
+    requires zeros { (i : ℕ) → slice_index_or zeros.now i 0 ≡ 0 }
+    requires room { vec_len bytes.old + length zeros.now * count ≤ vec_capacity bytes.old }
+    ensures len { vec_len bytes.new ≡ vec_len bytes.old + length zeros.now * count }
+    ensures kept { (offset : ℕ) → offset < vec_len bytes.old
+        → slice_index_or bytes.new.items offset 0 ≡ slice_index_or bytes.old.items offset 0 }
+    ensures zeros { (offset : ℕ) → vec_len bytes.old ≤ offset → slice_index_or bytes.new.items offset 0 ≡ 0 }
+    ensures room { vec_capacity bytes.old ≤ vec_capacity bytes.new }
+{
+    for _ in 0..count {
+        bytes.extend_from_slice(zeros).unwrap();
     }
 }
 
@@ -100,6 +119,9 @@ impl Canvas {
             → slice_index self.new.bytes offset ≡ 0 }
         ensures room { self.old.room ≤ self.new.room }
     {
+        // a block at a time: `resize` adds them byte by byte
+        let added = n.saturating_sub(self.bytes.len());
+        add_zero_blocks(&mut self.bytes, &[0; ZERO_BLOCK], added / ZERO_BLOCK);
         self.bytes.resize(n, 0).unwrap();
     }
 

@@ -73,7 +73,7 @@ fn write_up_to(
     ensures room { canvas.new.room ≡ canvas.old.room }
     ensures counted { meter.new ≡ raised meter.old Count.Bytes (patch_end patch.now - done) }
 {
-    // so that the length of the canvas is known to fit
+    // for the prover: brings in that the length of the canvas fits a usize
     let _len = canvas.len();
     let field = patch.field.bytes();
     canvas.write(at + done, &bytes[done..patch.offset], meter);
@@ -101,7 +101,7 @@ pub fn write_patched(
     ensures room { canvas.new.room ≡ canvas.old.room }
     ensures counted { meter.new ≡ raised meter.old Count.Bytes (length bytes.now) }
 {
-    // so that the length of the canvas is known to fit
+    // for the prover: brings in that the length of the canvas fits a usize
     let _len = canvas.len();
     let mut done = 0;
     for patch in patches {

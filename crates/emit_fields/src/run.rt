@@ -55,7 +55,7 @@ fn write_short_run(canvas: &mut Canvas, at: usize, n: usize, pattern: &[u8], met
     ensures room { canvas.new.room ≡ canvas.old.room }
     ensures counted { meter.new ≡ raised meter.old Bytes n }
 {
-    // so that the length of the canvas is known to fit
+    // for the prover: brings in that the length of the canvas fits a usize
     let _len = canvas.len();
     let short = short_run_of(pattern, n);
     canvas.write(at, &short[..n], meter);
@@ -74,7 +74,7 @@ fn write_chunks(canvas: &mut Canvas, at: usize, n: usize, pattern: &[u8], meter:
     ensures room { canvas.new.room ≡ canvas.old.room }
     ensures counted { meter.new ≡ raised meter.old Bytes n }
 {
-    // so that the length of the canvas is known to fit
+    // for the prover: brings in that the length of the canvas fits a usize
     let _len = canvas.len();
     let chunk = chunk_of(pattern, n.min(CHUNK));
     for k in 0..n / CHUNK {
