@@ -1,15 +1,48 @@
-//! How names are hashed: as `std` hashes with random keys, but eight bytes at a time.
+//! How names are hashed: by polynomials at a random argument, so that whoever picks names cannot tell which of them
+//! collide.
 
-ghost use Rattle.std.specs.Prelude.{◌≡◌};
-ghost use Rattle.std.specs.RandomState.{initial_hasher};
+ghost use Rattle.std.specs.Prelude.{◌≡◌, ℕ};
+ghost use Rattle.symres_table.specs.Hashing.{combined, reduced};
 
-use std::hash::{BuildHasher, DefaultHasher, Hasher, RandomState};
+use std::hash::{BuildHasher, Hasher, RandomState};
 
-/// Hands bytes on in words of eight. A table that hashes a name writes its length and then makes a call for each byte,
-/// and the hasher of `std` takes several times longer for eight bytes one by one than for eight at once.
+/// The prime modulo which names are hashed is less than this by one.
+const POWER: u128 = 1 << 61;
+
+/// A number that is the same modulo 2^61 - 1, and takes little more than 61 bits.
+#[tactic(auto, unfolding(symres_table::specs::Hashing::reduced))]
+#[inline(always)]
+fn reduced(number: u128) -> u64
+    ensures { result ≡ reduced number }
+{
+    let once = number % POWER + number / POWER;
+    (once % POWER + once / POWER) as u64
+}
+
+#[inline(always)]
+fn combined(sum: u64, factor: u64, term: u64) -> u64
+    ensures { result ≡ combined sum factor term }
+{
+    reduced(u128::from(sum) * u128::from(factor) + u128::from(term))
+}
+
+/// Random numbers that the caller's seed gives.
+#[derive(Clone, Copy)]
+pub struct WordState {
+    argument: u64,
+    factor: u64,
+    offset: u64,
+}
+
+/// The bytes of a name, seven to a word, are the coefficients of a polynomial over the numbers modulo 2^61 - 1. Its value
+/// at a random argument is the same for two names with a chance of at most their number of words in 2^61. This value is
+/// multiplied and moved by two further random numbers, after which each bit of the hashes of two values that differ is
+/// independent. A table hands a name on byte by byte, for which the hasher of `std` takes several times longer.
 #[derive(Clone, Copy)]
 pub struct WordHasher {
-    hasher: DefaultHasher,
+    numbers: WordState,
+    // the value of the polynomial of the whole words
+    sum: u64,
     // the bytes since the last whole word, after a one
     word: u64,
 }
@@ -21,10 +54,11 @@ impl WordHasher {
     fn add(&mut self, byte: u8)
         ensures { self.new ≡ with_byte self.old byte }
     {
-        let is_last = self.word >> 56 != 0;
-        self.word = self.word << 8 | byte as u64;
-        if is_last {
-            self.hasher.write_u64(self.word);
+        let word = self.word << 8 | byte as u64;
+        if word >> 56 == 0 {
+            self.word = word;
+        } else {
+            self.sum = combined(self.sum, self.numbers.argument, word);
             self.word = 1;
         }
     }
@@ -38,17 +72,13 @@ impl Hasher for WordHasher {
     ghost finish = { hash_of };
 
     fn finish(&self) -> u64 {
-        let mut hasher = self.hasher;
-        hasher.write_u64(self.word);
-        hasher.finish()
+        let sum = combined(self.sum, self.numbers.argument, self.word);
+        combined(sum, self.numbers.factor, self.numbers.offset)
     }
 
-    // the bytes of a length come together
     fn write(&mut self, bytes: &[u8]) {
-        if bytes.len() == 1 {
-            self.add(bytes[0]);
-        } else {
-            self.hasher.write(bytes);
+        for byte in bytes {
+            self.add(*byte);
         }
     }
 
@@ -58,15 +88,20 @@ impl Hasher for WordHasher {
     }
 }
 
-/// Makes hashers with the random keys of a seed.
-#[derive(Clone, Copy)]
-pub struct WordState {
-    seed: RandomState,
+/// The random number of an index.
+fn drawn(seed: RandomState, index: u64) -> u64 {
+    let mut hasher = seed.build_hasher();
+    hasher.write_u64(index);
+    hasher.finish() >> 3
 }
 
 impl WordState {
     pub fn new(seed: RandomState) -> WordState {
-        WordState { seed }
+        WordState {
+            argument: drawn(seed, 0),
+            factor: drawn(seed, 1),
+            offset: drawn(seed, 2),
+        }
     }
 }
 
@@ -79,7 +114,8 @@ impl BuildHasher for WordState {
 
     fn build_hasher(&self) -> WordHasher {
         WordHasher {
-            hasher: self.seed.build_hasher(),
+            numbers: *self,
+            sum: 0,
             word: 1,
         }
     }

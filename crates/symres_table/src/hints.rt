@@ -118,13 +118,23 @@ fn line_of(count: usize, hash: u32) -> usize {
     hash as usize & count.saturating_sub(1)
 }
 
+/// How many lines are half full with this number of hints, or less than that.
+fn lines_for(hints: usize) -> usize {
+    (hints / 4 + 1)
+        .checked_next_power_of_two()
+        .unwrap_or(0)
+        .max(FIRST_LINES)
+}
+
+/// The line is read to its end, so that a processor need not guess where the hash stands.
 fn place_on(line: &Line, hash: u32) -> u32 {
+    let mut place = 0;
     for hint in line.iter() {
         if hint.hash == hash {
-            return hint.place;
+            place = hint.place;
         }
     }
-    0
+    place
 }
 
 /// Puts a hint onto a line. It is lost if the line is full.
@@ -144,9 +154,8 @@ fn put_in(lines: &mut [Line], hint: Hint) {
     }
 }
 
-/// Twice as many lines with the same hints.
-fn doubled(alloc: Global, lines: &[Line]) -> Result<Vec<Line>, AllocError> {
-    let count = lines.len().saturating_mul(2).max(FIRST_LINES);
+/// This number of lines with the same hints.
+fn spread(alloc: Global, lines: &[Line], count: usize) -> Result<Vec<Line>, AllocError> {
     let mut more = Vec::with_capacity(alloc, count)?;
     more.resize(count, [NO_HINT; 8])?;
     for line in lines {
@@ -167,6 +176,14 @@ impl Hints {
         }
     }
 
+    /// Makes room for the places of this number of names, if there is memory for it.
+    pub fn expect(&mut self, names: usize) {
+        let count = lines_for(names);
+        if count > self.lines.len() {
+            self.widen(count);
+        }
+    }
+
     /// Looks up the names of all symbols of an object that others see.
     pub fn look_up(&mut self, object: &Object) -> Result<(), AllocError> {
         self.is_told = self.count > 0;
@@ -182,6 +199,15 @@ impl Hints {
             hint.place = place_in(&self.lines, hint.hash);
         }
         Ok(())
+    }
+
+    /// How many of the names that were looked up last have a likely place.
+    pub fn found(&self) -> usize {
+        let mut count: usize = 0;
+        for hint in self.found.iter() {
+            count = count.saturating_add((hint.place > 0) as usize);
+        }
+        count
     }
 
     /// The likely place of the name of a symbol, by how many symbols of its object that others see stand before it.
@@ -231,7 +257,13 @@ impl Hints {
         if self.count < self.lines.len().saturating_mul(4) {
             return;
         }
-        match doubled(*self.lines.allocator(), &self.lines) {
+        let count = self.lines.len().saturating_mul(2).max(FIRST_LINES);
+        self.widen(count);
+    }
+
+    /// Makes this number of lines, if there is memory for them.
+    fn widen(&mut self, count: usize) {
+        match spread(*self.lines.allocator(), &self.lines, count) {
             Ok(more) => self.lines = more,
             Err(_refused) => {}
         }

@@ -75,7 +75,7 @@ fn number_of(known: &NameTable, guess: Option<usize>, name: &[u8]) -> Option<usi
         IsNamed known.now.slots n name.now) }
     ensures distinct { AreDistinct known.now.slots }
 {
-    // so that the number of known names is known to fit
+    // for the prover: brings in the invariant of `known`
     let _known = known.len();
     if let Some(number) = guess {
         if let Some(guessed) = known.name_of(number) {
@@ -324,24 +324,30 @@ fn add_hinted(
     }
 }
 
-/// The number of the name of a symbol that comes after those of the list. It becomes known if it isn't. A long name,
-/// which other symbols of the object may share, is hashed once for all of them.
+/// The number of the name of a symbol that comes after those of the list, which may be told. It becomes known if it isn't.
+/// A long name, which other symbols of the object may share, is hashed once for all of them.
 #[inline(always)]
 fn add_name(
     known: &mut NameTable,
     object: &Object,
     number: u32,
+    told: Option<usize>,
     list: &[Numbered],
     repeats: &mut Repeats,
     hints: &mut Hints,
 ) -> Result<usize, AllocError>
     requires within { number < length object.now.symbols }
+    requires told { IfSome told (λ n. (d : NamedSymbol)
+        → IsNamed known.old.slots n (slice_index_or object.now.symbols number d).name) }
     requires list { AreOf known.old.slots object.now.symbols list.now }
     ensures ok { IfOk result (λ n. (d : NamedSymbol)
         → IsNamed known.new.slots n (slice_index_or object.now.symbols number d).name) }
     ensures kept { KeepsNames known.old.slots known.new.slots }
     ensures added { AddsNames known.old known.new }
 {
+    if let Some(name) = told {
+        return Ok(name);
+    }
     let place = object.name_place(SymbolIndex(number));
     if is_long(place) {
         if let Some(name) = number_noted(object, number, list, repeats) {
@@ -362,16 +368,19 @@ fn add_name(
     Ok(name)
 }
 
-/// Writes one symbol, if it isn't local, by the number of its name, which becomes known if it isn't.
+/// Writes one symbol, if it isn't local, by the number of its name, which may be told, and becomes known if it isn't.
 fn add_seen(
     known: &mut NameTable,
     object: &Object,
     number: u32,
+    told: Option<usize>,
     list: &mut Vec<Numbered>,
     repeats: &mut Repeats,
     hints: &mut Hints,
 ) -> Result<(), AllocError>
     requires within { number < length object.now.symbols }
+    requires told { IfSome told (λ n. (d : NamedSymbol)
+        → IsNamed known.old.slots n (slice_index_or object.now.symbols number d).name) }
     requires list { AreOf known.old.slots object.now.symbols list.old.items }
     ensures list { OnOk result (AreOf known.new.slots object.now.symbols list.new.items) }
     ensures spelled { OnOk result (SpellsSeen known.old.slots list.old.items (take number object.now.symbols)
@@ -383,13 +392,79 @@ fn add_seen(
     if !is_visible(&symbol) {
         return Ok(());
     }
-    let name = add_name(known, object, number, list, repeats, hints)?;
+    let name = add_name(known, object, number, told, list, repeats, hints)?;
     list.push(Numbered {
         name,
         number,
         symbol,
     })?;
     Ok(())
+}
+
+/// Writes one symbol by the number of its name, if that stands at this place in the list of names, and there is room. A
+/// long name is not looked at, since other symbols of the object may share it.
+#[inline(always)]
+fn add_hinted_symbol(
+    known: &NameTable,
+    object: &Object,
+    number: u32,
+    place: Option<usize>,
+    list: &mut Vec<Numbered>,
+)
+    requires within { number < length object.now.symbols }
+    requires list { AreOf known.now.slots object.now.symbols list.old.items }
+    ensures { AreOf known.now.slots object.now.symbols list.new.items }
+{
+    let place = match place {
+        Some(place) => place,
+        None => return,
+    };
+    if list.len() == list.capacity() || is_long(object.name_place(SymbolIndex(number))) {
+        return;
+    }
+    if let Some(name) = known.number_if(place, object.name_of(SymbolIndex(number))) {
+        list.push_reserved(Numbered {
+            name,
+            number,
+            symbol: object.symbols()[number as usize],
+        });
+    }
+}
+
+/// Those symbols of an object that aren't local whose names stand where the hints say, by the numbers of these names. All
+/// are looked at before any name is added, so that a processor waits for the memory of many at once.
+fn number_hinted(
+    known: &NameTable,
+    object: &Object,
+    hints: &Hints,
+) -> Result<Vec<Numbered>, AllocError>
+    ensures { IfOk result (λ list. AreOf known.now.slots object.now.symbols list.items) }
+{
+    let mut list = Vec::with_capacity(known.allocator(), hints.found())?;
+    let mut seen: usize = 0;
+    for number in 0..object.symbols().len() {
+        if is_visible(&object.symbols()[number]) {
+            add_hinted_symbol(known, object, number as u32, hints.place(seen), &mut list);
+            seen = seen.saturating_add(1);
+        }
+    }
+    Ok(list)
+}
+
+/// The number of the name of a symbol, if it stands at this place in a list.
+#[inline(always)]
+fn name_told(list: &[Numbered], at: usize, number: u32) -> Option<usize>
+    ensures { (names : List (Option (List ℕ))) (symbols : List NamedSymbol) → AreOf names symbols list.now
+        → IfSome result (λ n. (d : NamedSymbol) → IsNamed names n (slice_index_or symbols number d).name) }
+{
+    if at >= list.len() {
+        return None;
+    }
+    let symbol = list[at];
+    if symbol.number == number && is_visible(&symbol.symbol) {
+        return Some(symbol.name);
+    }
+    None
 }
 
 /// Writes the symbols of an object that aren't local, where names that are not known become so. `repeats` is left with
@@ -408,8 +483,12 @@ pub fn number_new(
 {
     repeats.start(object.symbols().len());
     hints.look_up(object)?;
+    let hinted = number_hinted(known, object, hints)?;
+    let mut at: usize = 0;
     for number in 0..object.symbols().len() {
-        add_seen(known, object, number as u32, list, repeats, hints)?;
+        let told = name_told(&hinted, at, number as u32);
+        at = place_after(at, told);
+        add_seen(known, object, number as u32, told, list, repeats, hints)?;
     }
     Ok(())
 }

@@ -151,7 +151,7 @@ pub fn put_in_order(names: &mut IndexMap<Vec<u8>, usize, WordState>) -> Result<(
     let mut standing = numbers_below(*names.allocator(), names.len())?;
     let mut places = numbers_below(*names.allocator(), names.len())?;
     arrange(names, &fronts, &mut standing, &mut places);
-    // so that no two names are known to be the same
+    // for the prover: brings in the invariant of `names`
     let _count = names.len();
     Ok(())
 }

@@ -124,6 +124,24 @@ impl NameTable {
         }
     }
 
+    /// Makes room for this number of names more, as far as there is memory for it.
+    pub fn expect(&mut self, names: usize)
+        ensures { self.new ≡ self.old }
+    {
+        match self.numbers.reserve(names) {
+            Ok(()) => {}
+            Err(_refused) => {}
+        }
+        match self.places.reserve(names) {
+            Ok(()) => {}
+            Err(_refused) => {}
+        }
+    }
+
+    pub fn allocator(&self) -> Global {
+        *self.numbers.allocator()
+    }
+
     /// How many names are known. The two tables agree, and no two numbers have one name.
     pub fn len(&self) -> usize
         ensures len { result ≡ length self.now.order }
@@ -188,7 +206,7 @@ impl NameTable {
 
     /// The number of a name, if it is the one that stands at a place in the list of names.
     #[inline(always)]
-    fn number_if(&self, place: usize, name: &[u8]) -> Option<usize>
+    pub fn number_if(&self, place: usize, name: &[u8]) -> Option<usize>
         ensures { IfSome result (λ n. IsNamed self.now.slots n name.now) }
     {
         match self.numbers.get_index(place) {
@@ -255,7 +273,7 @@ impl NameTable {
         let places = &self.places;
         self.numbers
             .retain(|_name, number| has_place(places, *number));
-        // so that the number of known names is known to fit
+        // for the prover: brings in the invariant of `self.numbers`
         let _count = self.numbers.len();
         file_all(&mut self.places, &self.numbers);
     }

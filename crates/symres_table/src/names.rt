@@ -159,7 +159,7 @@ fn make_ready_or_not(
         Ok(()) => Ok(()),
         Err(refused) => {
             known.drop_newer(count);
-            // so that the number of known names is known to fit
+            // for the prover: brings in the invariant of `known`
             let _known = known.len();
             Err(refused)
         }
@@ -251,7 +251,7 @@ impl Names {
         ensures counted { meter.new ≡ raised meter.old counts.Names 1 }
     {
         meter.raise(Count::Names, 1);
-        // so that the number of known names is known to fit
+        // for the prover: brings in the invariant of `self.known`
         let _known = self.known.len();
         let given = script.given(self.known.name_of(name.0).unwrap());
         Decision {
@@ -294,7 +294,7 @@ impl Names {
         ensures { (bytes : List ℕ) → IsNamed self.now.names name.0 bytes
             → map (declaration_of bytes) result.now ≡ entries_of bytes self.now.objects }
     {
-        // so that the number of known names is known to fit
+        // for the prover: brings in the invariant of `self.known`
         let _known = self.known.len();
         self.objects.row(name.0)
     }
@@ -369,6 +369,22 @@ impl Names {
         }
     }
 
+    /// Makes room for this number of names more, as far as there is memory for it, so that entering objects is quicker.
+    pub fn expect(&mut self, names: usize)
+        ensures { self.new ≡ self.old }
+    {
+        self.known.expect(names);
+        self.objects.expect(names);
+        self.hints.expect(names);
+    }
+
+    /// Gives the memory back that serves to enter many objects one after the other.
+    pub fn end_entering(&mut self)
+        ensures { self.new ≡ self.old }
+    {
+        self.hints.clear();
+    }
+
     /// Takes all memory that entering an object needs: its names are known from then on, and there is room for its
     /// entries. Where memory is refused, the names that it made known are dropped again.
     pub fn reserve(&mut self, object: &Object) -> Result<(), NoMemory>
@@ -380,7 +396,7 @@ impl Names {
         ensures refused { OnErr result (SameNames self.old.names self.new.names) }
         ensures order { OnErr result (self.new.order ≡ self.old.order) }
     {
-        // so that the number of known names is known to fit
+        // for the prover: brings in the invariant of `self.known`
         let _before = self.known.len();
         let reserved = reserve_fields(
             &mut self.known,
@@ -391,7 +407,7 @@ impl Names {
             &mut self.repeats,
             &mut self.hints,
         );
-        // so that the number of known names is known to fit
+        // for the prover: brings in the invariant of `self.known`
         let _known = self.known.len();
         reserved
     }
@@ -407,7 +423,7 @@ impl Names {
         ensures places { self.new.place_room + 1 ≡ self.old.place_room }
         ensures list { TakesList self.old self.new at (length object.now.symbols) }
     {
-        // so that the number of known names is known to fit
+        // for the prover: brings in the invariant of `self.known`
         let _known = self.known.len();
         let mut list = take_list(&mut self.spare, object.symbols().len());
         number_all(&self.known, object, &self.guesses, &self.repeats, &mut list);
@@ -427,7 +443,7 @@ impl Names {
         ensures joins { OnOk result (Joins self.old self.new key.0 at object.now.symbols) }
         ensures refused { OnErr result (IsRefused self.old self.new) }
     {
-        // so that the number of known names is known to fit
+        // for the prover: brings in the invariant of `self.known`
         let _before = self.known.len();
         reserve_fields(
             &mut self.known,
@@ -438,7 +454,7 @@ impl Names {
             &mut self.repeats,
             &mut self.hints,
         )?;
-        // so that the number of known names is known to fit
+        // for the prover: brings in the invariant of `self.known`
         let _known = self.known.len();
         let mut list = take_list(&mut self.spare, object.symbols().len());
         number_seen(object, &self.guesses, &mut list);
@@ -458,7 +474,7 @@ impl Names {
             self.old.objects }
         ensures others { (symbols : List NamedSymbol) → MayEnter self.old symbols → MayEnter self.new symbols }
     {
-        // so that the number of known names is known to fit
+        // for the prover: brings in the invariant of `self.known`
         let _known = self.known.len();
         let list = self.objects.withdraw(key.0);
         self.spare.push_reserved(list);
@@ -468,7 +484,7 @@ impl Names {
     pub fn forget(&mut self)
         ensures { Forgets self.old self.new }
     {
-        // so that the number of known names is known to fit
+        // for the prover: brings in the invariant of `self.known`
         let _known = self.known.len();
         self.hints.clear();
         self.known.forget_unused(&self.objects);

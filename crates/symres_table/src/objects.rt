@@ -153,6 +153,16 @@ impl Objects {
         }
     }
 
+    /// Makes room for the rows of this number of names more, if there is memory for it.
+    pub fn expect(&mut self, names: usize)
+        ensures { self.new ≡ self.old }
+    {
+        match self.rows.reserve(names) {
+            Ok(()) => {}
+            Err(_refused) => {}
+        }
+    }
+
     /// Makes rows for the names up to a number.
     pub fn grow(&mut self, name: usize) -> Result<(), AllocError>
         ensures ok { OnOk result (name < length self.new.room) }

@@ -69,6 +69,13 @@ impl<'a> KeyedName<'a> {
         }
     }
 
+    /// The name.
+    pub fn name(&self) -> &'a [u8]
+        ensures { result.now ≡ self.now }
+    {
+        self.name
+    }
+
     /// Which of two names comes first in byte order.
     pub fn cmp(&self, other: &KeyedName<'_>) -> Ordering
         ensures { result ≡ slice_cmp nat_cmp self.now other.now }

@@ -16,6 +16,7 @@ ghost use Rattle.symres_table.specs.Steps.{HasRoomForOne, Holds, IsGathered, IsO
 
 use crate::places::{PlacedKey, is_in_front};
 use crate::symbol::{Declared, Numbered, is_visible};
+use elfobj::symbol::SymbolPlace;
 use ldmodel::names::Entry;
 use std::alloc::AllocError;
 
@@ -290,9 +291,10 @@ pub fn remove_all(table: &mut Vec<Vec<Declared>>, key: usize, symbols: &[Numbere
 /// For how many entries a row has room once it has more than one.
 const SEVERAL: usize = 2;
 
-/// Makes room for one more entry of a name. The first has room for itself alone, as many names have no other; from then
-/// on a row that is full has room for `SEVERAL` entries, and then for twice as many each time.
-fn reserve_row(row: &mut Vec<Declared>) -> Result<(), AllocError>
+/// Makes room for one more entry of a name. The first has room for itself alone where it defines the name, as many names
+/// have no other; else, and once there is a second, there is room for `SEVERAL` entries, and then for twice as many each
+/// time.
+fn reserve_row(row: &mut Vec<Declared>, place: SymbolPlace) -> Result<(), AllocError>
     ensures items { row.new.items ≡ row.old.items }
     ensures capacity { vec_capacity row.old ≤ vec_capacity row.new }
     ensures ok { OnOk result (vec_len row.new < vec_capacity row.new) }
@@ -300,7 +302,7 @@ fn reserve_row(row: &mut Vec<Declared>) -> Result<(), AllocError>
     if row.len() < row.capacity() {
         return Ok(());
     }
-    if row.len() == 0 {
+    if row.len() == 0 && place != SymbolPlace::Undefined {
         return row.reserve_exact(1);
     }
     if row.len() < SEVERAL {
@@ -315,7 +317,7 @@ fn hold_row(row: &mut Vec<Declared>, symbol: Numbered) -> Result<(), AllocError>
     ensures ok { OnOk result (row.new.items ≡ row.old.items ++ declared 0 symbol ∷ []) }
     ensures refused { OnErr result (row.new.items ≡ row.old.items) }
 {
-    reserve_row(row)?;
+    reserve_row(row, symbol.symbol.place)?;
     row.push_reserved(declaration(0, symbol));
     Ok(())
 }

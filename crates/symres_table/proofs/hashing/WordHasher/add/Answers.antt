@@ -1,30 +1,29 @@
 use Rattle.std.proofs.Common.{◌/◌, ◌^◌, Bool, ap, cond, sym}
-use Rattle.std.specs.List.{fold}
-use Rattle.std.specs.Hash.{u64}
-use Rattle.std.specs.Hash.DefaultHasher.{write}
 use Rattle.std.proofs.lemmas.Bool.{eq-eqb, ne_eqb}
-use Rattle.symres_table.specs.Hashing.{shifted, with_byte}
+use Rattle.symres_table.specs.Hashing.{combined, shifted, with_byte}
 use Rattle.symres_table.specs.declared.hashing.WordHasher.{WordHasher}
 use Rattle.symres_table.proofs.hashing.WordHasher.add.Goals as goal
 
-pub returns-then-is_last : goal.returns-then-is_last
+pub returns-then-word-eq0 : goal.returns-then-word-eq0
 unfolding with_byte
-returns-then-is_last c =
+returns-then-word-eq0 c =
     let h = c.args.self.now in
     let word = shifted h.word c.args.byte in
-    let make : Bool → WordHasher = λ b. cond b (record { hasher = h.hasher; word = word }) (record {
-      hasher = fold write h.hasher (u64 word);
+    let make : Bool → WordHasher = λ b. cond b (record { numbers = h.numbers; sum = h.sum; word = word }) (record {
+      numbers = h.numbers;
+      sum = combined h.sum h.numbers.argument word;
       word = 1;
     }) in
-    rw c.write_u64.ensures (sym (ap make (ne_eqb (h.word / 2 ^ 56) 0 c.if-is_last.true)))
+    sym (ap make (eq-eqb (word / 2 ^ 56) 0 c.if-word-eq0.true))
 
-pub returns-else-is_last : goal.returns-else-is_last
+pub returns-else-word-eq0 : goal.returns-else-word-eq0
 unfolding with_byte
-returns-else-is_last c =
+returns-else-word-eq0 c =
     let h = c.args.self.now in
     let word = shifted h.word c.args.byte in
-    let make : Bool → WordHasher = λ b. cond b (record { hasher = h.hasher; word = word }) (record {
-      hasher = fold write h.hasher (u64 word);
+    let make : Bool → WordHasher = λ b. cond b (record { numbers = h.numbers; sum = h.sum; word = word }) (record {
+      numbers = h.numbers;
+      sum = combined h.sum h.numbers.argument word;
       word = 1;
     }) in
-    sym (ap make (eq-eqb (h.word / 2 ^ 56) 0 c.if-is_last.false))
+    rw c.combined-self.ensures (sym (ap make (ne_eqb (word / 2 ^ 56) 0 c.if-word-eq0.false)))

@@ -1,0 +1,5 @@
+use Rattle.symres_table.specs.Spelled.{AreOf}
+use Rattle.symres_table.proofs.lists.number_hinted.Given as goal
+
+abbrev pub invariant-loop-number : goal.invariant-loop-number
+invariant-loop-number l = AreOf l.known.slots l.object.symbols l.list.items
