@@ -2,7 +2,7 @@
 use Rattle.std.proofs.Common.{◌≡◌, ◌∙◌, ℕ, ◌+◌, ◌<◌, zero, suc, Bool, true, false, List, [], ◌∷◌, length, map, get_or}
 use Rattle.std.proofs.Common.{refl, ap, sym, subst, arith}
 use Rattle.std.specs.Prelude.{Contains, Option, Some, bytes_eq}
-use Rattle.std.specs.List.{AllByRecursion, IsDistinct}
+use Rattle.std.specs.List.{All, AllByRecursion, IsDistinct}
 use Rattle.std.specs.List.Sorted.{IsPermutation, IsSortedBy}
 use Rattle.std.specs.Cmp.Lexicographic.{slice_cmp, nat_list_cmp_total}
 use Rattle.std.specs.Ordering.{is_lt, is_eq, nat_cmp, ordering_reverse}
@@ -11,7 +11,7 @@ use Rattle.std.specs.declared.cmp.Ordering.TheVariants.{Less, Equal, Greater}
 use Rattle.std.proofs.lemmas.List.{get_or-map, length-map}
 use Rattle.std.proofs.lemmas.Simd.{map-map}
 use Rattle.std.proofs.lemmas.List.MinMax.{ranks_by}
-use Rattle.std.proofs.lemmas.List.Sorted.{All-permutation, Contains-permutation, IsPermutation-map, sorted_far}
+use Rattle.std.proofs.lemmas.List.Sorted.{All-permutation, Contains-permutation, sorted_far}
 use Rattle.std.proofs.lemmas.Map.Keys.{IsDistinct-IsPermutation}
 use Rattle.std.proofs.lemmas.Map.Text.{is_eq-slice_cmp}
 use Rattle.std.proofs.lemmas.Map.Views.{Contains-from_lookup}
@@ -23,12 +23,13 @@ use Rattle.symres_table.specs.State.{AreDistinct, IsInByteOrder, IsListing, IsNa
 use Rattle.symres_decisions.specs.Counted.{declared_names}
 use Rattle.symres_decisions.specs.Decisions.{DecisionsState}
 use Rattle.symres.specs.SymbolTable.{IsSymbolTable, SymbolTableState, state_of}
-use Rattle.symres.specs.Sorted.{AreSorted, named_number}
+use Rattle.symres.specs.Sorted.{AreSorted, compared_number, named_number}
+use Rattle.symres.specs.declared.sorted.ComparedKey.{ComparedKey}
 use Rattle.symres.specs.declared.sorted.NamedKey.{NamedKey}
 use Rattle.symres.proofs.Entering.{Table}
 use Rattle.symres.proofs.Placing.{same_tables}
 
-abbrev Listed : Type 0
+abbrev pub Listed : Type 0
 Listed = List ℕ × ℕ
 
 -- the order of the sort
@@ -102,6 +103,21 @@ sorted_listed xs s = λ k d l h.
     ∙ ap (λ (y : Listed). comes_before (named_number (get_or xs (k + 1) d)) y) first)
     ∙ s k (named_number d) l (omega (arith, h, len))
 
+-- the order of the sort of names that are quick to compare
+abbrev pub is_first_compared : ComparedKey → ComparedKey → Bool
+is_first_compared x y = is_lt (slice_cmp nat_cmp x.name y.name)
+
+pub compared_in_order : (xs : List ComparedKey) → IsSortedBy is_first_compared xs
+    → IsInByteOrder (map compared_number xs)
+compared_in_order xs s = λ k e l h.
+    let d : ComparedKey = record { name = []; key = record { 0 = 0 } } in
+    let long : k + 1 < length xs = omega (arith, h, length-map xs compared_number) in
+    let second = get_or-map compared_number xs (k + 1) d e long in
+    let first = get_or-map compared_number xs k d e (omega (arith, long)) in
+    ap (λ (x : Listed). comes_before x (get_or (map compared_number xs) k e)) second
+    ∙ ap (λ (y : Listed). comes_before (compared_number (get_or xs (k + 1) d)) y) first
+    ∙ s k d l long
+
 -- ---- the names
 
 contains_map : {A B : Type 0} (f : A → B) (xs : List A) (x : A) → Contains xs x → Contains (map f xs) (f x)
@@ -120,12 +136,10 @@ name_listed xs k name c =
 same_bytes : (x y : List ℕ) → bytes_eq x y ≡ true → x ≡ y
 same_bytes x y = (bytes_eq-Decides x y).0
 
-key_listed : (names : List (Option (List ℕ))) (xs : List NamedKey) (k : ℕ) (name : List ℕ)
-    → IsListing names (map named_number xs) → IsNamed names k name
-    → Contains (map (λ (x : NamedKey). x.name.now) xs) name
-key_listed names xs k name l h =
-    name_listed xs k name
-    (Contains-from_lookup {eq = bytes_eq} same_bytes name k (map named_number xs) (l.complete k name h))
+key_listed : (names : List (Option (List ℕ))) (order : List Listed) (k : ℕ) (name : List ℕ) → IsListing names order
+    → IsNamed names k name → Contains order (name, k)
+key_listed names order k name l h =
+    Contains-from_lookup {eq = bytes_eq} same_bytes name k order (l.complete k name h)
 
 -- ---- the declared names
 
@@ -149,30 +163,28 @@ differ names order l m n name a b = some_one m n (sym (l.complete m name a) ∙ 
 
 -- ---- both
 
--- a list of the names has all that callers are told, once it is sorted
-pub are_sorted : (a : SymbolTableState) (order : List Listed) (list sorted : List NamedKey)
+-- a list of the names in byte order has all that callers are told
+pub are_sorted : (a : SymbolTableState) (order : List Listed) (sorted : List NamedKey)
     → ((p : Project) (name : List ℕ) → IsSymbolTable p a → Contains (names_in_objects p.objects) name
     → (k : ℕ) × IsNamed a.names k name)
-    → IsListing a.names order → map named_number list ≡ order → IsPermutation list sorted
-    → IsSortedBy is_first sorted → AreSorted a sorted
-are_sorted a order list sorted known listing same moved up =
-    let l : IsListing a.names (map named_number list) =
-    subst (λ (es : List Listed). IsListing a.names es) (sym same) listing in
+    → IsListing a.names order → IsPermutation order (map named_number sorted)
+    → IsInByteOrder (map named_number sorted) → AreSorted a sorted
+are_sorted a order sorted known l moved up =
     let has : (k : ℕ) (name : List ℕ) → IsNamed a.names k name
     → Contains (map (λ (x : NamedKey). x.name.now) sorted) name =
     λ k name h.
-    Contains-permutation (map (λ (x : NamedKey). x.name.now) list) (map (λ (x : NamedKey). x.name.now) sorted) name
-    (IsPermutation-map (λ (x : NamedKey). x.name.now) list sorted moved) (key_listed a.names list k name l h) in
+    name_listed sorted k name
+    (Contains-permutation order (map named_number sorted) (name, k) moved (key_listed a.names order k name l h)) in
     let once : IsDistinct have_one_name (map named_number sorted) =
-    once_moved (map named_number list) (map named_number sorted)
-    (IsPermutation-map named_number list sorted moved) l.once in
+    once_moved order (map named_number sorted) moved l.once in
+    let named : All (λ (e : Listed). IsNamed a.names e.1 e.0) (map named_number sorted) =
+    All-permutation (λ (e : Listed). IsNamed a.names e.1 e.0) order (map named_number sorted) moved l.sound in
     record {
-      named = All-permutation (λ (x : NamedKey). IsNamed a.names x.key.0 x.name.now) list sorted moved
-          (λ k d h.
-          subst (λ (e : Listed). IsNamed a.names e.1 e.0) (get_or-map named_number list k d (named_number d) h)
-          (l.sound k (named_number d) (subst (λ (n : ℕ). k < n) (sym (length-map list named_number)) h)));
-      distinct = differ a.names order listing;
-      order = λ i j d below h. in_order sorted i j d up once below h;
+      named = λ k d h.
+          subst (λ (e : Listed). IsNamed a.names e.1 e.0) (get_or-map named_number sorted k d (named_number d) h)
+          (named k (named_number d) (subst (λ (n : ℕ). k < n) (sym (length-map sorted named_number)) h));
+      distinct = differ a.names order l;
+      order = λ i j d below h. in_order sorted i j d (sorted_listed sorted up) once below h;
       keys = has;
       declared = λ p symbol_table name c. let named = known p name symbol_table c in has named.0 name named.1;
     }

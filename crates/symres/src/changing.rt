@@ -24,8 +24,8 @@ impl SymbolTable {
     ///
     /// # Errors
     ///
-    /// Where memory runs out. The objects and what their names stand for are then as before; names without entries may
-    /// be forgotten.
+    /// Where memory runs out. The objects and the resolution of their names are then as before; names without entries
+    /// may be forgotten.
     pub fn room_for(&mut self, script: &Script, change: &ObjectChange<'_>) -> Result<(), NoMemory>
         requires fits { Fits self.old.kept.names.objects change.now }
         requires kept { AreKept script.now self.old.kept }
@@ -38,8 +38,8 @@ impl SymbolTable {
         self.decisions.room_for(script, change)
     }
 
-    /// Makes a change that there is room for. Each name that the object declared or declares is decided anew, once. The
-    /// call takes the order of the objects after the change, gives back the order before it, and takes no memory.
+    /// Makes a change that there is room for. Each name that the object declared or declares is resolved anew, once.
+    /// The call takes the order of the objects after the change, gives back the order before it, and takes no memory.
     pub fn change(
         &mut self,
         script: &Script,

@@ -63,7 +63,7 @@ fn note_first(firsts: &mut Vec<Option<Entry>>, key: usize, entry: Entry) -> Entr
     first
 }
 
-/// What defines a name before an entry does, where the first entry that defines the name is known.
+/// What defines a name before `entry` does. `first` is the first entry that defines the name.
 fn definer_before(is_assigned: bool, first: Entry, entry: Entry) -> Option<Definer>
     ensures { result ≡ definition.definer_before is_assigned first entry }
 {
@@ -101,18 +101,17 @@ impl SymbolTable {
     fn names_differ(&self)
         ensures { AreDistinct self.now.names }
     {
-        // so that it is known which names are listed
+        // for the prover: brings in the invariant of `self.decisions`
         let _names = self.decisions.listed();
     }
 
-    /// Where no case is that of a name that is defined twice, no name of a project is defined twice. The call does
-    /// nothing.
+    /// If no case is `Duplicate`, no name of the project is defined twice. The call does nothing.
     fn none_doubled(&self)
         requires { count_by is_doubled self.now.kept.cases ≡ 0 }
         ensures { (project : Project) → IsSymbolTable project self.now → duplicates project ≡ [] }
     {
         self.decided_by_keys();
-        // so that the number of known names is known to fit
+        // for the prover: brings in the invariant of `self.decisions`
         let _count = self.decisions.known();
     }
 

@@ -5,12 +5,12 @@ ghost use Rattle.symres.specs.Keyed.{AreKeyed};
 use crate::symbol_table::SymbolTable;
 
 impl SymbolTable {
-    /// Each symbol that isn't local has a key, that of its name, under which there is a case, and no two keys have one
-    /// name: a pass over the keys below `limit` meets what each name stands for, once. The call does nothing.
+    /// The name of each symbol that isn't local has a key and under it a case, and no two keys have one name: so a pass
+    /// over the keys below `limit` meets the case of each name once. The call does nothing.
     pub fn all_keyed(&self)
         ensures { AreKeyed self.now }
     {
-        // so that the number of known names is known to fit
+        // for the prover: brings in the invariant of `self.decisions`
         let _count = self.decisions.known();
         let _names = self.decisions.listed();
     }

@@ -1,4 +1,4 @@
-//! The names of a link: what each stands for over all objects and the script, and the faults of names. Takes what is
+//! Symbol resolution: how each name is resolved over all objects and the script, and the faults of names. Takes what is
 //! kept under keys; gives cases by place, PROVIDEs in force, names in byte order, and faults.
 //!
 //! - `symbol_table` with `changing`: what is kept, and how it follows a change; `entered`: all objects, for a link from

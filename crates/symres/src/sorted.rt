@@ -1,7 +1,7 @@
 //! The names of a link in byte order.
 
 ghost use Rattle.std.specs.Prelude.{◌≡◌, IfOk, map};
-ghost use Rattle.symres.specs.Sorted.{named_number, AreSorted};
+ghost use Rattle.symres.specs.Sorted.{compared_number, named_number, AreInOrder, AreSorted};
 ghost use Rattle.symres_table.specs.State.{IsListing};
 
 use crate::symbol_table::SymbolTable;
@@ -10,6 +10,7 @@ use ldmodel::names::NameKey;
 use std::alloc::Global;
 use symres_decisions::decisions::Decisions;
 use symres_decisions::law::names_of_objects;
+use symres_table::prefix_key::KeyedName;
 
 /// A name and its key.
 #[derive(Clone, Copy, Debug)]
@@ -18,6 +19,13 @@ pub struct NamedKey<'a> {
     pub name: &'a [u8],
     /// The key of the name.
     pub key: NameKey,
+}
+
+/// A name that is quick to compare, and its key.
+#[derive(Drop)]
+struct ComparedKey<'a> {
+    name: KeyedName<'a>,
+    key: NameKey,
 }
 
 /// All known names, each with its key, in no promised order.
@@ -35,6 +43,45 @@ fn listed(alloc: Global, decisions: &Decisions) -> Result<Vec<NamedKey<'_>>, NoM
     Ok(list)
 }
 
+/// The same, for a sort.
+fn compared(alloc: Global, decisions: &Decisions) -> Result<Vec<ComparedKey<'_>>, NoMemory>
+    ensures list { IfOk result (λ list. map compared_number list.items ≡ decisions.now.names.order) }
+    ensures listing { IsListing decisions.now.names.names decisions.now.names.order }
+{
+    let mut list = Vec::with_capacity(alloc, decisions.known())?;
+    for (name, key) in decisions.listed() {
+        list.push(ComparedKey {
+            name: KeyedName::new(name.as_slice()),
+            key: NameKey(*key),
+        })?;
+    }
+    Ok(list)
+}
+
+/// The names of a list with their keys.
+fn named<'a>(alloc: Global, list: &[ComparedKey<'a>]) -> Result<Vec<NamedKey<'a>>, NoMemory>
+    ensures { IfOk result (λ named. map named_number named.items ≡ map compared_number list.now) }
+{
+    let mut names = Vec::with_capacity(alloc, list.len())?;
+    for compared in list {
+        names.push_reserved(NamedKey {
+            name: compared.name.name(),
+            key: compared.key,
+        });
+    }
+    Ok(names)
+}
+
+/// All known names in byte order, each with its key.
+fn sorted_list(alloc: Global, decisions: &Decisions) -> Result<Vec<NamedKey<'_>>, NoMemory>
+    ensures list { IfOk result (λ list. AreInOrder decisions.now.names.order list.items) }
+    ensures listing { IsListing decisions.now.names.names decisions.now.names.order }
+{
+    let mut list = compared(alloc, decisions)?;
+    list.sort_by(|x, y| x.name.cmp(&y.name))?;
+    named(alloc, &list)
+}
+
 impl SymbolTable {
     /// All known names in byte order, each with its key: all that objects declare are among them. They are
     /// sorted only where a name became known since they were put in order.
@@ -46,13 +93,11 @@ impl SymbolTable {
         ensures { IfOk result (λ list. AreSorted self.now list.items) }
     {
         names_of_objects();
-        // so that the number of known names is known to fit
+        // for the prover: brings in the invariant of `self.decisions`
         let _count = self.decisions.known();
-        let mut list = listed(alloc, &self.decisions)?;
         if self.decisions.is_in_order() {
-            return Ok(list);
+            return listed(alloc, &self.decisions);
         }
-        list.sort_by(|x, y| x.name.cmp(y.name))?;
-        Ok(list)
+        sorted_list(alloc, &self.decisions)
     }
 }

@@ -1,4 +1,4 @@
-//! The names of a link: what each name that its objects declare stands for.
+//! How each name that the objects of a link declare is resolved.
 
 ghost use Rattle.std.specs.Prelude.{◌≡◌, ℕ, List, IfOk, MatchOption, length, map};
 ghost use Rattle.elfobj.specs.Symbols.{NamedSymbol};
@@ -31,8 +31,8 @@ use std::hash::RandomState;
 use std::marker::Model;
 use symres_decisions::decisions::Decisions;
 
-/// What the names of the objects of a link stand for, kept under keys of objects while these change, and seen by place:
-/// the key of an object in a link is its place among all.
+/// How the names of a link's objects are resolved: kept under the keys of the objects, while these change, and read by
+/// their places in the link.
 #[derive(Drop)]
 pub struct SymbolTable {
     pub(crate) decisions: Decisions,
@@ -52,8 +52,7 @@ impl Model for SymbolTable {
 }
 
 impl SymbolTable {
-    /// Decides the names of all symbols of these objects that aren't local, each once. The key of each object is its
-    /// place.
+    /// Resolves the names that the symbols of these objects declare, each once. The key of each object is its place.
     ///
     /// # Errors
     ///
@@ -80,7 +79,8 @@ impl SymbolTable {
         Ok(symbol_table)
     }
 
-    /// What a name stands for among objects under their places is decided under their keys. The call does nothing.
+    /// A name is resolved alike among objects under their places and among the same objects under their keys. The call
+    /// does nothing.
     pub(crate) fn decided_by_keys(&self)
         ensures { (project : Project) (name : List ℕ)
             → symbol_tables project.objects ≡ map (λ (t : ℕ × List NamedSymbol). t.1) self.now.kept.names.objects
@@ -89,18 +89,18 @@ impl SymbolTable {
     {
         decision_by_keys();
         tables_by_place();
-        // so that it is known that each object has a key of its own
+        // for the prover: brings in the invariant of `self.order`
         let _keys = self.order.keys();
     }
 
-    /// While the cases are kept for the script of a project, and the objects are those of the project, the cases are
-    /// what the names of the project stand for. The call does nothing.
+    /// If the cases are kept for the script of a project and for its objects, they are how the names of the project are
+    /// resolved. The call does nothing.
     pub fn names_kept(&self)
         ensures { (project : Project) → AreKept project.script self.now.kept
             → symbol_tables project.objects ≡ map (λ (t : ℕ × List NamedSymbol). t.1) self.now.kept.names.objects
             → IsSymbolTable project self.now }
     {
-        // so that the invariant of the field is known
+        // for the prover: brings in the invariant of `self.order`
         let _order = &self.order;
         self.decided_by_keys();
     }
@@ -110,7 +110,7 @@ impl SymbolTable {
         ensures cases { (k : ℕ) (name : List ℕ) → IsNamed self.now.names k name → HasCase self.now.cases k }
         ensures distinct { AreDistinct self.now.names }
     {
-        // so that the invariant of the field is known
+        // for the prover: brings in the invariant of `self.order`
         let _order = &self.order;
         let _known = self.decisions.known();
     }

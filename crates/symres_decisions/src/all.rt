@@ -20,6 +20,7 @@ pub fn places_for(alloc: Global, names: &Names) -> Result<Cases, NoMemory>
 {
     let mut cases = Cases::new(alloc);
     let count = names.known();
+    cases.reserve(count)?;
     for number in 0..count {
         cases.grow_to(names.key_listed(number).0)?;
     }
@@ -35,7 +36,7 @@ pub fn decide_all(names: &Names, script: &Script, cases: &mut Cases, meter: &mut
     ensures complete { (k : ℕ) → HasName names.now.names k → HasCase cases.new k }
     ensures counted { CountsNames meter.old meter.new (declared_names names.now.objects) }
 {
-    // so that the range of the count is known
+    // for the prover: brings in that the count of names fits a u64
     let _names = meter.names();
     let count = names.known();
     for number in 0..count {

@@ -83,6 +83,13 @@ impl Cases {
         self.doubled = without + count(case);
     }
 
+    /// Makes room for this number of places more.
+    pub fn reserve(&mut self, count: usize) -> Result<(), NoMemory>
+        ensures { self.new ≡ self.old }
+    {
+        self.list.reserve_exact(count)
+    }
+
     /// Makes places for cases up to a key.
     pub fn grow_to(&mut self, key: usize) -> Result<(), NoMemory>
         ensures same { (k : ℕ) → case_at self.new k ≡ case_at self.old k }

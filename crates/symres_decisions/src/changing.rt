@@ -36,7 +36,7 @@ fn clear_names_of(names: &Names, at: Option<ObjectAt<'_>>, cases: &mut Cases)
     }
 }
 
-/// Whether each name has an entry that an object declared that went, if one went. `noted` are keys of them.
+/// Whether each name that the object which went declared has an entry, if one went. `noted` are keys of these names.
 fn are_gone_used(names: &Names, out: Option<ObjectAt<'_>>, noted: &[NameKey]) -> bool
     requires known { AreKnown names.now.names (symbols_or out) }
     requires noted { AreNoted names.now.names (symbols_or out) noted.now }
@@ -48,7 +48,7 @@ fn are_gone_used(names: &Names, out: Option<ObjectAt<'_>>, noted: &[NameKey]) ->
     }
 }
 
-/// Whether each name has an entry that an object declares that came, if one came.
+/// Whether each name that the object which came declares has an entry, if one came.
 fn are_come_used(names: &Names, into: Option<ObjectAt<'_>>) -> bool
     requires { AreThere names.now into }
     ensures { result ≡ true → HaveEntries names.now.objects (symbols_or into.entry) }
@@ -59,8 +59,8 @@ fn are_come_used(names: &Names, into: Option<ObjectAt<'_>>) -> bool
     }
 }
 
-/// Whether each known name has an entry after a change, if each had one before it. `noted` are keys of the names of what
-/// went.
+/// Whether each known name has an entry after a change, if each had one before it. `noted` are keys of the names of
+/// what went.
 fn are_still_used(
     all_used: bool,
     names: &Names,
@@ -83,7 +83,7 @@ fn are_still_used(
     are_come_used(names, change.into)
 }
 
-/// Decides the names that an object declared that went, if one went. `noted` are keys of them.
+/// Decides the names that the object which went declared, if one went. `noted` are keys of these names.
 fn decide_gone(
     names: &Names,
     script: &Script,
@@ -102,7 +102,7 @@ fn decide_gone(
         → AreOpen names.now.names cases.old (declared_by out.entry) seen
         → DecidedFor script.now names.now cases.old cases.new meter.old meter.new seen (symbols_or out.entry) }
 {
-    // so that the range of the count is known
+    // for the prover: brings in that the count of names fits a u64
     let _names = meter.names();
     match out {
         Some(at) => decide_names(
@@ -117,7 +117,7 @@ fn decide_gone(
     }
 }
 
-/// Decides the names that an object declares that came, if one came.
+/// Decides the names that the object which came declares, if one came.
 fn decide_come(
     names: &Names,
     script: &Script,
@@ -134,7 +134,7 @@ fn decide_come(
         → AreOpen names.now.names cases.old (declared_by into.entry) seen
         → DecidedFor script.now names.now cases.old cases.new meter.old meter.new seen (symbols_or into.entry) }
 {
-    // so that the range of the count is known
+    // for the prover: brings in that the count of names fits a u64
     let _names = meter.names();
     match into {
         Some(at) => decide_names(
@@ -165,7 +165,7 @@ impl Decisions {
             → case_at self.new.cases k ≡ case_at self.old.cases k }
     {
         entered_again();
-        // so that the number of known names is known to fit
+        // for the prover: brings in the invariant of `self.names`
         let _known = self.names.known();
         clear_names_of(&self.names, change.out, &mut self.cases);
         note_keys(&self.names, change.out, &mut self.noted);

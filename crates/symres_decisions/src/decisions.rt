@@ -81,7 +81,7 @@ impl Decisions {
         Ok(Decisions {
             names,
             cases,
-            in_order: true,
+            in_order: false,
             all_used: false,
             noted: Vec::new(alloc),
         })

@@ -2,15 +2,37 @@
 
 ghost use Rattle.std.specs.Prelude.{◌≡◌, IfOk};
 ghost use Rattle.symres_decisions.specs.Keyed.{AreApart, tables_of};
-ghost use Rattle.symres_table.specs.State.{IsInByteOrder};
 
 use crate::keyed_object::KeyedObject;
+use elfobj::Object;
 use elfobj::memory::NoMemory;
+use elfobj::symbol::SymbolPlace;
 use std::alloc::Global;
 use std::hash::RandomState;
 use symres_table::names::Names;
+use symres_table::symbol::is_visible;
 
-/// The names of these objects, in byte order.
+/// How many symbols of an object define a name that other objects see.
+fn definitions_in(object: &Object) -> usize {
+    let mut count: usize = 0;
+    for symbol in object.symbols() {
+        if is_visible(symbol) && symbol.place != SymbolPlace::Undefined {
+            count = count.saturating_add(1);
+        }
+    }
+    count
+}
+
+/// How many definitions these objects have: about as many as they have names, since few are defined more than once.
+fn definition_count(objects: &[KeyedObject<'_>]) -> usize {
+    let mut count: usize = 0;
+    for keyed in objects {
+        count = count.saturating_add(definitions_in(keyed.object));
+    }
+    count
+}
+
+/// The names of these objects, in the order in which they became known.
 ///
 /// # Errors
 ///
@@ -22,12 +44,12 @@ pub fn enter_all(
 ) -> Result<Names, NoMemory>
     requires { AreApart objects.now }
     ensures objects { IfOk result (λ names. names.objects ≡ tables_of objects.now) }
-    ensures order { IfOk result (λ names. IsInByteOrder names.order) }
 {
     let mut names = Names::new(alloc, seed);
+    names.expect(definition_count(objects));
     for (place, keyed) in objects.iter().enumerate() {
         names.add(keyed.key, place, keyed.object)?;
     }
-    names.sort_names()?;
+    names.end_entering();
     Ok(names)
 }

@@ -74,7 +74,7 @@ fn settle_new(
     ensures kept { (k : ℕ) → HasCase cases.old k → HasCase cases.new k }
     ensures ok { OnOk result (IsWhole names.now cases.new) }
 {
-    // so that the number of known names is known to fit
+    // for the prover: brings in the invariant of `names`
     let _known = names.known();
     add_all_given(names, script, from, cases)
 }
@@ -193,7 +193,7 @@ impl Decisions {
         ensures kept { (script : List Statement) → AreKept script self.old → AreKept script self.new }
         ensures frame { OnlyDrops self.old.names.names self.new.names.names self.old.cases self.new.cases }
     {
-        // so that the number of known names is known to fit
+        // for the prover: brings in the invariant of `self.names`
         let _known = self.names.known();
         if self.all_used {
             return;

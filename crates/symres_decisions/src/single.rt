@@ -35,7 +35,7 @@ pub fn case_for(names: &Names, script: &Script, key: NameKey, meter: &mut Meter)
     ensures counted { (name : List ℕ) → IsNamed names.now.names key.0 name → meter.new
         ≡ raised meter.old counts.Names (uses names.now.objects name) }
 {
-    // so that the range of the count is known
+    // for the prover: brings in that the count of names fits a u64
     let _names = meter.names();
     if names.entries(key).len() > 0 {
         return *names.decide_key(script, key, meter).case();

@@ -179,7 +179,7 @@ pub fn decide_names(
         → AreOpen names.now.names cases.old (declared_in object.now.symbols) seen
         → DecidedFor script.now names.now cases.old cases.new meter.old meter.new seen object.now.symbols }
 {
-    // so that the range of the count is known
+    // for the prover: brings in that the count of names fits a u64
     let _names = meter.names();
     for number in 0..object.symbols().len() {
         decide_name(names, script, source, object, number, cases, meter);

@@ -29,9 +29,10 @@ loop-place-preserved c =
     ∙ one_entered c.args.objects.now c.loop-place.place c.index-objects-place.result
     (omega (arith, c.loop-place-test.true)) (sym c.index-objects-place.is))
 
-pub returns-clause-objects : goal.returns-clause-objects
-returns-clause-objects c =
-    ap (λ (s : State). s.objects) c.sort_names.ensures.same
-    ∙ (c.loop-place.invariant
-    ∙ take_all c.loop-place.place (tables_of c.args.objects.now)
-    (omega (arith, length-map c.args.objects.now table_of, c.loop-place-test.false)))
+pub returns : goal.returns
+returns c = record {
+  objects = ap (λ (s : State). s.objects) c.end_entering.ensures
+      ∙ (c.loop-place.invariant
+      ∙ take_all c.loop-place.place (tables_of c.args.objects.now)
+      (omega (arith, length-map c.args.objects.now table_of, c.loop-place-test.false)));
+}
