@@ -1,6 +1,6 @@
 -- Texts in a list that grows.
-use Rattle.std.proofs.Common.{◌≡◌, ◌∙◌, ◌≤◌, ◌+◌, ◌-◌, ◌++◌, ◌∷◌, [], ℕ, List, ap, arith, drop, length, map, refl}
-use Rattle.std.proofs.Common.{sym, take}
+use Rattle.std.proofs.Common.{◌≡◌, ◌∙◌, ◌≤◌, ◌-◌, ◌++◌, ◌∷◌, [], ℕ, List, ap, arith, drop, length, map, refl}
+use Rattle.std.proofs.Common.{append_assoc, sym, take}
 use Rattle.std.specs.List.{All}
 use Rattle.std.proofs.Math.Seq.{drop-append_seam, take-length}
 use Rattle.std.proofs.lemmas.List.Elements.{All-append, All-cons, All-head, All-nil, All-tail}
@@ -58,3 +58,7 @@ stand_added n m spans s h b e a =
     All-append (StandsIn m) spans (s ∷ []) (stand_longer n m spans h a)
     (All-cons (StandsIn m) s [] (record { order = omega (arith, h, b, e); within = omega (arith, e) })
     (All-nil (StandsIn m)))
+
+-- a part put after the last of two
+pub put_beside : (bytes last newer more : List ℕ) → newer ≡ last ++ more → bytes ++ newer ≡ (bytes ++ last) ++ more
+put_beside bytes last newer more e = ap (λ t. bytes ++ t) e ∙ sym (append_assoc bytes last more)

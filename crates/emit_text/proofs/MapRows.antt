@@ -1,5 +1,5 @@
 -- Names beside the lines of a map, row by row.
-use Rattle.std.proofs.Common.{◌≡◌, ◌∙◌, ◌+◌, ◌<◌, ◌≤◌, ◌++◌, ◌∷◌, [], ℕ, List, ap, append_assoc, arith, get_or, length}
+use Rattle.std.proofs.Common.{◌≡◌, ◌∙◌, ◌+◌, ◌<◌, ◌++◌, ◌∷◌, [], ℕ, List, ap, append_assoc, arith, get_or, length}
 use Rattle.std.proofs.Common.{map, min, sym}
 use Rattle.std.proofs.Common.{take, subst, suc, zero, refl, inl, inr, ◌⊎◌}
 use Rattle.std.proofs.Math.Seq.{take-suc}

@@ -76,6 +76,11 @@ abbrev pub value_text : Option ℕ → List ℕ
 value_text (Some x) = hex x
 value_text None = replicate 16 45
 
+-- the line of a symbol, part by part
+abbrev pub symbol_parts : Option ℕ → (name owner : List ℕ) → List ℕ
+symbol_parts value name owner =
+    codes "symbol " ++ (value_text value ++ 32 ∷ []) ++ (name ++ 32 ∷ [] ++ owner ++ 10 ∷ [])
+
 -- nothing for a name that stands for nothing
 abbrev pub symbol_text : Project → (number : ℕ → ℕ) → MapSymbol → List ℕ
 symbol_text project number x =

@@ -1,8 +1,10 @@
 //! Byte strings in an order.
 
-ghost use Rattle.std.specs.Prelude.{◌≡◌, ◌≤◌, ◌++◌, ◌∷◌, [], ℕ, IfOk, List, OnOk, length, slice_get};
+ghost use Rattle.std.specs.Prelude.{◌≡◌, ◌++◌, ◌∷◌, [], IfOk, OnOk, slice_get};
 ghost use Rattle.std.specs.Option.{option_map};
 
+use crate::line_buffer::LineBuffer;
+use crate::map_line::put_piece_names;
 use ldmodel::memory::NoMemory;
 use std::alloc::Global;
 use std::marker::Model;
@@ -34,80 +36,112 @@ impl Model for ByteStrings {
     ghost invariant = { λ t. All (StandsIn (length t.bytes.items)) t.spans.items };
 }
 
-/// Adds `FIRST SECOND` and a line feed.
-fn put_words(bytes: &mut Vec<u8>, first: &[u8], second: &[u8]) -> Result<(), NoMemory>
-    ensures written { OnOk result (bytes.new.items
-        ≡ bytes.old.items ++ (first.now ++ 32 ∷ [] ++ second.now ++ 10 ∷ [])) }
-    ensures longer { length bytes.old.items ≤ length bytes.new.items }
-{
-    bytes.extend_from_slice(first)?;
-    bytes.push(b' ')?;
-    bytes.extend_from_slice(second)?;
-    bytes.push(b'\n')?;
-    Ok(())
-}
-
 impl ByteStrings {
-    /// None, with room for this many.
-    ///
-    /// # Errors
-    ///
-    /// Where memory runs out.
-    pub fn with_capacity(alloc: Global, count: usize) -> Result<ByteStrings, NoMemory>
-        ensures { IfOk result (λ t. t ≡ []) }
-    {
-        let spans = Vec::with_capacity(alloc, count)?;
-        Ok(ByteStrings {
-            bytes: Vec::new(alloc),
-            spans,
-        })
-    }
-
-    /// That of a number, counted from 0.
+    /// The string of a number, counted from 0.
     pub fn get(&self, number: usize) -> Option<&[u8]>
         ensures { option_map (λ x. x.now) result ≡ slice_get self.now number }
     {
         let span = self.spans.get(number)?;
         Some(&self.bytes[span.begin..span.end])
     }
+}
 
-    /// Adds one.
+/// Byte strings in an order, to which more are added. The bytes of the last ones are put together beside those of the
+/// others.
+#[derive(Drop)]
+pub(crate) struct GrowingStrings {
+    bytes: Vec<u8>,
+    last: LineBuffer,
+    spans: Vec<Span>,
+}
+
+impl Model for GrowingStrings {
+    ghost use Rattle.std.specs.Prelude.{◌++◌, All, List, length, map, ℕ};
+    ghost use Rattle.emit_text.specs.ByteStrings.{StandsIn, bytes_at};
+
+    ghost Value = { List (List ℕ) };
+
+    ghost view = { λ t. map (bytes_at (t.bytes.items ++ t.last)) t.spans.items };
+
+    ghost invariant = { λ t. All (StandsIn (length (t.bytes.items ++ t.last))) t.spans.items };
+}
+
+impl GrowingStrings {
+    /// An empty list, with room for this many strings.
     ///
     /// # Errors
     ///
     /// Where memory runs out.
-    pub fn push(&mut self, text: &[u8]) -> Result<(), NoMemory>
+    pub(crate) fn with_capacity(alloc: Global, count: usize) -> Result<GrowingStrings, NoMemory>
+        ensures { IfOk result (λ t. t ≡ []) }
+    {
+        let spans = Vec::with_capacity(alloc, count)?;
+        Ok(GrowingStrings {
+            bytes: Vec::new(alloc),
+            last: LineBuffer::new(),
+            spans,
+        })
+    }
+
+    /// Adds a string that may be longer than what is put together.
+    fn push_long(&mut self, text: &[u8]) -> Result<(), NoMemory>
         ensures { OnOk result (self.new ≡ self.old ++ text.now ∷ []) }
     {
-        let begin = self.bytes.len();
-        self.bytes.extend_from_slice(text)?;
-        let end = self.bytes.len();
+        let begin = self.bytes.len() + self.last.len();
+        self.last.append(&mut self.bytes, text)?;
+        let end = self.bytes.len() + self.last.len();
         self.spans.push(Span { begin, end })?;
         Ok(())
     }
 
-    /// Adds `FIRST SECOND` with a line feed at its end.
+    /// Adds a string.
     ///
     /// # Errors
     ///
     /// Where memory runs out.
-    pub fn push_line(&mut self, first: &[u8], second: &[u8]) -> Result<(), NoMemory>
-        ensures { OnOk result (self.new ≡ self.old ++ (first.now ++ 32 ∷ [] ++ second.now ++ 10 ∷ []) ∷ []) }
+    #[inline(always)]
+    pub(crate) fn push(&mut self, text: &[u8]) -> Result<(), NoMemory>
+        ensures { OnOk result (self.new ≡ self.old ++ text.now ∷ []) }
     {
-        let begin = self.bytes.len();
-        put_words(&mut self.bytes, first, second)?;
-        let end = self.bytes.len();
+        if !self.last.make_room(&mut self.bytes, text.len())? {
+            return self.push_long(text);
+        }
+        let begin = self.bytes.len() + self.last.len();
+        self.last.put(text);
+        let end = begin + text.len();
         self.spans.push(Span { begin, end })?;
         Ok(())
     }
 
-    /// The last one; no bytes where there is none.
-    pub fn last(&self) -> &[u8]
-        ensures { (xs : List (List ℕ)) (x : List ℕ) → self.now ≡ xs ++ x ∷ [] → result.now ≡ x }
+    /// Adds `OBJECT SECTION` with a line feed at its end.
+    ///
+    /// # Errors
+    ///
+    /// Where memory runs out.
+    pub(crate) fn push_names(&mut self, object: &[u8], section: &[u8]) -> Result<(), NoMemory>
+        ensures { OnOk result (self.new ≡ self.old ++ (object.now ++ 32 ∷ [] ++ section.now ++ 10 ∷ []) ∷ []) }
     {
-        match self.spans.last() {
-            None => &[],
-            Some(span) => &self.bytes[span.begin..span.end],
-        }
+        let begin = self.bytes.len() + self.last.len();
+        put_piece_names(&mut self.bytes, &mut self.last, object, section)?;
+        let end = self.bytes.len() + self.last.len();
+        self.spans.push(Span { begin, end })?;
+        Ok(())
+    }
+
+    /// All of them.
+    ///
+    /// # Errors
+    ///
+    /// Where memory runs out.
+    pub(crate) fn finish(self) -> Result<ByteStrings, NoMemory>
+        ensures { IfOk result (λ strings. strings ≡ self) }
+    {
+        let GrowingStrings {
+            mut bytes,
+            mut last,
+            spans,
+        } = self;
+        last.move_to(&mut bytes)?;
+        Ok(ByteStrings { bytes, spans })
     }
 }

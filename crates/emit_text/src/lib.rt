@@ -1,7 +1,8 @@
 //! The texts of a link: the map (`map_text`) and the lines of faults (`fault_text`). Each is written once, into room
 //! for names of common length, which grows where names are longer.
 //!
-//! - `faults`, `fault_line`: fault lines; `maps`, `map_line`: the map; `line`, `hex`: how lines are written;
+//! - `faults`, `fault_line`: fault lines; `maps`, `map_line`: the map; `line`, `line_buffer`, `hex`: how lines are
+//!   written;
 //! - `byte_strings`: the names in a map, kept for the next; `members`, `script_names`, `named`, `symbols`, `assertion`:
 //!   where names come from.
 #![tactic(auto)]
@@ -12,6 +13,7 @@ mod fault_line;
 pub mod faults;
 mod hex;
 mod line;
+mod line_buffer;
 mod map_line;
 pub mod maps;
 pub mod members;

@@ -1,14 +1,15 @@
 //! The map's lines.
 
-ghost use Rattle.std.specs.Prelude.{◌≡◌, ◌∷◌, ◌++◌, ◌≤◌, ◌+◌, [], OnOk, codes, length, take};
+ghost use Rattle.std.specs.Prelude.{◌≡◌, ◌∷◌, ◌++◌, ◌≤◌, ◌+◌, [], OnOk, codes, length};
 ghost use Rattle.ldmodel.specs.Lines.{hex, line_of};
-ghost use Rattle.emit_text.specs.ShownMap.{piece_numbers, value_text};
+ghost use Rattle.emit_text.specs.ShownMap.{piece_numbers, symbol_parts, value_text};
 
 use crate::hex::hex_digits;
+use crate::line_buffer::LineBuffer;
 use std::alloc::AllocError;
 
 /// `entry ADDRESS`
-pub fn put_entry_line(text: &mut Vec<u8>, entry: u64) -> Result<(), AllocError>
+pub(crate) fn put_entry_line(text: &mut Vec<u8>, entry: u64) -> Result<(), AllocError>
     ensures { OnOk result (text.new.items ≡ text.old.items ++ line_of (codes "entry" ∷ hex entry ∷ [])) }
 {
     text.extend_from_slice(b"entry ")?;
@@ -35,7 +36,7 @@ fn section_numbers(start: u64, load: u64, size: u64) -> [u8; 52]
 }
 
 /// `section NAME START LOAD SIZE FLAGS`
-pub fn put_section_line(
+pub(crate) fn put_section_line(
     text: &mut Vec<u8>,
     name: &[u8],
     numbers: (u64, u64, u64),
@@ -52,108 +53,28 @@ pub fn put_section_line(
     Ok(())
 }
 
-/// How long a line is at most that is put together beside the text.
-const LINE_ROOM: usize = 128;
+/// How long the front of the line of an input section is: `piece ADDRESS SIZE `.
+const PIECE_FRONT: usize = 40;
 
-/// How long the front of such a line of two names is at most.
-const FRONT_ROOM: usize = 24;
+/// How long the line of a symbol is beside its names: `symbol VALUE `, a space and the end of the line.
+const SYMBOL_REST: usize = 26;
 
-/// How long its two names are at most, together.
-const NAMES_ROOM: usize = 102;
+/// How long the end of the line of an input section is beside its names: a space and the end of the line.
+const NAMES_REST: usize = 2;
 
-/// How long the front of such a line of an input section is at most.
-const PIECE_FRONT_ROOM: usize = 40;
-
-/// How long the rest of it is at most.
-const REST_ROOM: usize = 88;
-
-/// Puts the next part into a line that reaches to `at`. Returns how far it reaches then.
+/// A number and a space, for which there is room.
 #[inline(always)]
-fn put_part(line: &mut [u8; LINE_ROOM], at: usize, part: &[u8]) -> usize
-    requires { at + length part.now ≤ 128 }
-    ensures end { result ≡ at + length part.now }
-    ensures written { take result line.new ≡ take at line.old ++ part.now }
+fn put_number(lines: &mut LineBuffer, number: u64)
+    requires { length lines.old + 17 ≤ 1024 }
+    ensures written { lines.new ≡ lines.old ++ (hex number ++ 32 ∷ []) }
+    ensures length { length lines.new ≡ length lines.old + 17 }
 {
-    let end = at + part.len();
-    line[at..end].copy_from_slice(part);
-    end
+    lines.put(&hex_digits(number));
+    lines.put(b" ");
 }
 
-/// A line of a front and two names. Most are short: they are put together first, so that the text grows once.
-#[inline(always)]
-fn put_line_of_names(
-    text: &mut Vec<u8>,
-    front: &[u8],
-    first: &[u8],
-    second: &[u8],
-) -> Result<(), AllocError>
-    ensures { OnOk result (text.new.items
-        ≡ text.old.items ++ (front.now ++ (first.now ++ 32 ∷ [] ++ second.now ++ 10 ∷ []))) }
-{
-    if front.len() > FRONT_ROOM
-        || first.len() > NAMES_ROOM
-        || second.len() > NAMES_ROOM - first.len()
-    {
-        text.extend_from_slice(front)?;
-        put_names(text, first, second)?;
-        return Ok(());
-    }
-    let mut line = [0; LINE_ROOM];
-    let front_end = put_part(&mut line, 0, front);
-    let first_end = put_part(&mut line, front_end, first);
-    let space_end = put_part(&mut line, first_end, b" ");
-    let second_end = put_part(&mut line, space_end, second);
-    let end = put_part(&mut line, second_end, b"\n");
-    text.extend_from_slice(&line[..end])?;
-    Ok(())
-}
-
-/// The two names at the end of a line.
-fn put_names(text: &mut Vec<u8>, first: &[u8], second: &[u8]) -> Result<(), AllocError>
-    ensures { OnOk result (text.new.items ≡ text.old.items ++ (first.now ++ 32 ∷ [] ++ second.now ++ 10 ∷ [])) }
-{
-    text.extend_from_slice(first)?;
-    text.push(b' ')?;
-    text.extend_from_slice(second)?;
-    text.push(b'\n')?;
-    Ok(())
-}
-
-/// `piece ADDRESS SIZE ` of a line.
-#[inline(always)]
-fn piece_front(start: u64, size: u64) -> [u8; 40]
-    ensures { result ≡ piece_numbers start size }
-{
-    let start = hex_digits(start);
-    let size = hex_digits(size);
-    [
-        b'p', b'i', b'e', b'c', b'e', b' ', start[0], start[1], start[2], start[3], start[4],
-        start[5], start[6], start[7], start[8], start[9], start[10], start[11], start[12],
-        start[13], start[14], start[15], b' ', size[0], size[1], size[2], size[3], size[4],
-        size[5], size[6], size[7], size[8], size[9], size[10], size[11], size[12], size[13],
-        size[14], size[15], b' ',
-    ]
-}
-
-/// A line of a front and what follows it. Most are short: they are put together first, so that the text grows once.
-#[inline(always)]
-fn put_front_and_rest(text: &mut Vec<u8>, front: &[u8], rest: &[u8]) -> Result<(), AllocError>
-    ensures { OnOk result (text.new.items ≡ text.old.items ++ (front.now ++ rest.now)) }
-{
-    if front.len() > PIECE_FRONT_ROOM || rest.len() > REST_ROOM {
-        text.extend_from_slice(front)?;
-        text.extend_from_slice(rest)?;
-        return Ok(());
-    }
-    let mut line = [0; LINE_ROOM];
-    let front_end = put_part(&mut line, 0, front);
-    let end = put_part(&mut line, front_end, rest);
-    text.extend_from_slice(&line[..end])?;
-    Ok(())
-}
-
-/// `piece ADDRESS SIZE NAMES`, where the names are `OBJECT SECTION` with the end of the line.
-pub fn put_piece_line(
+/// The line of an input section that is too long to be put together beside the text.
+fn put_long_piece_line(
     text: &mut Vec<u8>,
     start: u64,
     size: u64,
@@ -161,42 +82,138 @@ pub fn put_piece_line(
 ) -> Result<(), AllocError>
     ensures { OnOk result (text.new.items ≡ text.old.items ++ (piece_numbers start size ++ names.now)) }
 {
-    put_front_and_rest(text, &piece_front(start, size), names)
+    text.extend_from_slice(b"piece ")?;
+    text.extend_from_slice(&hex_digits(start))?;
+    text.push(b' ')?;
+    text.extend_from_slice(&hex_digits(size))?;
+    text.push(b' ')?;
+    text.extend_from_slice(names)?;
+    Ok(())
 }
 
-/// `symbol VALUE ` of a line.
+/// `piece ADDRESS SIZE NAMES`, where the names are `OBJECT SECTION` with the end of the line.
 #[inline(always)]
-fn symbol_front(value: u64) -> [u8; 24]
-    ensures { result ≡ codes "symbol " ++ (hex value ++ 32 ∷ []) }
+pub(crate) fn put_piece_line(
+    text: &mut Vec<u8>,
+    lines: &mut LineBuffer,
+    start: u64,
+    size: u64,
+    names: &[u8],
+) -> Result<(), AllocError>
+    ensures { OnOk result (text.new.items ++ lines.new
+        ≡ (text.old.items ++ lines.old) ++ (piece_numbers start size ++ names.now)) }
 {
-    let value = hex_digits(value);
-    [
-        b's', b'y', b'm', b'b', b'o', b'l', b' ', value[0], value[1], value[2], value[3], value[4],
-        value[5], value[6], value[7], value[8], value[9], value[10], value[11], value[12],
-        value[13], value[14], value[15], b' ',
-    ]
+    if !lines.make_room(text, names.len().saturating_add(PIECE_FRONT))? {
+        lines.move_to(text)?;
+        return put_long_piece_line(text, start, size, names);
+    }
+    lines.put(b"piece ");
+    put_number(lines, start);
+    put_number(lines, size);
+    lines.put(names);
+    Ok(())
 }
 
-/// `symbol VALUE ` of a line whose symbol may have no value.
+/// The value of a symbol, or dashes where it has none, and a space. There is room for them.
 #[inline(always)]
-fn symbol_front_or_dashes(value: Option<u64>) -> [u8; 24]
-    ensures { result ≡ codes "symbol " ++ (value_text value ++ 32 ∷ []) }
+fn put_value(lines: &mut LineBuffer, value: Option<u64>)
+    requires { length lines.old + 17 ≤ 1024 }
+    ensures written { lines.new ≡ lines.old ++ (value_text value ++ 32 ∷ []) }
+    ensures length { length lines.new ≡ length lines.old + 17 }
 {
     match value {
-        Some(number) => symbol_front(number),
-        None => *b"symbol ---------------- ",
+        Some(number) => put_number(lines, number),
+        None => lines.put(b"---------------- "),
     }
 }
 
-/// `symbol VALUE NAME OWNER`
-pub fn put_symbol_line(
+/// The line of a symbol that is too long to be put together beside the text.
+fn put_long_symbol_line(
     text: &mut Vec<u8>,
     value: Option<u64>,
     name: &[u8],
     owner: &[u8],
 ) -> Result<(), AllocError>
-    ensures { OnOk result (text.new.items
-        ≡ text.old.items ++ line_of (codes "symbol" ∷ value_text value ∷ name.now ∷ owner.now ∷ [])) }
+    ensures { OnOk result (text.new.items ≡ text.old.items ++ symbol_parts value name.now owner.now) }
 {
-    put_line_of_names(text, &symbol_front_or_dashes(value), name, owner)
+    text.extend_from_slice(b"symbol ")?;
+    match value {
+        Some(number) => text.extend_from_slice(&hex_digits(number))?,
+        None => text.extend_from_slice(b"----------------")?,
+    }
+    text.push(b' ')?;
+    text.extend_from_slice(name)?;
+    text.push(b' ')?;
+    text.extend_from_slice(owner)?;
+    text.push(b'\n')?;
+    Ok(())
+}
+
+/// `symbol VALUE NAME OWNER`
+#[inline(always)]
+pub(crate) fn put_symbol_line(
+    text: &mut Vec<u8>,
+    lines: &mut LineBuffer,
+    value: Option<u64>,
+    name: &[u8],
+    owner: &[u8],
+) -> Result<(), AllocError>
+    ensures { OnOk result (text.new.items ++ lines.new
+        ≡ (text.old.items ++ lines.old) ++ symbol_parts value name.now owner.now) }
+{
+    let count = name
+        .len()
+        .saturating_add(owner.len())
+        .saturating_add(SYMBOL_REST);
+    if !lines.make_room(text, count)? {
+        lines.move_to(text)?;
+        return put_long_symbol_line(text, value, name, owner);
+    }
+    lines.put(b"symbol ");
+    put_value(lines, value);
+    lines.put(name);
+    lines.put(b" ");
+    lines.put(owner);
+    lines.put(b"\n");
+    Ok(())
+}
+
+/// The end of the line of an input section that is too long to be put together beside the text.
+fn put_long_names(
+    text: &mut Vec<u8>,
+    lines: &mut LineBuffer,
+    object: &[u8],
+    section: &[u8],
+) -> Result<(), AllocError>
+    ensures same { OnOk result (text.new.items ++ lines.new
+        ≡ (text.old.items ++ lines.old) ++ (object.now ++ 32 ∷ [] ++ section.now ++ 10 ∷ [])) }
+    ensures kept { length (text.old.items ++ lines.old) ≤ length (text.new.items ++ lines.new) }
+{
+    lines.append(text, object)?;
+    lines.append(text, b" ")?;
+    lines.append(text, section)?;
+    lines.append(text, b"\n")
+}
+
+/// `OBJECT SECTION`, with which the line of an input section ends.
+#[inline(always)]
+pub(crate) fn put_piece_names(
+    text: &mut Vec<u8>,
+    lines: &mut LineBuffer,
+    object: &[u8],
+    section: &[u8],
+) -> Result<(), AllocError>
+    ensures same { OnOk result (text.new.items ++ lines.new
+        ≡ (text.old.items ++ lines.old) ++ (object.now ++ 32 ∷ [] ++ section.now ++ 10 ∷ [])) }
+    ensures kept { length (text.old.items ++ lines.old) ≤ length (text.new.items ++ lines.new) }
+{
+    let count = object.len().saturating_add(section.len());
+    if !lines.make_room(text, count.saturating_add(NAMES_REST))? {
+        return put_long_names(text, lines, object, section);
+    }
+    lines.put(object);
+    lines.put(b" ");
+    lines.put(section);
+    lines.put(b"\n");
+    Ok(())
 }

@@ -9,8 +9,9 @@ ghost use Rattle.emit_text.specs.MapOf.{IsMapOf};
 ghost use Rattle.emit_text.specs.ShownMap.{AreNamesOfRows, letters, names_of, piece_text, pieces_text, row_names};
 ghost use Rattle.emit_text.specs.ShownMap.{section_text, sections_text, shown_map};
 
-use crate::byte_strings::ByteStrings;
-use crate::map_line::{put_entry_line, put_piece_line, put_section_line};
+use crate::byte_strings::{ByteStrings, GrowingStrings};
+use crate::line_buffer::LineBuffer;
+use crate::map_line::{put_entry_line, put_piece_line, put_piece_names, put_section_line};
 use crate::members::Members;
 use crate::named::next_part_name;
 use crate::symbols::{MapSymbol, put_symbols};
@@ -36,7 +37,7 @@ pub struct MapParts<'a> {
     pub symbols: &'a [MapSymbol<'a>],
 }
 
-/// What may be done with the bytes of an output section.
+/// The FLAGS of an output section: `r`, then `w` or `-`, then `x` or `-`.
 fn flags(placed: &Placed) -> &'static [u8]
     ensures { result.now ≡ letters placed.now.writable placed.now.executable }
 {
@@ -65,75 +66,91 @@ struct Likely {
     section: usize,
 }
 
-/// Adds the names of an input section: those of a previous map, where it has them. Returns where the next are likely.
-fn add_names<M: Members>(
-    names: &mut ByteStrings,
+/// The line of an input section that no previous map has, and its names beside it. Returns where the next is likely
+/// among the sections of its object.
+fn put_new_piece<M: Members>(
+    text: &mut Vec<u8>,
+    lines: &mut LineBuffer,
+    names: &mut GrowingStrings,
     members: &M,
-    row: usize,
-    section: SectionKey,
-    likely: Likely,
-) -> Result<Likely, AllocError>
-    ensures { OnOk result (names.new
-        ≡ names.old ++ names_of (M.project members.now) (M.number members.now) section ∷ []) }
+    piece: &Piece,
+    start: u64,
+    likely: usize,
+) -> Result<usize, AllocError>
+    ensures text { OnOk result (text.new.items ++ lines.new ≡ (text.old.items ++ lines.old)
+        ++ piece_text (M.project members.now) (M.number members.now) piece.now start) }
+    ensures names { OnOk result (names.new
+        ≡ names.old ++ names_of (M.project members.now) (M.number members.now) piece.now.section ∷ []) }
 {
-    if let Some(known) = members.known_names(row, likely.known, section) {
-        names.push(known.names)?;
-        return Ok(Likely {
-            known: known.at.wrapping_add(1),
-            section: likely.section,
-        });
-    }
-    let object = members.name(section.object);
-    let (name, place) = next_part_name(members, section, likely.section);
-    names.push_line(object, name)?;
-    Ok(Likely {
-        known: likely.known,
-        section: place,
-    })
+    let object = members.name(piece.section.object);
+    let (section, place) = next_part_name(members, piece.section, likely);
+    names.push_names(object, section)?;
+    put_piece_line(text, lines, start, piece.size, &[])?;
+    put_piece_names(text, lines, object, section)?;
+    Ok(place)
 }
 
-/// `piece ADDRESS SIZE OBJECT SECTION`, and its names beside it. Returns where the next are likely.
+/// `piece ADDRESS SIZE OBJECT SECTION`, and its names beside it: those of a previous map, where it has them. Returns
+/// where the next are likely.
+#[inline(always)]
 fn put_piece<M: Members>(
     text: &mut Vec<u8>,
-    names: &mut ByteStrings,
+    lines: &mut LineBuffer,
+    names: &mut GrowingStrings,
     members: &M,
     row: usize,
     piece: &Piece,
     start: u64,
     likely: Likely,
 ) -> Result<Likely, AllocError>
-    ensures text { OnOk result (text.new.items
-        ≡ text.old.items ++ piece_text (M.project members.now) (M.number members.now) piece.now start) }
+    ensures text { OnOk result (text.new.items ++ lines.new ≡ (text.old.items ++ lines.old)
+        ++ piece_text (M.project members.now) (M.number members.now) piece.now start) }
     ensures names { OnOk result (names.new
         ≡ names.old ++ names_of (M.project members.now) (M.number members.now) piece.now.section ∷ []) }
 {
-    let next = add_names(names, members, row, piece.section, likely)?;
-    put_piece_line(text, start, piece.size, names.last())?;
-    Ok(next)
+    if let Some(known) = members.known_names(row, likely.known, piece.section) {
+        names.push(known.names)?;
+        put_piece_line(text, lines, start, piece.size, known.names)?;
+        return Ok(Likely {
+            known: known.at.wrapping_add(1),
+            section: likely.section,
+        });
+    }
+    let place = put_new_piece(text, lines, names, members, piece, start, likely.section)?;
+    Ok(Likely {
+        known: likely.known,
+        section: place,
+    })
 }
 
-/// The lines of a row, whose addresses are the first of `starts`, and the names beside them.
+/// The lines of a row, whose addresses are the first of `starts`. Returns the names in them.
 fn put_pieces<M: Members>(
+    alloc: Global,
     text: &mut Vec<u8>,
-    names: &mut ByteStrings,
     members: &M,
     number: usize,
     row: &[Piece],
     starts: &[u64],
-) -> Result<(), AllocError>
+) -> Result<ByteStrings, AllocError>
     ensures text { OnOk result (text.new.items
         ≡ text.old.items ++ pieces_text (M.project members.now) (M.number members.now) row.now starts.now) }
-    ensures names { OnOk result (names.new
-        ≡ names.old ++ row_names (M.project members.now) (M.number members.now) (take (length starts.now) row.now)) }
+    ensures names { IfOk result (λ names. names
+        ≡ row_names (M.project members.now) (M.number members.now) (take (length starts.now) row.now)) }
 {
+    let mut lines = LineBuffer::new();
+    let mut names = GrowingStrings::with_capacity(alloc, row.len())?;
     let mut likely = Likely {
         known: 0,
         section: 0,
     };
     for i in 0..row.len().min(starts.len()) {
-        likely = put_piece(text, names, members, number, &row[i], starts[i], likely)?;
+        likely = put_piece(
+            text, &mut lines, &mut names, members, number, &row[i], starts[i], likely,
+        )?;
     }
-    Ok(())
+    lines.move_to(text)?;
+    let kept = names.finish()?;
+    Ok(kept)
 }
 
 /// The lines of all output sections, each with its row. Returns the names of each row.
@@ -162,8 +179,7 @@ fn put_sections<M: Members>(
         };
         let placed = &parts.placement.sections[k];
         put_section(text, section.section.name.as_bytes(), placed)?;
-        let mut of_row = ByteStrings::with_capacity(alloc, row.len())?;
-        put_pieces(text, &mut of_row, members, k, row, starts)?;
+        let of_row = put_pieces(alloc, text, members, k, row, starts)?;
         names.push(of_row)?;
         starts = &starts[row.len().min(starts.len())..];
     }

@@ -5,6 +5,7 @@ ghost use Rattle.ldmodel.specs.HandedOver.{decision_of};
 ghost use Rattle.ldmodel.specs.OutputSymbols.{owner};
 ghost use Rattle.emit_text.specs.ShownMap.{symbol_text, symbols_text};
 
+use crate::line_buffer::LineBuffer;
 use crate::map_line::put_symbol_line;
 use crate::members::Members;
 use ldmodel::names::{Case, Entry, ObjectPlace};
@@ -35,13 +36,16 @@ fn owner_name<M: Members>(members: &M, case: Case) -> &[u8]
 }
 
 /// The line of a name that stands for something, and none of another.
+#[tactic(auto, using(crate::proofs::MapLines::symbol_spelled))]
+#[inline(always)]
 fn put_symbol<M: Members>(
     text: &mut Vec<u8>,
+    lines: &mut LineBuffer,
     members: &M,
     symbol: &MapSymbol<'_>,
 ) -> Result<(), AllocError>
-    ensures { OnOk result (text.new.items
-        ≡ text.old.items ++ symbol_text (M.project members.now) (M.number members.now) symbol.now) }
+    ensures { OnOk result (text.new.items ++ lines.new ≡ (text.old.items ++ lines.old)
+        ++ symbol_text (M.project members.now) (M.number members.now) symbol.now) }
 {
     match symbol.case {
         Case::Undefined => Ok(()),
@@ -49,6 +53,7 @@ fn put_symbol<M: Members>(
         Case::Strong(_) | Case::Weak(_) | Case::Common { .. } | Case::Script | Case::Provided => {
             put_symbol_line(
                 text,
+                lines,
                 symbol.value,
                 symbol.name,
                 owner_name(members, symbol.case),
@@ -66,8 +71,10 @@ pub(crate) fn put_symbols<M: Members>(
     ensures { OnOk result (text.new.items
         ≡ text.old.items ++ symbols_text (M.project members.now) (M.number members.now) symbols.now) }
 {
+    let mut lines = LineBuffer::new();
     for symbol in symbols {
-        put_symbol(text, members, symbol)?;
+        put_symbol(text, &mut lines, members, symbol)?;
     }
+    lines.move_to(text)?;
     Ok(())
 }

@@ -40,18 +40,20 @@ loop-i-preserved g c =
     record {
       text = written_step _ _ _ _ _ _ c.in_ok-likely.ensures.text
           (more_pieces p number row c.args.starts.now c.loop-i.i _ _ (omega arith)) c.loop-i.invariant.text;
-      names = more_names p number row _ _ _ c.loop-i.i _ (omega arith) c.loop-i.invariant.names
+      names = more_names p number row [] _ _ c.loop-i.i _ (omega arith) c.loop-i.invariant.names
           c.in_ok-likely.ensures.names;
     }
 
 pub returns-clause-text : goal.returns-clause-text
 returns-clause-text g c =
-    written_end _ _ _
+    c.in_ok-move_to.ensures.text
+    ∙ written_end _ _ _
     (no_pieces (g.M.Members.project c.args.members.now) (g.M.Members.number c.args.members.now) c.args.row.now
     c.args.starts.now c.loop-i.i (omega arith))
     c.loop-i.invariant.text
 
 pub returns-clause-names : goal.returns-clause-names
 returns-clause-names g c =
-    all_names (g.M.Members.project c.args.members.now) (g.M.Members.number c.args.members.now) c.args.row.now
-    c.args.starts.now _ _ c.loop-i.i (omega arith) c.loop-i.invariant.names
+    c.in_ok-kept.ensures
+    ∙ all_names (g.M.Members.project c.args.members.now) (g.M.Members.number c.args.members.now) c.args.row.now
+    c.args.starts.now [] _ c.loop-i.i (omega arith) c.loop-i.invariant.names

@@ -5,10 +5,9 @@ use Rattle.emit_text.proofs.maps.put_pieces.Given as goal
 
 abbrev pub invariant-loop-i : goal.invariant-loop-i
 invariant-loop-i g l = record {
-  text : l.text.items
+  text : (l.text.items ++ l.lines)
       ++ pieces_text (g.M.Members.project l.members) (g.M.Members.number l.members) (drop l.i l.row) (drop l.i l.starts)
       ≡ l.initial.text.items
       ++ pieces_text (g.M.Members.project l.members) (g.M.Members.number l.members) l.row l.starts;
-  names : l.names
-      ≡ l.initial.names ++ row_names (g.M.Members.project l.members) (g.M.Members.number l.members) (take l.i l.row);
+  names : l.names ≡ row_names (g.M.Members.project l.members) (g.M.Members.number l.members) (take l.i l.row);
 }

@@ -10,7 +10,7 @@ use Rattle.ldscript.specs.statements.declared.numbering.OutputSectionAt as code_
 use Rattle.ldmodel.specs.Project.{Project}
 use Rattle.ldmodel.specs.declared.placed.Placed.{Placed}
 use Rattle.ldmodel.specs.declared.rows.Piece.{Piece}
-use Rattle.emit_text.specs.ShownMap.{pieces_text, row_names, section_text, sections_text}
+use Rattle.emit_text.specs.ShownMap.{pieces_text, section_text, sections_text}
 use Rattle.emit_text.proofs.Appending.{written_step, written_both, written_end}
 use Rattle.emit_text.proofs.MapRows.{more_rows_at, some_at}
 use Rattle.emit_text.proofs.SideBySide.{some_left, none_left}
@@ -99,24 +99,22 @@ loop-k-preserved g c =
           (some_left vec_items c.args.parts.now.rows.now c.loop-k.k c.in-Some-get.row.now
           c.in-Some-get.ensures.lookup.3.0
           c.in-Some-get.ensures.lookup.1)
-          c.as_bytes.ensures c.deref.ensures.value c.in_ok-put_section.ensures c.in_ok-put_pieces.ensures.text
+          c.as_bytes.ensures c.deref.ensures.value c.in_ok-put_section.ensures c.in_ok-of_row.ensures.text
           (starts_left c.deref.result.now starts c.min.result
-          (c.min.ensures ∙ ap (λ n. min n (length starts)) (c.len-in-loop-k.ensures ∙ sym c.deref.ensures.len)))
+          (c.min.ensures ∙ ap (λ n. min n (length starts)) (c.len.ensures ∙ sym c.deref.ensures.len)))
           c.loop-k.invariant.text;
       count = ap length c.in_ok-push.ensures.items ∙ length-append c.loop-k.names.items _
           ∙ ap (λ n. n + 1) c.loop-k.invariant.count;
       names = more_rows_at p number
           rows c.loop-k.names.items c.push.new.self.items
-          (vec_items c.in-Some-get.row.now) c.deref.result.now c.put_pieces.new.names (length starts)
+          (vec_items c.in-Some-get.row.now) c.deref.result.now c.in_ok-of_row.of_row (length starts)
           c.in_ok-push.ensures.items
           (ap (slice_get rows) c.loop-k.invariant.count
           ∙ some_at vec_items c.args.parts.now.rows.now c.loop-k.k c.in-Some-get.row.now
           c.in-Some-get.ensures.lookup.3.0
           c.in-Some-get.ensures.lookup.1)
           c.deref.ensures.value
-          (c.in_ok-put_pieces.ensures.names
-          ∙ ap (λ t. t ++ row_names p number
-          (take (length starts) c.deref.result.now)) c.in_ok-of_row.ensures)
+          c.in_ok-of_row.ensures.names
           c.loop-k.invariant.names;
     }
 

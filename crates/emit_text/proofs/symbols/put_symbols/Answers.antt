@@ -1,4 +1,5 @@
 -- A line for each symbol.
+use Rattle.std.proofs.Common.{◌∙◌}
 use Rattle.std.proofs.lemmas.List.{at_drop_more, at_drop_all}
 use Rattle.emit_text.specs.ShownMap.{symbols_text}
 use Rattle.emit_text.proofs.Appending.{written_step, written_end}
@@ -13,7 +14,8 @@ loop-symbol-preserved g c =
 
 pub returns : goal.returns
 returns g c =
-    written_end _ _ _
+    c.in_ok-move_to.ensures.text
+    ∙ written_end _ _ _
     (at_drop_all (symbols_text (g.M.Members.project c.args.members.now) (g.M.Members.number c.args.members.now))
     c.args.symbols.now c.loop-symbol.symbol-index c.loop-symbol-test.false)
     c.loop-symbol.invariant

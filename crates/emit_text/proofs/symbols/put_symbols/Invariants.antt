@@ -5,6 +5,6 @@ use Rattle.emit_text.proofs.symbols.put_symbols.Given as goal
 
 abbrev pub invariant-loop-symbol : goal.invariant-loop-symbol
 invariant-loop-symbol g l =
-    l.text.items ++ symbols_text (g.M.Members.project l.members) (g.M.Members.number l.members)
+    (l.text.items ++ l.lines) ++ symbols_text (g.M.Members.project l.members) (g.M.Members.number l.members)
     (drop l.symbol-index l.symbols)
     ≡ l.initial.text.items ++ symbols_text (g.M.Members.project l.members) (g.M.Members.number l.members) l.symbols

@@ -1,0 +1,22 @@
+-- The text is added as the last.
+use Rattle.std.proofs.Common.{◌≡◌, ◌∙◌, ◌+◌, ◌++◌, ◌∷◌, [], ap, arith, length, map}
+use Rattle.std.proofs.lemmas.List.{length-append}
+use Rattle.emit_text.specs.ByteStrings.{bytes_at}
+use Rattle.emit_text.proofs.ByteStrings.{text_added}
+use Rattle.emit_text.proofs.byte_strings.GrowingStrings.push_long.Goals as goal
+
+pub returns : goal.returns
+returns c =
+    let more = c.args.text.now in
+    let old = c.self.inside.bytes in
+    let last = c.self.inside.last in
+    let new = c.append.new.text in
+    let newer = c.append.new.self in
+    let begin : c.len.result + c.len-2.result ≡ length (old.items ++ last) =
+    omega (arith, c.len.ensures, c.len-2.ensures.is, old.ok.0, old.ok.1, length-append old.items last) in
+    let end : c.len-3.result + c.len-4.result ≡ length (new.items ++ newer) =
+    omega (arith, c.len-3.ensures, c.len-4.ensures.is, new.ok.0, new.ok.1, length-append new.items newer) in
+    ap (map (bytes_at (new.items ++ newer))) c.in_ok-push.ensures.items
+    ∙ text_added (old.items ++ last) more (new.items ++ newer) c.self.inside.spans.items _
+    c.in_ok-append.ensures.same begin end c.self.invariant
+    ∙ ap (λ t. t ++ more ∷ []) c.self.view_is

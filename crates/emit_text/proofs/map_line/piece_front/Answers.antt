@@ -1,8 +1,0 @@
--- Two numbers, each in its place.
-use Rattle.std.proofs.Common.{refl}
-use Rattle.ldmodel.specs.Lines.{hex}
-use Rattle.emit_text.proofs.map_line.piece_front.Goals as goal
-
-pub returns : goal.returns
-unfolding hex
-returns c = rw (c.hex_digits-start.ensures, c.hex_digits-size.ensures) refl

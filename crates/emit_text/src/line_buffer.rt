@@ -1,0 +1,100 @@
+//! Short parts of a text, put together beside it.
+
+ghost use Rattle.std.specs.Prelude.{◌≡◌, ◌≤◌, ◌++◌, ◌+◌, [], IfOk, OnOk, length, true};
+
+use std::alloc::AllocError;
+use std::marker::Model;
+
+/// How many bytes are put together at most.
+const ROOM: usize = 1024;
+
+/// Bytes that are put together beside a text, so that it grows seldom.
+#[derive(Drop)]
+pub(crate) struct LineBuffer {
+    /// The bytes, as far as this is in use.
+    bytes: [u8; ROOM],
+    /// How much of it is in use.
+    used: usize,
+}
+
+impl Model for LineBuffer {
+    ghost use Rattle.std.specs.Prelude.{◌≤◌, List, ℕ, take};
+
+    ghost Value = { List ℕ };
+
+    ghost view = { λ t. take t.used t.bytes };
+
+    ghost invariant = { λ t. t.used ≤ 1024 };
+}
+
+impl LineBuffer {
+    /// No bytes yet.
+    pub(crate) fn new() -> LineBuffer
+        ensures { result ≡ [] }
+    {
+        LineBuffer {
+            bytes: [0; ROOM],
+            used: 0,
+        }
+    }
+
+    /// How many bytes there are.
+    #[inline(always)]
+    pub(crate) fn len(&self) -> usize
+        ensures is { result ≡ length self.now }
+        ensures few { result ≤ 1024 }
+    {
+        self.used
+    }
+
+    /// Adds a part, for which there is room.
+    #[inline(always)]
+    pub(crate) fn put(&mut self, part: &[u8])
+        requires { length self.old + length part.now ≤ 1024 }
+        ensures { self.new ≡ self.old ++ part.now }
+    {
+        let end = self.used + part.len();
+        self.bytes[self.used..end].copy_from_slice(part);
+        self.used = end;
+    }
+
+    /// Adds the bytes to a text, and begins anew. Fails where memory runs out.
+    pub(crate) fn move_to(&mut self, text: &mut Vec<u8>) -> Result<(), AllocError>
+        ensures text { OnOk result (text.new.items ≡ text.old.items ++ self.old) }
+        ensures empty { OnOk result (self.new ≡ []) }
+        ensures kept { length (text.old.items ++ self.old) ≤ length (text.new.items ++ self.new) }
+    {
+        text.extend_from_slice(&self.bytes[..self.used])?;
+        self.used = 0;
+        Ok(())
+    }
+
+    /// Whether there is room for this many bytes more; where there is less, the bytes are first added to a text. Fails
+    /// where memory runs out.
+    #[inline(always)]
+    pub(crate) fn make_room(&mut self, text: &mut Vec<u8>, count: usize) -> Result<bool, AllocError>
+        ensures same { OnOk result (text.new.items ++ self.new ≡ text.old.items ++ self.old) }
+        ensures room { IfOk result (λ has. has ≡ true → length self.new + count ≤ 1024) }
+        ensures kept { length (text.old.items ++ self.old) ≤ length (text.new.items ++ self.new) }
+    {
+        if count <= ROOM - self.used {
+            return Ok(true);
+        }
+        self.move_to(text)?;
+        Ok(count <= ROOM)
+    }
+
+    /// Adds a part: where there is no room for it, the bytes before it are added to a text, and so is a part that is
+    /// longer than any room. Fails where memory runs out.
+    pub(crate) fn append(&mut self, text: &mut Vec<u8>, part: &[u8]) -> Result<(), AllocError>
+        ensures same { OnOk result (text.new.items ++ self.new ≡ (text.old.items ++ self.old) ++ part.now) }
+        ensures kept { length (text.old.items ++ self.old) ≤ length (text.new.items ++ self.new) }
+    {
+        if self.make_room(text, part.len())? {
+            self.put(part);
+            return Ok(());
+        }
+        self.move_to(text)?;
+        text.extend_from_slice(part)
+    }
+}
