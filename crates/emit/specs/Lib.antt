@@ -17,6 +17,5 @@ pub mod Output
 pub mod Parts
 pub mod Pieces
 pub mod Sizes
-pub mod Symbols
 pub mod Listed
 pub mod PreviousNames

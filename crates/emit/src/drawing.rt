@@ -116,15 +116,14 @@ fn draw_outputs(
     redraw(canvas, &drawing, patches, meter)
 }
 
-/// Draws the image of a link without faults onto a canvas, and counts the bytes that it writes: all but those of the
-/// input sections of which a previous link says that they stayed. In these only the patches are written, whose offsets
-/// are places in the file.
+/// Writes the image of a link without faults onto a canvas, and counts the bytes that it writes: all except those of
+/// the input sections of which `previous` says that they stayed. In these only the patches are written, at their
+/// offsets in the file.
 ///
-/// Where nothing stays, the canvas may hold anything before. Where the canvas holds the image of the previous link,
-/// each input section that is said to have stayed has, and the patches are the fields of the sites in these whose
-/// symbol has another value, the canvas holds the image of the new link after the call. Where, besides, each input
-/// section that stayed is said to have, as many bytes are written as the image has outside of these and the patched
-/// fields have.
+/// If nothing stays, the canvas may hold anything before. Else it must hold the image of the previous link, only
+/// sections that stayed may be said to have, and the patches must be the fields in them whose symbol has another value:
+/// then the canvas holds the image of the new link after the call. If all sections that stayed are said to have,
+/// exactly the bytes outside of them and those of the patches are written.
 ///
 /// # Errors
 ///

@@ -21,7 +21,7 @@ pub fn is_good(project: &ProjectView<'_>, link_layout: &LinkLayout)
         → relocation_faults project.now layout ≡ [] → IsGood (record { project = project.now; layout = layout }) }
 {
     faultless_is_good();
-    // so that what a project says of its objects is known
+    // for the prover: brings in the invariant of `project`
     let _inputs = project.inputs();
     project.objects_are_read();
     are_numbered(project);

@@ -12,16 +12,16 @@ use ldmodel::names::ObjectPlace;
 use ldmodel_project::view::ProjectView;
 use std::alloc::Global;
 
-/// What was found of an object when it was read.
+/// What reading an object has tested. The call does nothing.
 fn as_read(object: &Object)
     ensures { IsRead object.now }
 {
-    // so that it is known that the bytes of an object fit
+    // for the prover: brings in the invariant of `object`, of its bytes
     let _data = object.data();
     if object.sections().is_empty() {
         return;
     }
-    // so that what an object says of its relocations is known
+    // for the prover: brings in the invariant of `object`, of its relocations
     let _relocations = object.relocations(LinkedIndex(0));
 }
 

@@ -1,4 +1,4 @@
-//! What a link puts out: the fields of its relocations, its image, and its texts. Takes the layout and values of a
+//! The output of a link: the fields of its relocations, its image, and its texts. Takes the layout and values of a
 //! project, and perhaps a previous link; gives fields or their faults, the bytes drawn, the map and the fault lines.
 //!
 //! - `relocated` over `keys`: the fields of all relocations, or their faults; `law`;

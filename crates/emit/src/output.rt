@@ -56,8 +56,8 @@ fn fill_of(section: &OutputSection) -> &[u8]
     }
 }
 
-/// The output section of a number, of its place and of the members of these lists that have the number; none where a
-/// list ends before.
+/// The output section of a number, made of its place and of the entries of these lists under that number; `None` if a
+/// list is too short.
 fn output_at<'a>(
     number: usize,
     placed: &Placed,
@@ -89,8 +89,8 @@ fn output_at<'a>(
     })
 }
 
-/// The output sections of these places and of the members of these lists, as many as the shortest list has. Fails where
-/// memory runs out.
+/// The output sections made of the entries of these lists, as many as the shortest list has. Fails where memory runs
+/// out.
 fn join<'a>(
     alloc: Global,
     placed: &[Placed],

@@ -138,7 +138,7 @@ pub(crate) fn drawing_parts<'a>(
         → ArePartsOf project.now layout stays x) }
 {
     let segments = indexed_layout.link_layout.segments.as_slice();
-    let symbols = table_symbols(alloc, project, indexed_layout, values)?;
+    let symbols = table_symbols(alloc, values)?;
     let headings = table_sections(alloc, outputs)?;
     let end = loaded_end(segments)?;
     let tail = tail(alloc, end, &symbols, &headings)?;

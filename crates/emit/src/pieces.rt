@@ -63,8 +63,8 @@ fn section_at(object: &Object, index: LinkedIndex) -> Section
     object.sections()[index.0]
 }
 
-/// A section of the object of a key, as an input section of this number of bytes at an address; all zeros where it is not
-/// among those whose fields are known.
+/// A section of the object of a key, as an input section of this number of bytes at an address; all zeros if it is
+/// NOBITS, or if there is no list of its fields, as in no link.
 fn section_piece<'a>(
     relocated: &'a Relocated,
     indexed_layout: &IndexedLayout,
@@ -85,7 +85,7 @@ fn section_piece<'a>(
         → IsSectionPiece link o section size start result }
 {
     let section = section_at(object, index);
-    // so that what an object says of its sections is known
+    // for the prover: brings in the invariant of `object`, of its sections
     let _sections = object.sections();
     let _relocations = object.relocations(index);
     let bytes = object.section_bytes(index);
@@ -118,7 +118,7 @@ fn drawn_piece<'a>(
         → IsPlacedAt project.now link.layout (piece_in project.now piece.now) start w
         → IsDrawnPiece link.project link.layout w result }
 {
-    // so that what a project says of its objects is known
+    // for the prover: brings in the invariant of `project`
     let _inputs = project.inputs();
     project.objects_are_named();
     let key = piece.section.object;
@@ -129,7 +129,7 @@ fn drawn_piece<'a>(
             Some(object) => match object.section_at(number) {
                 None => zeros(piece.size, start),
                 Some(index) => {
-                    // so that what an object says of its sections is known
+                    // for the prover: brings in the invariant of `object`, of its sections
                     let _sections = object.sections();
                     section_piece(
                         relocated,

@@ -38,16 +38,11 @@ or_0 (Some x) = refl
 
 module _ (l : KnownLink) where
   -- the value of what a name stands for is the name's
-  pub of_case : (name : List ℕ) (case : Case) (v : SymbolValue) → Some (decision_of l.number case)
+  of_case : (name : List ℕ) (case : Case) (v : SymbolValue) → Some (decision_of l.number case)
       ≡ Some (decision l.project name) → v ≡ decided_value l.project l.layout name (decision_of l.number case) → v
       ≡ name_value l.project l.layout name
   unfolding name_value
   of_case name case v e h = h ∙ ap (decided_value l.project l.layout name) (same_Some _ _ e)
-
-  -- without a case, no name has the key
-  pub no_case : (name : List ℕ) (v : SymbolValue) → None ≡ Some (decision l.project name) → v
-      ≡ name_value l.project l.layout name
-  no_case name v e = cc
 
   -- the entry symbol
   no_entry : (o : Option (List ℕ)) → None ≡ option_map (decision l.project) o → Number 0

@@ -60,11 +60,6 @@ IsCaseOf link k case =
 abbrev pub IsScriptValueOf : KnownLink → NameKey → Option ℕ → Type 0
 IsScriptValueOf link k value = (name : List ℕ) → link.name k.0 ≡ Some name → value ≡ script_value link.layout name
 
--- the value of the name of a key
-abbrev pub IsNameValueOf : KnownLink → NameKey → SymbolValue → Type 0
-IsNameValueOf link k value =
-    (name : List ℕ) → link.name k.0 ≡ Some name → value ≡ name_value link.project link.layout name
-
 -- the address of the common block that an entry owns
 abbrev pub common_value : KnownLink → Entry → SymbolValue
 common_value link owner =
@@ -99,9 +94,3 @@ pub record IsEntryCase (link : KnownLink) (case : Option Case) (given : Option �
   pub decided : option_map (decision_of link.number) case
       ≡ option_map (decision link.project) (entry_symbol link.project)
   pub given_is : (name : List ℕ) → entry_symbol link.project ≡ Some name → given ≡ script_value link.layout name
-
--- the same of the names with keys below a number
-abbrev pub AreValuesBelow : KnownLink → ℕ → List code.SymbolValue → Type 0
-AreValuesBelow link n values =
-    (k : ℕ) (name : List ℕ) → k < n → link.name k ≡ Some name
-    → option_map value_of (slice_get values k) ≡ Some (name_value link.project link.layout name)

@@ -1,5 +1,5 @@
-//! The fields of a link that a previous link did not have, in one flat list, those that change in sections that
-//! stayed, and the faults of relocations. Beside no previous link these are the fields of all objects.
+//! The fields of input sections that did not stay, in one flat list; those that change in sections that stayed; and the
+//! faults of relocations. Without a previous link these are the fields of all objects.
 
 ghost use Rattle.std.specs.Prelude.{◌≡◌, IfOk, OnOk, Some, [], ◌∷◌};
 ghost use Rattle.ldmodel.specs.Project.{NamedObject};
@@ -65,7 +65,7 @@ impl<'a, L: LinkInfo, E: PreviousLinkInfo> Links<'a, L, E> {
             → AreLinks L.knows E.knows self.now old link → IsAtHand link section.now s
             → Adds link (IsRenewed link s) (results_of fields.old meter.old) (results_of fields.new meter.new)) }
     {
-        // so that the range of the count is known
+        // for the prover: brings in that the count of fields fits a u64
         let _fields = meter.fields();
         match section.placed(self.link) {
             None => Ok(()),
@@ -97,7 +97,7 @@ impl<'a, L: LinkInfo, E: PreviousLinkInfo> Links<'a, L, E> {
             → Adds link (IsRetained old link (section_key section.now.key s) range s) (results_of fields.old meter.old)
             (results_of fields.new meter.new)) }
     {
-        // so that the range of the count is known
+        // for the prover: brings in that the count of fields fits a u64
         let _fields = meter.fields();
         if !self.previous.is_dirty(section.key) {
             return Ok(());
@@ -129,7 +129,7 @@ impl<'a, L: LinkInfo, E: PreviousLinkInfo> Links<'a, L, E> {
             → Adds link (IsEvaluatedOf old link (E.range self.now.previous.now) s) (results_of fields.old meter.old)
             (results_of fields.new meter.new)) }
     {
-        // so that the range of the count is known
+        // for the prover: brings in that the count of fields fits a u64
         let _fields = meter.fields();
         if section.object.relocations(section.index).is_empty() {
             return Ok(());
@@ -179,7 +179,7 @@ impl<'a, L: LinkInfo, E: PreviousLinkInfo> Links<'a, L, E> {
             → AreChanged old link (E.range self.now.previous.now) (sections_of o object.now.sections)
             (results_of fields.old meter.old) (results_of fields.new meter.new)) }
     {
-        // so that the range of the count is known
+        // for the prover: brings in that the count of fields fits a u64
         let _fields = meter.fields();
         let values = self.symbols.row(key, object.symbols().len());
         for index in 0..object.sections().len() {
@@ -278,7 +278,7 @@ pub fn changed_fields<L: LinkInfo, E: PreviousLinkInfo>(
         → AreChanged old known (E.range previous.now) (sections_in known.project.objects) (no_results meter.old)
         (results_of fields meter.new)) }
 {
-    // so that the range of the count is known
+    // for the prover: brings in that the count of fields fits a u64
     let _fields = meter.fields();
     let mut fields = ChangedFields {
         patches: Vec::with_capacity(alloc, count_fields(link, previous, objects))?,

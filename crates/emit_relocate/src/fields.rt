@@ -41,7 +41,7 @@ fn add_site(
         → IsTried link (sites_among object x section.now.start (relocation.now ∷ [])) fields.old.items fields.new.items
         faults.old.items faults.new.items meter.old meter.new) }
 {
-    // so that the range of the count is known
+    // for the prover: brings in that the count of fields fits a u64
     let _fields = meter.fields();
     if !is_evaluated(relocation.kind) {
         return Ok(());
@@ -85,7 +85,7 @@ pub(crate) fn add_sites(
         → IsTried link (sites_among object x section.now.start relocations.now) fields.old.items fields.new.items
         faults.old.items faults.new.items meter.old meter.new) }
 {
-    // so that the range of the count is known
+    // for the prover: brings in that the count of fields fits a u64
     let _fields = meter.fields();
     if !is_numbered(section.relocations) {
         // No section has 2^32 relocations

@@ -1,4 +1,4 @@
-//! Input sections, as they are gone over: each with the object that it is of, before its place in the output is known.
+//! Input sections with their objects, before their places in the output are looked up.
 
 ghost use Rattle.std.specs.Prelude.{◌≡◌, ◌+◌, ◌<◌, ◌^◌, All, IfSome, Some, length, slice_get};
 ghost use Rattle.elfobj.specs.Profile.{AreApart};

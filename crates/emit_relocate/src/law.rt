@@ -43,8 +43,8 @@ pub fn no_fault_is_missed()
     stayed_in_both();
 }
 
-/// Between good links, where each section that stayed is known to have stayed, each site counts that lies outside of
-/// what stayed or whose symbol has another value, once, and no other.
+/// Between good links, if each section that stayed is known to have stayed, exactly those sites count, each once, that
+/// lie outside of what stayed or whose symbol has another value.
 pub fn due_sites_count()
     ensures { (old : GoodLink) (link : KnownLink) (range : SectionKey → Option FileRange) (before after : Results)
         → AreChanged old link range (sections_in link.project.objects) before after → IsComplete range old link

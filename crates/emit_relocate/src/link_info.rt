@@ -10,11 +10,11 @@ use elfobj::relocation::SymbolIndex;
 use ldmodel::names::{Case, NameKey, ObjectPlace};
 use ldmodel::sections::SectionKey;
 
-/// What a linker knows of a link: its objects, where their sections start, and what names stand for, under the linker's
-/// own keys. What is said of a link holds of each link that it may be; of a value that knows nothing of any link, as a
-/// test's, nothing is said.
+/// What a linker knows of a link: its objects, where their sections start, and how names are resolved, under the
+/// linker's own keys. The clauses hold for any link that this may be about; for a value that is about none, as in a
+/// test, they say nothing.
 pub trait LinkInfo {
-    /// The links that it may be, with what the keys stand for.
+    /// The links that this may be about, with what the keys stand for.
     ghost knows: { Self → KnownLink → Type 0 };
 
     /// The object of a key, if there is one.
@@ -34,7 +34,7 @@ pub trait LinkInfo {
         ensures { (link : KnownLink) → knows self.now link → (k : ℕ) (name : List ℕ) → link.name k ≡ Some name → k
             < result };
 
-    /// What the name of a key stands for.
+    /// How the name of a key is resolved.
     fn case(&self, name: NameKey) -> Option<Case>
         ensures { (link : KnownLink) → knows self.now link → IsCaseOf link name result };
 

@@ -26,34 +26,33 @@ pub struct FileRange {
     pub length: u64,
 }
 
-/// What a linker knows of a previous link beside a new one: which input sections of the new one stayed where they
-/// were, and what symbols were worth. The keys are keys of the new link. What is said of two links holds of each two
-/// links that these may be.
+/// What a linker knows of the previous link beside the new one: which input sections stayed, and what values symbols
+/// had. Keys are those of the new link. The clauses hold for any two links that `knows` allows.
 pub trait PreviousLinkInfo {
-    /// The links that these may be: the previous one, and the new one with what its keys stand for.
+    /// The links that this may be about: the previous one, and the new one with what its keys stand for.
     ghost knows: { Self → GoodLink → KnownLink → Type 0 };
 
     /// Which input sections stayed, as far as is known, and where their bytes stand in the file.
     ghost range: { Self → SectionKey → Option FileRange };
 
-    /// Whether there is no previous link, so that no section stayed. It is asked before memory is reserved, and nothing
-    /// else rests on it.
+    /// Whether there is no previous link. The answer only decides how much memory is reserved.
     fn is_none(&self) -> bool;
 
-    /// Where the bytes of an input section stand in the file, if it stayed there: no bytes, where its output section
-    /// has none. Nothing is said of a section that is not in the output.
+    /// The bytes in the file of an input section that stayed; an empty range if its output section has no file bytes.
+    /// Nothing is said of a section that is not in the output.
     fn stayed(&self, section: SectionKey) -> Option<FileRange>
         ensures range { result ≡ range self.now section }
         ensures stayed { (old : GoodLink) (link : KnownLink) → knows self.now old link
             → IfSome result (HasStayedAt old link section) };
 
-    /// Whether a symbol of an object of which a section stayed may have another value than in the previous link. Where
+    /// Whether a symbol of this object, of which a section stayed, may have another value than in the previous link. If
     /// the answer is no, none has.
     fn is_dirty(&self, object: ObjectPlace) -> bool
         ensures { (old : GoodLink) (link : KnownLink) → knows self.now old link → IsKept (range self.now) object
             → result ≡ false → HasSameValues old link object };
 
-    /// What a symbol of an object of which a section stayed was worth to a relocation of its object.
+    /// The value that a symbol of this object, of which a section stayed, had in the previous link to relocations of
+    /// the object.
     fn value(&self, object: ObjectPlace, index: SymbolIndex, symbol: &Symbol) -> SymbolValue
         ensures { (old : GoodLink) (link : KnownLink) (o : NamedObject) (x : NamedSymbol) → knows self.now old link
             → IsKept (range self.now) object → IsSymbolOf link object index symbol.now o x
@@ -65,7 +64,7 @@ pub trait PreviousLinkInfo {
 pub struct NoPreviousLink;
 
 impl PreviousLinkInfo for NoPreviousLink {
-    // what it says, that nothing is known to have stayed, is true of any two links
+    // it says that nothing is known to have stayed, which is true of any two links
     ghost knows = { λ _ _ _. Unit {0} };
 
     ghost range = { λ _ _. None };

@@ -26,7 +26,7 @@ use ldmodel::memory::NoMemory;
 use ldmodel::meter::Meter;
 use std::slice::from_ref;
 
-/// Whether two symbols have the same value. A number is the same as no missing value.
+/// Whether two values are the same. A number is never the same as a missing value.
 fn is_same_value(one: SymbolValue, other: SymbolValue) -> bool
     ensures { result ≡ is_same_value (value_of one) (value_of other) }
 {
@@ -140,7 +140,7 @@ impl<'a, E: PreviousLinkInfo> StayedSection<'a, E> {
             (sites_at_hand self.now.section s (relocation.now ∷ [])) patches.old.items
             patches.new.items faults.old.items faults.new.items meter.old meter.new) }
     {
-        // so that the range of the count is known
+        // for the prover: brings in that the count of fields fits a u64
         let _fields = meter.fields();
         if !is_evaluated(relocation.kind) {
             return Ok(());
@@ -173,7 +173,7 @@ impl<'a, E: PreviousLinkInfo> StayedSection<'a, E> {
             (sites_at_hand self.now.section section self.now.section.relocations.now) patches.old.items
             patches.new.items faults.old.items faults.new.items meter.old meter.new) }
     {
-        // so that the range of the count is known
+        // for the prover: brings in that the count of fields fits a u64
         let _fields = meter.fields();
         for entry in 0..self.section.relocations.len() {
             let relocation = &self.section.relocations[entry];

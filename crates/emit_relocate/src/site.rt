@@ -35,7 +35,7 @@ pub struct PlacedInput<'a> {
     pub start: u64,
     /// The symbols of the object.
     pub symbols: &'a [Symbol],
-    /// What they are worth, by their numbers.
+    /// Their values, by their numbers.
     pub values: &'a [SymbolValue],
     /// The relocations of the section, in the order of their table.
     pub relocations: &'a [Relocation],
@@ -117,7 +117,7 @@ fn field_with(
         → IsOutcome link site (value_of value) result }
     ensures counted { meter.new ≡ raised meter.old Fields (work_of (value_of value)) }
 {
-    // so that the range of the count is known
+    // for the prover: brings in that the count of fields fits a u64
     let _fields = meter.fields();
     match value {
         SymbolValue::NotDefined => Err(Fault::UndefinedSymbol(site_key(section, entry))),

@@ -1,14 +1,13 @@
 //! Values of symbols: of a local one by its own entry, of another by what its name stands for.
 
-ghost use Rattle.std.specs.Prelude.{◌≡◌, ℕ, List, Some, IfOk, option_to_list};
+ghost use Rattle.std.specs.Prelude.{◌≡◌, ℕ, List, option_to_list};
 ghost use Rattle.std.specs.Option.{option_map};
 ghost use Rattle.ldmodel.specs.FaultCode.{fault_of};
 ghost use Rattle.ldmodel.specs.HandedOver.{decision_of, entry_of};
 ghost use Rattle.ldmodel.specs.Layout.{script_value};
 ghost use Rattle.ldmodel.specs.Relocations.{entry_fault};
 ghost use Rattle.ldmodel.specs.SymbolValues.{decided_value, entry_point, entry_value, own_value, value_or_undefined};
-ghost use Rattle.emit_relocate.specs.KnownLink.{AreNameValues, IsEntryCase, IsNameValueOf, KnownLink, common_value};
-ghost use Rattle.emit_relocate.specs.KnownLink.{name_of_object};
+ghost use Rattle.emit_relocate.specs.KnownLink.{IsEntryCase, KnownLink, common_value, name_of_object};
 ghost use Rattle.emit_relocate.specs.Values.{value_of};
 
 use crate::link_info::LinkInfo;
@@ -16,10 +15,8 @@ use crate::value::{SymbolValue, address_from};
 use elfobj::relocation::SymbolIndex;
 use elfobj::symbol::{Symbol, SymbolPlace};
 use ldmodel::fault::Fault;
-use ldmodel::memory::NoMemory;
-use ldmodel::names::{Case, Entry, NameKey, ObjectPlace};
+use ldmodel::names::{Case, Entry, ObjectPlace};
 use ldmodel::sections::{Part, SectionKey};
-use std::alloc::Global;
 
 /// The value of a symbol of an object by its own entry (gABI, "Symbol Values"): an address in its section, its number,
 /// or 0 for the null entry.
@@ -107,26 +104,4 @@ pub fn entry_fault(value: SymbolValue) -> Option<Fault>
         SymbolValue::NotInOutput => Some(Fault::EntryNotInOutput),
         SymbolValue::Number(_) | SymbolValue::NotDefined => None,
     }
-}
-
-/// The value of the name of a key.
-pub fn name_value<L: LinkInfo>(link: &L, name: NameKey) -> SymbolValue
-    ensures { (known : KnownLink) → L.knows link.now known → IsNameValueOf known name (value_of result) }
-{
-    match link.case(name) {
-        None => SymbolValue::NotDefined,
-        Some(case) => decided_value(link, case, link.script_value(name)),
-    }
-}
-
-/// The values of all names, each under its key. What stands under a key of no name has no meaning.
-pub fn name_values<L: LinkInfo>(alloc: Global, link: &L) -> Result<Vec<SymbolValue>, NoMemory>
-    ensures { IfOk result (λ values. (known : KnownLink) → L.knows link.now known → AreNameValues known values.items) }
-{
-    let limit = link.name_limit();
-    let mut values = Vec::with_capacity(alloc, limit)?;
-    for key in 0..limit {
-        values.push(name_value(link, NameKey(key)))?;
-    }
-    Ok(values)
 }

@@ -1,4 +1,4 @@
-//! What each symbol of each object is worth in a link.
+//! The value of each symbol of each object of a link.
 
 ghost use Rattle.std.specs.Prelude.{◌≡◌, Some, drop, length, take};
 ghost use Rattle.ldmodel.specs.Project.{NamedObject};
@@ -9,7 +9,7 @@ use crate::value::SymbolValue;
 use elfobj::relocation::SymbolIndex;
 use ldmodel::names::ObjectPlace;
 
-/// What each symbol of each object is worth to the relocations of its object, under the object's key and the symbol's
+/// The value of each symbol of each object to relocations of that object, under the object's place and the symbol's
 /// number.
 #[derive(Drop)]
 pub struct SymbolValues {

@@ -38,8 +38,8 @@ impl SymbolValue {
         }
     }
 
-    /// This value to a reference that is weak or not: to a weak one, what nothing defines counts as 0 (gABI, "Symbol
-    /// Table", `STB_WEAK`).
+    /// This value as a reference sees it. To one that is `weak` what nothing defines counts as 0 (gABI, "Symbol Table",
+    /// `STB_WEAK`).
     pub fn or_weak(self, weak: bool) -> SymbolValue
         ensures { value_of result ≡ or_weak weak (value_of self) }
     {

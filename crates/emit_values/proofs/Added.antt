@@ -1,7 +1,11 @@
 -- Symbols of the output, one by one.
-use Rattle.std.proofs.Common.{◌≡◌, ◌∙◌, ℕ, List, [], ◌∷◌, ◌++◌, ap, sym}
+use Rattle.std.proofs.Common.{◌≡◌, ◌∙◌, ℕ, List, [], ◌∷◌, ◌++◌, ap, subst, sym}
 use Rattle.std.specs.Prelude.{None, Option, Some, slice_get}
-use Rattle.std.specs.Option.{option_map, unwrap_or}
+use Rattle.std.specs.Option.{option_map}
+use Rattle.std.specs.Borrow.{Bor}
+use Rattle.std.specs.List.{All}
+use Rattle.std.proofs.lemmas.List.Elements.{All-push}
+use Rattle.std.proofs.lemmas.Option.{same_Some}
 use Rattle.ldmodel.specs.HandedOver.{decision_of}
 use Rattle.ldmodel.specs.Layout.{Layout, script_value}
 use Rattle.ldmodel.specs.Names.{Decision, decision}
@@ -9,15 +13,15 @@ use Rattle.ldmodel.specs.OutputSymbols as model
 use Rattle.ldmodel.specs.OutputSymbols.{output_symbol}
 use Rattle.ldmodel.specs.Project.{Project}
 use Rattle.ldmodel.specs.SymbolValues.{SymbolValue, decided_value, name_value}
-use Rattle.symres.specs.Decided.{case_at}
-use Rattle.emit_relocate.specs.KnownLink.{value_under}
+use Rattle.ldmodel.specs.declared.names.Case.{Case}
 use Rattle.emit_relocate.specs.Values.{value_of}
-use Rattle.emit_relocate.specs.declared.value.SymbolValue as code
-use Rattle.emit_relocate.specs.declared.value.SymbolValue.TheVariants as code_value
 use Rattle.symres.specs.table.State.{IsNamed}
+use Rattle.emit_values.specs.NameRows.{decided_row, facts, row_of, shown_row}
+use Rattle.emit_values.specs.NameRows as model_row
 use Rattle.emit_values.specs.ScriptValues.{value_in}
-use Rattle.emit_values.specs.Symbols.{AddsSymbols, AreSources, defined, shown}
-use Rattle.emit_values.specs.Values.{shown_symbol}
+use Rattle.emit_values.specs.Symbols.{AddsSymbols, AreSources, KeepsFacts, defined, shown, symbol_with}
+use Rattle.emit_values.specs.Values.{HasFacts, shown_symbol}
+use Rattle.emit_values.specs.declared.name_row.NameRow.{NameRow}
 use Rattle.emit_values.specs.declared.symbols.Sources.{Sources}
 use Rattle.emit_values.specs.declared.values.OutputSymbol.{OutputSymbol}
 
@@ -30,38 +34,64 @@ same_symbol p s x d v =
     ∙ ap (λ (w : SymbolValue). let y : model.OutputSymbol =
     record { name = x.name.now; decision = decision p x.name.now; value = w } in y) v
 
-some_same : (x y : SymbolValue) → Some x ≡ Some y → x ≡ y
-some_same x y h = cc
+module _ (p : Project) (s : Layout) (src : Sources) (h : AreSources p s src) (name : Bor (List ℕ)) (case : Case)
+    (row : NameRow) where
+  -- of a name with a key
+  module _ (k : ℕ) (named : IsNamed src.symbol_table.now.names k name.now)
+      (case_at : Some case ≡ slice_get src.cases.now k) (row_at : Some row ≡ slice_get src.rows.now k) where
+    decided : decision_of (λ key. key) case ≡ decision p name.now
+    decided = same_Some _ _ (ap (option_map (decision_of (λ key. key))) case_at ∙ h.cases k name.now named)
 
--- the value of a name that has one
-under_key : (a : Option code.SymbolValue) (v : SymbolValue) → option_map value_of a ≡ Some v
-    → value_of (unwrap_or a code_value.NotDefined) ≡ v
-under_key None v h = absurd (let none : ⊥ = cc in none)
-under_key (Some x) v h = some_same (value_of x) v h
+    row_is : shown_row row ≡ row_of p s name.now
+    row_is = same_Some _ _ (ap (option_map shown_row) row_at ∙ h.rows k name.now named)
 
--- the symbol of a name with a key
-pub named_symbol : (p : Project) (s : Layout) (src : Sources) (k : ℕ) (x : OutputSymbol) → AreSources p s src
-    → IsNamed src.symbol_table.now.names k x.name.now → Some x.case ≡ case_at src.symbol_table.now.cases k
-    → x.value ≡ value_under src.names.now (record { 0 = k }) → shown_symbol x ≡ output_symbol p s x.name.now
-named_symbol p s src k x h named case value =
-    same_symbol p s x ((h.symbol_table.sound k x.case (sym case)).case x.name.now named)
-    (ap value_of value
-    ∙ under_key (slice_get src.names.now k) (name_value p s x.name.now) (h.names k x.name.now named))
+    pub named_symbol : shown_symbol (symbol_with name case row) ≡ output_symbol p s name.now
+    named_symbol =
+        same_symbol p s (symbol_with name case row) decided (ap (λ (r : model_row.NameRow). r.value) row_is)
 
--- that of another name
-pub unnamed_symbol : (p : Project) (s : Layout) (src : Sources) (x : OutputSymbol) (given : Option ℕ)
-    → AreSources p s src → decision_of (λ key. key) x.case ≡ decision p x.name.now
-    → given ≡ value_in src.given.now x.name.now
-    → (given ≡ script_value s x.name.now
-    → value_of x.value ≡ decided_value p s x.name.now (decision_of (λ key. key) x.case))
-    → shown_symbol x ≡ output_symbol p s x.name.now
-unfolding name_value
-unnamed_symbol p s src x given h decided is value =
-    same_symbol p s x decided
-    (value (is ∙ h.given.found x.name.now) ∙ ap (decided_value p s x.name.now) decided)
+    pub named_facts : HasFacts p s (symbol_with name case row)
+    named_facts = ap (λ (r : model_row.NameRow). r.facts) row_is ∙ ap (facts p s) (sym decided)
+
+  -- of another name
+  module _ (given : Option ℕ) (is : given ≡ value_in src.given.now name.now)
+      (row_is : given ≡ script_value s name.now
+      → shown_row row ≡ decided_row p s name.now (decision_of (λ key. key) case)) where
+    by_script : shown_row row ≡ decided_row p s name.now (decision_of (λ key. key) case)
+    by_script = row_is (is ∙ h.given.found name.now)
+
+    pub unnamed_symbol : decision_of (λ key. key) case ≡ decision p name.now
+        → shown_symbol (symbol_with name case row) ≡ output_symbol p s name.now
+    unfolding name_value
+    unnamed_symbol decided =
+        same_symbol p s (symbol_with name case row) decided
+        (ap (λ (r : model_row.NameRow). r.value) by_script ∙ ap (decided_value p s name.now) decided)
+
+    pub unnamed_facts : HasFacts p s (symbol_with name case row)
+    unnamed_facts = ap (λ (r : model_row.NameRow). r.facts) by_script
+
+-- each key of a name has a case and a row
+pub has_case : (p : Project) (s : Layout) (src : Sources) (h : AreSources p s src) (name : List ℕ) (k : ℕ)
+    → IsNamed src.symbol_table.now.names k name → None ≡ slice_get src.cases.now k → ⊥
+has_case p s src h name k named e =
+    let none : None ≡ Some (decision p name) =
+    ap (option_map (decision_of (λ key. key))) e ∙ h.cases k name named in
+    cc
+
+pub has_row : (p : Project) (s : Layout) (src : Sources) (h : AreSources p s src) (name : List ℕ) (k : ℕ)
+    → IsNamed src.symbol_table.now.names k name → None ≡ slice_get src.rows.now k → ⊥
+has_row p s src h name k named e =
+    let none : None ≡ Some (row_of p s name) = ap (option_map shown_row) e ∙ h.rows k name named in
+    cc
 
 pub adds_one : (p : Project) (s : Layout) (x : OutputSymbol) (old new : List OutputSymbol)
     → shown_symbol x ≡ output_symbol p s x.name.now → shown new ≡ shown old ++ defined (shown_symbol x ∷ [])
     → AddsSymbols p s (x.name.now ∷ []) old new
 adds_one p s x old new is added =
     added ∙ ap (λ (y : model.OutputSymbol). shown old ++ defined (y ∷ [])) is
+
+-- one symbol more has what the symbol table says of it
+pub keeps_one : (p : Project) (s : Layout) (x : OutputSymbol) (old new : List OutputSymbol) → new ≡ old ++ x ∷ []
+    → HasFacts p s x → KeepsFacts p s old new
+keeps_one p s x old new e one all =
+    subst (λ (xs : List OutputSymbol). All (HasFacts p s) xs) (sym e)
+    (All-push (HasFacts p s) old x all one)

@@ -1,4 +1,5 @@
 pub mod Seeing
+pub mod Rows
 pub mod Giving
 pub mod EntryCase
 pub mod Listing

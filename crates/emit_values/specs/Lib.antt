@@ -4,6 +4,7 @@ pub mod Given
 pub mod GivenTable
 pub mod LinkView
 pub mod Values
+pub mod NameRows
 pub mod Candidates
 pub mod Symbols
 pub mod AssertedSymbols

@@ -1,17 +1,24 @@
 -- The symbols of the output, name by name.
 use Rattle.std.specs.Prelude.{◌≡◌, ℕ, ◌-◌, ◌⊎◌, zero, suc, List, [], ◌∷◌, ◌++◌, map, filter, Bool, ◌&&◌, bytes_eq}
-use Rattle.std.specs.Prelude.{if◌then◌else◌, nat_lt, slice_index_or}
+use Rattle.std.specs.Prelude.{All, if◌then◌else◌, nat_lt, slice_index_or}
+use Rattle.std.specs.Borrow.{Bor}
 use Rattle.ldmodel.specs.Layout.{Layout}
 use Rattle.ldmodel.specs.OutputSymbols as model
 use Rattle.ldmodel.specs.OutputSymbols.{is_defined, output_symbol}
 use Rattle.ldmodel.specs.Project.{Project}
+use Rattle.ldmodel.specs.declared.names.Case.{Case}
 use Rattle.symres.specs.SymbolTable.{IsSymbolTable}
-use Rattle.emit_relocate.specs.KnownLink.{AreNameValues}
 use Rattle.emit_values.specs.LinkView.{known_link}
+use Rattle.emit_values.specs.NameRows.{AreNameCases, AreNameRows}
 use Rattle.emit_values.specs.ScriptValues.{AreScriptValues}
-use Rattle.emit_values.specs.Values.{shown_symbol}
+use Rattle.emit_values.specs.Values.{HasFacts, shown_symbol}
+use Rattle.emit_values.specs.declared.name_row.NameRow.{NameRow}
 use Rattle.emit_values.specs.declared.symbols.Sources.{Sources}
 use Rattle.emit_values.specs.declared.values.OutputSymbol.{OutputSymbol}
+
+-- the symbol of a name with a row
+abbrev pub symbol_with : Bor (List ℕ) → Case → NameRow → OutputSymbol
+symbol_with name case row = record { name = name; case = case; value = row.value; facts = row.facts }
 
 abbrev pub shown : List OutputSymbol → List model.OutputSymbol
 shown xs = map shown_symbol xs
@@ -27,12 +34,17 @@ defined_symbols project layout names = defined (map (output_symbol project layou
 pub record AreSources (project : Project) (layout : Layout) (x : Sources) : Type 0 where
   pub symbol_table : IsSymbolTable project x.symbol_table.now
   pub script : project.script ≡ x.script.now
-  pub names : AreNameValues (known_link project layout x.symbol_table.now) x.names.now
+  pub cases : AreNameCases (known_link project layout x.symbol_table.now) x.cases.now
+  pub rows : AreNameRows (known_link project layout x.symbol_table.now) x.rows.now
   pub given : AreScriptValues layout x.given.now
 
 -- the symbols of these names were added
 abbrev pub AddsSymbols : Project → Layout → List (List ℕ) → (old new : List OutputSymbol) → Type 0
 AddsSymbols project layout names old new = shown new ≡ shown old ++ defined_symbols project layout names
+
+-- where all symbols had what the symbol table says of them, they have
+abbrev pub KeepsFacts : Project → Layout → (old new : List OutputSymbol) → Type 0
+KeepsFacts project layout old new = All (HasFacts project layout) old → All (HasFacts project layout) new
 
 abbrev pub names_in : List OutputSymbol → List (List ℕ)
 names_in xs = map (λ (symbol : OutputSymbol). symbol.name.now) xs

@@ -13,6 +13,7 @@ ghost use Rattle.emit_values.specs.LinkView.{IsLinkView};
 ghost use Rattle.emit_values.specs.Seen.{is_seen};
 
 use crate::link_view::LinkView;
+use crate::name_row::start_at;
 use elfobj::Object;
 use elfobj::relocation::SymbolIndex;
 use emit_relocate::link_info::LinkInfo;
@@ -35,16 +36,13 @@ fn sees(project: &ProjectView<'_>, object: ObjectPlace, symbol: SymbolIndex) -> 
     declares(entry.binding)
 }
 
-/// Where an input section arranged, if it is in the output.
+/// Where an input section starts, if it is in the output.
 fn start_in(indexed_layout: &IndexedLayout, section: SectionKey) -> Option<u64>
     ensures { (project : Project) (layout : Layout) → IsIndexedLayout project layout indexed_layout.now → result
         ≡ option_map (λ (placed : PlacedPiece). placed.start)
         (placed_part layout (object_name project section.object.0) section.part) }
 {
-    match indexed_layout.find(section) {
-        None => None,
-        Some(place) => Some(place.start),
-    }
+    start_at(indexed_layout.find(section))
 }
 
 impl<'a, 'p> LinkInfo for LinkView<'a, 'p> {

@@ -1,10 +1,9 @@
-//! Values and ASSERT, two passes of a link: what names and the entry symbol are worth, which symbols the output has,
-//! and which assertions fail. Takes the names of a project, its layout and its script; gives values, symbols and
-//! faults.
+//! Values and ASSERT, two passes of a link: the values of names and of the entry symbol, the symbols of the output, and
+//! the assertions that fail. Takes the names of a project, its layout and its script; gives values, symbols and faults.
 //!
 //! - `link_view` over `known`, `given` and `given_table`: what the evaluation of relocations asks of a link;
-//! - `values` over `candidate`, `merged`, `symbols` and `script_values`: the values of all names, and the symbols of
-//!   the output;
+//! - `values` over `name_rows`, `name_row`, `candidate`, `merged`, `symbols` and `script_values`: the values of all
+//!   names, and the symbols of the output;
 //! - `asserting` over `final_scope` and `symbols_by_name`: the faults of ASSERTs.
 #![tactic(auto)]
 
@@ -16,6 +15,8 @@ mod given_table;
 mod known;
 pub mod link_view;
 mod merged;
+pub mod name_row;
+mod name_rows;
 mod script_values;
 mod symbols;
 mod symbols_by_name;

@@ -14,7 +14,7 @@ use place::indexed_layout::IndexedLayout;
 use std::alloc::Global;
 use symres::SymbolTable;
 
-/// A link whose names are decided and whose parts have their places: it is `Known` to the evaluation of relocations.
+/// A link whose names are resolved and whose parts are placed: what the evaluation of relocations asks (`LinkInfo`).
 #[derive(Drop)]
 pub struct LinkView<'a, 'p> {
     pub(crate) project: &'a ProjectView<'p>,

@@ -1,22 +1,22 @@
 //! The symbols of the output: names that stand for something, in byte order.
 
-ghost use Rattle.std.specs.Prelude.{◌≡◌, ◌<◌, ◌++◌, ◌∷◌, [], ℕ, List, IfOk, IfSome, OnOk, bytes_eq, length};
+ghost use Rattle.std.specs.Prelude.{◌≡◌, ◌<◌, ◌++◌, ◌∷◌, [], ℕ, All, List, IfSome, OnOk, bytes_eq};
+ghost use Rattle.std.specs.Prelude.{length};
 ghost use Rattle.std.specs.Prelude.{slice_index_or};
 ghost use Rattle.ldmodel.specs.HandedOver.{decision_of};
 ghost use Rattle.ldmodel.specs.Layout.{Layout, script_value};
 ghost use Rattle.ldmodel.specs.OutputSymbols.{is_defined, output_symbols};
 ghost use Rattle.ldmodel.specs.Project.{Project};
-ghost use Rattle.ldmodel.specs.SymbolValues.{decided_value};
-ghost use Rattle.emit_relocate.specs.KnownLink.{value_under};
-ghost use Rattle.emit_relocate.specs.Values.{value_of};
 ghost use Rattle.symres.specs.table.State.{AreDistinct, IsNamed};
 ghost use Rattle.emit_values.specs.AssertedSymbols.{AreInOrder};
 ghost use Rattle.emit_values.specs.Candidates.{names_of, AreCandidates, HasKeyOr};
-ghost use Rattle.emit_values.specs.Symbols.{defined, fresh, is_repeat, shown, AddsAtMost, AddsSymbols};
-ghost use Rattle.emit_values.specs.Symbols.{AreSources};
-ghost use Rattle.emit_values.specs.Values.{shown_symbol};
+ghost use Rattle.emit_values.specs.NameRows.{decided_row, shown_row};
+ghost use Rattle.emit_values.specs.Symbols.{defined, fresh, is_repeat, shown, AddsAtMost, AddsSymbols, KeepsFacts};
+ghost use Rattle.emit_values.specs.Symbols.{AreSources, symbol_with};
+ghost use Rattle.emit_values.specs.Values.{HasFacts, shown_symbol};
 
 use crate::candidate::Candidate;
+use crate::name_row::{NameRow, bare_row, given_value};
 use crate::script_values::ScriptValues;
 use crate::values::OutputSymbol;
 use emit_relocate::value::SymbolValue;
@@ -24,7 +24,6 @@ use ldmodel::impossible::impossible;
 use ldmodel::memory::NoMemory;
 use ldmodel::names::{Case, NameKey};
 use ldscript::Script;
-use std::alloc::Global;
 use symres::SymbolTable;
 
 /// What the symbols of the output are made of.
@@ -34,8 +33,10 @@ pub(crate) struct Sources<'a> {
     pub script: &'a Script,
     /// What names stand for.
     pub symbol_table: &'a SymbolTable,
-    /// The values of names under their keys.
-    pub names: &'a [SymbolValue],
+    /// What names stand for, under their keys.
+    pub cases: &'a [Case],
+    /// What names are in the output, under their keys.
+    pub rows: &'a [NameRow],
     /// The values that the script gives names.
     pub given: &'a ScriptValues<'a>,
 }
@@ -52,46 +53,43 @@ fn is_defined(case: Case) -> bool
     }
 }
 
-/// The value of a name that no object defines.
-fn value_by_script(case: Case, given: Option<u64>) -> Option<SymbolValue>
-    ensures { IfSome result (λ v. (project : Project) (layout : Layout) (name : List ℕ) → given
-        ≡ script_value layout name → value_of v
-        ≡ decided_value project layout name (decision_of (λ key. key) case)) }
+/// The row of a name that no object defines.
+fn row_by_script(case: Case, given: Option<u64>) -> Option<NameRow>
+    ensures { IfSome result (λ x. (project : Project) (layout : Layout) (name : List ℕ) → given
+        ≡ script_value layout name
+        → shown_row x ≡ decided_row project layout name (decision_of (λ key. key) case)) }
 {
     match case {
-        Case::Script | Case::Provided => match given {
-            Some(value) => Some(SymbolValue::Number(value)),
-            None => Some(SymbolValue::NotDefined),
-        },
-        Case::Undefined | Case::Duplicate => Some(SymbolValue::NotDefined),
+        Case::Script | Case::Provided => Some(bare_row(given_value(given))),
+        Case::Undefined | Case::Duplicate => Some(bare_row(SymbolValue::NotDefined)),
         Case::Strong(_) | Case::Weak(_) | Case::Common { .. } => None,
     }
 }
 
-/// Adds a symbol, if its name stands for something.
+/// Adds the symbol of a name with a row, if the name stands for something.
 fn add_if_defined<'a>(
     list: &mut Vec<OutputSymbol<'a>>,
-    symbol: OutputSymbol<'a>,
+    name: &'a [u8],
+    case: &Case,
+    row: &NameRow,
 ) -> Result<(), NoMemory>
-    ensures shown { OnOk result
-        (shown list.new.items ≡ shown list.old.items ++ defined (shown_symbol symbol.entry ∷ [])) }
-    ensures name { OnOk result (AddsAtMost symbol.entry.name.now list.old.items list.new.items) }
+    ensures shown { OnOk result (shown list.new.items
+        ≡ shown list.old.items ++ defined (shown_symbol (symbol_with name.entry case.now row.now) ∷ [])) }
+    ensures facts { OnOk result ((project : Project) (layout : Layout)
+        → HasFacts project layout (symbol_with name.entry case.now row.now)
+        → KeepsFacts project layout list.old.items list.new.items) }
+    ensures name { OnOk result (AddsAtMost name.now list.old.items list.new.items) }
 {
-    if !is_defined(symbol.case) {
+    if !is_defined(*case) {
         return Ok(());
     }
-    list.push(symbol)?;
+    list.push(OutputSymbol {
+        name,
+        case: *case,
+        value: row.value,
+        facts: row.facts,
+    })?;
     Ok(())
-}
-
-/// The value of the name of a key, in a table of the values of all names.
-fn value_under(values: &[SymbolValue], key: NameKey) -> SymbolValue
-    ensures { result ≡ value_under values.now key }
-{
-    match values.get(key.0) {
-        None => SymbolValue::NotDefined,
-        Some(value) => *value,
-    }
 }
 
 /// Adds the symbol of a name with a key.
@@ -104,13 +102,18 @@ fn add_named<'a>(
     requires { IsNamed sources.now.symbol_table.now.names key.0 name.now }
     ensures symbol { OnOk result ((project : Project) (layout : Layout) → AreSources project layout sources.now
         → AddsSymbols project layout (name.now ∷ []) list.old.items list.new.items) }
+    ensures facts { OnOk result ((project : Project) (layout : Layout) → AreSources project layout sources.now
+        → KeepsFacts project layout list.old.items list.new.items) }
     ensures name { OnOk result (AddsAtMost name.now list.old.items list.new.items) }
 {
-    // so that it is known that each key of a name has a case
-    sources.symbol_table.keys_decided();
-    let case = sources.symbol_table.case_of(key).unwrap();
-    let value = value_under(sources.names, key);
-    add_if_defined(list, OutputSymbol { name, case, value })
+    // in the tables of a link each key of a name has a case and a row
+    let Some(case) = sources.cases.get(key.0) else {
+        return Ok(());
+    };
+    let Some(row) = sources.rows.get(key.0) else {
+        return Ok(());
+    };
+    add_if_defined(list, name, case, row)
 }
 
 /// Adds the symbol of a name without a key. It is looked up.
@@ -121,16 +124,18 @@ fn add_unnamed<'a>(
 ) -> Result<(), NoMemory>
     ensures symbol { OnOk result ((project : Project) (layout : Layout) → AreSources project layout sources.now
         → AddsSymbols project layout (name.now ∷ []) list.old.items list.new.items) }
+    ensures facts { OnOk result ((project : Project) (layout : Layout) → AreSources project layout sources.now
+        → KeepsFacts project layout list.old.items list.new.items) }
     ensures name { OnOk result (AddsAtMost name.now list.old.items list.new.items) }
 {
     let symbol_table = sources.symbol_table;
     let given = sources.given;
     let case = symbol_table.case_named(sources.script, name);
-    let Some(value) = value_by_script(case, given.value(name)) else {
+    let Some(row) = row_by_script(case, given.value(name)) else {
         // A name that an object defines has a key; that the names with keys are all such names is known of a link alone
         return Err(impossible());
     };
-    add_if_defined(list, OutputSymbol { name, case, value })
+    add_if_defined(list, name, &case, &row)
 }
 
 /// Adds the symbol of a candidate.
@@ -142,6 +147,8 @@ fn add_symbol<'a>(
     requires { HasKeyOr sources.now.symbol_table.now candidate.now.name.now candidate.now.key }
     ensures symbol { OnOk result ((project : Project) (layout : Layout) → AreSources project layout sources.now
         → AddsSymbols project layout (candidate.now.name.now ∷ []) list.old.items list.new.items) }
+    ensures facts { OnOk result ((project : Project) (layout : Layout) → AreSources project layout sources.now
+        → KeepsFacts project layout list.old.items list.new.items) }
     ensures name { OnOk result (AddsAtMost candidate.now.name.now list.old.items list.new.items) }
 {
     match candidate.key {
@@ -189,6 +196,8 @@ fn add_unless_repeat<'a>(
     requires candidates { AreCandidates sources.now.symbol_table.now sources.now.script.now candidates.now }
     ensures symbol { OnOk result ((project : Project) (layout : Layout) → AreSources project layout sources.now
         → AddsSymbols project layout (fresh (names_of candidates.now) place) list.old.items list.new.items) }
+    ensures facts { OnOk result ((project : Project) (layout : Layout) → AreSources project layout sources.now
+        → KeepsFacts project layout list.old.items list.new.items) }
     ensures name { OnOk result
         (AddsAtMost (slice_index_or (names_of candidates.now) place []) list.old.items list.new.items) }
 {
@@ -198,25 +207,26 @@ fn add_unless_repeat<'a>(
     add_symbol(sources, &candidates[place], list)
 }
 
-/// The symbols of the output, in byte order of their names.
+/// Adds the symbols of the output to an empty list, in byte order of their names.
 ///
 /// # Errors
 ///
 /// Where memory runs out.
-pub(crate) fn symbols_of<'a>(
-    alloc: Global,
+pub(crate) fn add_symbols<'a>(
     sources: &Sources<'_>,
     candidates: &[Candidate<'a>],
-) -> Result<Vec<OutputSymbol<'a>>, NoMemory>
-    requires { AreCandidates sources.now.symbol_table.now sources.now.script.now candidates.now }
-    ensures symbols { IfOk result (λ list. (project : Project) (layout : Layout) → AreSources project layout sources.now
-        → shown list.items
-        ≡ output_symbols project layout) }
-    ensures order { IfOk result (λ list. AreInOrder list.items) }
+    list: &mut Vec<OutputSymbol<'a>>,
+) -> Result<(), NoMemory>
+    requires candidates { AreCandidates sources.now.symbol_table.now sources.now.script.now candidates.now }
+    requires empty { list.old.items ≡ [] }
+    ensures symbols { OnOk result ((project : Project) (layout : Layout) → AreSources project layout sources.now
+        → shown list.new.items ≡ output_symbols project layout) }
+    ensures facts { OnOk result ((project : Project) (layout : Layout) → AreSources project layout sources.now
+        → All (HasFacts project layout) list.new.items) }
+    ensures order { OnOk result (AreInOrder list.new.items) }
 {
-    let mut list = Vec::with_capacity(alloc, candidates.len())?;
     for place in 0..candidates.len() {
-        add_unless_repeat(sources, candidates, place, &mut list)?;
+        add_unless_repeat(sources, candidates, place, list)?;
     }
-    Ok(list)
+    Ok(())
 }

@@ -13,9 +13,11 @@ ghost use Rattle.emit_values.specs.ScriptValues.{AreScriptValues};
 use crate::candidate::candidates;
 use crate::given::GivenValues;
 use crate::link_view::LinkView;
+use crate::name_row::SymbolFacts;
+use crate::name_rows::{NameRows, name_rows};
 use crate::script_values::ScriptValues;
-use crate::symbols::{Sources, symbols_of};
-use emit_relocate::symbol::{entry_point, name_values};
+use crate::symbols::{Sources, add_symbols};
+use emit_relocate::symbol::entry_point;
 use emit_relocate::value::SymbolValue;
 use ldmodel::memory::NoMemory;
 use ldmodel::names::Case;
@@ -32,9 +34,11 @@ pub struct OutputSymbol<'a> {
     pub case: Case,
     /// Its value, if it has one.
     pub value: SymbolValue,
+    /// What the symbol table says of it.
+    pub facts: SymbolFacts,
 }
 
-/// What the symbols of a link are worth.
+/// The values of the names of a link, and the symbols of its output.
 #[derive(Drop)]
 pub struct Values<'a> {
     /// The values of all names under their keys.
@@ -88,18 +92,25 @@ impl<'a> Values<'a> {
             → AreValues project.now layout symbol_table.now values) }
     {
         let script = project.script();
-        let names = name_values(alloc, link)?;
-        let entry = entry_value(project, symbol_table, &given.values, link);
         let candidates = candidates(alloc, symbol_table, script, &given.sorted)?;
+        // before the rows, so that what is kept stands in memory before what is freed
+        let mut symbols = Vec::with_capacity(alloc, candidates.len())?;
+        let NameRows {
+            cases,
+            rows,
+            values,
+        } = name_rows(alloc, link)?;
+        let entry = entry_value(project, symbol_table, &given.values, link);
         let sources = Sources {
             script,
             symbol_table,
-            names: &names,
+            cases: &cases,
+            rows: &rows,
             given: &given.values,
         };
-        let symbols = symbols_of(alloc, &sources, &candidates)?;
+        add_symbols(&sources, &candidates, &mut symbols)?;
         Ok(Values {
-            names,
+            names: values,
             entry,
             symbols,
         })

@@ -22,7 +22,7 @@ returns c s stays are =
     let tail = c.in_ok-tail.ensures.of_link p s (record {
       begins = c.in_ok-end.ensures s.sections (segments s.sections) gs;
       symbols = subst (λ xs. AllZip (IsTableSymbol p s) (table_symbols p s) xs) (sym c.deref.ensures.value)
-          (c.in_ok-symbols.ensures s are.names are.indexed_layout are.values);
+          (c.in_ok-symbols.ensures p s are.names are.values);
       sections = headings;
     }) in
     record {

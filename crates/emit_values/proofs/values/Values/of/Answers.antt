@@ -1,22 +1,34 @@
 use Rattle.std.proofs.Common.{List, subst, sym}
-use Rattle.emit_relocate.specs.KnownLink.{AreNameValues}
-use Rattle.emit_relocate.specs.declared.value.SymbolValue as code
+use Rattle.ldmodel.specs.declared.names.Case.{Case}
+use Rattle.emit_relocate.specs.KnownLink.{KnownLink}
 use Rattle.emit_values.specs.LinkView.{known_link}
+use Rattle.emit_values.specs.NameRows.{AreNameCases, AreNameRows}
+use Rattle.emit_values.specs.declared.name_row.NameRow.{NameRow}
 use Rattle.emit_values.proofs.values.Values.of.Goals as goal
 
 pub returns : goal.returns
 returns c =
     λ s given link.
-    let names : AreNameValues (known_link c.args.project.now s c.args.symbol_table.now) c.in_ok-names.names.items =
-    c.in_ok-names.ensures (known_link c.args.project.now s c.args.symbol_table.now) link in record {
-      names = names;
+    let l : KnownLink = known_link c.args.project.now s c.args.symbol_table.now in
+    record {
+      names = c.in_ok-cases.ensures.values l link;
       entry = c.entry_value-entry.ensures s c.requires.symbol_table given link;
-      symbols = c.in_ok-symbols.ensures.symbols c.args.project.now s (record {
+      symbols = c.in_ok-add_symbols.ensures.symbols c.args.project.now s (record {
         symbol_table = c.requires.symbol_table;
         script = sym c.script-script.ensures;
-        names = subst (λ (vs : List code.SymbolValue).
-            AreNameValues (known_link c.args.project.now s c.args.symbol_table.now) vs) (sym c.deref-2.ensures.value)
-            names;
+        cases = subst (λ (xs : List Case). AreNameCases l xs) (sym c.deref-2.ensures.value)
+            (c.in_ok-cases.ensures.cases l link);
+        rows = subst (λ (xs : List NameRow). AreNameRows l xs) (sym c.deref-3.ensures.value)
+            (c.in_ok-cases.ensures.rows l link);
+        given = given;
+      });
+      facts = c.in_ok-add_symbols.ensures.facts c.args.project.now s (record {
+        symbol_table = c.requires.symbol_table;
+        script = sym c.script-script.ensures;
+        cases = subst (λ (xs : List Case). AreNameCases l xs) (sym c.deref-2.ensures.value)
+            (c.in_ok-cases.ensures.cases l link);
+        rows = subst (λ (xs : List NameRow). AreNameRows l xs) (sym c.deref-3.ensures.value)
+            (c.in_ok-cases.ensures.rows l link);
         given = given;
       });
     }

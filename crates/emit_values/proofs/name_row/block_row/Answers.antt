@@ -1,0 +1,7 @@
+use Rattle.emit_values.proofs.Rows.{same_row}
+use Rattle.emit_values.proofs.name_row.block_row.Goals as goal
+
+pub returns : goal.returns
+returns c p s starts =
+    let at = c.in_ok-standing.ensures p s starts in
+    same_row _ _ _ _ _ c.args.size at.value at.section
