@@ -27,5 +27,6 @@ pub use place_sections as sections;
 pub use place_sections::fault::PlaceFault;
 pub use place_sections::place::place;
 pub use place_sections::placement::Placement;
+pub use place_sections::resume_point::ResumePoint;
 pub use place_terms as terms;
 pub use place_terms::value::{ValueFault, value};

@@ -25,6 +25,7 @@ use place_sections::fault::PlaceFault;
 use place_sections::law::outputs_are_of_script;
 use place_sections::place::place;
 use place_sections::placement::Placement;
+use place_sections::resume_point::ResumePoint;
 use std::alloc::{AllocError, Global};
 
 /// Where everything of a project stands.
@@ -81,26 +82,25 @@ fn reported(alloc: Global, fault: PlaceFault) -> LayoutFault
     }
 }
 
-/// Where everything of a project stands in memory. `lent` is the project once more: it names what the rows' keys stand
-/// for.
+/// Where everything of a project stands in memory. The ghost `lent` is the project that the keys in the rows are of.
 fn place_rows(
     alloc: Global,
     project: &ProjectView<'_>,
     in_force: &[DirectiveIndex],
     rows: &[Vec<Piece>],
-    kept: Option<(&Placement, usize)>,
+    kept: Option<ResumePoint<'_>>,
     meter: &mut Meter,
 ) -> Result<Placement, LayoutFault>
     ghost lent: { Project }
     requires project { project.now ≡ lent }
     requires in_force { provided_names lent.script in_force.now ≡ provided lent }
     requires rows { rows_in lent rows.now ≡ model.rows lent }
-    requires kept { IfSome kept (λ k. IsKept lent.script (model.rows lent) k.0.now k.1) }
+    requires kept { IfSome kept (λ k. IsKept lent.script (model.rows lent) k.placement.now k.first_row) }
     ensures good { IfOk result (λ l. HasPlaces lent l) }
     ensures faulty { IfErr result (λ f. IsWhy lent f) }
     ensures counted { CountsPieces meter.old meter.new (entries 0 (map (λ v. v.items) rows.now)) }
     ensures resumed { IfOk result (λ _. IfSome kept.entry (λ k.
-        CountsPieces meter.old meter.new (entries k.1 (map (λ v. v.items) rows.now)))) }
+        CountsPieces meter.old meter.new (entries k.first_row (map (λ v. v.items) rows.now)))) }
     ensures exact { IfOk result (λ p. meter.new ≡ raised meter.old Pieces (placed_from (first_of kept.entry) p.counts)) }
 {
     match place(alloc, project.script(), rows, in_force, kept, meter) {
@@ -111,11 +111,11 @@ fn place_rows(
 
 impl LinkLayout {
     /// Lays out the rows of a project. `in_force` are the numbers of the PROVIDEs that are in force. The length of the
-    /// image isn't looked at: it is known only when the symbols have their values. The entries of the rows are counted
-    /// as placed.
+    /// image isn't tested: it is known only when the symbols have their values. The entries of the rows are counted as
+    /// placed.
     ///
-    /// With `kept`, a previous placement of the script and the number of a row before which no row differs from the
-    /// previous ones, the layout is the same, and the entries of the rows from that one on are counted.
+    /// `kept` is a previous placement of the same script, with a row before which none differs. The layout is the same
+    /// with and without it; with it only the entries of the rows from that one on are counted.
     ///
     /// # Errors
     ///
@@ -126,22 +126,23 @@ impl LinkLayout {
         project: &ProjectView<'_>,
         in_force: &[DirectiveIndex],
         rows: &[Vec<Piece>],
-        kept: Option<(&Placement, usize)>,
+        kept: Option<ResumePoint<'_>>,
         meter: &mut Meter,
     ) -> Result<LinkLayout, LayoutFault>
         requires in_force { provided_names project.now.script in_force.now ≡ provided project.now }
         requires rows { rows_in project.now rows.now ≡ model.rows project.now }
-        requires kept { IfSome kept (λ k. IsKept project.now.script (model.rows project.now) k.0.now k.1) }
+        requires kept { IfSome kept (λ k.
+            IsKept project.now.script (model.rows project.now) k.placement.now k.first_row) }
         ensures good { IfOk result (λ l. HasLayout project.now l) }
         ensures faulty { IfErr result (λ f. IsWhy project.now f) }
         ensures counted { CountsPieces meter.old meter.new (entries 0 (map (λ v. v.items) rows.now)) }
         ensures resumed { IfOk result (λ _. IfSome kept.entry (λ k.
-            CountsPieces meter.old meter.new (entries k.1 (map (λ v. v.items) rows.now)))) }
+            CountsPieces meter.old meter.new (entries k.first_row (map (λ v. v.items) rows.now)))) }
         ensures exact { IfOk result (λ l. meter.new
             ≡ raised meter.old Pieces (placed_from (first_of kept.entry) l.placement.counts)) }
     {
         outputs_are_of_script();
-        // so that what a script says of its statements is known
+        // for the prover: brings in the invariant of `project.script()`
         let _statements = project.script().statements();
         let placement = place_rows(alloc, project, in_force, rows, kept, meter)?;
         let segments = segments(alloc, placement.view())?;

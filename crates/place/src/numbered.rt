@@ -1,4 +1,4 @@
-//! Projects of objects whose sections have different numbers.
+//! A law on the objects of a project: the sections of each have different numbers.
 
 ghost use Rattle.std.specs.Prelude.{◌≡◌, ◌==◌, false};
 ghost use Rattle.elfobj.specs.Sections.{LinkedSection};
@@ -12,11 +12,11 @@ use ldmodel_project::view::ProjectView;
 fn sections_differ(object: &Object)
     ensures { EachLater (λ (section y : LinkedSection). (section.number.0 == y.number.0) ≡ false) object.now.sections }
 {
-    // so that what an object says of its sections is known
+    // for the prover: brings in the invariant of `object`, of its sections
     let _sections = object.sections();
 }
 
-/// The sections of each object of a project have different numbers. The call does nothing.
+/// The sections of each object of a project have different numbers. The call changes nothing, but looks at each object.
 pub fn are_numbered(project: &ProjectView<'_>)
     ensures { AreNumbered project.now }
 {

@@ -39,8 +39,8 @@ struct FilePlace {
     segment: usize,
 }
 
-/// Where an output section begins in the file, where the next segment to be looked at has this number: at 0 past all
-/// segments, where none of nonzero size is.
+/// Where an output section begins in the file. `number` is that of its segment, if it is not empty; an empty one begins
+/// at 0, and so would one past all segments, where none of nonzero size is.
 fn step(segments: &[Segment], number: usize, section: &Placed) -> FilePlace
     requires { HaveRoom segments.now }
     ensures { (qs : List Placed) → offsets_in (section.now ∷ qs) (drop number segments.now)

@@ -104,7 +104,7 @@ module _ (n : Naming) (i : Input) (script : List Statement) (s : Layout) (x : It
   -- it has where the input sections of that start
   pub starts_there : (sections : List KeyedSection) → s.sections ≡ map (section_of n) sections → (o : OutputSection)
       → x.command ≡ item.Section o → length sections < i.kept.first
-      → HasStarts (earlier_of i.kept.earlier) (length sections) (length (starts_in sections))
+      → HasStarts (earlier_of i.kept.previous) (length sections) (length (starts_in sections))
   starts_there sections is o e below =
       has_starts n script i.kept a.provided (get_or (map (λ v. v.items) i.rows.now) (length sections) [])
       (noted a.state) x.line o sections (same_sections sections is) (section_leads sections is o e below)
@@ -238,7 +238,7 @@ kept_there n i script s x xs sections is taken given = by_command x.command refl
     by_provided : (o : OutputSection) → x.command ≡ item.Section o → length sections < i.kept.first → (b : Bool)
         → i.kept.same_provided ≡ b
         → (i.kept.same_provided ≡ false)
-        × HasStarts (earlier_of i.kept.earlier) (length sections) (length (starts_in sections))
+        × HasStarts (earlier_of i.kept.previous) (length sections) (length (starts_in sections))
     by_provided o e below true same = absurd (taken same below o e)
     by_provided o e below false other = (
       other,

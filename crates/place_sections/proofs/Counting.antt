@@ -13,6 +13,7 @@ use Rattle.place_terms.specs.Keyed.{KeyedSection}
 use Rattle.place_terms.specs.Wholes.{counts_in}
 use Rattle.place_sections.specs.Counted.{Adds, CountsAlong, PlacesAnew, Resumes, entries, first_of, left_after}
 use Rattle.place_sections.specs.Counted.{placed_from}
+use Rattle.place_sections.specs.declared.resume_point.ResumePoint.{ResumePoint}
 use Rattle.place_sections.specs.declared.script.Input.{Input}
 use Rattle.place_sections.specs.declared.state.LayoutCursor.{LayoutCursor}
 use Rattle.place_sections.specs.declared.stop.LayoutStop.{LayoutStop}
@@ -193,7 +194,7 @@ along_same x y n z m k h e f g = record {
 }
 
 -- the number of the first output section that is not taken over
-pub first_is : {K : Type 0} (kept : Option (K × ℕ)) (first : ℕ) → IfSome kept (λ k. first ≡ k.1)
+pub first_is : (kept : Option ResumePoint) (first : ℕ) → IfSome kept (λ k. first ≡ k.first_row)
     → IfNone kept (first ≡ 0) → first ≡ first_of kept
 first_is None first some none = none
 first_is (Some k) first some none = some

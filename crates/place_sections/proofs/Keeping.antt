@@ -42,13 +42,13 @@ module _ (n : Naming) (i : Input) (script : List Statement) (p : Places) (first 
   leads provided e = record {
     layout = k.placed.layout;
     comes = whole_run k.earlier provided script ∙ (ap (placement script k.earlier) (sym e) ∙ k.placed.placed);
-    sections = begins_same (map placed_of k.placed.layout.sections) i.kept.earlier.sections.now
+    sections = begins_same (map placed_of k.placed.layout.sections) i.kept.previous.sections.now
         (a.sections ∙ k.placed.places.sections);
-    counts = begins_same (counts_of k.placed.layout.sections) i.kept.earlier.counts.now
+    counts = begins_same (counts_of k.placed.layout.sections) i.kept.previous.counts.now
         (a.counts ∙ k.placed.places.counts);
-    starts = begins_same (flat_map starts_of k.placed.layout.sections) i.kept.earlier.starts.now
+    starts = begins_same (flat_map starts_of k.placed.layout.sections) i.kept.previous.starts.now
         (a.starts ∙ k.placed.places.starts);
-    data_commands = begins_same (data_in k.placed.layout.sections) (map data_of i.kept.earlier.data_commands.now)
+    data_commands = begins_same (data_in k.placed.layout.sections) (map data_of i.kept.previous.data_commands.now)
         (ap (map data_of) a.data_commands ∙ k.placed.places.data_commands);
     dots = begins_same k.placed.layout.dots i.kept.dots.now (a.dots ∙ k.placed.places.dots);
     symbols = begins_same k.placed.layout.symbols (map (symbol_of script) i.kept.symbols.now)

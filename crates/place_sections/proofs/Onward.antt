@@ -150,14 +150,14 @@ leads_before script k s t r q o e l m =
     record {
       layout = s;
       comes = e;
-      sections = begins_on (map placed_of s.sections) (map placed_of l.layout.sections) k.earlier.sections.now
+      sections = begins_on (map placed_of s.sections) (map placed_of l.layout.sections) k.previous.sections.now
           (begins_mapped placed_of s.sections l.layout.sections v.sections) l.sections;
-      counts = begins_on (counts_of s.sections) (counts_of l.layout.sections) k.earlier.counts.now
+      counts = begins_on (counts_of s.sections) (counts_of l.layout.sections) k.previous.counts.now
           (begins_mapped (λ (x : PlacedOutput). length x.pieces) s.sections l.layout.sections v.sections) l.counts;
-      starts = begins_on (flat_map starts_of s.sections) (flat_map starts_of l.layout.sections) k.earlier.starts.now
+      starts = begins_on (flat_map starts_of s.sections) (flat_map starts_of l.layout.sections) k.previous.starts.now
           (begins_flat starts_of s.sections l.layout.sections v.sections) l.starts;
       data_commands = begins_on (data_in s.sections) (data_in l.layout.sections)
-          (map data_of k.earlier.data_commands.now)
+          (map data_of k.previous.data_commands.now)
           (begins_data s.sections l.layout.sections v.sections) l.data_commands;
       dots = begins_on s.dots l.layout.dots k.dots.now v.dots l.dots;
       symbols = begins_on s.symbols l.layout.symbols (map (symbol_of script) k.symbols.now) v.symbols l.symbols;

@@ -280,7 +280,7 @@ module _ (n : Naming) (i : Input) (script : List Statement) (s : Layout) (items 
   -- the previous layout has it
   pub may_be_taken : (next : Boundary) → slice_get i.kept.boundaries.now (k + 1) ≡ Some next → k < i.kept.first
       → (d : PlacedOutputs) → Reached n i s items e.rows d k → d.sections.placed ≡ 0
-      → d.sections.earlier ≡ earlier_of i.kept.earlier → MayBeTaken i items b next d
+      → d.sections.earlier ≡ earlier_of i.kept.previous → MayBeTaken i items b next d
   may_be_taken next there_next l d r fresh kept =
       let one = section_there next there_next in
       let o = one_section items b.items one in
@@ -313,7 +313,7 @@ module _ (n : Naming) (i : Input) (script : List Statement) (s : Layout) (items 
               (data_within n script i.kept provided row (noted at.state) o.1.line o.0 d.sections.list sections st.leads
               next.data_commands end);
         };
-        within = slice_get_within i.kept.earlier.sections.now (length d.sections.list) has.placed has.there;
+        within = slice_get_within i.kept.previous.sections.now (length d.sections.list) has.placed has.there;
         ends = λ p at_p.
             let known = has.there in
             let same : p ≡ has.placed = cc in

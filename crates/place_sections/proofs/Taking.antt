@@ -98,27 +98,27 @@ module _ (n : Naming) (script : List Statement) (k : ReusablePlacement) (provide
   many : length before ≡ length s.sections
   many = sym (ap length sections ∙ length-map before (section_of n))
 
-  pub placed_is : (p : Placed) → slice_get k.earlier.sections.now (length before) ≡ Some p → p ≡ placed_of q
+  pub placed_is : (p : Placed) → slice_get k.previous.sections.now (length before) ≡ Some p → p ≡ placed_of q
   placed_is p e =
-      let at = next_element (map placed_of s.sections) (placed_of q) (map placed_of t.sections) k.earlier.sections.now
+      let at = next_element (map placed_of s.sections) (placed_of q) (map placed_of t.sections) k.previous.sections.now
       (length before) (ap (map placed_of) grown.added ∙ map-append placed_of s.sections (q ∷ [])) l.sections
       (many ∙ sym (length-map s.sections placed_of)) in
       cc
 
-  count_there : slice_get k.earlier.counts.now (length before) ≡ Some (length q.pieces)
+  count_there : slice_get k.previous.counts.now (length before) ≡ Some (length q.pieces)
   count_there =
-      next_element (counts_of s.sections) (length q.pieces) (counts_of t.sections) k.earlier.counts.now
+      next_element (counts_of s.sections) (length q.pieces) (counts_of t.sections) k.previous.counts.now
       (length before) (ap counts_of grown.added
       ∙ map-append (λ (x : PlacedOutput). length x.pieces) s.sections (q ∷ [])) l.counts
       (many ∙ sym (length-map s.sections (λ (x : PlacedOutput). length x.pieces)))
 
-  pub count_is : (m : ℕ) → slice_get k.earlier.counts.now (length before) ≡ Some m → m ≡ length q.pieces
+  pub count_is : (m : ℕ) → slice_get k.previous.counts.now (length before) ≡ Some m → m ≡ length q.pieces
   count_is m e = let at = count_there in cc
 
   pub starts_are : (m : ℕ) → m ≡ length q.pieces
-      → part_of k.earlier.starts.now (length (starts_in before)) m ≡ starts_of q
+      → part_of k.previous.starts.now (length (starts_in before)) m ≡ starts_of q
   starts_are m e =
-      next_part (flat_map starts_of s.sections) (starts_of q) (flat_map starts_of t.sections) k.earlier.starts.now
+      next_part (flat_map starts_of s.sections) (starts_of q) (flat_map starts_of t.sections) k.previous.starts.now
       (length (starts_in before)) m
       (ap (flat_map starts_of) grown.added
       ∙ (flat_map-append starts_of s.sections (q ∷ [])
@@ -141,7 +141,7 @@ module _ (n : Naming) (script : List Statement) (k : ReusablePlacement) (provide
   before_long : length (all_data_in 0 before) ≡ length (data_in s.sections)
   before_long = ap length (data_whole n 0 before ∙ ap data_in (sym sections))
 
-  starts_within : length (starts_in before) + length q.pieces ≤ length k.earlier.starts.now
+  starts_within : length (starts_in before) + length q.pieces ≤ length k.previous.starts.now
   starts_within =
       let all = ap length (ap (flat_map starts_of) grown.added
       ∙ (flat_map-append starts_of s.sections (q ∷ [])
@@ -149,27 +149,27 @@ module _ (n : Naming) (script : List Statement) (k : ReusablePlacement) (provide
       ∙ length-append (flat_map starts_of s.sections) (starts_of q) in
       let own = length-map q.pieces (λ (x : PlacedPiece). x.start) in
       let old = ap length (starts_whole n before ∙ ap (flat_map starts_of) (sym sections)) in
-      let few = fewer_begin (flat_map starts_of t.sections) k.earlier.starts.now l.starts in
+      let few = fewer_begin (flat_map starts_of t.sections) k.previous.starts.now l.starts in
       omega (arith, all, own, old, few)
 
   -- the previous layout has where its input sections start
-  pub has_starts : HasStarts (earlier_of k.earlier) (length before) (length (starts_in before))
+  pub has_starts : HasStarts (earlier_of k.previous) (length before) (length (starts_in before))
   has_starts = record { count = length q.pieces; counted = count_there; within = starts_within }
 
   -- the previous layout has it
-  pub has_section : HasSection (earlier_of k.earlier) (length before) (length (starts_in before)) row
+  pub has_section : HasSection (earlier_of k.previous) (length before) (length (starts_in before)) row
   has_section =
-      let there : slice_get k.earlier.sections.now (length before) ≡ Some (placed_of q) =
-      next_element (map placed_of s.sections) (placed_of q) (map placed_of t.sections) k.earlier.sections.now
+      let there : slice_get k.previous.sections.now (length before) ≡ Some (placed_of q) =
+      next_element (map placed_of s.sections) (placed_of q) (map placed_of t.sections) k.previous.sections.now
       (length before) (ap (map placed_of) grown.added ∙ map-append placed_of s.sections (q ∷ [])) l.sections
       (many ∙ sym (length-map s.sections placed_of)) in
       record {
         placed = placed_of q;
         there = there;
         fits = subst (λ (p : Placed). p.start + p.size < 2 ^ 64)
-            (get_or_from_slice_get k.earlier.sections.now (length before) (placed_of q) (placed_of q) there)
+            (get_or_from_slice_get k.previous.sections.now (length before) (placed_of q) (placed_of q) there)
             (l.ends (length before) (placed_of q)
-            (slice_get_within k.earlier.sections.now (length before) (placed_of q) there));
+            (slice_get_within k.previous.sections.now (length before) (placed_of q) there));
         starts = record { count = length q.pieces; counted = count_there; within = starts_within };
         enough =
             let is = ap length grown.row_is in
@@ -187,10 +187,10 @@ module _ (n : Naming) (script : List Statement) (k : ReusablePlacement) (provide
       omega (arith, e, f, g, before_long)
 
   -- the previous layout has them
-  pub data_within : (end : ℕ) → end ≡ length (data_in t.sections) → end ≤ length k.earlier.data_commands.now
+  pub data_within : (end : ℕ) → end ≡ length (data_in t.sections) → end ≤ length k.previous.data_commands.now
   data_within end e =
-      let few = fewer_begin (data_in t.sections) (map data_of k.earlier.data_commands.now) l.data_commands in
-      let long = length-map k.earlier.data_commands.now data_of in
+      let few = fewer_begin (data_in t.sections) (map data_of k.previous.data_commands.now) l.data_commands in
+      let long = length-map k.previous.data_commands.now data_of in
       omega (arith, e, few, long)
 
   pub data_begun : (end : ℕ) → end ≡ length (data_in t.sections) → length (all_data_in 0 before) ≤ end
@@ -199,19 +199,19 @@ module _ (n : Naming) (script : List Statement) (k : ReusablePlacement) (provide
       omega (arith, e, g, before_long)
 
   data_are : (count : ℕ) → count ≡ length (numbered (length s.sections, q))
-      → map data_at (map data_at_of (part_of k.earlier.data_commands.now (length (all_data_in 0 before)) count))
+      → map data_at (map data_at_of (part_of k.previous.data_commands.now (length (all_data_in 0 before)) count))
       ≡ q.data_commands
   data_are count long =
       let from : ℕ = length (all_data_in 0 before) in
-      plain_data (part_of k.earlier.data_commands.now from count)
+      plain_data (part_of k.previous.data_commands.now from count)
       ∙ (ap (map plain)
-      (mapped_part data_of k.earlier.data_commands.now from count
+      (mapped_part data_of k.previous.data_commands.now from count
       ∙ next_part (data_in s.sections) (numbered (length s.sections, q)) (data_in t.sections)
-      (map data_of k.earlier.data_commands.now) from count whole l.data_commands before_long long)
+      (map data_of k.previous.data_commands.now) from count whole l.data_commands before_long long)
       ∙ plain_numbered (length s.sections) q)
 
   -- the section, whose numbers are those of the layout
-  pub section_taken : (x : KeyedSection) (end : ℕ) → IsTaken (earlier_of k.earlier) before row o end x
+  pub section_taken : (x : KeyedSection) (end : ℕ) → IsTaken (earlier_of k.previous) before row o end x
       → end ≡ length (data_in t.sections)
       → (section_of n x ≡ q) × (x.placed ≡ placed_of q)
   section_taken x end i e =

@@ -77,7 +77,7 @@ pub record SectionAlongside (row : List Piece) (layout : Layout) (line : ℕ) (o
 abbrev pub IsAlongside : Naming → Input → Layout → List KeyedSection → ℕ → ItemCommand → Type 0
 IsAlongside n i layout sections line (item.Section o) =
     (starts : List ℕ) → i.kept.same_provided ≡ false → length sections < i.kept.first
-    → AreStartsOf i.kept.earlier (length sections) (length (starts_in sections)) starts
+    → AreStartsOf i.kept.previous (length sections) (length (starts_in sections)) starts
     → SectionAlongside (slice_index_or (rows_of n i) (length sections) []) layout line o starts
 IsAlongside n i layout sections line (item.Dot c) = ⊤
 IsAlongside n i layout sections line (item.Directive c) = ⊤
@@ -95,7 +95,7 @@ abbrev pub HasKept : Input → List KeyedSection → Type 0
 HasKept i sections =
     length sections < i.kept.first
     → (i.kept.same_provided ≡ false)
-    × HasStarts (earlier_of i.kept.earlier) (length sections) (length (starts_in sections))
+    × HasStarts (earlier_of i.kept.previous) (length sections) (length (starts_in sections))
 
 -- a previous layout, which differs in symbols alone, goes on with these statements of SECTIONS to one with which the
 -- kept one begins

@@ -8,6 +8,7 @@ use Rattle.elfobj.specs.declared.meter.Count.TheVariants.{Pieces}
 use Rattle.ldmodel.specs.declared.rows.Piece.{Piece}
 use Rattle.place_terms.specs.Keyed.{KeyedSection}
 use Rattle.place_terms.specs.Wholes.{counts_in}
+use Rattle.place_sections.specs.declared.resume_point.ResumePoint.{ResumePoint}
 use Rattle.place_sections.specs.declared.script.Input.{Input}
 use Rattle.place_sections.specs.declared.state.CurrentOutput.{CurrentOutput}
 use Rattle.place_sections.specs.declared.state.LayoutCursor.{LayoutCursor}
@@ -64,8 +65,8 @@ abbrev pub placed_from : ℕ → List ℕ → ℕ
 placed_from k counts = sum_by (λ (n : ℕ). n) (drop k counts)
 
 -- the number of the first output section that is not taken over from a previous layout
-abbrev pub first_of : {K : Type 0} → Option (K × ℕ) → ℕ
-first_of kept = option_map_or (λ k. k.1) kept 0
+abbrev pub first_of : Option ResumePoint → ℕ
+first_of kept = option_map_or (λ k. k.first_row) kept 0
 
 -- those of the output sections that are not taken over were placed anew, and each counted
 abbrev pub Adds : Input → LayoutCursor → LayoutCursor → List KeyedSection → List KeyedSection → Type 0

@@ -12,14 +12,14 @@ use Rattle.place_sections.specs.declared.reusable_placement.ReusablePlacement.{R
 
 -- all of a placement, before the row of a number, where these PROVIDEs are in force now
 pub record Keeps (p : Places) (first : ℕ) (provided : List DirectiveIndex) (k : ReusablePlacement) : Type 0 where
-  pub sections : k.earlier.sections.now ≡ p.sections
-  pub counts : k.earlier.counts.now ≡ p.counts
-  pub starts : k.earlier.starts.now ≡ p.starts
-  pub data_commands : k.earlier.data_commands.now ≡ p.data_commands
+  pub sections : k.previous.sections.now ≡ p.sections
+  pub counts : k.previous.counts.now ≡ p.counts
+  pub starts : k.previous.starts.now ≡ p.starts
+  pub data_commands : k.previous.data_commands.now ≡ p.data_commands
   pub dots : k.dots.now ≡ p.dots
   pub symbols : k.symbols.now ≡ p.symbols
   pub boundaries : k.boundaries.now ≡ p.boundaries
-  pub ends : Ends k.earlier.sections.now
+  pub ends : Ends k.previous.sections.now
   pub first_is : k.first ≡ first
   pub provided_is : k.same_provided ≡ true → p.provided ≡ provided
 
@@ -35,12 +35,12 @@ counts_of sections = map (λ (output : PlacedOutput). length output.pieces) sect
 pub record Leads (script : List Statement) (k : ReusablePlacement) (wanted : Result Layout Fault) : Type 0 where
   pub layout : Layout
   pub comes : wanted ≡ Ok layout
-  pub sections : Begins (map placed_of layout.sections) k.earlier.sections.now
-  pub counts : Begins (counts_of layout.sections) k.earlier.counts.now
-  pub starts : Begins (flat_map starts_of layout.sections) k.earlier.starts.now
-  pub data_commands : Begins (data_in layout.sections) (map data_of k.earlier.data_commands.now)
+  pub sections : Begins (map placed_of layout.sections) k.previous.sections.now
+  pub counts : Begins (counts_of layout.sections) k.previous.counts.now
+  pub starts : Begins (flat_map starts_of layout.sections) k.previous.starts.now
+  pub data_commands : Begins (data_in layout.sections) (map data_of k.previous.data_commands.now)
   pub dots : Begins layout.dots k.dots.now
   pub symbols : Begins layout.symbols (map (symbol_of script) k.symbols.now)
   pub found : AreFound script k.symbols.now
   pub rises : Rises k.symbols.now
-  pub ends : Ends k.earlier.sections.now
+  pub ends : Ends k.previous.sections.now

@@ -24,8 +24,8 @@ pub record MayBeTaken (i : Input) (items : List Item) (b next : Boundary) (d : P
   pub section : length (sections_at items b.items) ≡ 1
   pub there : HasNext d.sections (slice_index_or (map (λ v. v.items) i.rows.now) (length d.sections.list) [])
       next.data_commands
-  pub within : length d.sections.list < length i.kept.earlier.sections.now
-  pub ends : (p : Placed) → slice_get i.kept.earlier.sections.now (length d.sections.list) ≡ Some p
+  pub within : length d.sections.list < length i.kept.previous.sections.now
+  pub ends : (p : Placed) → slice_get i.kept.previous.sections.now (length d.sections.list) ≡ Some p
       → (p.start + p.size < 2 ^ 64) × (p.load + p.load_size < 2 ^ 64)
 
 -- the output section at a boundary is taken over, with the data commands up to the next one, and its regions go on at
@@ -34,7 +34,7 @@ pub record Takes (i : Input) (items : List Item) (b next : Boundary) (old new : 
   pub output : OutputSection
   pub at : IsSection items b.items output
   pub section : KeyedSection
-  pub taken : IsTaken (earlier_of i.kept.earlier) old.sections.list
+  pub taken : IsTaken (earlier_of i.kept.previous) old.sections.list
       (slice_index_or (map (λ v. v.items) i.rows.now) (length old.sections.list) []) output next.data_commands section
   pub pushed : new.sections.list ≡ old.sections.list ++ section ∷ []
   pub regions : new.regions

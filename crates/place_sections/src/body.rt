@@ -19,7 +19,7 @@ use ldscript::tree::{BodyCommand, BodyStatement, DotCommand, DotForm, Expr, Form
 use place_terms::sections::{DataAt, PieceAt};
 
 impl<'d, 'a> CurrentOutput<'d, 'a> {
-    /// The next entry of the row takes its place, which starts there.
+    /// Places the next entry of the row at `start`.
     #[tactic(auto, unfolding(ldmodel::specs::Placement::piece_placed))]
     fn put_piece(
         &self,
@@ -51,7 +51,7 @@ impl<'d, 'a> CurrentOutput<'d, 'a> {
         Ok(())
     }
 
-    /// The next entry of the row is placed anew.
+    /// Places the next entry of the row anew.
     #[tactic(auto, unfolding(ldmodel::specs::Placement::piece_placed))]
     fn place_piece(
         &self,
@@ -78,7 +78,7 @@ impl<'d, 'a> CurrentOutput<'d, 'a> {
         Ok(())
     }
 
-    /// The entries of an input statement are placed anew.
+    /// Places the entries of an input statement anew.
     #[tactic(auto, unfolding(ldmodel::specs::Placement::pieces_placed))]
     fn place_pieces(
         &self,
@@ -103,7 +103,7 @@ impl<'d, 'a> CurrentOutput<'d, 'a> {
         Ok(())
     }
 
-    /// The entries of an input statement stay where they were: the entries of the row start at these addresses.
+    /// Places the entries of an input statement where they were: `starts` are the addresses of the row's entries.
     #[tactic(auto, unfolding(ldmodel::specs::Placement::pieces_placed))]
     fn keep_pieces(
         &self,
@@ -134,7 +134,7 @@ impl<'d, 'a> CurrentOutput<'d, 'a> {
         Ok(())
     }
 
-    /// An input statement.
+    /// Places the entries of the next input statement.
     fn place_input(&self, here: &mut LayoutCursor<'a>, line: u32) -> Result<(), LayoutStop<'a>>
         ghost naming: { Naming }
         requires kept { StartsThere naming here.now self.now }
@@ -179,7 +179,7 @@ impl<'d, 'a> CurrentOutput<'d, 'a> {
         Ok(())
     }
 
-    /// `.` goes on to a number and some more.
+    /// Sets `.` to the sum of two numbers; it may not go back.
     fn go_to(
         &self,
         here: &mut LayoutCursor<'a>,

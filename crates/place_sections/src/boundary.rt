@@ -1,9 +1,9 @@
-//! Where a layout had come to before an output section.
+//! The state of a layout before an output section.
 
 ghost use Rattle.std.specs.Prelude.{◌≤◌, ◌*◌, ◌^◌};
 
-/// Where a layout had come to right before the statement of an output section, or after the last statement of SECTIONS.
-/// With the numbers of the output sections before it, this is all that the statements from there on begin with.
+/// The state of a layout right before the statement of an output section, or after the last statement of SECTIONS.
+/// Beside the numbers of the output sections before it, the statements from there on depend on nothing else.
 #[derive(Clone, Copy)]
 pub(crate) struct Boundary {
     /// How many statements of SECTIONS come before it.

@@ -199,14 +199,10 @@ impl<'a> LayoutCursor<'a> {
     {
         let end = self.dot.max(head.start);
         let section = self.close(alloc, output, head);
-        match done.load_end(line, &section, output) {
-            Ok(load_end) => {
-                free(&mut done.regions, region_name(output), end);
-                free(&mut done.regions, load_region_name(output), load_end);
-                done.sections.push(section)?;
-                Ok(())
-            }
-            Err(stop) => Err(stop),
-        }
+        let load_end = done.load_end(line, &section, output)?;
+        free(&mut done.regions, region_name(output), end);
+        free(&mut done.regions, load_region_name(output), load_end);
+        done.sections.push(section)?;
+        Ok(())
     }
 }

@@ -1,12 +1,12 @@
-//! The first range that each of some ranges meets, by a tree of the ranges in the order of where they begin. Each
-//! range, in the order of the script, marks all that meet it and have no mark.
+//! For each of some ranges the first that it overlaps, by a tree of the ranges in the order of their starts. Each
+//! range, in the order of the script, marks all that overlap it and have no mark yet.
 
 ghost use Rattle.std.specs.Prelude.{◌≡◌, ℕ, ◌+◌, ◌*◌, ◌≤◌, ◌<◌, List, [], length, get_or, map, IfOk, Option, None};
 ghost use Rattle.place_sections.specs.Firsts.{AreFirst, AreNumbered, IsRanking, extent_of};
 ghost use Rattle.place_sections.specs.Hulls.{Around, Kept};
 
 use crate::extent::Extent;
-use crate::hull::{Hull, mark};
+use crate::hull::{Hull, mark_overlapping};
 use ldmodel::memory::NoMemory;
 use std::alloc::Global;
 
@@ -70,7 +70,7 @@ fn mark_all(
     ensures { AreFirst extents.now in_order.now firsts.new }
 {
     for k in 0..extents.len() {
-        mark(in_order, nodes, firsts, 1, &extents[k], k);
+        mark_overlapping(in_order, nodes, firsts, 1, &extents[k], k);
     }
 }
 

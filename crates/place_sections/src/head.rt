@@ -69,10 +69,8 @@ fn widest_of(alignment: u64, row: &[Piece]) -> u64
 pub(crate) fn region_name(section: &OutputSection) -> Option<&[u8]>
     ensures { option_copied result ≡ section.now.region }
 {
-    match &section.region {
-        Some(name) => Some(name.as_bytes()),
-        None => None,
-    }
+    let name = section.region.as_ref()?;
+    Some(name.as_bytes())
 }
 
 /// A multiple of the alignment, not below the number; it must be an address.

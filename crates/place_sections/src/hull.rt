@@ -84,7 +84,7 @@ fn mark_leaf(
 
 /// Marks all ranges below a node that meet the given one and have no mark. Where the range around them does not meet
 /// it, none of them does.
-pub(crate) fn mark(
+pub(crate) fn mark_overlapping(
     extents: &[Extent],
     nodes: &mut [Hull],
     firsts: &mut [Option<usize>],
@@ -108,7 +108,7 @@ pub(crate) fn mark(
         mark_leaf(extents, nodes, firsts, node - extents.len(), extent, by);
         return;
     }
-    mark(extents, nodes, firsts, 2 * node, extent, by);
-    mark(extents, nodes, firsts, 2 * node + 1, extent, by);
+    mark_overlapping(extents, nodes, firsts, 2 * node, extent, by);
+    mark_overlapping(extents, nodes, firsts, 2 * node + 1, extent, by);
     nodes[node] = nodes[2 * node].around(nodes[2 * node + 1]);
 }

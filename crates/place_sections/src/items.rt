@@ -71,7 +71,7 @@ impl<'a> LayoutCursor<'a> {
         }
     }
 
-    /// Where the layout has come to, after this many statements of SECTIONS.
+    /// The state of the layout, after this many statements of SECTIONS.
     fn boundary(&self, done: &PlacedOutputs<'a>, items: usize) -> Boundary
         ghost naming: { Naming }
         requires { self.now.inputs ≤ items * 2 ^ 64 }
@@ -97,7 +97,7 @@ impl<'i, 'a> Input<'i, 'a> {
         ensures past { IfNone result (self.now.kept.first ≤ length done.now.sections.list) }
         ensures other { IfSome result (λ _. self.now.kept.same_provided ≡ false) }
         ensures starts { IfSome result (λ s.
-            AreStartsOf self.now.kept.earlier (length done.now.sections.list)
+            AreStartsOf self.now.kept.previous (length done.now.sections.list)
             (length (starts_in done.now.sections.list))
             s.now) }
     {
@@ -105,7 +105,7 @@ impl<'i, 'a> Input<'i, 'a> {
         if number >= self.kept.first {
             return None;
         }
-        self.kept.earlier.starts_of(number, done.sections.count())
+        self.kept.previous.starts_of(number, done.sections.count())
     }
 
     #[tactic(auto, unfolding(ldmodel::specs::Placement::item_command_step), using(crate::proofs::Rows::next_row_is, crate::proofs::Counting::entries_more))]
@@ -187,8 +187,8 @@ impl<'i, 'a> Input<'i, 'a> {
         self.place_command(here, done, item.line, &item.command)
     }
 
-    /// The statements of SECTIONS, of which the first ones may be taken over. It gives where the layout had come to
-    /// before each output section, and after all.
+    /// The statements of SECTIONS, of which the first ones may be taken over. Returns the state of the layout before
+    /// each output section, and after all.
     pub fn place_items(
         &self,
         here: &mut LayoutCursor<'a>,
@@ -199,7 +199,7 @@ impl<'i, 'a> Input<'i, 'a> {
         requires none { done.now.sections.list ≡ [] }
         requires placed { done.now.sections.placed ≡ 0 }
         requires first { AreFirst done.now.sections.script items.now }
-        requires kept { done.now.sections.earlier ≡ earlier_of self.now.kept.earlier }
+        requires kept { done.now.sections.earlier ≡ earlier_of self.now.kept.previous }
         requires earlier { self.now.kept.same_provided ≡ true → 0 < self.now.kept.first
             → PreviousPlacement naming self.now here.now.symbols.script (layout_of naming here.now done.now) items.now }
         requires alongside { self.now.kept.same_provided ≡ false → 0 < self.now.kept.first

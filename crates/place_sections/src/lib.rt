@@ -4,8 +4,8 @@
 //!
 //! - `place`, `placement`; `script` over `parts`: the statements before SECTIONS, in it and after it;
 //! - `items`, `assign`, `memory`, `section`, `head` (address, load address), `body` (`.`), `end` (size, regions);
-//! - `boundary`, `reusable_placement`, `reuse`: what a previous placement gives; `ready`, `state`, `stop`, `fault`,
-//!   `whole`;
+//! - `resume_point`, `boundary`, `reusable_placement`, `reuse`: what a previous placement gives; `ready`, `state`,
+//!   `stop`, `fault`, `whole`;
 //! - `overlaps` over `firsts`, `hull`, `extent`: output sections that meet, in memory or where they are loaded; `law`.
 #![tactic(auto)]
 
@@ -26,6 +26,7 @@ mod parts;
 pub mod place;
 pub mod placement;
 mod ready;
+pub mod resume_point;
 mod reusable_placement;
 mod reuse;
 mod script;

@@ -12,6 +12,7 @@ ghost use Rattle.place_sections.specs.Places.{IsPlacement};
 use crate::fault::{PlaceFault, reported};
 use crate::overlaps::overlaps;
 use crate::placement::Placement;
+use crate::resume_point::ResumePoint;
 use crate::reusable_placement::ReusablePlacement;
 use crate::script::Input;
 use crate::state::{LayoutCursor, PlacedOutputs};
@@ -79,16 +80,16 @@ fn lay_out(
     script: &Script,
     rows: &[Vec<Piece>],
     provided: &[DirectiveIndex],
-    kept: Option<(&Placement, usize)>,
+    kept: Option<ResumePoint<'_>>,
     meter: &mut Meter,
 ) -> Result<Placement, PlaceFault>
     ghost naming: { Naming }
     requires kept { IfSome kept (λ k.
-        IsKept script.now (rows_named naming (map (λ v. v.items) rows.now)) k.0.now k.1) }
+        IsKept script.now (rows_named naming (map (λ v. v.items) rows.now)) k.placement.now k.first_row) }
     ensures counted { CountsPieces meter.old meter.new (entries 0 (map (λ v. v.items) rows.now)) }
     ensures resumed { IfOk result (λ _. IfSome kept.entry (λ k.
-        IsKept script.now (rows_named naming (map (λ v. v.items) rows.now)) k.0.now k.1
-        → CountsPieces meter.old meter.new (entries k.1 (map (λ v. v.items) rows.now)))) }
+        IsKept script.now (rows_named naming (map (λ v. v.items) rows.now)) k.placement.now k.first_row
+        → CountsPieces meter.old meter.new (entries k.first_row (map (λ v. v.items) rows.now)))) }
     ensures exact { IfOk result (λ p. meter.new
         ≡ raised meter.old Count.Pieces (placed_from (first_of kept.entry) p.counts)) }
     ensures placed { IfOk result (λ p.
@@ -102,7 +103,7 @@ fn lay_out(
     let kept = ReusablePlacement::new(kept, provided);
     let mut here = nowhere(alloc, script, kept, rows.len())?;
     let taken = kept.count().unwrap_or(0);
-    let sections = Sections::new(alloc, script, rows.len(), kept.earlier, taken)?;
+    let sections = Sections::new(alloc, script, rows.len(), kept.previous, taken)?;
     let regions = Regions::new(alloc, script);
     let mut done = PlacedOutputs { sections, regions };
     let input = Input {
@@ -122,12 +123,11 @@ fn lay_out(
 /// Lays a script out: one pass over its statements, in which the rows' entries take their places.
 ///
 /// `rows` has one row for each output section, in the order of the script, `provided` the PROVIDEs that are in force.
-/// With `kept`, a previous placement of the script and the number of the first row that differs from the earlier ones,
-/// the input sections of the rows before it stay where they were, and the layout is the same with and without `kept`.
-/// Where the same PROVIDEs were in force, the pass goes on right before the output section of that row: those before it
-/// and all statements of SECTIONS up to it are taken over, and none of them is evaluated. Memory regions end where the
-/// sections that are taken over do. Where other PROVIDEs were in force, the statements up to it are evaluated anew, and
-/// input statements take the earlier places of their entries. The meter counts the pieces that were placed anew.
+/// `kept` is a previous placement of the same script, with the first row that differs. The layout is the same with and
+/// without `kept`. If the same PROVIDEs were in force, the pass resumes right before the output section of that row:
+/// everything before it in SECTIONS is taken over and not evaluated, and memory regions are filled as far as the
+/// sections taken over reach. If other PROVIDEs were in force, the statements before it are evaluated anew, but input
+/// sections keep their addresses. The meter counts the pieces that were placed anew.
 ///
 /// What the pieces' objects and sections are called does not matter: the contract holds with any names.
 ///
@@ -140,16 +140,16 @@ pub fn place(
     script: &Script,
     rows: &[Vec<Piece>],
     provided: &[DirectiveIndex],
-    kept: Option<(&Placement, usize)>,
+    kept: Option<ResumePoint<'_>>,
     meter: &mut Meter,
 ) -> Result<Placement, PlaceFault>
     ghost naming: { Naming }
     requires kept { IfSome kept (λ k.
-        IsKept script.now (rows_named naming (map (λ v. v.items) rows.now)) k.0.now k.1) }
+        IsKept script.now (rows_named naming (map (λ v. v.items) rows.now)) k.placement.now k.first_row) }
     ensures counted { CountsPieces meter.old meter.new (entries 0 (map (λ v. v.items) rows.now)) }
     ensures resumed { IfOk result (λ _. IfSome kept.entry (λ k.
-        IsKept script.now (rows_named naming (map (λ v. v.items) rows.now)) k.0.now k.1
-        → CountsPieces meter.old meter.new (entries k.1 (map (λ v. v.items) rows.now)))) }
+        IsKept script.now (rows_named naming (map (λ v. v.items) rows.now)) k.placement.now k.first_row
+        → CountsPieces meter.old meter.new (entries k.first_row (map (λ v. v.items) rows.now)))) }
     ensures exact { IfOk result (λ p. meter.new
         ≡ raised meter.old Count.Pieces (placed_from (first_of kept.entry) p.counts)) }
     ensures placed { IfOk result (λ p.

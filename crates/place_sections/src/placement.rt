@@ -83,11 +83,15 @@ impl Placement {
     }
 
     /// What is kept of the placement where rows are as they were before a number, and these PROVIDEs are in force now.
-    pub(crate) fn kept(&self, first: usize, provided: &[DirectiveIndex]) -> ReusablePlacement<'_>
+    pub(crate) fn reusable(
+        &self,
+        first: usize,
+        provided: &[DirectiveIndex],
+    ) -> ReusablePlacement<'_>
         ensures { Keeps self.now first provided.now result }
     {
         ReusablePlacement {
-            earlier: PreviousLayout {
+            previous: PreviousLayout {
                 sections: &self.sections,
                 counts: &self.counts,
                 starts: &self.starts,
@@ -113,10 +117,7 @@ impl Placement {
     pub fn dot(&self, statement: usize) -> Option<u64>
         ensures { result ≡ slice_get self.now.dots statement }
     {
-        match self.dots.get(statement) {
-            Some(dot) => Some(*dot),
-            None => None,
-        }
+        self.dots.get(statement).copied()
     }
 
     /// The symbols that the script gives values, in the order of the text.

@@ -13,7 +13,7 @@ use ldscript::tree::{Expr, Formula};
 use place_terms::scope::Scope;
 use place_terms::value::{ValueFault, value};
 
-/// What an expression may name where the layout has come to.
+/// What an expression may name in a state of the layout.
 #[derive(Clone, Copy)]
 struct Ready<'s, 'a> {
     here: &'s LayoutCursor<'a>,

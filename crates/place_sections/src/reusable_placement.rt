@@ -4,7 +4,7 @@ ghost use Rattle.std.specs.Prelude.{◌≡◌, ◌≤◌, ◌<◌, ◌-◌, min,
 ghost use Rattle.place_sections.specs.Leads.{Keeps};
 
 use crate::boundary::Boundary;
-use crate::placement::Placement;
+use crate::resume_point::ResumePoint;
 use ldmodel::script_symbol::{DirectiveIndex, ScriptSymbol};
 use place_terms::previous_layout::PreviousLayout;
 
@@ -12,12 +12,12 @@ use place_terms::previous_layout::PreviousLayout;
 #[derive(Clone, Copy)]
 pub(crate) struct ReusablePlacement<'k> {
     /// The output sections.
-    pub earlier: PreviousLayout<'k>,
+    pub previous: PreviousLayout<'k>,
     /// `.` before each statement.
     pub dots: &'k [u64],
     /// The symbols.
     pub symbols: &'k [ScriptSymbol],
-    /// Where the previous layout had come to before each output section, and after all.
+    /// The state of the previous layout before each output section, and after all.
     pub boundaries: &'k [Boundary],
     /// The number of the first output section whose row differs: before it the layout is the same but for symbols.
     pub first: usize,
@@ -26,18 +26,16 @@ pub(crate) struct ReusablePlacement<'k> {
 }
 
 impl<'k> ReusablePlacement<'k> {
-    /// All of a previous placement, before the row of this number, where these PROVIDEs are in force; or nothing.
-    pub fn new(
-        kept: Option<(&'k Placement, usize)>,
-        provided: &[DirectiveIndex],
-    ) -> ReusablePlacement<'k>
-        ensures some { IfSome kept.entry (λ k. Keeps k.0.now k.1 provided.now result) }
+    /// What is kept of a previous placement before its first row that differs, where these PROVIDEs are in force; or
+    /// nothing.
+    pub fn new(kept: Option<ResumePoint<'k>>, provided: &[DirectiveIndex]) -> ReusablePlacement<'k>
+        ensures some { IfSome kept.entry (λ k. Keeps k.placement.now k.first_row provided.now result) }
         ensures none { IfNone kept.entry (result.first ≡ 0) }
     {
         match kept {
-            Some((placement, first)) => placement.kept(first, provided),
+            Some(point) => point.placement.reusable(point.first_row, provided),
             None => ReusablePlacement {
-                earlier: PreviousLayout {
+                previous: PreviousLayout {
                     sections: &[],
                     counts: &[],
                     starts: &[],

@@ -32,12 +32,12 @@ use std::alloc::{AllocError, Global};
 pub(crate) struct Resumed {
     /// How many statements of SECTIONS, from the first on.
     pub passed: usize,
-    /// Where the layout had come to before each output section among these.
+    /// The state of the layout before each output section among these.
     pub boundaries: Vec<Boundary>,
 }
 
 impl<'a> LayoutCursor<'a> {
-    /// Goes on to where a previous layout had come to. Fails where memory runs out.
+    /// Takes over the state at a boundary of a previous layout. Fails where memory runs out.
     fn go_on(&mut self, kept: ReusablePlacement<'_>, to: Boundary) -> Result<(), LayoutStop<'a>>
         requires found { AreFound self.now.symbols.script kept.symbols.now }
         requires rises { Rises kept.symbols.now }
@@ -93,7 +93,7 @@ impl<'i, 'a> Input<'i, 'a> {
         next: Boundary,
     ) -> Result<(), LayoutStop<'a>>
         requires next { IsNextAt done.now.sections.script (length done.now.sections.list) items.now at.items }
-        requires kept { done.now.sections.earlier ≡ earlier_of self.now.kept.earlier }
+        requires kept { done.now.sections.earlier ≡ earlier_of self.now.kept.previous }
         requires there { MayBeTaken self.now items.now at next done.now }
         ensures takes { OnOk result (Takes self.now items.now at next done.old done.new) }
         ensures outputs { done.new.sections.script ≡ done.old.sections.script }
@@ -103,7 +103,7 @@ impl<'i, 'a> Input<'i, 'a> {
     {
         let output = output_at(items, at.items);
         let number = done.sections.len();
-        let placed = self.kept.earlier.sections[number];
+        let placed = self.kept.previous.sections[number];
         let end = placed.start + placed.size;
         let load_end = placed.load + placed.load_size;
         free(&mut done.regions, region_name(output), end);
@@ -129,7 +129,7 @@ impl<'i, 'a> Input<'i, 'a> {
         requires none { done.now.sections.list ≡ [] }
         requires placed { done.now.sections.placed ≡ 0 }
         requires first { AreFirst done.now.sections.script items.now }
-        requires kept { done.now.sections.earlier ≡ earlier_of self.now.kept.earlier }
+        requires kept { done.now.sections.earlier ≡ earlier_of self.now.kept.previous }
         requires earlier { self.now.kept.same_provided ≡ true → 0 < self.now.kept.first
             → PreviousPlacement naming self.now here.now.symbols.script (layout_of naming here.now done.now) items.now }
         requires begun { here.now.inputs ≡ 0 }

@@ -90,8 +90,8 @@ impl<'i, 'a> Input<'i, 'a> {
         Ok(())
     }
 
-    /// All statements of a script: those before SECTIONS, those of it, and those after it. It gives where the layout
-    /// had come to before each output section, and after the last statement of SECTIONS.
+    /// All statements of a script: those before SECTIONS, those of it, and those after it. Returns the state of the
+    /// layout before each output section, and after the last statement of SECTIONS.
     pub fn place_script(
         &self,
         here: &mut LayoutCursor<'a>,
@@ -102,7 +102,7 @@ impl<'i, 'a> Input<'i, 'a> {
         requires none { done.now.sections.list ≡ [] }
         requires placed { done.now.sections.placed ≡ 0 }
         requires all { done.now.sections.script ≡ statements.now }
-        requires kept { done.now.sections.earlier ≡ earlier_of self.now.kept.earlier }
+        requires kept { done.now.sections.earlier ≡ earlier_of self.now.kept.previous }
         requires earlier { self.now.kept.same_provided ≡ true → 0 < self.now.kept.first
             → EarlierScript naming self.now here.now.symbols.script
             (layout_of naming here.now done.now) statements.now }

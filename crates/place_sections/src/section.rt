@@ -39,7 +39,7 @@ impl<'a> LayoutCursor<'a> {
         Ok(())
     }
 
-    /// The body of a section with this head.
+    /// Places the body of an output section with this head.
     fn body(
         &mut self,
         alloc: Global,
@@ -78,7 +78,7 @@ impl<'a> LayoutCursor<'a> {
         Ok(())
     }
 
-    /// An output section. Its input sections start at these addresses, where they stay in their places.
+    /// Places an output section. `starts` are the addresses of its input sections, if they stay where they were.
     #[tactic(auto, unfolding(ldmodel::specs::Placement::section_step), using(crate::proofs::Ending::end_alone))]
     pub fn place_section(
         &mut self,

@@ -1,4 +1,4 @@
-//! A layout, as far as it has come.
+//! The state of a layout.
 
 use ldmodel::rows::Piece;
 use place_terms::provided::Provided;
@@ -6,7 +6,7 @@ use place_terms::regions::Regions;
 use place_terms::sections::{DataAt, PieceAt, Sections};
 use place_terms::symbols::AssignedSymbols;
 
-/// Where a layout has come to: what changes from statement to statement, in the body of an output section too.
+/// The state of a layout that changes from statement to statement, in the body of an output section too.
 #[derive(Drop)]
 pub(crate) struct LayoutCursor<'a> {
     /// `.`, the location counter.

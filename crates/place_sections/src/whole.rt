@@ -12,8 +12,7 @@ use ldmodel::script_symbol::DirectiveIndex;
 use place_terms::wholes::{counts_of, data_commands_of, numbers_of, regions_of, starts_of};
 use std::alloc::{AllocError, Global};
 
-/// A whole layout, with where it had come to before each output section and after all, and the PROVIDEs that were in
-/// force.
+/// A whole layout, with its state before each output section and after all, and the PROVIDEs that were in force.
 #[tactic(auto, using(crate::proofs::Wholes::placed_whole, crate::proofs::Wholes::counts_whole, crate::proofs::Wholes::starts_whole, crate::proofs::Wholes::data_whole))]
 pub(crate) fn whole(
     alloc: Global,

@@ -86,7 +86,7 @@ impl<'a> DirectivesByName<'a> {
     pub fn new(alloc: Global, script: &'a Script) -> Result<DirectivesByName<'a>, AllocError>
         ensures { IfOk result (λ c. c ≡ script.now) }
     {
-        // what the invariant says of the script is known of its statements
+        // for the prover: brings in the invariant of `script`
         let _statements = script.statements();
         let list = script.all_directives(alloc)?;
         let guesses = guesses_of(alloc, &list)?;

@@ -48,7 +48,7 @@ pub fn first<T>(list: &[T], count: usize) -> &[T]
     }
 }
 
-/// The part of a list from a place on that has this many elements.
+/// `count` elements of a list, from a place on; `None` if there are fewer.
 fn part<T>(list: &[T], from: usize, count: usize) -> Option<&[T]>
     ensures part { IfSome result (λ x. x.now ≡ part_of list.now from count) }
     ensures long { IfSome result (λ x. length x.now ≡ count) }
@@ -72,7 +72,7 @@ impl<'a> PreviousLayout<'a> {
         part(self.data_commands, from, count)
     }
 
-    /// Where the input sections of the output section of a number start, before which this many come.
+    /// Where the input sections of the output section of a number start; `from` come in the output sections before it.
     pub fn starts_of(&self, number: usize, from: usize) -> Option<&'a [u64]>
         ensures are { IfSome result (λ x. AreStartsOf self.now number from x.now) }
         ensures room { IfSome result (λ x. from + length x.now < 2 ^ 64) }
@@ -83,8 +83,8 @@ impl<'a> PreviousLayout<'a> {
     }
 
     /// The output section of a number, where none was placed anew so far: its data commands are those from a number to
-    /// another, and its input sections those from this one on, the first entries of its row. `None` where the layout has
-    /// no such output section.
+    /// another, and its input sections those from this one on, the first entries of its row. `None` where the layout
+    /// has no such output section.
     pub(crate) fn next_section(
         &self,
         placed: &[Closed<'_>],

@@ -30,7 +30,7 @@ pub struct RegionState<'a> {
 pub struct Regions<'a> {
     script: &'a Script,
     list: Vec<RegionState<'a>>,
-    /// Whether each region stands under its number, as those of a script that is gone through do.
+    /// Whether each region stands under its number, as in a script of which the statements are taken in their order.
     in_order: bool,
 }
 
@@ -66,7 +66,7 @@ fn numbered<'a>(script: &Script, list: &[RegionState<'a>], name: &[u8]) -> Optio
 }
 
 /// The region of a name, looked for among all.
-fn searched<'a>(list: &[RegionState<'a>], name: &[u8]) -> Option<RegionState<'a>>
+fn find_region<'a>(list: &[RegionState<'a>], name: &[u8]) -> Option<RegionState<'a>>
     ensures { option_map region_of result ≡ region_named (map region_of list.now) name.now }
 {
     for region in list {
@@ -107,7 +107,7 @@ impl<'a> Regions<'a> {
         if self.in_order {
             numbered(self.script, &self.list, name)
         } else {
-            searched(&self.list, name)
+            find_region(&self.list, name)
         }
     }
 

@@ -340,7 +340,7 @@ impl<'a> Sections<'a> {
         ensures earlier { self.new.earlier ≡ self.old.earlier }
         ensures pushed { OnOk result (self.new.list ≡ self.old.list ++ keyed section.entry ∷ []) }
     {
-        // what the numbers follow from is known of the script's statements
+        // for the prover: brings in the invariant of `self.script`
         let _statements = self.script.statements();
         let kept_at = kept_at(self.script, self.differences.len(), section.output);
         let difference = section.placed.start.wrapping_sub(section.placed.load);
@@ -380,7 +380,7 @@ impl<'a> Sections<'a> {
             → IsWithTaken self.old.earlier self.old.list row.now output.now data_end self.new.list) }
         ensures there { HasNext self.old row.now data_end → IfOk result (λ t. t ≡ true) }
     {
-        // so that what a script says of its statements is known
+        // for the prover: brings in the invariant of `self.script`
         let _statements = self.script.statements();
         let number = self.taken.len();
         let commands = self.data_count..data_end;

@@ -65,7 +65,7 @@ place_script-laid-requires g c =
             (
               λ same some. by_option c.args.kept _ _ _ _ c.requires c.new-kept.ensures.some c.new-kept.ensures.none
                   (λ k kept keeps.
-                  kept_earlier g.naming _ c.args.script.now k.0.now k.1 c.args.provided.now kept keeps
+                  kept_earlier g.naming _ c.args.script.now k.placement.now k.first_row c.args.provided.now kept keeps
                   c.in_ok-here.here.symbols.script c.statements.result.now (layout_of g.naming c.in_ok-here.here d)
                   c.in_ok-here.ensures.script c.statements.ensures.value
                   (nothing_there g.naming c.in_ok-here.here d c.in_ok-here.ensures.dot c.in_ok-here.ensures.dots
@@ -75,9 +75,9 @@ place_script-laid-requires g c =
               (
                 λ other some. by_option c.args.kept _ _ _ _ c.requires c.new-kept.ensures.some c.new-kept.ensures.none
                     (λ k kept keeps.
-                    kept_alongside g.naming _ c.args.script.now k.0.now k.1 c.args.provided.now kept keeps
-                    c.in_ok-here.here.symbols.script c.statements.result.now (layout_of g.naming c.in_ok-here.here d)
-                    c.in_ok-here.ensures.script c.statements.ensures.value
+                    kept_alongside g.naming _ c.args.script.now k.placement.now k.first_row c.args.provided.now kept
+                    keeps c.in_ok-here.here.symbols.script c.statements.result.now
+                    (layout_of g.naming c.in_ok-here.here d) c.in_ok-here.ensures.script c.statements.ensures.value
                     (nothing_there g.naming c.in_ok-here.here d c.in_ok-here.ensures.dot c.in_ok-here.ensures.dots
                     c.in_ok-here.ensures.inputs c.in_ok-here.ensures.symbols c.in_ok-sections.ensures.none
                     c.new-regions.ensures)
