@@ -1,4 +1,4 @@
-//! Laws of two links of which one object differs in the bytes and the relocations of its sections alone.
+//! Laws of two links that differ only in the bytes and relocations of one object's sections.
 
 ghost use Rattle.std.specs.Prelude.{◌≡◌, ℕ, Contains, None, Some, [], slice_get};
 ghost use Rattle.std.specs.Result.{result_err};
@@ -16,7 +16,7 @@ ghost use Rattle.emit_in_place.specs.InPlaceRewrites.{IsOutside};
 ghost use Rattle.emit_in_place.specs.LocatedSections.{sites_of};
 
 /// The images have the same length, and the same byte at each offset that no input section of the object covers.
-/// Nothing meets in output sections, and these have different names.
+/// Nothing overlaps in output sections, and these have different names.
 pub fn rewritten_image()
     ensures byte { (project next : Project) (layout : Layout) (i : ℕ) (after : NamedObject)
         → DiffersInContents project next i

@@ -1,5 +1,6 @@
-//! The image of a link in which one object differs from that of a previous link in what its sections hold alone, over
-//! the previous image. Takes the object, the values of its symbols and where its sections stand; writes these sections.
+//! The rewrite in place: the image of a link that differs from the previous one only in the contents of one object's
+//! sections, over the previous image. Takes the object, the values of its symbols and where its sections stand; writes
+//! these sections.
 //!
 //! - `located_section`: where a section stands; `plan`: what is written of each, with its fields; `rewrite`: writing
 //!   it;

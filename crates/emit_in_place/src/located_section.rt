@@ -23,11 +23,11 @@ pub struct LocatedSection {
 pub fn nobits_are_bare(object: &Object)
     ensures { All IsBare object.now.sections }
 {
-    // so that what an object says of its sections is known
+    // for the prover: brings in the invariant of `object`, of its sections
     if object.sections().is_empty() {
         return;
     }
-    // and of their relocations
+    // for the prover: brings in the invariant of `object`, of its relocations
     let _relocations = object.relocations(LinkedIndex(0));
 }
 
@@ -36,6 +36,6 @@ pub(crate) fn numbers_differ(object: &Object)
     ensures { (j : ℕ) (section : LinkedSection) → slice_get object.now.sections j ≡ Some section
         → find (λ (y : LinkedSection). y.number.0 == section.number.0) object.now.sections ≡ Some section }
 {
-    // so that their order is known
+    // for the prover: brings in the invariant of `object`, of its sections
     let _sections = object.sections();
 }

@@ -117,7 +117,7 @@ fn fields_of(
         → IsAtHand link key object.now values.now o → slice_get o.object.sections index.0 ≡ Some section
         → IsRefused link (sites_at o section start) meter.old meter.new)) }
 {
-    // so that the range of the count is known
+    // for the prover: brings in that the count of fields fits a u64
     let _fields = meter.fields();
     let section = PlacedInput::new(key, object, index, start, values);
     let mut fields = Vec::new(alloc);
@@ -185,7 +185,7 @@ fn plan_section<'a>(
     ensures none { IfOk result (λ r. IfNone r ((link : KnownLink) (o : NamedObject)
         → IsAtHand link key object.now values.now o → IsRefused link (sites_there o spot) meter.old meter.new)) }
 {
-    // so that the range of the count is known
+    // for the prover: brings in that the count of fields fits a u64
     let _fields = meter.fields();
     if !can_stand(object, limit, spot) {
         // No link has such a spot. Nothing says so of any list of spots, so `rewrite` refuses it
@@ -193,7 +193,7 @@ fn plan_section<'a>(
     }
     let kind = object.sections()[spot.index.0].kind;
     let bytes = object.section_bytes(spot.index);
-    // so that what an object says of its relocations is known
+    // for the prover: brings in the invariant of `object`, of its relocations
     let _relocations = object.relocations(spot.index);
     match fields_of(alloc, key, object, values, spot.index, spot.start, meter)? {
         None => Ok(None),
@@ -227,7 +227,7 @@ pub(crate) fn plan<'a>(
         → IsAtHand link key object.now values.now o
         → IsRefused link (sites_in_all o located.now) meter.old meter.new)) }
 {
-    // so that the range of the count is known
+    // for the prover: brings in that the count of fields fits a u64
     let _fields = meter.fields();
     let mut rewrites = Vec::with_capacity(alloc, located.len())?;
     for spot in located {
@@ -246,7 +246,7 @@ pub(crate) fn commit(canvas: &mut Canvas, rewrites: &[Rewrite<'_>], meter: &mut 
     ensures room { canvas.new.room ≡ canvas.old.room }
     ensures counted { meter.new ≡ raised meter.old Bytes (sum_by count_of (written_all rewrites.now)) }
 {
-    // so that the range of the count is known
+    // for the prover: brings in that the count of bytes fits a u64
     let _bytes = meter.bytes();
     for rewrite in rewrites {
         write_patched(canvas, rewrite.at, rewrite.bytes, &rewrite.fields, meter);

@@ -1,6 +1,6 @@
 //! Writing the sections of an object anew.
 
-ghost use Rattle.std.specs.Prelude.{◌≡◌, ℕ, IfOk, OnErr, [], sum_by, true, false};
+ghost use Rattle.std.specs.Prelude.{◌≡◌, ℕ, IfOk, OnErr, [], sum_by};
 ghost use Rattle.elfobj.specs.Raised.{raised};
 ghost use Rattle.elfobj.specs.declared.meter.Count.TheVariants.{Bytes, Fields};
 ghost use Rattle.ldmodel.specs.Image.{image};
@@ -11,6 +11,7 @@ ghost use Rattle.emit_relocate.specs.KnownLink.{KnownLink, named_object};
 ghost use Rattle.emit_relocate.specs.SymbolValues.{IsRow};
 ghost use Rattle.emit_in_place.specs.InPlaceRewrites.{IsInPlaceRewrite};
 ghost use Rattle.emit_in_place.specs.LocatedSections.{HasLocatedSections, bytes_of, sites_of};
+ghost use Rattle.emit_in_place.specs.declared.rewrite.Rewrite.TheVariants.{Done, Faulty};
 
 use crate::located_section::{LocatedSection, nobits_are_bare, numbers_differ};
 use crate::plan::{commit, plan};
@@ -22,16 +23,25 @@ use ldmodel::meter::Meter;
 use ldmodel::names::ObjectPlace;
 use std::alloc::Global;
 
-/// Writes the input sections of an object anew, onto a canvas that holds the image of a link in which they held
-/// something else. `values` are the values of the object's symbols, and `located` has each section that is in the
-/// output. Answers whether it did: not where, and only where, a relocation has a fault. Then the canvas is as it was.
+/// What came of a rewrite.
+#[derive(Clone, Copy, Debug)]
+pub enum Rewrite {
+    /// The sections are written.
+    Done,
+    /// A relocation has a fault, so nothing is written.
+    Faulty,
+}
+
+/// Writes the input sections of an object onto a canvas that holds the image of a link in which they had other
+/// contents. `values` are the values of the object's symbols, and `located` has each section that is in the output.
+/// `Faulty`, and only then, if a relocation has a fault; then the canvas is as it was.
 ///
 /// Each relocation whose symbol has a value counts as one, and each byte of a section that has bytes in the file.
 ///
 /// # Errors
 ///
-/// Where memory runs out; spots that no link has, as one past the end of the image, count as that. Then the canvas is
-/// as it was.
+/// Where memory runs out; so does a location that no link has, as one past the end of the image. Then the canvas is as
+/// it was.
 pub fn rewrite_in_place(
     alloc: Global,
     canvas: &mut Canvas,
@@ -40,42 +50,42 @@ pub fn rewrite_in_place(
     values: &[SymbolValue],
     located: &[LocatedSection],
     meter: &mut Meter,
-) -> Result<bool, NoMemory>
-    ensures image { IfOk result (λ done. done ≡ true → (old : Project) (link : KnownLink) (named : NamedObject)
+) -> Result<Rewrite, NoMemory>
+    ensures image { IfOk result (λ made. made ≡ Done → (old : Project) (link : KnownLink) (named : NamedObject)
         → IsInPlaceRewrite old link key named → named.object ≡ object.now → IsRow link named values.now
         → HasLocatedSections link.project link.layout named located.now → canvas.old.bytes ≡ image old link.layout
         → canvas.new.bytes ≡ image link.project link.layout) }
-    ensures faultless { IfOk result (λ done. done ≡ true → (old : Project) (link : KnownLink) (named : NamedObject)
+    ensures faultless { IfOk result (λ made. made ≡ Done → (old : Project) (link : KnownLink) (named : NamedObject)
         → IsInPlaceRewrite old link key named → named.object ≡ object.now → IsRow link named values.now
         → HasLocatedSections link.project link.layout named located.now → relocation_faults old link.layout ≡ []
         → relocation_faults link.project link.layout ≡ []) }
-    ensures counted { IfOk result (λ done. done ≡ true → (link : KnownLink) (named : NamedObject)
+    ensures counted { IfOk result (λ made. made ≡ Done → (link : KnownLink) (named : NamedObject)
         → named_object link key ≡ Some named → named.object ≡ object.now → IsRow link named values.now
         → HasLocatedSections link.project link.layout named located.now
         → meter.new ≡ raised (raised meter.old Fields (evaluations link (sites_of link.layout named))) Bytes
         (sum_by (bytes_of object.now) located.now)) }
-    ensures counted_refused { IfOk result (λ done. done ≡ false → (link : KnownLink) (named : NamedObject)
+    ensures counted_refused { IfOk result (λ made. made ≡ Faulty → (link : KnownLink) (named : NamedObject)
         → named_object link key ≡ Some named → named.object ≡ object.now → IsRow link named values.now
         → HasLocatedSections link.project link.layout named located.now → (n : ℕ)
         × (meter.new ≡ raised meter.old Fields n)) }
-    ensures refused_faulty { IfOk result (λ done. done ≡ false → (link : KnownLink) (named : NamedObject)
+    ensures refused_faulty { IfOk result (λ made. made ≡ Faulty → (link : KnownLink) (named : NamedObject)
         → named_object link key ≡ Some named → named.object ≡ object.now → IsRow link named values.now
         → HasLocatedSections link.project link.layout named located.now
         → relocation_faults link.project link.layout ≡ []
         → ⊥) }
-    ensures refused { IfOk result (λ done. done ≡ false → canvas.new.bytes ≡ canvas.old.bytes) }
+    ensures refused { IfOk result (λ made. made ≡ Faulty → canvas.new.bytes ≡ canvas.old.bytes) }
     ensures unchanged { OnErr result (canvas.new.bytes ≡ canvas.old.bytes) }
     ensures room { canvas.new.room ≡ canvas.old.room }
 {
-    // so that the range of the count is known
+    // for the prover: brings in that the count of fields fits a u64
     let _fields = meter.fields();
     nobits_are_bare(object);
     numbers_differ(object);
     match plan(alloc, canvas.len(), key, object, values, located, meter)? {
-        None => Ok(false),
+        None => Ok(Rewrite::Faulty),
         Some(plan) => {
             commit(canvas, &plan, meter);
-            Ok(true)
+            Ok(Rewrite::Done)
         }
     }
 }

@@ -60,7 +60,7 @@ fn add_block(all: &mut Vec<Vec<CommonBlock>>, case: Case) -> Result<(), NoMemory
     }
 }
 
-/// Adds the block of a name's case, where the key has a name.
+/// Adds the common block that a case stands for, if there is a case and it is common.
 fn add_if_named(all: &mut Vec<Vec<CommonBlock>>, case: Option<Case>) -> Result<(), NoMemory>
     ensures len { length all.new.items ≡ length all.old.items }
     ensures added { OnOk result ((i : ℕ) → i < length all.old.items → blocks_at all.new.items i

@@ -1,4 +1,4 @@
-//! What the names of symbols stand for.
+//! How the names of symbols are resolved.
 
 ghost use Rattle.std.specs.Prelude.{◌≡◌, ◌<◌, length, slice_index_or};
 ghost use Rattle.elfobj.specs.Symbols.{NamedSymbol};
@@ -12,8 +12,7 @@ use ldmodel_project::view::ProjectView;
 use symres::SymbolTable;
 use symres::declaring::declares;
 
-/// What the name of a symbol of the object at a place stands for; nothing for a local symbol, which has no name. The
-/// time is constant.
+/// How the name of a symbol of the object at a place is resolved; `None` for a local symbol. The time is constant.
 pub(crate) fn case_of_symbol(
     project: &ProjectView<'_>,
     symbol_table: &SymbolTable,

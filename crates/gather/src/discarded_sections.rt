@@ -1,4 +1,4 @@
-//! Which sections are left out before references are followed.
+//! Which sections are discarded before references are followed.
 
 ghost use Rattle.std.specs.Prelude.{◌≡◌, IfOk, map};
 ghost use Rattle.ldscript.specs.statements.Numbered.{shown_inputs};
@@ -17,8 +17,8 @@ use ldscript::Script;
 use ldscript::tree::{InputPlace, InputStatementAt};
 use std::alloc::Global;
 
-/// Whether a section is left out: one that `/DISCARD/` takes; and of those that no statement takes the empty ones,
-/// and all where orphans are discarded.
+/// Whether a section is discarded: if `/DISCARD/` takes it; or if no statement takes it, and it is empty or orphans are
+/// discarded.
 pub fn is_discarded(
     statements: &[InputStatementAt<'_>],
     orphans: Orphans,
@@ -37,7 +37,7 @@ pub fn is_discarded(
     }
 }
 
-/// Whether each of these sections is left out.
+/// Whether each of these sections is discarded.
 fn each_discarded(
     alloc: Global,
     statements: &[InputStatementAt<'_>],
@@ -55,7 +55,7 @@ fn each_discarded(
     Ok(out)
 }
 
-/// Whether each of these sections is left out of the link of this script, before references are followed.
+/// Whether each of these sections is discarded by this script, before references are followed.
 ///
 /// # Errors
 ///

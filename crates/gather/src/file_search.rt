@@ -14,8 +14,8 @@ use ldmodel::memory::NoMemory;
 use ldmodel::rows::InputIndex;
 use std::alloc::Global;
 
-/// A search among the words of a script for those that take the sections of one file, with what is known of words that
-/// have pattern signs: which of them take sections from it.
+/// A search among the words of a script for those that take the sections of one file. It notes which words with
+/// wildcards take sections from the file.
 #[derive(Drop)]
 struct FileSearch<'t, 'a> {
     words: &'t FileTables<'a>,

@@ -74,8 +74,7 @@ impl<'a> FileTables<'a> {
         }
     }
 
-    /// Says of each word of statements for several files that is in a list that it isn't known yet whether it takes
-    /// sections from a file.
+    /// What `first_taker` takes as `known` for a file of which nothing is known yet.
     ///
     /// # Errors
     ///
@@ -86,8 +85,8 @@ impl<'a> FileTables<'a> {
         self.others.nothing_known(alloc)
     }
 
-    /// Whether a word that can take sections of the file of this name, and that matches one name, leaves out many
-    /// patterns for files.
+    /// Whether a word that can take sections of the file of this name, and that matches one name, excludes many file
+    /// patterns.
     pub fn excludes_many(&self, file: &[u8]) -> bool {
         match self.own.get(file) {
             Some(own) => own.excludes_many() || self.others.excludes_many(),

@@ -45,7 +45,7 @@ pub struct GatheredSection {
 }
 
 impl GatheredSection {
-    /// It as an entry of the row of a statement.
+    /// Its entry in a row, if this statement takes it.
     pub fn piece(&self, statement: InputIndex) -> Piece
         ensures { result ≡ as_piece self.now statement }
     {
@@ -151,7 +151,7 @@ fn add_object(
         (map (facts project) (object_inputs project place (shown_input input.now)))) }
     ensures ascending { IsAscending (shown_input input.now) }
 {
-    // so that what an object says of its sections is known
+    // for the prover: brings in the invariant of `input.object`, of its sections
     let _sections = input.object.sections();
     let key = ObjectPlace(place);
     add_linked(sections, key, input.object, &matches.linked)?;

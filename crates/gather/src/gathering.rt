@@ -65,7 +65,7 @@ fn gather_live(
     })
 }
 
-/// Gathers all that is not left out, where no sections are collected. `blocks` has the common blocks of each object.
+/// Gathers all that is not discarded, where no sections are collected. `blocks` has the common blocks of each object.
 fn gather_all(
     alloc: Global,
     project: &ProjectView<'_>,

@@ -6,8 +6,8 @@ ghost use Rattle.ldmodel.specs.Sections.{InputSection};
 ghost use Rattle.gather.specs.Apart.{AscendingSections};
 ghost use Rattle.gather.specs.LiveMarks.{IsSectionAt};
 
-/// No two input sections of a project are the same: where the header numbers of the linked sections of each object
-/// ascend, as those of every object that was read do, what tells input sections apart tells their places apart.
+/// Two input sections of a project with the same key are at the same place in the list of all, if the header numbers of
+/// the linked sections of each object ascend, as in every object that was read.
 #[tactic(auto, using(crate::proofs::Ascending::sections_apart))]
 pub fn sections_apart()
     ensures { (project : Project) → AscendingSections project → (a b : ℕ) (section t : InputSection)

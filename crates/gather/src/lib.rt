@@ -1,6 +1,6 @@
-//! Which input sections are in a link, and in which order they stand. Takes objects, the script and what names stand
-//! for; gives for each object the statements that take its sections, and of a project the numbers of its input
-//! sections, its rows and its orphans.
+//! Which input sections are in a link, and in which order they stand. Takes objects, the script and resolved names;
+//! gives for each object the statements that take its sections, and of a project the numbers of its input sections, its
+//! rows and its orphans.
 //!
 //! - `matcher` over `file_search`, `file_tables`, `word_table`, `word`, `name_places`: first match; `matches`: of one
 //!   object, and of all;

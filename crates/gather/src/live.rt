@@ -22,7 +22,7 @@ use std::alloc::Global;
 use symres::SymbolTable;
 
 /// Marks the live sections of a project that collects: those that the program needs. `out` says of each section whether
-/// it is left out. The relocations of the other sections are not gone through.
+/// it is discarded. The relocations of the other sections are not gone through.
 ///
 /// # Errors
 ///

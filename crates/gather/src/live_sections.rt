@@ -15,7 +15,7 @@ use ldmodel::memory::NoMemory;
 use ldmodel::sections::SectionKey;
 use std::alloc::Global;
 
-/// The mark of the section of this number; a section without one is not live.
+/// Whether the section of this number is marked as live; one past the marks is not.
 pub(crate) fn is_marked(marks: &[bool], number: usize) -> bool
     ensures { result ≡ slice_index_or marks.now number false }
 {

@@ -12,7 +12,7 @@ use ldmodel::memory::NoMemory;
 use ldmodel_laws::gathering::live_by_path;
 use std::alloc::Global;
 
-/// Marks a section and puts it on the stack, unless it is left out or marked.
+/// Marks a section and puts it on the stack, unless it is discarded or marked.
 fn visit(
     live: &mut Vec<bool>,
     stack: &mut Vec<usize>,
@@ -29,7 +29,7 @@ fn visit(
     Ok(())
 }
 
-/// Marks the sections that a way leads to from a root, along which none is left out. `targets` holds those of one
+/// Marks the sections that are reachable from a root without passing a discarded one. `targets` holds those of one
 /// section at a time.
 fn reach<R: References>(
     alloc: Global,
@@ -58,10 +58,10 @@ fn reach<R: References>(
     Ok(live)
 }
 
-/// The live sections under garbage collection, of sections that are known by their numbers, from 0 in object order.
-/// `out` says of each whether it is left out. Only the live sections are asked for what they refer to, each once, so
-/// that the time grows with the number of sections and of the references of live ones, and nothing is recursive. An
-/// error says that memory ran out.
+/// The live sections under garbage collection, of sections that are numbered from 0 in object order. `out` says of each
+/// whether it is discarded. Only the live sections are asked for what they refer to, each once, so that the time grows
+/// with the number of sections and of the references of live ones, and nothing is recursive. An error says that memory
+/// ran out.
 pub fn mark<R: References>(
     alloc: Global,
     out: &[bool],

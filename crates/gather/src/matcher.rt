@@ -17,10 +17,10 @@ use ldscript::tree::InputStatementAt;
 use std::alloc::Global;
 use std::marker::Model;
 
-/// A script, prepared for finding the statements that take sections. Statements for other files, by their names, cost
-/// the logarithm of the number of such files. Of the words of all others the time for one section grows with the number
-/// of those that have pattern signs, with that of those that are its very name, and with the logarithm of the number of
-/// the rest.
+/// A script, prepared for finding the statements that take sections. Statements whose file pattern is the name of
+/// another file cost the logarithm of the number of such files. Of the words of all other statements one section takes
+/// time linear in the number of those with wildcards and of those that are its very name, and logarithmic in the number
+/// of the rest.
 #[derive(Drop)]
 pub struct Matcher<'a> {
     script: &'a Script,
@@ -83,15 +83,15 @@ impl<'a> Matcher<'a> {
     pub fn first_match(&self, file: &[u8], section: &[u8]) -> Option<InputIndex>
         ensures { number_of result ≡ first_match self.now file.now section.now }
     {
-        // so that what a script says of its statements is known
+        // for the prover: brings in the invariant of `self.script`
         let _script = self.script;
         self.words.first_taker(&mut [], file, section)
     }
 
-    /// The input statements that take the sections of an object, in their order. A long name is matched once, however
-    /// many sections have it where it lies, and so is a short one, where a word that is one name leaves out many
-    /// patterns for files. In statements for more than one file the patterns for files of a word that has pattern signs
-    /// are matched at most once.
+    /// For each section of an object, in their order, the input statement that takes it. A section takes over the
+    /// answer of an earlier one that shares its name: if the name is long and has the same bytes of the file, or if it
+    /// is short and the script has a word that excludes many file patterns. In statements for several files, whether a
+    /// word with wildcards takes sections of this one is found out at most once.
     ///
     /// # Errors
     ///
@@ -104,7 +104,7 @@ impl<'a> Matcher<'a> {
     ) -> Result<Vec<Option<InputIndex>>, NoMemory>
         ensures { IfOk result (λ found. map number_of found.items ≡ matches_of self.now file.now object.now.sections) }
     {
-        // so that what a script says of its statements is known
+        // for the prover: brings in the invariant of `self.script`
         let _script = self.script;
         matches_by(alloc, &self.words, file, object)
     }

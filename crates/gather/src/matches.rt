@@ -10,8 +10,8 @@ use ldmodel::rows::InputIndex;
 use ldmodel_project::view::ProjectView;
 use std::alloc::Global;
 
-/// Which statements of a script take the input sections of an object. It speaks of the object, its name and the script
-/// alone, so that it may be kept while these stay.
+/// Which statements of a script take the input sections of an object. It depends only on the object, its name and the
+/// script, so that it stays right while these stay.
 #[derive(Drop)]
 pub struct Matches {
     /// The statements that take its linked sections, in their order.
@@ -55,7 +55,7 @@ pub fn match_all(alloc: Global, project: &ProjectView<'_>) -> Result<Vec<Matches
     Ok(all)
 }
 
-/// Each of these, lent.
+/// A reference to each of these.
 ///
 /// # Errors
 ///

@@ -12,9 +12,9 @@ use std::collections::BTreeMap;
 /// From this many bytes on a name is long.
 const LONG: usize = 64;
 
-/// Sections of an object by their names: those that have long names by where these begin, as a table of names can lend
-/// one name to many sections; and the others by their names, if so it was asked for. Nothing need hold of the maps:
-/// `earlier` looks at the section that it gives.
+/// Sections of an object by their names: those with long names by where these begin in the file, since many sections
+/// can share the bytes of one name; and the others by their names, if that was asked for. The maps have no invariant:
+/// `earlier` compares the names itself.
 #[derive(Drop)]
 pub struct NamePlaces<'o> {
     long: BTreeMap<usize, usize>,
@@ -27,7 +27,7 @@ fn is_long(name: Span) -> bool {
     name.end.saturating_sub(name.start) >= LONG
 }
 
-/// Whether these are the same stretch.
+/// Whether these are the same span.
 fn is_same(left: Span, right: Span) -> bool
     ensures { IsTrue result → left ≡ right }
 {

@@ -4,7 +4,7 @@ ghost use Rattle.std.specs.Prelude.{◌≡◌, ◌<◌, ◌↔◌, ℕ, Contains
 
 use ldmodel::memory::NoMemory;
 
-/// The references of sections that are known by their numbers, from 0 on.
+/// The references of sections that are numbered from 0 on.
 pub trait References {
     /// When targets can be found: what the parts of an implementation must agree on.
     ghost can_find: { Self → Type 0 };

@@ -39,7 +39,7 @@ fn relocations_at(object: &Object, number: SectionIndex) -> &[Relocation]
     ensures { result.now ≡ option_map_or (λ (section : LinkedSection). section.relocations)
         (find (λ (section : LinkedSection). section.number.0 == number.0) object.now.sections) [] }
 {
-    // so that what an object says of its sections is known
+    // for the prover: brings in the invariant of `object`, of its sections
     let _sections = object.sections();
     match object.section_at(number) {
         Some(place) => object.relocations(place),

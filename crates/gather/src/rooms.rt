@@ -65,8 +65,8 @@ fn row_lengths(
     Ok(lengths)
 }
 
-/// How many pieces the bucket of a statement is made for: those of its whole row where it is the first one that takes
-/// any, since its bucket becomes the row. From then on the row has no length left.
+/// How many pieces the bucket of a statement has room for: its own `count`, or those of the whole row if it is the
+/// first statement there that takes any, since its bucket becomes the row. The length of that row is then set to 0.
 fn room(lengths: &mut Vec<usize>, place: InputPlace, count: usize) -> usize {
     match place {
         InputPlace::InDiscard => 0,

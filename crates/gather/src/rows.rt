@@ -24,7 +24,7 @@ use ldscript::tree::{InputPlace, InputStatementAt, Sort};
 use std::alloc::Global;
 use std::mem;
 
-/// As many rows of nothing.
+/// This many empty rows.
 fn empty_rows(alloc: Global, count: usize) -> Result<Vec<Vec<Piece>>, NoMemory>
     ensures { IfOk result (λ lists. AreEmpty count lists.items) }
 {

@@ -1,4 +1,4 @@
-//! What all names of a list begin with.
+//! The prefix that all names of a list share.
 
 ghost use Rattle.std.specs.Prelude.{◌≡◌, ◌≤◌, ◌<◌, ℕ, length, slice_index};
 ghost use Rattle.gather.specs.SharedStarts.{AllBegin, BeginsWith};
@@ -15,7 +15,7 @@ fn count_shared(one: &[u8], other: &[u8]) -> usize
     count
 }
 
-/// The bytes that two names begin with.
+/// The prefix that two names share.
 fn shared<'a>(one: &'a [u8], other: &[u8]) -> &'a [u8]
     ensures one { BeginsWith result.now one.now }
     ensures other { BeginsWith result.now other.now }
@@ -26,7 +26,7 @@ fn shared<'a>(one: &'a [u8], other: &[u8]) -> &'a [u8]
     &one[..count_shared(one, other)]
 }
 
-/// The bytes that all names begin with.
+/// The prefix that all names share.
 pub(crate) fn shared_start<'a>(names: &[&'a [u8]]) -> &'a [u8]
     ensures { AllBegin result.now names.now }
 {

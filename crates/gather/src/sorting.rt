@@ -19,7 +19,7 @@ use ldscript::tree::Sort;
 use std::alloc::Global;
 use symres::table::prefix_key::KeyedName;
 
-/// The name of the section of a piece, after what the names of all pieces begin with, and the place of the piece.
+/// The name of a piece's section, without the prefix that all names share, and the place of the piece.
 #[derive(Drop)]
 struct NamedPlace<'a> {
     name: KeyedName<'a>,
@@ -41,7 +41,7 @@ fn names_of<'a>(
     Ok(names)
 }
 
-/// The places of names, which all begin with `start`, with what follows this in each.
+/// For each name, all of which begin with `start`, what follows that, and the place of the name.
 fn places_of<'a>(
     alloc: Global,
     names: &[&'a [u8]],

@@ -36,11 +36,11 @@ use std::alloc::Global;
 pub(crate) struct Taken {
     /// The pieces that each statement takes.
     pub(crate) buckets: Vec<Vec<Piece>>,
-    /// The sections that no statement takes and that are not left out.
+    /// The sections that no statement takes and that are not discarded.
     pub(crate) orphans: Vec<SectionKey>,
 }
 
-/// Takes a section, unless it is left out.
+/// Takes a section, unless it is discarded.
 fn take_section(
     taken: &mut Taken,
     statements: &[InputStatementAt<'_>],
@@ -115,7 +115,7 @@ fn take_object(
         (map (facts p) (object_inputs p place (shown_input input.now)))) }
     ensures ascending { IsAscending (shown_input input.now) }
 {
-    // so that what an object says of its sections is known
+    // for the prover: brings in the invariant of `input.object`, of its sections
     let _sections = input.object.sections();
     let key = ObjectPlace(place);
     take_linked(
@@ -130,7 +130,7 @@ fn take_object(
 }
 
 /// The pieces and the orphans of a project of which nothing is collected: all its input sections but those that are
-/// left out. `statements` are the input statements of its script, which has this many output sections. `blocks` has
+/// discarded. `statements` are the input statements of its script, which has this many output sections. `blocks` has
 /// the common blocks of each object, in object order.
 ///
 /// # Errors

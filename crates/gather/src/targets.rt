@@ -36,13 +36,9 @@ fn place_of(project: &ProjectView<'_>, entry: Entry) -> Option<SymbolPlace>
     ensures { result ≡ option_map (λ (symbol : NamedSymbol). symbol.symbol.place)
         (symbol_at project.now entry.key entry.symbol) }
 {
-    match project.object(ObjectPlace(entry.key)) {
-        Some(object) => match object.symbols().get(entry.symbol as usize) {
-            Some(symbol) => Some(symbol.place),
-            None => None,
-        },
-        None => None,
-    }
+    let object = project.object(ObjectPlace(entry.key))?;
+    let symbol = object.symbols().get(entry.symbol as usize)?;
+    Some(symbol.place)
 }
 
 /// The section that an entry is defined in, if it is in one.
@@ -50,10 +46,8 @@ fn section_of_entry(project: &ProjectView<'_>, entry: Entry) -> Option<SectionKe
     ensures { option_map (section_id (λ key. key)) result
         ≡ section_of_entry project.now (entry_of (λ key. key) entry) }
 {
-    match place_of(project, entry) {
-        Some(at) => section_at(entry.key, at),
-        None => None,
-    }
+    let at = place_of(project, entry)?;
+    section_at(entry.key, at)
 }
 
 /// The section that a name is defined in, by what it stands for; none for a number.
@@ -104,8 +98,6 @@ pub(crate) fn entry_section(
     requires { IsSymbolTable project.now symbol_table.now }
     ensures { option_map (section_id (λ key. key)) result ≡ entry_section project.now }
 {
-    match project.entry_symbol() {
-        Some(name) => section_of_case(project, symbol_table.case_named(project.script(), name)),
-        None => None,
-    }
+    let name = project.entry_symbol()?;
+    section_of_case(project, symbol_table.case_named(project.script(), name))
 }

@@ -46,7 +46,7 @@ impl WordAt<'_> {
     }
 }
 
-/// Whether the word at this place takes sections from the file of this name, and from then on this is known.
+/// Finds out whether the word at this place takes sections from the file of this name, and notes it in `known`.
 fn find_out(words: &[WordAt<'_>], known: &mut [Option<bool>], place: usize, file: &[u8]) -> bool
     requires place { place < length words.now }
     requires known { AreKnown file.now words.now known.old }
@@ -81,8 +81,8 @@ fn takes(
     }
 }
 
-/// The statement of the first of these words that takes the section. `known` says of the first of them, as many as it
-/// has places, which are known to take sections from the file, and which not.
+/// The statement of the first of these words that takes the section. `known` says of each of the first words, as many
+/// as it has entries, whether it takes sections from the file, if that was found out.
 pub fn first_taker(
     words: &[WordAt<'_>],
     known: &mut [Option<bool>],

@@ -19,18 +19,17 @@ use ldscript::tree::{Input, SectionWord};
 use std::alloc::Global;
 use std::collections::BTreeMap;
 
-/// With this many patterns for files that it leaves out, a word costs more than a look for an earlier section of the
-/// same name.
+/// From this many excluded file patterns on a word costs more than to look for an earlier section of the same name.
 const MANY: usize = 16;
 
 /// The words of a script in the order of the text: those that match one name under that name, and the others in a list.
 #[derive(Drop)]
 pub struct WordTable<'a> {
     named: BTreeMap<&'a [u8], Vec<WordAt<'a>>>,
-    /// Of these names: most sections have a name of none of these.
+    /// The kinds of these names: most sections have a name of none of them.
     kinds: NameKinds,
     wild: Vec<WordAt<'a>>,
-    /// The greatest number of patterns for files that a word under a name leaves out.
+    /// The greatest number of file patterns that a word under a name excludes.
     excluded: usize,
     ghost known: { AreKindsOf kinds (λ name. is_some (get_by (λ k. slice_cmp nat_cmp name k.now) named)) },
 }
@@ -127,13 +126,11 @@ impl<'a> WordTable<'a> {
         if !self.kinds.has_kind_of(name) {
             return None;
         }
-        match self.named.get(name) {
-            Some(words) => Some(words.as_slice()),
-            None => None,
-        }
+        let words = self.named.get(name)?;
+        Some(words.as_slice())
     }
 
-    /// Says of each word in the list of others that it isn't known yet whether it takes sections from a file.
+    /// What `first_taker` takes as `known` for a file of which nothing is known yet.
     ///
     /// # Errors
     ///
@@ -144,13 +141,13 @@ impl<'a> WordTable<'a> {
         vec![in alloc; None; self.wild.len()]
     }
 
-    /// Whether a word under a name leaves out many patterns for files.
+    /// Whether a word under a name excludes many file patterns.
     pub fn excludes_many(&self) -> bool {
         self.excluded >= MANY
     }
 
     /// The first statement that takes the sections of this name in the file of this name, by a word of the table.
-    /// `known` says which words in the list of others are known to take sections from the file, and which not.
+    /// `known` says of each word in the list of others whether it takes sections from the file, if that was found out.
     pub fn first_taker(
         &self,
         known: &mut [Option<bool>],

@@ -18,23 +18,17 @@ use symres::decisions::change::{ObjectAt, ObjectChange, undone};
 fn object_at<'a>(place: Option<usize>, object: Option<&'a Object>) -> Option<ObjectAt<'a>>
     ensures { shown_at result ≡ beside place (option_copied object.entry) }
 {
-    match place {
-        None => None,
-        Some(place) => match object {
-            None => None,
-            Some(object) => Some(ObjectAt { place, object }),
-        },
-    }
+    let place = place?;
+    let object = object?;
+    Some(ObjectAt { place, object })
 }
 
 /// The place of an object, if there is one.
 pub(crate) fn place_of(at: Option<ObjectAt<'_>>) -> Option<usize>
     ensures { result ≡ place_at at.entry }
 {
-    match at {
-        Some(at) => Some(at.place),
-        None => None,
-    }
+    let at = at?;
+    Some(at.place)
 }
 
 /// What goes and what comes under the key of the object that an edit touches.

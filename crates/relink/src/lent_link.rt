@@ -7,8 +7,8 @@ use ldmodel_project::staged::Staged;
 use relink_driver::stayed_sections::PreviousView;
 use std::alloc::Global;
 
-/// The previous link, lent to the link of the next project. That makes the origins of the objects only where its names
-/// have no fault.
+/// The previous link, lent to the link of the next project, which makes the origins of its objects only if its names
+/// have no faults.
 #[derive(Clone, Copy)]
 pub(crate) struct LentLink<'a> {
     pub(crate) previous: &'a PreviousLink,
@@ -24,15 +24,15 @@ impl<'a> LentLink<'a> {
     ghost use Rattle.relink_driver.specs.StayedSections.{previous_state};
     ghost use Rattle.relink.specs.PreviousLink.{lent_state};
 
-    /// The origins of the objects of the next project, in their order; that which comes has none. Fails where memory
-    /// runs out.
+    /// The origins of the objects of the next project, in their order; an object that the edit puts has none. Fails
+    /// where memory runs out.
     pub(crate) fn origins(&self, alloc: Global) -> Result<Vec<Option<usize>>, NoMemory>
         ensures { IfOk result (λ from. from.items ≡ (lent_state self.now).from) }
     {
         self.previous.origins_of(alloc, self.keys, self.effect.gone)
     }
 
-    /// The previous link, beside the origins of the objects of the next project.
+    /// The previous link as the next one sees it. `from` are the origins of the objects of the next project.
     pub(crate) fn view(&self, from: &'a [Option<usize>]) -> PreviousView<'a>
         requires { from.now ≡ (lent_state self.now).from }
         ensures { previous_state result ≡ lent_state self.now }

@@ -1,12 +1,12 @@
-//! A linker that keeps, from one link to the next, what names stand for, which statements take input sections, and the
-//! previous link without faults, whose layout the next one resumes, and over whose image it is drawn.
+//! The linker of a session. From one link to the next it keeps how names are resolved, which statements take input
+//! sections, and the previous link without faults: the next link resumes its layout, and is written over its image.
 //!
-//! - `session`: `Session`; `link_tables`: what it keeps, and how that follows an edit; `unchanged`: edits that change
-//!   nothing;
+//! - `session`: `Session`; `link_tables`: what it keeps of names and sections, and how an edit updates that;
+//!   `unchanged`: edits that change nothing;
 //! - `change`, `match_table`: what an edit changes under a key; the matches of all objects;
 //! - `name_list`: the names of the objects of a link;
-//! - `previous`, `lent_link`, `session_link`: the previous link without faults, lent to the next one, and a link over it;
-//!   `outcome`: what the queries get;
+//! - `previous`, `lent_link`, `session_link`: the previous link without faults, lent to the next one, and a link over
+//!   it; `outcome`: what the queries get;
 //! - the parts `project` (the crate `ldmodel_project`) and `driver`. Programs name this crate alone.
 #![tactic(auto)]
 

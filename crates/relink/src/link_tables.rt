@@ -1,4 +1,4 @@
-//! What a session keeps of a project beside the project and its link, and how it follows an edit.
+//! The tables that a session keeps beside the project and its link, and how an edit updates them.
 
 ghost use Rattle.std.specs.Prelude.{◌≡◌, IfOk, List, None, OnErr, Some, true};
 ghost use Rattle.symres.specs.decisions.Change.{Fits as FitsTables};
@@ -26,14 +26,14 @@ use std::alloc::Global;
 use symres::SymbolTable;
 use symres::decisions::change::ObjectChange;
 
-/// What names stand for, under the keys of the objects, and which statements take the input sections of each object.
+/// How names are resolved, under the keys of the objects, and which statements take the input sections of each object.
 #[derive(Drop)]
 pub(crate) struct LinkTables {
     pub(crate) symbol_table: SymbolTable,
     pub(crate) matches: Vec<Matches>,
 }
 
-/// What comes with a change of one object, with all memory that it takes.
+/// What a change of one object puts into the tables, in memory that was taken ahead.
 #[derive(Drop)]
 struct IncomingChange {
     order: Order,
@@ -65,8 +65,8 @@ fn put_in_order_if(symbol_table: &mut SymbolTable, is_good: bool)
 }
 
 impl LinkTables {
-    /// Takes all memory that a change of one object needs. Fails where memory runs out: then what is kept is of the
-    /// same objects.
+    /// Takes all memory that a change of one object needs. Fails where memory runs out: then the tables are of the same
+    /// objects as before.
     fn make_room(
         &mut self,
         alloc: Global,
@@ -85,8 +85,8 @@ impl LinkTables {
         Ok(IncomingChange { order, matches })
     }
 
-    /// Follows an edit that touches the object under a key, and links the next project. Fails where memory runs out:
-    /// then what is kept is of the project as before.
+    /// Updates the tables for an edit of the object under a key, and links the next project. Fails where memory runs
+    /// out: then the tables are those of the project before the edit.
     fn update_for_object(
         &mut self,
         alloc: Global,
@@ -134,8 +134,8 @@ impl LinkTables {
         }
     }
 
-    /// Follows an edit that touches no object, as one of the script, and links the next project. Fails where memory
-    /// runs out: then what is kept is of the project as before.
+    /// Updates the tables for an edit of no object, as one of the script, and links the next project. Fails where
+    /// memory runs out: then the tables are those of the project before the edit.
     fn update_for_script(
         &mut self,
         alloc: Global,
@@ -175,11 +175,11 @@ impl LinkTables {
         }
     }
 
-    /// Follows a staged edit, and links the project that it leads to.
+    /// Updates the tables for a staged edit, and links the project that it leads to.
     ///
     /// # Errors
     ///
-    /// Where memory runs out. What is kept is then of the project as before.
+    /// Where memory runs out. The tables are then those of the project before the edit.
     pub(crate) fn update(
         &mut self,
         alloc: Global,

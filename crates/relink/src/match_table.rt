@@ -40,10 +40,8 @@ fn take_out(list: &mut Vec<Matches>, out: Option<usize>) -> Option<Matches>
     ensures one { IfSome out (λ _. vec_len list.new + 1 ≡ vec_len list.old) }
     ensures capacity { vec_capacity list.new ≡ vec_capacity list.old }
 {
-    match out {
-        Some(place) => Some(list.remove(place)),
-        None => None,
-    }
+    let place = out?;
+    Some(list.remove(place))
 }
 
 /// Puts in what comes at a place, if both are there. It takes no memory.

@@ -36,7 +36,8 @@ impl Model for NameList {
     ghost invariant = { λ n. sum_by (λ k. k) n.lengths.items ≡ length n.text.items };
 }
 
-/// Whether a name may stand at a place: it is another one, or this is the place where it may.
+/// Whether the name at place `at`, which is the one that is looked for if `is_same`, may be there: that one only at
+/// `place`.
 fn is_allowed(is_same: bool, place: Option<usize>, at: usize) -> bool
     ensures { result ≡ true → is_same ≡ true → place ≡ Some at }
 {
@@ -47,7 +48,7 @@ fn is_allowed(is_same: bool, place: Option<usize>, at: usize) -> bool
 }
 
 impl NameList {
-    /// No name, with room for this many names of this many bytes in all.
+    /// An empty list, with room for this many names of this many bytes in all.
     ///
     /// # Errors
     ///
@@ -83,7 +84,7 @@ impl NameList {
         self.lengths.len()
     }
 
-    /// Whether each of the names that is this one stands at this place, if any is.
+    /// Whether this name is not in the list, or only at this place.
     pub(crate) fn is_named_at(&self, name: &[u8], place: Option<usize>) -> bool
         ensures { result ≡ true → IsNamedAt self.now.names name.now place }
     {
@@ -101,7 +102,7 @@ impl NameList {
     }
 }
 
-/// How many bytes the names of these objects have in all, where that is below 2^63; else no number below.
+/// How many bytes the names of these objects have in all, at most the greatest `usize`.
 fn name_bytes(inputs: &[InputObject<'_>]) -> usize
     ensures { result < 2 ^ 63 → result ≡ sum_by (λ (o : NamedObject). length o.name) (shown_inputs inputs.now) }
 {
@@ -112,7 +113,7 @@ fn name_bytes(inputs: &[InputObject<'_>]) -> usize
     bytes
 }
 
-/// No name, with room for those of these objects.
+/// An empty list, with room for the names of these objects.
 ///
 /// # Errors
 ///

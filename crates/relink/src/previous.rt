@@ -1,4 +1,4 @@
-//! The previous link without faults, which outlives edits: what is kept of it, and which of its objects are still
+//! The previous link without faults, which outlives links with faults: its snapshot, and which of its objects are still
 //! there.
 
 ghost use Rattle.std.specs.Prelude.{◌≡◌, ℕ, IfOk, IfSome, List, None, Some, map, slice_get, true};
@@ -28,38 +28,37 @@ use std::alloc::Global;
 /// What is kept of the previous link without faults.
 #[derive(Drop)]
 pub(crate) struct PreviousLink {
-    /// The state of that link.
+    /// Its snapshot.
     pub snapshot: LinkSnapshot,
-    /// At which place of that link each object stood that is still there with the same bytes, under the object's key.
+    /// Under the key of each object, its place in that link, if it is still there with the same bytes.
     pub origins: Vec<Option<usize>>,
     /// The names of the objects of that link, by their places.
     pub names: NameList,
-    /// Whether the script is known to be the same still.
+    /// Whether the script is known to be still the same.
     pub same_script: bool,
 }
 
-/// What an edit means to the previous link without faults.
+/// What an edit does to the previous link.
 #[derive(Clone, Copy)]
 pub(crate) struct EditEffect {
-    /// Whether the object that the edit puts, if it puts one, is known to be no object of that link.
+    /// Whether the edit is known to put no object that this link has already.
     pub known: bool,
-    /// The key whose object is no object of that link any more, if there is one.
+    /// The key of the object that this link does not have any more, if there is one.
     pub gone: Option<usize>,
     /// Whether the script stays.
     pub same_script: bool,
-    /// Whether that link is the one that is answered.
+    /// Whether queries are answered from this link.
     pub is_current: bool,
 }
 
-/// What a link over the previous one leads to.
+/// The outcome of a link over the previous one.
 #[derive(Drop)]
 pub(crate) enum UpdateOutcome {
     /// These fault lines.
     Faulty(Vec<u8>),
     /// What is kept of the link, and its map.
     Good(PreviousLink, Vec<u8>),
-    /// The previous link with another image, which is answered with the same map: the origins of the objects of that
-    /// link.
+    /// Only the image differs from the previous link; the map stays. The new origins of the objects.
     RewrittenInPlace(Vec<Option<usize>>),
 }
 
@@ -73,7 +72,7 @@ impl UpdateOutcome {
     }
 }
 
-/// An object of the previous link, and the place of the one that comes in its place, where there are both.
+/// An object of the previous link and the place of the object that replaces it, if there are both.
 fn replaced_at<'a>(
     old: Option<usize>,
     object: Option<&'a Object>,
@@ -81,31 +80,18 @@ fn replaced_at<'a>(
 ) -> Option<ReplacedObject<'a>>
     ensures { option_map replaced_state result ≡ replaced_by old (option_copied object.entry) new }
 {
-    match old {
-        None => None,
-        Some(old) => match object {
-            None => None,
-            Some(object) => match new {
-                None => None,
-                Some(new) => Some(ReplacedObject {
-                    old: ObjectPlace(old),
-                    object,
-                    new: ObjectPlace(new),
-                }),
-            },
-        },
-    }
+    let old = ObjectPlace(old?);
+    let object = object?;
+    let new = ObjectPlace(new?);
+    Some(ReplacedObject { old, object, new })
 }
 
 impl PreviousLink {
-    /// At which place of the previous link the object under a key stood, if that link has it.
+    /// The place in the previous link of the object under a key, if that link has it.
     fn origin(&self, key: usize) -> Option<usize>
         ensures { result ≡ origin_of self.now.origins.items key }
     {
-        match self.origins.get(key) {
-            Some(place) => *place,
-            None => None,
-        }
+        *self.origins.get(key)?
     }
 
     /// Like `origin`, but none for the object under the key `gone`.
@@ -118,8 +104,7 @@ impl PreviousLink {
         }
     }
 
-    /// The place in the previous link of the object under a key, if that link has it and its bytes are other than those
-    /// of this object.
+    /// The place in the previous link of the object under a key, if that link has it and this object has other bytes.
     fn place_of_other(
         &self,
         project: &Project,
@@ -138,8 +123,8 @@ impl PreviousLink {
         Some(place)
     }
 
-    /// Whether an object that is put under a key is known to be no object of the previous link: it has another name
-    /// than each of those, or other bytes than the one in whose place it comes.
+    /// Whether an object that is put under a key is known not to be in the previous link: that has no object of its
+    /// name, except perhaps one under the same key with other bytes.
     fn is_new(&self, project: &Project, key: ObjectKey, named: &NamedObject) -> bool
         ensures { result ≡ true → (old : List NamedObject)
             → self.now.names.names ≡ map (λ (object : NamedObject). object.name) old
@@ -149,7 +134,7 @@ impl PreviousLink {
         self.names.is_named_at(named.name(), place)
     }
 
-    /// Whether the object that an edit puts, if it puts one, is known to be no object of the previous link.
+    /// Whether an edit is known to put no object that the previous link has already.
     fn knows(&self, project: &Project, staged: &Staged) -> bool
         ensures { result ≡ true → (old : List NamedObject)
             → self.now.names.names ≡ map (λ (object : NamedObject). object.name) old
@@ -162,7 +147,7 @@ impl PreviousLink {
         }
     }
 
-    /// The object of the previous link in whose place an edit puts one, if it is still there.
+    /// The object of the previous link that an edit replaces, if there is one and it is still there.
     pub(crate) fn replaced<'a>(
         &self,
         project: &'a Project,
@@ -196,7 +181,7 @@ impl PreviousLink {
             .collect(alloc)
     }
 
-    /// Notes that the object under a key is no object of the previous link any more, if there is a key.
+    /// Notes that the previous link does not have the object under a key any more, if there is a key.
     fn forget(&mut self, key: Option<usize>)
         ensures snapshot { self.new.snapshot ≡ self.old.snapshot }
         ensures names { self.new.names ≡ self.old.names }
@@ -212,7 +197,7 @@ impl PreviousLink {
     }
 }
 
-/// Whether there is a previous link and the object that an edit puts, if it puts one, is known to be no object of it.
+/// Whether there is a previous link, and an edit is known to put no object that it has already.
 fn is_known(previous: &Option<PreviousLink>, project: &Project, staged: &Staged) -> bool
     ensures { result ≡ true → IfSome previous.now (λ x. Knows x project.now.contents.entries staged.now.objects.step) }
 {
@@ -235,7 +220,7 @@ fn changed_key(staged: &Staged) -> Option<usize>
     }
 }
 
-/// The key under which an object comes or goes; none where the same one comes.
+/// The key under which an object comes or goes; none if it is replaced by the same one.
 fn lost_key(staged: &Staged, same: bool) -> Option<usize>
     ensures { result ≡ lost_key same staged.now.objects.step }
 {
@@ -253,9 +238,9 @@ fn leaves_script(staged: &Staged) -> bool
     }
 }
 
-/// What an edit means to the previous link, where `same` says whether it puts an object over the same one. Where the
-/// answer has no faults, the previous link is that of the project before the edit, and what comes is none of its
-/// objects; else the names of the objects of the previous link are looked through.
+/// What an edit does to the previous link. `same` says whether it replaces an object by the same one. If the present
+/// outcome is good, the previous link is that of the project before the edit, so that the edit puts none of its
+/// objects; else the names of its objects are searched.
 pub(crate) fn effect_of(
     previous: &Option<PreviousLink>,
     outcome: &LinkOutcome,
@@ -273,8 +258,8 @@ pub(crate) fn effect_of(
     }
 }
 
-/// The previous link, lent to the link of the next project, whose objects have these keys, if it is known to have none
-/// of what comes.
+/// The previous link, lent to the link of the next project, if it is known not to have the object that the edit puts.
+/// `keys` are those of the objects of the next project.
 pub(crate) fn lend_previous<'a>(
     previous: &'a Option<PreviousLink>,
     effect: EditEffect,
@@ -314,7 +299,7 @@ pub(crate) fn origins_for(
     }
 }
 
-/// The previous link that is lent, beside the origins of the objects of the next project.
+/// The previous link that is lent, as the next one sees it. `from` are the origins of the objects of the next project.
 pub(crate) fn view_previous<'a>(
     previous: &Option<LentLink<'a>>,
     from: &'a [Option<usize>],
@@ -322,14 +307,12 @@ pub(crate) fn view_previous<'a>(
     requires { AreOriginsFor (lent_of previous.now) from.now }
     ensures { previous_of result ≡ lent_of previous.now }
 {
-    match previous {
-        None => None,
-        Some(previous) => Some(previous.view(from)),
-    }
+    let previous = previous.as_ref()?;
+    Some(previous.view(from))
 }
 
 /// Keeps the previous link after an edit that led to a link with faults, without the origin of the object that came or
-/// went. Where the previous link isn't known to be without the object that came, it is dropped.
+/// went. If the previous link may have the object that came, it is dropped.
 fn keep_after_fault(previous: &mut Option<PreviousLink>, effect: EditEffect)
     ensures { IsAfterFault effect.known effect.gone effect.same_script previous.old previous.new }
 {
@@ -343,7 +326,7 @@ fn keep_after_fault(previous: &mut Option<PreviousLink>, effect: EditEffect)
     }
 }
 
-/// Keeps the previous link, whose objects now have these origins, as that of the project: only its image is another.
+/// Makes the previous link that of the project, after a rewrite in place: its objects now have these origins.
 fn refresh_origins(previous: &mut Option<PreviousLink>, origins: Vec<Option<usize>>)
     ensures { AreOriginsRefreshed origins previous.old previous.new }
 {
@@ -353,8 +336,8 @@ fn refresh_origins(previous: &mut Option<PreviousLink>, origins: Vec<Option<usiz
     }
 }
 
-/// Answers a link over the previous one, which stays that where the link has faults. The answer stays where only
-/// the image is another.
+/// Records the outcome of a link over the previous one. A good link becomes the previous one; after a link with faults
+/// that stays. After a rewrite in place the outcome stays too, as only the image differs.
 pub(crate) fn record_outcome(
     updated: UpdateOutcome,
     previous: &mut Option<PreviousLink>,

@@ -28,17 +28,16 @@ use std::marker::Model;
 use symres::SymbolTable;
 use symres::decisions::law::{distinct_more, names_of_objects};
 
-/// A linker that keeps what names stand for, which statements take the input sections of each object, and the previous
-/// link without faults. An edit of an object reads at most that object, and decides its names alone. Where the link
-/// before it has no faults, input sections are placed only from the first output section on that changed, and the image
-/// is drawn over the previous one, but for the input sections that stayed.
+/// A linker that keeps how names are resolved, which statements take the input sections of each object, and the
+/// previous link without faults. An edit of an object reads at most that object, and resolves only its names. If the
+/// link before it has no faults, input sections are placed only from the first output section on that changed, and the
+/// image is written over the previous one, except for the input sections that stayed.
 #[derive(Drop)]
 pub struct Session {
     alloc: Global,
     project: Project,
-    kept: LinkTables,
-    // the previous link without faults, whose image is on the canvas: the link of the project, where the answer has no
-    // faults
+    tables: LinkTables,
+    // the previous link without faults, whose image is on the canvas; if `outcome` is good, the link of the project
     previous: Option<PreviousLink>,
     canvas: Canvas,
     outcome: LinkOutcome,
@@ -62,7 +61,7 @@ impl Model for Session {
     ghost view = { λ s. held s.project };
 
     ghost invariant = { λ s. (shown s.canvas.bytes s.outcome ≡ link (held s.project))
-        × IsKept (listing_of s.project) s.kept.symbol_table s.kept.matches.items
+        × IsKept (listing_of s.project) s.tables.symbol_table s.tables.matches.items
         × IsPreviousLink (listing_of s.project) s.canvas.bytes s.outcome s.previous };
 }
 
@@ -92,13 +91,13 @@ impl Session {
         ensures { IfOk result (λ session. session ≡ empty_project options) }
     {
         let project = Project::new(alloc, options);
-        let kept = tables_of_empty(alloc, seed, &project)?;
+        let tables = tables_of_empty(alloc, seed, &project)?;
         let mut canvas = Canvas::new(alloc);
         let updated = link_first(
             alloc,
             &project,
-            &kept.symbol_table,
-            &kept.matches,
+            &tables.symbol_table,
+            &tables.matches,
             &mut canvas,
         )?;
         let mut previous = None;
@@ -113,15 +112,15 @@ impl Session {
         Ok(Session {
             alloc,
             project,
-            kept,
+            tables,
             previous,
             canvas,
             outcome,
         })
     }
 
-    /// Stages an edit, follows it, and only then takes the next project and its link over. An object in the place of
-    /// one of the same bytes changes nothing, and is answered from what is kept.
+    /// Stages an edit, updates the tables and links, and only then commits the next project and records its link. If an
+    /// object replaces one of the same bytes, nothing changes, and the link that is there answers.
     fn apply_edit(&mut self, edit: Edit<'_>, meter: &mut Meter) -> Result<Linked, EditRefusal>
         ensures applied { Applied self.old (change_of edit.entry) self.new result }
         ensures counted { OnOk result (IsWholeWork self.old (change_of edit.entry) self.new meter.old meter.new) }
@@ -129,7 +128,7 @@ impl Session {
         names_of_objects();
         distinct_more();
         found_where_placed();
-        // so that the ranges of the counts are known
+        // for the prover: brings in that the counts fit a u64
         let _counts = (
             meter.objects(),
             meter.names(),
@@ -149,7 +148,7 @@ impl Session {
         let keys = next.keys();
         let effect = effect_of(&self.previous, &self.outcome, &self.project, &staged, same);
         let previous = lend_previous(&self.previous, effect, &self.project, &staged, keys);
-        match self.kept.update(
+        match self.tables.update(
             self.alloc,
             &self.project,
             &staged,

@@ -1,4 +1,4 @@
-//! A link over what a session keeps.
+//! A link over the tables that a session keeps.
 
 ghost use Rattle.std.specs.Prelude.{◌≡◌, IfOk, IfSome, None, OnErr, OnOk};
 ghost use Rattle.gather.specs.ProjectMatches.{AreMatched};
@@ -27,8 +27,8 @@ use relink_driver::name_faults::{entry_fault_line, name_fault_lines};
 use std::alloc::Global;
 use symres::SymbolTable;
 
-/// Links a project, whose objects have these keys, over what is kept of it. Fails where memory runs out: then the
-/// canvas is as it was.
+/// Links a project over the tables that are kept of it. `keys` are those of its objects. Fails where memory runs out:
+/// then the canvas is as it was.
 fn link_keyed(
     alloc: Global,
     project: &ProjectView<'_>,
@@ -50,7 +50,7 @@ fn link_keyed(
     ensures worked { IfOk result (HasWorked project.now (lent_of previous.entry) meter.old meter.new) }
 {
     found_where_placed();
-    // while a project is opened its names mostly have a fault: what goes over all objects is made only after them
+    // while a project is opened most links end here: what goes over all objects is made only after this
     if let Some(text) = name_fault_lines(alloc, project, symbol_table)? {
         return Ok(UpdateOutcome::Faulty(text));
     }
@@ -100,7 +100,7 @@ pub(crate) fn link_next(
     ensures worked { IfOk result (HasWorked (project_of next.now) (lent_of previous.entry) meter.old meter.new) }
 {
     symbol_table.names_kept();
-    // while a project is opened it mostly has no entry symbol: its objects are gone over only after that
+    // while a project is opened most links end here: its objects are gone over only after this
     if let Some(text) = entry_fault_line(alloc, next.script(), next.options(), symbol_table)? {
         return Ok(UpdateOutcome::Faulty(text));
     }

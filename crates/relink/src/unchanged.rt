@@ -31,9 +31,9 @@ pub(crate) fn puts_same(project: &Project, staged: &Staged) -> bool
         → PutsNoneOf (objects_of project.now.contents.entries) staged.now.objects.step }
     ensures named { PutsByName project.now.contents.entries staged.now.objects.step }
 {
-    // so that it is known that each object has a key of its own
+    // for the prover: brings in the invariant of `project`
     let _keys = project.keys();
-    // so that it is known what stands under each key after the edit
+    // for the prover: brings in what stands under each key after the edit
     let _next = project.next(staged);
     let Some((key, named)) = staged.put() else {
         return false;
@@ -52,7 +52,7 @@ pub(crate) fn is_unchanged(project: &Project, staged: &Staged, same: bool) -> bo
     requires same { same ≡ true → PutsSame project.now.contents.entries staged.now.objects.step }
     ensures { result ≡ true → project_of (next_listing project.now staged.now) ≡ held project.now }
 {
-    // so that it is known what stands under each key after the edit
+    // for the prover: brings in what stands under each key after the edit
     let _next = project.next(staged);
     same && staged.place_before() == staged.place_after()
 }

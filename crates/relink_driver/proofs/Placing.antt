@@ -18,6 +18,7 @@ use Rattle.ldmodel.specs.SessionWork.{entries_from}
 use Rattle.ldmodel.specs.Stayed.{GoodLink}
 use Rattle.emit.specs.Beside.{new_link}
 use Rattle.place.specs.sections.Counted.{first_of, placed_from}
+use Rattle.place.specs.sections.declared.resume_point.ResumePoint.{ResumePoint}
 use Rattle.relink_driver.specs.Counted.{ArePlaced}
 use Rattle.relink_driver.specs.Phases.{HasPreviousLink}
 
@@ -53,17 +54,17 @@ module _ (p : Project) (s : Layout) (counts : List ℕ) (are : counts ≡ map co
       ap (λ (ns : List ℕ). placed_from k ns) are ∙ as_many k s.sections
       ∙ ap (λ (rs : List (List Piece)). entries_from k rs) placed
 
-  pub are_placed : {K : Type 0} (previous : Option PreviousState) (kept : Option (K × ℕ))
+  pub are_placed : (previous : Option PreviousState) (kept : Option ResumePoint)
       → after ≡ raised before Pieces (placed_from (first_of kept) counts)
       → ((old : GoodLink) (x : PreviousState) → previous ≡ Some x → IsPreviousOf old p x
-      → IfSome kept (λ k. AreSameBefore old.project p k.1))
+      → IfSome kept (λ k. AreSameBefore old.project p k.first_row))
       → ((old : GoodLink) (x : PreviousState) → previous ≡ Some x → IsPreviousOf old p x → IsNext old.project p x
       → IsSome kept)
       → ((x : PreviousState) → previous ≡ Some x → x.same_script ≡ false → IsNone kept)
       → ((old : GoodLink) (x : PreviousState) → previous ≡ Some x → IsPreviousOf old p x → IsNext old.project p x
-      → IfSome kept (λ k. IsFirstChanged old.project p k.1))
+      → IfSome kept (λ k. IsFirstChanged old.project p k.first_row))
       → ArePlaced p previous before after
-  are_placed {K} previous kept exact same some none first = record {
+  are_placed previous kept exact same some none first = record {
     first = first_of kept;
     counted = exact ∙ ap (raised before Pieces) (entries_placed (first_of kept));
     same = λ old x e is. same_at kept old (same old x e is);
@@ -71,16 +72,17 @@ module _ (p : Project) (s : Layout) (counts : List ℕ) (are : counts ≡ map co
     anew = λ x e other. none_at kept (none x e other);
   }
     where
-      same_at : (k : Option (K × ℕ)) (old : GoodLink) → IfSome k (λ z. AreSameBefore old.project p z.1)
+      same_at : (k : Option ResumePoint) (old : GoodLink) → IfSome k (λ z. AreSameBefore old.project p z.first_row)
           → AreSameBefore old.project p (first_of k)
       same_at None old h n below = absurd (omega (arith, below))
       same_at (Some z) old h n below = h n below
 
-      first_at : (k : Option (K × ℕ)) (old : GoodLink) → IsSome k → IfSome k (λ z. IsFirstChanged old.project p z.1)
+      first_at : (k : Option ResumePoint) (old : GoodLink) → IsSome k
+          → IfSome k (λ z. IsFirstChanged old.project p z.first_row)
           → IsFirstChanged old.project p (first_of k)
       first_at None old one h n e = absurd (let no : ⊥ = cc in no)
       first_at (Some z) old one h n e = h n e
 
-      none_at : (k : Option (K × ℕ)) → IsNone k → first_of k ≡ 0
+      none_at : (k : Option ResumePoint) → IsNone k → first_of k ≡ 0
       none_at None h = refl
       none_at (Some z) h = absurd (let no : ⊥ = cc in no)

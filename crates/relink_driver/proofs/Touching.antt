@@ -57,6 +57,8 @@ use Rattle.emit.specs.relocate.declared.value.SymbolValue as code
 use Rattle.emit.specs.relocate.declared.value.SymbolValue.TheVariants as value
 use Rattle.emit.specs.in_place.InPlaceRewrites.{IsBare, IsInPlaceRewrite}
 use Rattle.emit.specs.in_place.LocatedSections.{HasLocatedSections, bytes_of, sites_of}
+use Rattle.emit.specs.in_place.declared.rewrite.Rewrite.{Rewrite}
+use Rattle.emit.specs.in_place.declared.rewrite.Rewrite.TheVariants.{Done, Faulty}
 use Rattle.place.specs.IndexedLayout.{IsIndexedLayout}
 use Rattle.place.proofs.Members.{first_or_later, got, here, later, member_of, none_in_nil}
 use Rattle.ldmodel_laws.proofs.Finding.{flat_map_in}
@@ -87,19 +89,9 @@ pub if_one : {A E : Type 0} (P R : A → Type 0) (m : Result A E) → ((a : A) �
 if_one P R (Ok a) h x = h a x
 if_one P R (Err e) h x = tt
 
-pub if_pair : {A E : Type 0} (P Q : A → Type 0) (m : Result A E) → IfOk m P → IfOk m Q → IfOk m (λ a. P a × Q a)
-if_pair P Q (Ok a) x y = (x, y)
-if_pair P Q (Err e) x y = tt
-
-pub by_answer : {X : Type 0} (done : Bool) → (done ≡ true → X) → (done ≡ false → X) → X
-by_answer true f g = f refl
-by_answer false f g = g refl
-
-pub has_touched : (q : Project) (previous : Option PreviousState) (old new : List ℕ) (m0 m1 : Counts) (done : Bool)
-    → (done ≡ true → IsInPlaceOutcome q previous new × IsWorkBeside q previous m0 m1)
-    → (done ≡ false → (new ≡ old) × HasFault q) → ReadsNothing m0 m1 → HasTouched q previous old new m0 m1 done
-has_touched q previous old new m0 m1 true f g r = ((f refl).0, r, (f refl).1)
-has_touched q previous old new m0 m1 false f g r = ((g refl).0, inr ((g refl).1, r))
+pub by_answer : {X : Type 0} (made : Rewrite) → (made ≡ Done → X) → (made ≡ Faulty → X) → X
+by_answer Done f g = f refl
+by_answer Faulty f g = g refl
 
 -- ---- links without faults
 

@@ -23,3 +23,4 @@ pub mod Unbounded
 pub mod Adding
 pub mod Answer
 pub mod Message
+pub mod Output

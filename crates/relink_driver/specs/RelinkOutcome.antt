@@ -1,12 +1,7 @@
 -- How a link over a previous one ends.
-use Rattle.std.specs.Prelude.{◌≡◌, ℕ, List, [], Ok, Option, Bool, true}
-use Rattle.place.specs.LinkLayout.{IsLinkLayout}
-use Rattle.place.specs.declared.indexed_layout.IndexedLayout.{IndexedLayout}
-use Rattle.ldmodel_laws.specs.Untouched.{IsGood}
-use Rattle.ldmodel.specs.Edits.{AreNamesDistinct}
+use Rattle.std.specs.Prelude.{◌≡◌, ℕ, List, [], Option, Bool, true}
 use Rattle.ldmodel.specs.Image.{image}
 use Rattle.ldmodel.specs.Layout.{Layout}
-use Rattle.ldmodel.specs.Link as model
 use Rattle.ldmodel.specs.Link.{link}
 use Rattle.ldmodel.specs.Project.{Project}
 use Rattle.ldmodel.specs.Stayed.{GoodLink}
@@ -23,17 +18,6 @@ pub record HasPreviousImage (new : Project) (bytes : List ℕ) (previous : Previ
   pub old : GoodLink
   pub is : IsPreviousOf old new previous
   pub image : bytes ≡ image old.project old.layout
-
--- a link without faults at the layout of these tables, whose image these bytes are, and whose map, if that is asked for
-pub record IsEmitted (with_map : Bool) (project : Project) (a : IndexedLayout) (bytes map : List ℕ) : Type 0 where
-  pub layout : Layout
-  pub link_layout : IsLinkLayout project layout a.link_layout
-  pub good : IsGood (record { project = project; layout = layout })
-  pub names : AreNamesDistinct project.objects
-  pub is : model.layout project ≡ Ok layout
-  pub rest : link project ≡ model.good project layout
-  pub link : shown with_map (link project) ≡ record { status = 0; image = bytes; map = map; faults = [] }
-  pub image : bytes ≡ image project layout
 
 -- a link without faults, whose image these bytes are, and whose map, if that is asked for
 pub record IsGoodOutcome (with_map : Bool) (project : Project) (bytes : List ℕ) (g : LinkSnapshot) (map : List ℕ)

@@ -1,4 +1,4 @@
-//! What is lent to the passes of a link.
+//! What the passes of a link are handed.
 
 use crate::stayed_sections::PreviousView;
 use gather::matches::Matches;
@@ -6,16 +6,16 @@ use ldmodel_project::view::ProjectView;
 use std::alloc::Global;
 use symres::SymbolTable;
 
-/// What each pass of a link is lent.
+/// What each pass of a link is handed.
 #[derive(Clone, Copy)]
 pub(crate) struct PassContext<'a, 'p> {
     /// The allocator.
     pub alloc: Global,
     /// The project.
     pub project: &'a ProjectView<'p>,
-    /// Its names, which are decided.
+    /// Its symbol names, resolved.
     pub symbol_table: &'a SymbolTable,
-    /// The statements that take the sections of each of its objects.
+    /// For each of its objects the input statements that take its sections.
     pub matches: &'a [&'a Matches],
     /// The previous link, if there is one.
     pub previous: Option<PreviousView<'a>>,

@@ -1,4 +1,4 @@
-//! Which objects of a link name a symbol that was worth something else in a previous link.
+//! Which objects of a link have a symbol that had another value in the previous link.
 
 ghost use Rattle.std.specs.Prelude.{◌≡◌, ℕ, IfOk, IfSome, false, slice_index_or, true};
 ghost use Rattle.relink_driver.specs.DirtyObjects.{AreDirtyObjects};
@@ -32,8 +32,8 @@ fn have_same_values(old: &[SymbolValue], new: &[SymbolValue]) -> bool
     true
 }
 
-/// Whether an object of a link, which has `count` symbols, is no object of the previous one, or one of its symbols had
-/// another value there.
+/// Whether an object of `count` symbols is dirty: the previous link does not have it, or one of its symbols had another
+/// value there.
 #[tactic(auto, using(crate::proofs::Unmarked::unmarked_by_rows))]
 fn is_dirty(
     previous: Option<PreviousView<'_>>,
@@ -54,9 +54,9 @@ fn is_dirty(
     !have_same_values(before, now)
 }
 
-/// Which objects of a link, by their places, are no objects of the previous one, or have a symbol that had another
-/// value there. `symbols` has the values of the link. Values are compared as what they are, not by their numbers: what
-/// nothing defines counts as 0 to a weak reference, and is another value than the number 0 to others.
+/// For each object of a link, by its place, whether it is dirty. `symbols` has the values of the link. Values are
+/// compared as what they are, not by their numbers: an undefined name counts as 0 to a weak reference, but is another
+/// value than the number 0.
 ///
 /// # Errors
 ///

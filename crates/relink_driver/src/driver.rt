@@ -1,4 +1,4 @@
-//! A link over what is kept: names that are decided, matches that are found, and a previous link, if there is one.
+//! The driver: one link, over resolved names, the matches of each object, and the previous link, if there is one.
 
 ghost use Rattle.std.specs.Prelude.{◌≡◌, IfErr, IfOk, IfSome, OnErr, OnOk, map};
 ghost use Rattle.std.specs.Vec.{vec_items};
@@ -46,19 +46,19 @@ use place::indexed_layout::IndexedLayout;
 use std::alloc::{AllocError, Global};
 use symres::SymbolTable;
 
-/// How a link over a previous one ends.
+/// The outcome of a link.
 #[derive(Drop)]
 pub enum RelinkOutcome {
-    /// The project has faults, and these are their lines.
+    /// The project has faults: their lines.
     Faulty(Vec<u8>),
-    /// It has none: what is kept of the link, and its map, which is empty where it is not asked for.
+    /// It has none: the snapshot of the link, and its map, which is empty unless it was asked for.
     Good(LinkSnapshot, Vec<u8>),
-    /// It has none, and differs from the previous link in what the input sections of one object hold: the image is the
-    /// new one; the map, and what is kept of the previous link, are right for this one.
+    /// It has none, and differs from the previous link only in the contents of one object's sections. These are
+    /// rewritten in the image; the map and the snapshot of the previous link hold for this one too.
     RewrittenInPlace,
 }
 
-/// The objects of a project, with what the previous link has of the names in its map, if there is one.
+/// The objects of a project and, if there is a previous link, the names in the lines of its map.
 fn map_members<'a, 'b>(
     project: &'a ProjectView<'b>,
     previous: Option<PreviousView<'a>>,
@@ -127,7 +127,7 @@ fn run_passes(
     ensures early { IfErr result (λ stop. EndsReadingNothing meter.old meter.new stop) }
     ensures unchanged { OnErr result (canvas.new.bytes ≡ canvas.old.bytes) }
 {
-    // `&*project` and the like lend these for the time of the locals, as the borrow checker wants it
+    // `&*project` and the like borrow for as long as the locals live, as the borrow checker asks
     let PassContext {
         alloc,
         project,
@@ -158,7 +158,7 @@ fn run_passes(
     let map = map_if_asked(context, &indexed_layout, &values)?;
     // the last pass that may fail, since it changes the canvas
     draw_output(context, canvas, &stayed_sections, &values, &fields, meter)?;
-    // what lends a table goes before the table is kept
+    // `view` borrows `indexed_layout`, which moves into the snapshot
     drop(view);
     Ok(RelinkOutcome::Good(
         LinkSnapshot {
@@ -170,7 +170,7 @@ fn run_passes(
     ))
 }
 
-/// Links as `relink` does, and makes the map if that is asked for.
+/// Like `relink`, but makes the map only if it is asked for.
 ///
 /// # Errors
 ///
@@ -214,17 +214,16 @@ pub(crate) fn relink_shown(
     }
 }
 
-/// Links a project over names that are decided, matches that are found, and a previous link, if there is one, whose
-/// image the canvas holds. Where the project has no faults, the canvas then holds its image: of what stayed, only the
-/// fields are written whose symbols have other values. Where it has faults, the canvas is as it was.
+/// Links a project whose names are resolved and whose sections are matched. If there is a previous link, the canvas
+/// holds its image. If the project has no faults, the canvas then holds the project's image: in input sections that
+/// stayed only the fields are written whose symbols have other values. If it has faults, the canvas is as it was.
 ///
-/// Where an object came that differs from the one in its place in what its sections hold alone, and the previous link
-/// is answered, nothing is made anew but these sections of the image, if the project has no faults. Else the layout of
-/// the previous link is resumed where its script was the same.
+/// The fast path: if one object was replaced by one that differs only in the contents of its sections, and queries are
+/// answered from the previous link, then only these sections of the image are written, unless there are faults. Else,
+/// if the script is the same, the layout of the previous link is resumed at the first row that differs.
 ///
-/// Where the project has no faults, exactly this is counted: the input sections that are placed from the first row on
-/// that differs, the fields outside of what stayed and those in it whose symbols have other values, and the bytes that
-/// are written.
+/// If the project has no faults, exactly this is counted: the input sections placed from that row on, the fields
+/// outside of what stayed and those in it whose symbols have other values, and the bytes that are written.
 ///
 /// # Errors
 ///

@@ -17,7 +17,7 @@ use std::alloc::{AllocError, Global};
 use std::hash::RandomState;
 use symres::SymbolTable;
 
-/// Links a project from scratch, over names that are decided and matches that are found. Fails where memory runs out.
+/// Links a project from scratch, over its resolved names and its matches. Fails where memory runs out.
 fn link_over(
     alloc: Global,
     project: &ProjectView<'_>,
@@ -42,8 +42,8 @@ fn link_over(
         &mut image,
         meter,
     ) {
-        Ok(RelinkOutcome::Good(_kept, map)) => Ok(Output::good(alloc, image, map)),
-        Ok(RelinkOutcome::Faulty(lines)) => Ok(Output::faulty(alloc, lines)),
+        Ok(RelinkOutcome::Good(_kept, map)) => Ok(Output::good(image, map)),
+        Ok(RelinkOutcome::Faulty(lines)) => Ok(Output::faulty(lines)),
         // there is no previous link
         Ok(RelinkOutcome::RewrittenInPlace) => unreachable!(),
         Err(_) => Err(AllocError),

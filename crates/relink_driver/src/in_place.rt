@@ -1,10 +1,11 @@
-//! Links whose project differs from that of a previous one in what the input sections of one object hold.
+//! The fast path: links that differ from the previous one only in the contents of one object's sections.
 
 ghost use Rattle.std.specs.Prelude.{◌≡◌, ◌↔◌, ◌<◌, ℕ, IfNone, IfOk, IfSome, None, OnErr, OnOk, Some, false};
 ghost use Rattle.std.specs.Prelude.{slice_index_or, true};
 ghost use Rattle.ldmodel.specs.Project.{Project};
 ghost use Rattle.ldmodel.specs.Stayed.{GoodLink};
 ghost use Rattle.ldmodel_laws.specs.Outline.{DiffersInContents};
+ghost use Rattle.emit.specs.in_place.declared.rewrite.Rewrite.TheVariants.{Done, Faulty};
 ghost use Rattle.relink_driver.specs.RelinkOutcome.{HasPreviousImage};
 ghost use Rattle.relink_driver.specs.Context.{project_of};
 ghost use Rattle.relink_driver.specs.InPlace.{IsNextLink, IsKeptLink, IsInPlaceOutcome, origin_beside};
@@ -20,7 +21,7 @@ use crate::stayed_sections::{PreviousView, ReplacedObject};
 use emit::Canvas;
 use emit::good::is_good;
 use emit::in_place::located_section::nobits_are_bare;
-use emit::in_place::rewrite::rewrite_in_place;
+use emit::in_place::rewrite::{Rewrite, rewrite_in_place};
 use ldmodel::memory::NoMemory;
 use ldmodel::meter::Meter;
 use ldmodel::names::ObjectPlace;
@@ -34,8 +35,8 @@ use ldmodel_project::view::ProjectView;
 use place::numbered::are_numbered;
 use std::alloc::Global;
 
-/// Whether each of these objects stood in the previous link where it stands, but for the one of a place, which was not
-/// there.
+/// Whether each of the first `count` objects has the place that it had in the previous link, except the one at `place`,
+/// which the previous link does not have.
 fn is_alone(previous: &PreviousView<'_>, count: usize, place: ObjectPlace) -> bool
     ensures { (result ≡ true) ↔ ((i : ℕ) → i < count
         → slice_index_or previous.now.from.now i None ≡ origin_beside place.0 i) }
@@ -49,9 +50,9 @@ fn is_alone(previous: &PreviousView<'_>, count: usize, place: ObjectPlace) -> bo
     true
 }
 
-/// The object in whose place another one came, where nothing else differs from the previous link, that one is answered,
-/// and the two objects differ in what their sections hold alone. Where sections may be dropped that nothing refers to,
-/// their relocations name the same symbols too, since relocations are references.
+/// The replaced object, if the fast path is open: queries are answered from the previous link, nothing else differs
+/// from it, and the two objects differ only in the contents of their sections. With `--gc-sections` their relocations
+/// must name the same symbols too, since relocations are references.
 fn find_replaced<'a>(
     previous: &PreviousView<'a>,
     project: &ProjectView<'_>,
@@ -78,8 +79,8 @@ fn find_replaced<'a>(
     Some(replaced)
 }
 
-/// What the laws on projects whose objects have the same outlines say of a link beside a previous one. The call does
-/// nothing.
+/// Laws of two projects whose objects have the same outlines, about the link of one beside that of the other. The call
+/// does nothing.
 fn outlines_decide()
     ensures { (old : GoodLink) (project : Project) (i : ℕ) → DiffersInContents old.project project i
         → IsKeptLink old.project project old.layout }
@@ -92,8 +93,8 @@ fn outlines_decide()
     rewritten_link();
 }
 
-/// Writes the input sections of an object over those of the one in whose place it came. Answers whether it did: not
-/// where a relocation has a fault. Then the canvas is as it was.
+/// Writes the sections of the new object over those of the object that it replaced. `Faulty` if a relocation has a
+/// fault; then the canvas is as it was.
 ///
 /// # Errors
 ///
@@ -104,20 +105,20 @@ fn rewrite_object(
     replaced: &ReplacedObject<'_>,
     canvas: &mut Canvas,
     meter: &mut Meter,
-) -> Result<bool, NoMemory>
+) -> Result<Rewrite, NoMemory>
     requires followed { IsNextLink (previous_state previous.now) (project_of context) (replaced_state replaced.now) }
     requires previous { HasPreviousImage (project_of context) canvas.old.bytes (previous_state previous.now) }
-    ensures link { IfOk result (λ done. done ≡ true
+    ensures link { IfOk result (λ made. made ≡ Done
         → IsInPlaceOutcome (project_of context.entry) (Some (previous_state previous.now)) canvas.new.bytes) }
-    ensures counted { IfOk result (λ done. done ≡ true
+    ensures counted { IfOk result (λ made. made ≡ Done
         → IsTouchedWork (project_of context.entry) (previous_state previous.now)
         replaced.now.new.0 meter.old meter.new) }
-    ensures refused { IfOk result (λ done. done ≡ false → canvas.new.bytes ≡ canvas.old.bytes) }
-    ensures faulty { IfOk result (λ done. done ≡ false → HasFault (project_of context.entry)) }
+    ensures refused { IfOk result (λ made. made ≡ Faulty → canvas.new.bytes ≡ canvas.old.bytes) }
+    ensures faulty { IfOk result (λ made. made ≡ Faulty → HasFault (project_of context.entry)) }
     ensures reads { OnOk result (ReadsNothing meter.old meter.new) }
     ensures unchanged { OnErr result (canvas.new.bytes ≡ canvas.old.bytes) }
 {
-    // so that the ranges of the counts are known
+    // for the prover: brings in that the counts fit a u64
     let _counts = (meter.fields(), meter.bytes());
     outlines_decide();
     stayed_by_part();
@@ -126,12 +127,12 @@ fn rewrite_object(
     files_in_order();
     nobits_are_bare(replaced.object);
     are_numbered(context.project);
-    // so that what a project says of its objects is known
+    // for the prover: brings in the invariant of `context.project`
     let _inputs = context.project.inputs();
     let indexed_layout = &previous.snapshot.indexed_layout;
     is_good(context.project, &indexed_layout.link_layout);
     let Some(object) = context.project.object(replaced.new) else {
-        // it was compared with the object in whose place it came
+        // `find_replaced` has compared it with the object that it replaced
         unreachable!()
     };
     let located = locate_sections(context.alloc, indexed_layout, replaced.new, object)?;
@@ -150,9 +151,8 @@ fn rewrite_object(
     )
 }
 
-/// Where the project follows the previous one by an object that differs in what its sections hold alone, writes these
-/// sections over the previous image. Answers whether it did: not, and only then, where the project does not follow so,
-/// or a relocation has a fault. Then the canvas is as it was.
+/// Takes the fast path, if it is open: writes the sections of the one object that differs over the previous image.
+/// `false`, and only then, if it is not open, or if a relocation has a fault; then the canvas is as it was.
 ///
 /// # Errors
 ///
@@ -177,9 +177,12 @@ pub(crate) fn rewrite_if_alone(
         return Ok(false);
     };
     outlines_decide();
-    // so that what a project says of its objects is known
+    // for the prover: brings in the invariant of `context.project`
     let _inputs = context.project.inputs();
-    // so that the range of the count is known
+    // for the prover: brings in that the count of pieces fits a u64
     let _pieces = meter.pieces();
-    rewrite_object(context, &previous, &replaced, canvas, meter)
+    match rewrite_object(context, &previous, &replaced, canvas, meter)? {
+        Rewrite::Done => Ok(true),
+        Rewrite::Faulty => Ok(false),
+    }
 }

@@ -1,15 +1,15 @@
 //! Links, from scratch or over a previous one. Takes a project; gives image, map, fault lines and status, or out of
-//! memory; and keeps of a link without faults what the next one asks.
+//! memory; and keeps of a link without faults what the next one needs.
 //!
-//! - `driver` over `passes`, `context`, `pass_error`: the driver: all passes of a link over names and matches that
-//!   are given, and a previous link;
-//! - `link_snapshot`: what is kept of a link; `stayed_sections`: which input sections stayed where it has them, as
-//!   `emit_relocate` asks it; `resume` over `row_changes` and `section_names`: the first row that differs; `dirty`:
-//!   objects with a symbol of another value;
-//! - `in_place` over `outline`, `located`: a link that differs from the previous one in what the input sections of one
-//!   object hold;
-//! - `name_faults`: the lines of a link that ends with its names;
-//! - `symbol_values`, `section_location`: what symbols are worth, and where a section stands in memory and in the file;
+//! - `driver` over `passes`, `context`, `pass_error`: all passes of a link, in their order, over resolved names,
+//!   matches, and the previous link;
+//! - `link_snapshot`: what is kept of a link; `stayed_sections`: which input sections stayed, as `emit_relocate` asks;
+//!   `resume` over `row_changes` and `section_names`: the first row that differs; `dirty`: objects with a symbol of
+//!   another value;
+//! - `in_place` over `outline`, `located`: the fast path, for a link that differs from the previous one only in the
+//!   contents of one object's sections;
+//! - `name_faults`: the fault lines of names, with which a link may end;
+//! - `symbol_values`, `section_location`: the values of symbols, and where a section lies in memory and in the file;
 //! - `from_scratch`, `output`: a link from scratch; `plain`: `Plain`, the linker that links from scratch after every
 //!   edit;
 //! - `from_files` over `file`, `fault`, `exit_report`: a link of files: a script and objects become a project, which is
@@ -40,5 +40,5 @@ mod section_names;
 pub mod stayed_sections;
 pub mod symbol_values;
 
-// what a link is drawn on: who keeps links names no more of `emit`
+// the buffer of the image: a crate that keeps links needs nothing else of `emit`
 pub use emit::Canvas;

@@ -4,14 +4,13 @@ use crate::symbol_values::SymbolValues;
 use emit::text::byte_strings::ByteStrings;
 use place::indexed_layout::IndexedLayout;
 
-/// What is kept of a link without faults: where everything of it stands, and what its symbols are worth, by its own
-/// places.
+/// What the next link needs of a link without faults. Objects have the places that they had in this link.
 #[derive(Drop)]
 pub struct LinkSnapshot {
-    /// Where everything stands.
+    /// Its rows, its layout, and the address of each input section.
     pub indexed_layout: IndexedLayout,
-    /// What its symbols are worth.
+    /// The value of each symbol of each object.
     pub symbols: SymbolValues,
-    /// For each output section the names of its input sections, as they stand in the map; none where it was not made.
+    /// For each output section the names of its input sections in the map; no lists if no map was made.
     pub names: Vec<ByteStrings>,
 }

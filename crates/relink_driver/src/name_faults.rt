@@ -1,4 +1,4 @@
-//! Links that end with their names.
+//! Links that end with faults of names.
 
 ghost use Rattle.std.specs.Prelude.{◌≡◌, [], IfOk, IfSome};
 ghost use Rattle.ldmodel.specs.Link.{link};
@@ -15,8 +15,8 @@ use ldscript::Script;
 use std::alloc::{AllocError, Global};
 use symres::SymbolTable;
 
-/// The fault lines of the names of a project, if these have faults. They are then all that its link gives, and what else
-/// a link takes need not be made.
+/// The fault lines of the names of a project, if they have faults. The link then gives nothing else, and nothing else
+/// need be prepared for it.
 ///
 /// # Errors
 ///
@@ -46,8 +46,8 @@ fn without_objects<'a>(script: &'a Script, options: &'a Options) -> ProjectView<
     ProjectView::new(&[], script, options)
 }
 
-/// The fault line of the entry symbol of the project with this script and these options, if that is the only fault of
-/// its names, as mostly while it is opened. No object is looked at.
+/// The fault line of an undefined entry symbol, if that is the only fault of the project's names, as in most links
+/// while a project is opened. No object is looked at.
 ///
 /// # Errors
 ///

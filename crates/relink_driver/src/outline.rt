@@ -1,4 +1,4 @@
-//! Whether two objects differ in what their sections hold alone, and whether these refer to the same symbols.
+//! Whether two objects differ only in the contents of their sections, and whether these refer to the same symbols.
 
 ghost use Rattle.std.specs.Prelude.{◌≡◌, ◌↔◌, map, true};
 ghost use Rattle.ldmodel_laws.specs.Outline.{section_outline, section_targets};
@@ -75,7 +75,7 @@ fn same_sections(a: &Object, b: &Object) -> bool
     true
 }
 
-/// Whether two objects have the same symbol table, and sections that differ in their bytes and relocations alone.
+/// Whether two objects have the same symbol table, and sections that differ only in their bytes and relocations.
 pub(crate) fn same_outline(a: &Object, b: &Object) -> bool
     ensures symbols { result ≡ true → a.now.symbols ≡ b.now.symbols }
     ensures sections { result ≡ true → map section_outline a.now.sections ≡ map section_outline b.now.sections }

@@ -18,23 +18,25 @@ use std::marker::Model;
 /// What a link gives: the image and, if it is asked for, the map; or the fault lines.
 #[derive(Drop)]
 pub struct Output {
-    status: u8,
-    image: Canvas,
-    map: Vec<u8>,
-    faults: Vec<u8>,
+    content: Content,
+}
+
+/// What an output holds: only a link without faults has an image.
+#[derive(Drop)]
+enum Content {
+    /// The map is empty where it was not asked for.
+    Good { image: Canvas, map: Vec<u8> },
+    /// The fault lines.
+    Faulty(Vec<u8>),
 }
 
 impl Model for Output {
     ghost use Rattle.ldmodel.specs.Link.{Link};
+    ghost use Rattle.relink_driver.specs.Output.{link_of};
 
     ghost Value = { Link };
 
-    ghost view = { λ o. record {
-      status = o.status;
-      image = o.image.bytes;
-      map = o.map.items;
-      faults = o.faults.items;
-    } };
+    ghost view = { λ o. link_of o.content };
 }
 
 impl Output {
@@ -54,8 +56,8 @@ impl Output {
         link(alloc, seed, project, true, meter)
     }
 
-    /// Links a project from scratch, as `of` does, and makes no map: the image, the fault lines and the status are those
-    /// of the link.
+    /// Links a project from scratch, as `of` does, and makes no map: the image, the fault lines and the status are
+    /// those of the link.
     ///
     /// # Errors
     ///
@@ -72,26 +74,20 @@ impl Output {
     }
 
     /// A good link.
-    pub(crate) fn good(alloc: Global, image: Canvas, map: Vec<u8>) -> Output
+    pub(crate) fn good(image: Canvas, map: Vec<u8>) -> Output
         ensures { result ≡ record { status = 0; image = image.bytes; map = map.items; faults = [] } }
     {
         Output {
-            status: 0,
-            image,
-            map,
-            faults: Vec::new(alloc),
+            content: Content::Good { image, map },
         }
     }
 
     /// A link with faults.
-    pub(crate) fn faulty(alloc: Global, faults: Vec<u8>) -> Output
+    pub(crate) fn faulty(faults: Vec<u8>) -> Output
         ensures { result ≡ record { status = 1; image = []; map = []; faults = faults.items } }
     {
         Output {
-            status: 1,
-            image: Canvas::new(alloc),
-            map: Vec::new(alloc),
-            faults,
+            content: Content::Faulty(faults),
         }
     }
 
@@ -99,28 +95,40 @@ impl Output {
     pub fn status(&self) -> u8
         ensures { result ≡ self.now.status }
     {
-        self.status
+        match &self.content {
+            Content::Good { .. } => 0,
+            Content::Faulty(_) => 1,
+        }
     }
 
     /// The image; empty where the link has faults.
     pub fn image(&self) -> &[u8]
         ensures { result.now ≡ self.now.image }
     {
-        self.image.bytes()
+        match &self.content {
+            Content::Good { image, .. } => image.bytes(),
+            Content::Faulty(_) => &[],
+        }
     }
 
     /// The map of names, sections and segments; empty where the link has faults, or was made without a map.
     pub fn map(&self) -> &[u8]
         ensures { result.now ≡ self.now.map }
     {
-        &self.map
+        match &self.content {
+            Content::Good { map, .. } => map,
+            Content::Faulty(_) => &[],
+        }
     }
 
     /// The fault lines; empty where the link has none.
     pub fn faults(&self) -> &[u8]
         ensures { result.now ≡ self.now.faults }
     {
-        &self.faults
+        match &self.content {
+            Content::Good { .. } => &[],
+            Content::Faulty(lines) => lines,
+        }
     }
 
     /// The status, and the length of the image.
@@ -128,8 +136,8 @@ impl Output {
         ensures { result ≡ linked_of self.now }
     {
         Linked {
-            status: self.status,
-            length: self.image.len() as u64,
+            status: self.status(),
+            length: self.image().len() as u64,
         }
     }
 }

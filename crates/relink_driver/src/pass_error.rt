@@ -1,4 +1,4 @@
-//! How a link ends before its last phase.
+//! Why a link ends before its last pass.
 
 ghost use Rattle.std.specs.Prelude.{◌≡◌, List, IfErr, IfOk, OnOk};
 ghost use Rattle.ldmodel.specs.Fault as model;
@@ -12,10 +12,10 @@ use ldmodel::memory::NoMemory;
 use ldmodel_project::view::ProjectView;
 use std::alloc::{AllocError, Global};
 
-/// Why a link ends before its last phase.
+/// Why a link ends before its last pass.
 #[derive(Drop)]
 pub(crate) enum PassError {
-    /// A phase has faults, and these are their lines.
+    /// A phase has faults: their lines.
     Faulty(Vec<u8>),
     /// Out of memory.
     NoMemory,

@@ -47,7 +47,7 @@ use place::length::length_fault;
 use place::link_layout::{LayoutFault, LinkLayout};
 use std::alloc::Global;
 
-/// Names: no fault of names ends the link.
+/// Names: ends the link if they have faults.
 #[tactic(auto, unfolding(ldmodel::specs::Link::link))]
 pub(crate) fn check_names(context: PassContext<'_, '_>) -> Result<(), PassError>
     requires { IsPassContext context }
@@ -57,10 +57,8 @@ pub(crate) fn check_names(context: PassContext<'_, '_>) -> Result<(), PassError>
     ensures stop { IfErr result (λ stop. IsPassError (link (project_of context.entry)) stop) }
 {
     let faults = context.symbol_table.faults(context.alloc, context.project)?;
-    match end_if_faulty(context.alloc, context.project, &faults) {
-        Ok(()) => Ok(()),
-        Err(stop) => Err(stop),
-    }
+    end_if_faulty(context.alloc, context.project, &faults)?;
+    Ok(())
 }
 
 /// Orphans as faults.
@@ -91,14 +89,11 @@ pub(crate) fn gather_inputs(context: PassContext<'_, '_>) -> Result<Gathering, P
         context.matches,
     )?;
     let faults = orphan_faults(context.alloc, &gathering.orphans)?;
-    match end_if_faulty(context.alloc, context.project, &faults) {
-        Ok(()) => Ok(gathering),
-        Err(stop) => Err(stop),
-    }
+    end_if_faulty(context.alloc, context.project, &faults)?;
+    Ok(gathering)
 }
 
-/// Layout: where everything stands. That of the previous link, if there is one of the same script, is resumed at the
-/// first row that differs.
+/// Layout: where everything lies. That of a previous link of the same script is resumed at the first row that differs.
 pub(crate) fn assign_addresses(
     context: PassContext<'_, '_>,
     rows: &[Vec<Piece>],
@@ -115,7 +110,7 @@ pub(crate) fn assign_addresses(
         (ArePlaced (project_of context.entry) (previous_of context.entry.previous) meter.old meter.new) }
 {
     placed_are_rows();
-    // so that the range of the count is known
+    // for the prover: brings in that the count of pieces fits a u64
     let _pieces = meter.pieces();
     let in_force = context
         .symbol_table
@@ -131,7 +126,7 @@ pub(crate) fn assign_addresses(
     }
 }
 
-/// The end of layout: where each input section stands, by its number.
+/// The end of layout: where each input section lies, by its number.
 pub(crate) fn index_layout(
     context: PassContext<'_, '_>,
     gathering: Gathering,
@@ -150,7 +145,7 @@ pub(crate) fn index_layout(
     }
 }
 
-/// The image is not too long.
+/// Ends the link if the image is too long.
 fn check_length(
     context: PassContext<'_, '_>,
     link_layout: &LinkLayout,
@@ -171,7 +166,7 @@ fn check_length(
     }
 }
 
-/// Values: what the symbols are worth, and so the length of the image.
+/// Values: those of all names, and so the symbols of the output and the length of the image.
 pub(crate) fn compute_values<'a>(
     context: PassContext<'a, '_>,
     link_layout: &LinkLayout,
@@ -195,7 +190,8 @@ pub(crate) fn compute_values<'a>(
     Ok(values)
 }
 
-/// Relocation: the fields of all relocations, but those of what stayed whose symbols have the values that they had.
+/// Relocation: the fields of all relocations, except those in input sections that stayed whose symbols have the same
+/// values as before.
 pub(crate) fn evaluate_relocations(
     context: PassContext<'_, '_>,
     stayed_sections: &StayedSections<'_>,
@@ -219,9 +215,9 @@ pub(crate) fn evaluate_relocations(
 {
     stayed_sections.is_complete();
     is_good(context.project, &stayed_sections.indexed_layout.link_layout);
-    // so that what a project says of its objects is known
+    // for the prover: brings in the invariant of `context.project`
     let _inputs = context.project.inputs();
-    // so that the range of the count is known
+    // for the prover: brings in that the count of fields fits a u64
     let _fields = meter.fields();
     let relocated = Relocated::of(
         context.alloc,
@@ -232,13 +228,11 @@ pub(crate) fn evaluate_relocations(
         symbols,
         meter,
     )?;
-    match end_if_faulty(context.alloc, context.project, &relocated.faults) {
-        Ok(()) => Ok(relocated),
-        Err(stop) => Err(stop),
-    }
+    end_if_faulty(context.alloc, context.project, &relocated.faults)?;
+    Ok(relocated)
 }
 
-/// Assertions: each holds.
+/// Assertions: ends the link if one does not hold.
 pub(crate) fn check_assertions(
     context: PassContext<'_, '_>,
     stayed_sections: &StayedSections<'_>,
@@ -255,13 +249,11 @@ pub(crate) fn check_assertions(
         &stayed_sections.indexed_layout.link_layout,
         values,
     )?;
-    match end_if_faulty(context.alloc, context.project, &faults) {
-        Ok(()) => Ok(()),
-        Err(stop) => Err(stop),
-    }
+    end_if_faulty(context.alloc, context.project, &faults)?;
+    Ok(())
 }
 
-/// The image, drawn over that of the previous link. Where memory runs out, the canvas is as it was.
+/// The image, written over that of the previous link. Where memory runs out, the canvas is as it was.
 pub(crate) fn draw_output(
     context: PassContext<'_, '_>,
     canvas: &mut Canvas,
@@ -280,7 +272,7 @@ pub(crate) fn draw_output(
     ensures unchanged { OnErr result (canvas.new.bytes ≡ canvas.old.bytes) }
 {
     stayed_sections.is_complete();
-    // so that the range of the count is known
+    // for the prover: brings in that the count of bytes fits a u64
     let _bytes = meter.bytes();
     draw_image(
         context.alloc,

@@ -1,4 +1,4 @@
-//! The first row of a link that differs from those of a previous one.
+//! Where the layout of the previous link is resumed: at the first row that differs.
 
 ghost use Rattle.std.specs.Prelude.{◌≡◌, IfSome, IsNone, IsSome, Some, false};
 ghost use Rattle.relink_driver.specs.Resume.{AreSameBefore, IsFirstChanged, IsNext};
@@ -13,21 +13,22 @@ use crate::stayed_sections::PreviousView;
 use ldmodel::rows::Piece;
 use ldmodel_laws::layout::placed_are_rows;
 use ldmodel_project::view::ProjectView;
-use place::Placement;
+use place::ResumePoint;
 
-/// The placement of the previous link, if there is one and it is known to be of the same script, and the number of the
-/// first row that differs from its rows.
+/// The placement of the previous link, with the first row that differs from its rows. `None` if there is no previous
+/// link, or its script is not known to be the same.
 pub fn resume_point<'a>(
     previous: Option<PreviousView<'a>>,
     project: &ProjectView<'_>,
     rows: &[Vec<Piece>],
-) -> Option<(&'a Placement, usize)>
+) -> Option<ResumePoint<'a>>
     requires rows { rows_in project.now rows.now ≡ model.rows project.now }
     ensures kept { (old : GoodLink) → IfSome (previous_of previous.entry) (IsPreviousOf old project.now)
-        → IfSome result (λ point. IsKept project.now.script (model.rows project.now) point.0.now point.1) }
+        → IfSome result (λ point.
+        IsKept project.now.script (model.rows project.now) point.placement.now point.first_row) }
     ensures same { (old : GoodLink) (x : PreviousState) → previous_of previous.entry ≡ Some x
         → IsPreviousOf old project.now x
-        → IfSome result (λ point. AreSameBefore old.project project.now point.1) }
+        → IfSome result (λ point. AreSameBefore old.project project.now point.first_row) }
     ensures some { (old : GoodLink) (x : PreviousState) → previous_of previous.entry ≡ Some x
         → IsPreviousOf old project.now x
         → IsNext old.project project.now x → IsSome result }
@@ -35,7 +36,7 @@ pub fn resume_point<'a>(
     ensures first { (old : GoodLink) (x : PreviousState) → previous_of previous.entry ≡ Some x
         → IsPreviousOf old project.now x
         → IsNext old.project project.now x
-        → IfSome result (λ point. IsFirstChanged old.project project.now point.1) }
+        → IfSome result (λ point. IsFirstChanged old.project project.now point.first_row) }
 {
     placed_are_rows();
     let previous = previous?;
@@ -43,6 +44,9 @@ pub fn resume_point<'a>(
         return None;
     }
     let before = &previous.snapshot.indexed_layout;
-    let first = first_changed(&previous, project, &before.rows, rows);
-    Some((&before.link_layout.placement, first))
+    let first_row = first_changed(&previous, project, &before.rows, rows);
+    Some(ResumePoint {
+        placement: &before.link_layout.placement,
+        first_row,
+    })
 }

@@ -27,8 +27,7 @@ fn is_same_kind(before: SectionKind, now: SectionKind) -> bool
     before == now
 }
 
-/// Whether the object of a section came in the place of that of the previous link's section, and the part of the latter
-/// has the same name in both.
+/// Whether the object of `now` replaced that of `before`, and the part `before` has the same name in both objects.
 fn came_for(
     replaced: &ReplacedObject<'_>,
     project: &ProjectView<'_>,
@@ -46,8 +45,8 @@ fn came_for(
     }
 }
 
-/// Whether the object of a section is that of the previous link's section, or came in its place and has the part by the
-/// same name.
+/// Whether the object of `now` is that of the previous link's `before`, or replaced it and has that part under the same
+/// name.
 fn is_of_same_object(
     previous: &PreviousView<'_>,
     project: &ProjectView<'_>,
@@ -67,7 +66,7 @@ fn is_of_same_object(
     }
 }
 
-/// Whether a section is the previous link's.
+/// Whether a section is the same as one of the previous link.
 fn is_same_section(
     previous: &PreviousView<'_>,
     project: &ProjectView<'_>,
@@ -79,7 +78,7 @@ fn is_same_section(
     is_same_part(before.part, now.part) && is_of_same_object(previous, project, before, now)
 }
 
-/// Whether an entry of a row is the previous link's.
+/// Whether an entry of a row is the same as one of the previous link.
 fn is_same_piece(
     previous: &PreviousView<'_>,
     project: &ProjectView<'_>,
@@ -108,7 +107,7 @@ fn are_same_pieces(
     before.iter().zip(now).all(|(before, now)| is_same_piece(previous, project, before, now))
 }
 
-/// Whether a row is the previous link's.
+/// Whether a row is the same as one of the previous link.
 fn is_same_row(
     previous: &PreviousView<'_>,
     project: &ProjectView<'_>,

@@ -1,4 +1,4 @@
-//! Where an input section stands in a link, in memory and in the file.
+//! Where an input section lies in a link, in memory and in the file.
 
 ghost use Rattle.std.specs.Prelude.{◌≡◌};
 ghost use Rattle.relink_driver.specs.SectionLocation.{range_at, range_from, location_in, location_of};
@@ -21,8 +21,8 @@ pub(crate) struct SectionLocation {
     pub range: FileRange,
 }
 
-/// Where the bytes of an input section stand in the file, whose output section begins at this offset of it: no bytes,
-/// where the output section has none. None where they begin past 2^64.
+/// The bytes in the file of an input section whose output section begins at `offset` of the file; an empty range if the
+/// output section has no file bytes. `None` if they begin past 2^64.
 #[tactic(auto, unfolding(crate::specs::SectionLocation::range_from))]
 fn range_from(section: &Placed, offset: u128, start: u64, size: u64) -> Option<FileRange>
     ensures { result ≡ range_from section.now offset start size }
@@ -42,7 +42,7 @@ fn range_from(section: &Placed, offset: u128, start: u64, size: u64) -> Option<F
     })
 }
 
-/// Where the bytes of an input section in its place stand in the file; none where they begin past 2^64.
+/// The bytes in the file of the input section at this address; `None` if they begin past 2^64.
 fn range_at(link_layout: &LinkLayout, place: SectionAddress) -> Option<FileRange>
     ensures { result ≡ range_at link_layout.now place }
 {
@@ -52,7 +52,7 @@ fn range_at(link_layout: &LinkLayout, place: SectionAddress) -> Option<FileRange
     range_from(section, *offset, place.start, place.size)
 }
 
-/// Where an input section stands whose address is this one. None where its bytes in the file begin past 2^64.
+/// The location of the input section at this address; `None` if its bytes in the file begin past 2^64.
 fn location_at(link_layout: &LinkLayout, address: SectionAddress) -> Option<SectionLocation>
     ensures { result ≡ location_of link_layout.now address }
 {
@@ -64,7 +64,7 @@ fn location_at(link_layout: &LinkLayout, address: SectionAddress) -> Option<Sect
     })
 }
 
-/// Where an input section stands in a link, if it is in the output. None where its bytes in the file begin past 2^64.
+/// The location of an input section, if it is in the output. `None` also if its bytes in the file begin past 2^64.
 #[tactic(auto, unfolding(crate::specs::SectionLocation::location_in))]
 pub(crate) fn find_location(
     indexed_layout: &IndexedLayout,
@@ -76,8 +76,8 @@ pub(crate) fn find_location(
     location_at(&indexed_layout.link_layout, address)
 }
 
-/// The bytes in the file of an input section that stands at `now` and stood at `before` in a previous link, if it
-/// stayed. Most of those that did not are at another address: their places in the file are not worked out.
+/// The bytes in the file of an input section that is at `now` and was at `before` in the previous link, if it stayed.
+/// Most sections that did not are at another address: their file ranges are not computed.
 pub(crate) fn range_if_stayed(
     previous: &LinkLayout,
     before: SectionAddress,

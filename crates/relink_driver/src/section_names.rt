@@ -13,7 +13,7 @@ fn find_section(object: &Object, number: SectionIndex) -> Option<LinkedIndex>
     ensures is { MatchOption result (numbered object.now.sections number ≡ None) (λ i.
         numbered object.now.sections number ≡ slice_get object.now.sections i.0) }
 {
-    // for the proof, what the call says of the order of the sections: only one has this number
+    // for the prover: brings in the invariant of `object`, of its sections
     let _in_order = object.sections();
     object.section_at(number)
 }

@@ -1,4 +1,4 @@
-//! Which input sections of a link stayed where a previous link has them.
+//! Which input sections of a link stayed where the previous link has them.
 
 ghost use Rattle.std.specs.Prelude.{◌≡◌, IsSome, None, Option, slice_index_or, true};
 ghost use Rattle.emit.specs.Kept.{IsSound};
@@ -19,32 +19,31 @@ use ldmodel::sections::SectionKey;
 use ldmodel_laws::segments::{files_in_order, sections_in_file};
 use place::indexed_layout::{IndexedLayout, SectionAddress};
 
-/// An object of the previous link in whose place another of its name came.
+/// An object of the previous link that was replaced by another of its name.
 #[derive(Clone, Copy)]
 pub struct ReplacedObject<'a> {
-    /// The place of the object in the previous link.
+    /// Its place in the previous link.
     pub old: ObjectPlace,
     /// The object.
     pub object: &'a Object,
-    /// The place in the new link of the object that came.
+    /// The place in the new link of the object that replaced it.
     pub new: ObjectPlace,
 }
 
-/// A previous link without faults, and at which place of it each object of the new one stood, by the new places; none
-/// where the object was not there, or was another.
+/// A previous link without faults, as the new link sees it.
 #[derive(Clone, Copy)]
 pub struct PreviousView<'a> {
-    /// What is kept of that link.
+    /// Its snapshot.
     pub snapshot: &'a LinkSnapshot,
     /// How many objects it has.
     pub objects: usize,
-    /// For each object of the new link, by its place, the place in the previous one.
+    /// For each object of the new link its place in the previous one; `None` if the previous one does not have it.
     pub from: &'a [Option<usize>],
-    /// Whether that link is known to be of the same script.
+    /// Whether its script is known to be that of the new link.
     pub same_script: bool,
     /// The object that was replaced, if one is known.
     pub replaced: Option<ReplacedObject<'a>>,
-    /// Whether that link is the one that is answered: where another with the same map follows, only the image changes.
+    /// Whether queries are answered from this link: if the new one has the same map, only the image need change.
     pub is_current: bool,
 }
 
@@ -68,7 +67,7 @@ impl<'a> PreviousView<'a> {
         self.snapshot.indexed_layout.find(section)
     }
 
-    /// What a symbol of an object of the new link was worth in the previous one.
+    /// The value that a symbol of an object of the new link had in the previous one.
     fn value(&self, object: ObjectPlace, index: SymbolIndex) -> SymbolValue
         ensures { result ≡ previous_value (previous_state self.now) object index }
     {
@@ -84,23 +83,23 @@ impl<'a> PreviousView<'a> {
 pub struct StayedSections<'a> {
     /// The previous link, if there is one.
     pub previous: Option<PreviousView<'a>>,
-    /// Where everything of the new one stands.
+    /// The layout of the new link.
     pub indexed_layout: &'a IndexedLayout,
-    /// Which objects of the new one, by their places, name a symbol that may have another value than in the previous
-    /// one; an object past the end of the list may, too.
+    /// For each object of the new link whether a symbol of it may have another value than in the previous one. An
+    /// object past the end of the list counts as dirty.
     pub dirty: &'a [bool],
 }
 
 impl<'a> StayedSections<'a> {
-    /// Whether an object has a mark; an object of which nothing is known has one.
+    /// Whether an object is dirty; one past the end of the list is.
     fn dirty_bit(&self, object: ObjectPlace) -> bool
         ensures { result ≡ slice_index_or self.now.dirty.now object.0 true }
     {
         self.dirty.get(object.0).copied().unwrap_or(true)
     }
 
-    /// Each input section that stayed is known to have stayed, where there is a previous link; each that is known to
-    /// have stayed has. The call does nothing.
+    /// `stayed` finds only input sections that stayed and, if there is a previous link, all of them. The call does
+    /// nothing.
     pub fn is_complete(&self)
         ensures complete { (old : GoodLink) (link : KnownLink) → AreStayedSections self.now old link
             → IsSome self.now.previous

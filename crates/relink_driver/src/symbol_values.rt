@@ -1,4 +1,4 @@
-//! What each symbol of each object is worth in a link.
+//! The value of each symbol of each object of a link.
 
 ghost use Rattle.std.specs.Prelude.{◌≡◌, ◌+◌, ◌++◌, IfOk, OnOk, Some, length, map};
 ghost use Rattle.ldmodel.specs.Layout.{Layout};
@@ -22,7 +22,7 @@ use ldmodel_project::input::InputObject;
 use ldmodel_project::view::ProjectView;
 use std::alloc::Global;
 
-/// How many symbols these objects have, or the greatest number, for which there is no room.
+/// How many symbols these objects have, at most the greatest `usize`, for which no memory is granted.
 fn count_symbols(inputs: &[InputObject<'_>]) -> usize {
     let mut count: usize = 0;
     for input in inputs {
@@ -53,7 +53,7 @@ fn add_object(
     Ok(())
 }
 
-/// The values of the symbols of a link, where those of names are these.
+/// The values of all symbols of a link. `names` has those of names.
 ///
 /// # Errors
 ///

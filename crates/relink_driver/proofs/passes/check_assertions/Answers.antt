@@ -1,28 +1,33 @@
 use Rattle.std.proofs.Common.{◌∙◌, ap, subst, sym}
+use Rattle.std.proofs.lemmas.Result.{err_from_is_err_and}
 use Rattle.ldmodel.specs.Assertions.{assertion_faults}
 use Rattle.ldmodel.specs.Link.{Link, good}
 use Rattle.ldmodel_project.specs.ByPlace.{faults_in}
 use Rattle.relink_driver.specs.PassErrors.{IsPassError}
 use Rattle.relink_driver.proofs.passes.check_assertions.Goals as goal
 
-pub returns-in-Ok-clause-good : goal.returns-in-Ok-clause-good
-returns-in-Ok-clause-good c =
+pub returns-clause-good : goal.returns-clause-good
+returns-clause-good c =
     let p = c.args.context.project.now in
     let h = c.requires.short.placed in
     let s = h.known.layout in
     record {
       filled = c.requires;
       rest = c.requires.rest
-          ∙ c.in-Ok.ensures.good (assertion_faults p s) (good p s)
+          ∙ c.in_ok-end_if_faulty.ensures.good (assertion_faults p s) (good p s)
           (ap (faults_in p) c.deref.ensures.value ∙ c.in_ok-faults.ensures s h.symbol_table h.known.link_layout
           h.values);
     }
 
-pub returns-clause-stop : goal.returns-clause-stop
-returns-clause-stop c =
+pub returns-in_err-end_if_faulty-clause-stop : goal.returns-in_err-end_if_faulty-clause-stop
+returns-in_err-end_if_faulty-clause-stop c =
     let p = c.args.context.project.now in
     let h = c.requires.short.placed in
     let s = h.known.layout in
-    subst (λ (l : Link). IsPassError l c.in-Err.stop) (sym c.requires.rest)
-    (c.in-Err.ensures.stop (assertion_faults p s) (good p s)
-    (ap (faults_in p) c.deref.ensures.value ∙ c.in_ok-faults.ensures s h.symbol_table h.known.link_layout h.values))
+    let e = err_from_is_err_and c.from_residual-in_err-end_if_faulty.result
+    c.from_residual-in_err-end_if_faulty.ensures.1 in
+    rw (e.1, e.2)
+    (subst (λ (l : Link). IsPassError l c.in_err-end_if_faulty.field-0.0) (sym c.requires.rest)
+    (c.in_err-end_if_faulty.ensures.stop (assertion_faults p s) (good p s)
+    (ap (faults_in p) c.deref.ensures.value ∙ c.in_ok-faults.ensures s h.symbol_table h.known.link_layout
+    h.values)))

@@ -1,18 +1,22 @@
 use Rattle.std.proofs.Common.{◌∙◌, ap}
+use Rattle.std.proofs.lemmas.Result.{err_from_is_err_and}
 use Rattle.ldmodel.specs.Link.{gathering_faults, layout, link, name_faults, placed, unless}
 use Rattle.ldmodel_project.specs.ByPlace.{faults_in}
 use Rattle.relink_driver.proofs.passes.check_names.Goals as goal
 
-pub returns-in-Ok-clause-rest : goal.returns-in-Ok-clause-rest
+pub returns-clause-rest : goal.returns-clause-rest
 unfolding link
-returns-in-Ok-clause-rest c =
+returns-clause-rest c =
     let p = c.args.context.project.now in
-    c.in-Ok.ensures.good (name_faults p) (unless (gathering_faults p) (placed p (layout p)))
+    c.in_ok-end_if_faulty.ensures.good (name_faults p) (unless (gathering_faults p) (placed p (layout p)))
     (ap (faults_in p) c.deref.ensures.value ∙ c.in_ok-faults.ensures)
 
-pub returns-clause-stop : goal.returns-clause-stop
+pub returns-in_err-end_if_faulty-clause-stop : goal.returns-in_err-end_if_faulty-clause-stop
 unfolding link
-returns-clause-stop c =
+returns-in_err-end_if_faulty-clause-stop c =
     let p = c.args.context.project.now in
-    c.in-Err.ensures.stop (name_faults p) (unless (gathering_faults p) (placed p (layout p)))
-    (ap (faults_in p) c.deref.ensures.value ∙ c.in_ok-faults.ensures)
+    let e = err_from_is_err_and c.from_residual-in_err-end_if_faulty.result
+    c.from_residual-in_err-end_if_faulty.ensures.1 in
+    rw (e.1, e.2)
+    (c.in_err-end_if_faulty.ensures.stop (name_faults p) (unless (gathering_faults p) (placed p (layout p)))
+    (ap (faults_in p) c.deref.ensures.value ∙ c.in_ok-faults.ensures))

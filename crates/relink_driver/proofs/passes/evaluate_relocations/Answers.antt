@@ -1,4 +1,5 @@
 use Rattle.std.proofs.Common.{◌∙◌, ap, arith, subst, sym}
+use Rattle.std.proofs.lemmas.Result.{err_from_is_err_and}
 use Rattle.ldmodel.specs.Assertions.{assertion_faults}
 use Rattle.ldmodel.specs.Link.{Link, good, unless}
 use Rattle.ldmodel.specs.Relocations.{relocation_faults}
@@ -9,8 +10,8 @@ use Rattle.relink_driver.proofs.Reading.{ends_reading}
 use Rattle.relink_driver.proofs.Stopping.{none_of}
 use Rattle.relink_driver.proofs.passes.evaluate_relocations.Goals as goal
 
-pub returns-in-Ok-clause-good : goal.returns-in-Ok-clause-good
-returns-in-Ok-clause-good c =
+pub returns-clause-good : goal.returns-clause-good
+returns-clause-good c =
     let p = c.args.context.project.now in
     let h = c.requires.short.placed.known in
     let s = h.layout in
@@ -20,7 +21,7 @@ returns-in-Ok-clause-good c =
     c.is_complete.ensures.complete c.is_complete.ensures.none in
     let same = ap (faults_in p) c.deref.ensures.value ∙ b.faults in
     let new = c.is_good.ensures s h.link_layout c.requires.short.length
-    (none_of (relocation_faults p s) (λ next. c.in-Ok.ensures.good (relocation_faults p s) next same)) in
+    (none_of (relocation_faults p s) (λ next. c.in_ok-end_if_faulty.ensures.good (relocation_faults p s) next same)) in
     record {
       known_by = c.args.view.now;
       short = c.requires.short;
@@ -30,11 +31,11 @@ returns-in-Ok-clause-good c =
       patches = b.patches new;
       good = new;
       rest = c.requires.short.rest
-          ∙ c.in-Ok.ensures.good (relocation_faults p s) (unless (assertion_faults p s) (good p s)) same;
+          ∙ c.in_ok-end_if_faulty.ensures.good (relocation_faults p s) (unless (assertion_faults p s) (good p s)) same;
     }
 
-pub returns-in-Err-clause-stop : goal.returns-in-Err-clause-stop
-returns-in-Err-clause-stop c =
+pub returns-in_err-end_if_faulty-clause-stop : goal.returns-in_err-end_if_faulty-clause-stop
+returns-in_err-end_if_faulty-clause-stop c =
     let p = c.args.context.project.now in
     let h = c.requires.short.placed.known in
     let s = h.layout in
@@ -42,12 +43,15 @@ returns-in-Err-clause-stop c =
     (omega (arith, c.fields-fields.type_inv, c.fields-fields.ensures)) (c.requires.beside s h.link_layout)
     (c.requires.symbols s h.link_layout) c.inputs-inputs.ensures.distinct c.in_ok-relocated.ensures
     c.is_complete.ensures.complete c.is_complete.ensures.none in
-    subst (λ (l : Link). IsPassError l c.in-Err.stop) (sym c.requires.short.rest)
-    (c.in-Err.ensures.stop (relocation_faults p s) (unless (assertion_faults p s) (good p s))
-    (ap (faults_in p) c.deref.ensures.value ∙ b.faults))
+    let e = err_from_is_err_and c.from_residual-in_err-end_if_faulty.result
+    c.from_residual-in_err-end_if_faulty.ensures.1 in
+    rw (e.1, e.2)
+    (subst (λ (l : Link). IsPassError l c.in_err-end_if_faulty.field-0.0) (sym c.requires.short.rest)
+    (c.in_err-end_if_faulty.ensures.stop (relocation_faults p s) (unless (assertion_faults p s) (good p s))
+    (ap (faults_in p) c.deref.ensures.value ∙ b.faults)))
 
-pub returns-in-Ok-clause-reads : goal.returns-in-Ok-clause-reads
-returns-in-Ok-clause-reads c =
+pub returns-clause-reads : goal.returns-clause-reads
+returns-clause-reads c =
     let h = c.requires.short.placed.known in
     let b = known_beside _ _ _ _ _ c.args.symbols.now _ _ _ c.requires.short
     (omega (arith, c.fields-fields.type_inv, c.fields-fields.ensures)) (c.requires.beside h.layout h.link_layout)
@@ -55,8 +59,8 @@ returns-in-Ok-clause-reads c =
     c.is_complete.ensures.complete c.is_complete.ensures.none in
     b.reads
 
-pub returns-in-Ok-clause-counted : goal.returns-in-Ok-clause-counted
-returns-in-Ok-clause-counted c =
+pub returns-clause-counted : goal.returns-clause-counted
+returns-clause-counted c =
     let k = c.requires.short.placed.known in
     let b = known_beside _ _ _ _ _ c.args.symbols.now _ _ _ c.requires.short
     (omega (arith, c.fields-fields.type_inv, c.fields-fields.ensures)) (c.requires.beside k.layout k.link_layout)
@@ -64,11 +68,13 @@ returns-in-Ok-clause-counted c =
     c.is_complete.ensures.complete c.is_complete.ensures.none in
     evaluated_at _ _ _ _ _ k.layout k.link_layout b.counted
 
-pub returns-in-Err-clause-early : goal.returns-in-Err-clause-early
-returns-in-Err-clause-early c =
+pub returns-in_err-end_if_faulty-clause-early : goal.returns-in_err-end_if_faulty-clause-early
+returns-in_err-end_if_faulty-clause-early c =
     let h = c.requires.short.placed.known in
     let b = known_beside _ _ _ _ _ c.args.symbols.now _ _ _ c.requires.short
     (omega (arith, c.fields-fields.type_inv, c.fields-fields.ensures)) (c.requires.beside h.layout h.link_layout)
     (c.requires.symbols h.layout h.link_layout) c.inputs-inputs.ensures.distinct c.in_ok-relocated.ensures
     c.is_complete.ensures.complete c.is_complete.ensures.none in
-    ends_reading _ _ c.in-Err.stop b.reads
+    let e = err_from_is_err_and c.from_residual-in_err-end_if_faulty.result
+    c.from_residual-in_err-end_if_faulty.ensures.1 in
+    rw (e.1, e.2) (ends_reading _ _ c.in_err-end_if_faulty.field-0.0 b.reads)

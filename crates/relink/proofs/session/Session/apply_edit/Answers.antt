@@ -68,7 +68,7 @@ update-requires c =
       fits = c.in-Ok.ensures.staged.0;
       arranged = c.in-Ok.ensures.staged.2;
       one = c.in-Ok.ensures.staged.3;
-      kept = subst (λ (l : Listing). IsKept l c.self.inside.kept.symbol_table c.self.inside.kept.matches.items)
+      kept = subst (λ (l : Listing). IsKept l c.self.inside.tables.symbol_table c.self.inside.tables.matches.items)
           (same_listing c.self.inside.project h c.in-Ok.ensures.same) c.self.invariant.1;
       previous = subst (λ (x : Option PreviousState). IfSome x (HasPreviousImage (project_of next) bytes))
           (sym c.lend_previous-previous.ensures)

@@ -13,4 +13,4 @@ invariant_of-result c =
     c.record_outcome.ensures
     (none_kept l c.new-canvas.result.bytes None true)
     (λ v by renewed. absurd (let was = by.end.was in let never : ⊥ = cc in never)) in
-    (both.0, c.in_ok-kept.ensures, both.1)
+    (both.0, c.in_ok-tables.ensures, both.1)
