@@ -1,9 +1,9 @@
 //! The test of the entries of one table, among tables whose entries may overlap in the file: an entry that has passed
 //! is passed over.
 //!
-//! Entries that follow one another in the file have numbers from 0 on. A list of numbers `past` says of each entry that
-//! those from it on and before `past` of it have passed, so that none is known to have passed where `past` is the
-//! entry's own number. Each walk shortens its next ones, as in a union-find structure.
+//! Entries that follow one another in the file have numbers from 0 on. The list `past` has a number for each entry: the
+//! entries from this one on and below that number have passed. It is the entry's own number while none is known to have
+//! passed. Each walk shortens the next ones, as in a union-find structure.
 
 ghost use Rattle.std.specs.Prelude.{◌≡◌, ℕ, ◌≤◌, ◌<◌, ◌+◌, ◌*◌, IfOk, List, get_or, length};
 ghost use Rattle.std.specs.List.{list_any};
@@ -18,7 +18,7 @@ use elfobj_file::constants::RELA_SIZE;
 use elfobj_file::relocation_entry::read_relocation_entry;
 use std::alloc::{AllocError, Global};
 
-/// The list for entries of which none is known to have passed.
+/// The list `past` for entries of which none is known to have passed.
 pub fn none_passed(alloc: Global, count: usize) -> Result<Vec<usize>, AllocError>
     ensures long { IfOk result (λ numbers. length numbers.items ≡ count) }
     ensures own { IfOk result (λ numbers. (k : ℕ) → k < count → get_or numbers.items k 0 ≡ k) }
@@ -30,7 +30,8 @@ pub fn none_passed(alloc: Global, count: usize) -> Result<Vec<usize>, AllocError
     Ok(past)
 }
 
-/// The entry past those from this one on that are known to have passed. It is noted what that entry knows.
+/// The number that `past` has for this entry. The entry then takes over the number of the entry there, which reaches
+/// further.
 fn step_over(past: &mut [usize], entry: usize) -> usize
     requires { entry < length past.old }
     ensures value { result ≡ get_or past.old entry 0 }
@@ -45,8 +46,8 @@ fn step_over(past: &mut [usize], entry: usize) -> usize
     next
 }
 
-/// Whether an entry of a table is outside the profile in this way. Its first entry has number `first` among those that
-/// follow one another from `base` on. It stops at the first one.
+/// Whether an entry of a table is outside the profile in this way; stops at the first that is. The first entry of the
+/// table has the number `first` among those that follow one another from `base` on.
 pub fn is_table_refused(
     bytes: &[u8],
     table: &SectionTable,

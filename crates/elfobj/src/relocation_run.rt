@@ -27,8 +27,9 @@ pub struct SectionTable {
     pub count: usize,
 }
 
-/// Entries that follow one another in the file, decoded. Entry number k of a class, below 24, begins at 24 * k plus the
-/// class.
+/// Entries that follow one another in the file, decoded. An entry has 24 bytes (`RELA_SIZE`, the size of `Elf64_Rela`);
+/// its class is the offset in the file at which it begins, modulo 24. So entry number k of a class begins at 24 * k
+/// plus the class.
 #[derive(Clone, Copy)]
 pub struct Run {
     /// The number of the first one.
@@ -48,7 +49,8 @@ pub struct Relocations {
     pub spans: Vec<Span>,
 }
 
-/// The numbers of the entries of a class from the first to past the last that a table has.
+/// The numbers of the entries of a class from the first to past the last that a table has. `24 ≤ len`: the file is no
+/// shorter than one `Elf64_Rela`.
 pub fn class_range(tables: &[SectionTable], class: usize, len: usize) -> (usize, usize)
     requires class { class < 24 }
     requires long { 24 ≤ len }

@@ -30,7 +30,7 @@ fn write_patches(canvas: &mut Canvas, patches: &[Patch], end: usize, meter: &mut
     ensures counted { (n : ℕ) → raised meter.new Bytes n
         ≡ raised meter.old Bytes (patch_bytes patches.now + n) }
 {
-    // so that the length of the canvas is known to fit
+    // for the prover: brings in that the length of the canvas fits a usize
     let _len = canvas.len();
     for patch in patches {
         let field = patch.field.bytes();
@@ -64,6 +64,6 @@ pub(crate) fn write_image(
     canvas.resize_reserved(canvas.len().min(end));
     write_patches(canvas, patches, end, meter);
     paint_drawing(canvas, end, drawing, meter);
-    // so that the range of the count is known
+    // for the prover: brings in that the count of bytes fits a u64
     let _bytes = meter.bytes();
 }

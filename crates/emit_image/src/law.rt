@@ -64,8 +64,8 @@ pub fn placement_is_in_memory()
     layout_by_effects();
 }
 
-/// Where input sections that stay are joined, the drawing has the bytes that it had, of which the same stay, and it stands
-/// in order. A drawing is like itself.
+/// A drawing in which input sections that stay are joined has the same bytes, of which the same stay, and stands in
+/// order too; and a drawing in which none are joined is alike to itself.
 pub fn joined_is_whole()
     ensures stands { (whole drawing : Drawing) → IsJoined whole drawing → IsDrawing whole → IsDrawing drawing }
     ensures alike { (whole drawing : Drawing) → IsJoined whole drawing → AreAlike whole drawing }
@@ -91,8 +91,8 @@ pub fn kept_is_image()
     sections_in_file();
 }
 
-/// Where all input sections that stayed are kept, what does not stay and the bytes of what stayed are no more than the
-/// image.
+/// If all input sections that stayed are kept, the bytes that do not stay and those of what stayed are together no more
+/// than the image has.
 pub fn kept_is_not_drawn()
     ensures { (old new : GoodLink) (drawing : Drawing) → IsGood new → IsDrawing drawing
         → IsDrawingOf new.project new.layout drawing
@@ -102,7 +102,7 @@ pub fn kept_is_not_drawn()
     sections_in_file();
 }
 
-/// Where the input sections that are kept are all those that stayed, what does not stay is what the image has besides.
+/// If exactly the input sections that stayed are kept, the bytes that do not stay are the other bytes of the image.
 pub fn kept_is_what_stayed()
     ensures { (old new : GoodLink) (drawing : Drawing) → IsGood new → IsDrawing drawing
         → IsDrawingOf new.project new.layout drawing

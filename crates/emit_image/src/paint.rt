@@ -53,7 +53,7 @@ fn write_same(canvas: &mut Canvas, at: usize, n: usize, byte: u8, meter: &mut Me
     ensures room { canvas.new.room ≡ canvas.old.room }
     ensures counted { meter.new ≡ raised meter.old Bytes n }
 {
-    // so that the length of the canvas is known to fit
+    // for the prover: brings in that the length of the canvas fits a usize
     let _len = canvas.len();
     let run = run_of(byte);
     canvas.write(at, &run[..n], meter);

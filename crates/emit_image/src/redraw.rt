@@ -27,17 +27,17 @@ use emit_fields::canvas::Canvas;
 use emit_fields::patch::Patch;
 use ldmodel::memory::NoMemory;
 
-/// Writes the image that is drawn from these parts onto a canvas: all of it but the bytes that stay. In these only the
-/// patches are written, whose offsets are places in the file. Nothing is written before there is room for all of it: so
-/// of the calls of an edit that may fail it can be the last.
+/// Writes the image of a drawing onto a canvas, except for the bytes that stay; in these only the patches are written,
+/// at their offsets in the file. Room for all of it is taken before anything is written, so that this can be the last
+/// call of an edit that may fail.
 ///
-/// The drawing may have input sections that stay joined: `whole` is a drawing of the same bytes, of which the same stay,
-/// that has each of them. One in which none are joined is its own.
+/// In a drawing, neighbours that stay may be joined into one entry. `whole` is the same drawing with nothing joined,
+/// about which the clauses speak.
 ///
-/// Where nothing stays, the canvas may hold anything before. Where the canvas holds the image of an old link, only
-/// input sections that stayed are kept, and the patches are the fields of their sites whose symbol has another value,
-/// the canvas then holds the image of the new link. Where all input sections that stayed are kept, and no others, as many
-/// bytes are written as the image has outside of them and these fields have.
+/// If nothing stays, the canvas may hold anything before. Else it must hold the image of the old link, only input
+/// sections that stayed may be kept, and the patches must be the fields in them whose symbol has another value: then
+/// the canvas holds the image of the new link. If exactly the sections that stayed are kept, exactly the bytes outside
+/// of them and those of these fields are written.
 ///
 /// # Errors
 ///

@@ -1,5 +1,5 @@
-//! The input sections of an output section, as they are drawn. One that stays is joined to the one before it, where that
-//! stays too and no gap lies between: so what stayed together is drawn as one.
+//! The input sections of an output section, as they are drawn. One that stays is joined to the one before it, where
+//! that stays too and no gap lies between: so what stayed together is drawn as one.
 
 ghost use Rattle.std.specs.Prelude.{◌≡◌, ◌+◌, ◌++◌, ◌∷◌, [], IfSome, List, OnOk, false, true};
 ghost use Rattle.emit_image.specs.Joined.{IsKeptAt, StandFor};

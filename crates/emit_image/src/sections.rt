@@ -176,7 +176,7 @@ fn add_tables(names: &mut Vec<u8>, sections: &[TableSection<'_>]) -> Result<Tabl
         ≡ name_offset (header_names_of sections.now) (length sections.now + 2)) }
     ensures names { OnOk result (names.new.items ≡ string_table (header_names_of sections.now)) }
 {
-    // so that the number of sections is known to fit
+    // for the prover: brings in that the number of sections fits a usize
     let _count = sections.len();
     let symbols = add_name(names, b".symtab")? as u64;
     let symbol_names = add_name(names, b".strtab")? as u64;

@@ -67,8 +67,8 @@ impl InputSectionTable {
         })
     }
 
-    /// How many linked sections the objects before this one have, in all: the number of its first one, where those of all
-    /// objects are counted one after another.
+    /// How many linked sections the objects before this one have, in all: the number of its first one, where those of
+    /// all objects are counted one after another.
     pub fn linked_before(&self, object: ObjectPlace) -> Option<usize>
         ensures { result ≡ linked_of self.now object.0 }
     {

@@ -1,5 +1,5 @@
-//! The input sections of a link under numbers. Takes a project and the ranks of its common blocks; gives a number to each
-//! input section.
+//! The input sections of a link under numbers. Takes a project and the ranks of its common blocks; gives a number to
+//! each input section.
 //!
 //! - `input_section_table` over `slots` and `rank`: the numbers; `law`: what holds of the definitions themselves.
 #![tactic(auto)]

@@ -17,8 +17,8 @@ pub const MAP_MODE: u32 = 0o644;
 /// long is seen to be, and one without an end is not read for ever.
 const MOST: usize = MAX_PAYLOAD + 1;
 
-/// How many bytes one read is to give at most. A buffer is zeros before it is read into, so that all files are read into
-/// one of this length, and copied from there; a longer file is read piece by piece.
+/// How many bytes one read is to give at most. A buffer is zeros before it is read into, so that all files are read
+/// into one of this length, and copied from there; a longer file is read piece by piece.
 const AT_ONCE: usize = 131_072;
 
 /// A buffer that files are read into, one after the other.

@@ -1,4 +1,4 @@
-//! What layers hand one another of the names of symbols.
+//! Keys of objects and names, places of objects, and how a name is resolved: what layers hand one another.
 
 /// The number under which an object is kept, from when it is added until it is removed.
 #[derive(Clone, Copy, Debug, PartialEq, Eq)]
@@ -21,7 +21,7 @@ pub struct Entry {
     pub symbol: u32,
 }
 
-/// What a name stands for.
+/// How a name is resolved.
 #[derive(Clone, Copy, Debug, PartialEq, Eq)]
 pub enum Case {
     /// A global definition of an object that isn't common.

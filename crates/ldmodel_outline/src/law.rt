@@ -32,7 +32,7 @@ pub fn rewritten_rows()
         ≡ gathering_faults q }
 {}
 
-/// Symbols are worth the same at a layout.
+/// Symbols have the same values at a layout.
 pub fn rewritten_values()
     ensures names { (project q : Project) (i : ℕ) → DiffersInContents project q i → (layout : Layout) (name : List ℕ)
         → name_value project layout name ≡ name_value q layout name }

@@ -70,8 +70,8 @@ impl KeyedObjects {
         self.order.is_empty()
     }
 
-    /// Where the object with this name stands. That no object has it is mostly known at once; else the names are looked
-    /// through one by one.
+    /// The place of the object of this name. If no object has it, that is mostly found at once; else the names are
+    /// searched one by one.
     pub fn place_of(&self, name: &[u8]) -> Option<usize>
         ensures place { result ≡ place_of (objects_of self.now.entries) name.now }
         ensures used { is_some result ≡ is_in_use (objects_of self.now.entries) name.now }
@@ -119,7 +119,7 @@ impl KeyedObjects {
         ensures value { result.now ≡ keys_of self.now.entries }
         ensures distinct { AreKeysDistinct result.now }
     {
-        // so that the invariant of the field is known
+        // for the prover: brings in the invariant of `self.objects`
         let _objects = &self.objects;
         &self.order
     }
@@ -128,7 +128,7 @@ impl KeyedObjects {
     pub(crate) fn names_differ(&self)
         ensures { AreNamesDistinct (objects_of self.now.entries) }
     {
-        // so that the invariant of the field is known
+        // for the prover: brings in the invariant of `self.objects`
         let _objects = &self.objects;
     }
 

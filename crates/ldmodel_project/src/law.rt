@@ -11,8 +11,8 @@ ghost use Rattle.ldmodel_project.specs.Tables.{HasTableAt, place_or_0, symbols_u
 ghost use Rattle.ldmodel_project.specs.Edited.{ChangesOneObject};
 ghost use Rattle.ldmodel_project.specs.declared.staged.StagedObjects.{StagedObjects};
 
-/// Symbol tables under keys follow an edit: before it and after it they are the tables of the other objects, and among
-/// them, where the touched object stands, the table of that.
+/// An edit changes the list of symbol tables under keys only at the edited object: before it and after it the list has
+/// the tables of the other objects and, at the place of the edited one, the table of that.
 pub fn tables_follow()
     ensures before { (entries : List Listed) (staged : StagedObjects) (key : ℕ) → ChangesOneObject entries staged
         → edited_key staged.step ≡ Some key
@@ -33,7 +33,7 @@ pub fn tables_by_place()
         ≡ enumerate_from 0 (symbol_tables objects) }
 {}
 
-/// A key stands somewhere exactly where an object is under it.
+/// A key has a place exactly if there is an object under it.
 pub fn found_where_placed()
     ensures { (entries : List Listed) (key : ℕ)
         → is_some (position (nat_eq key) (keys_of entries)) ≡ is_some (found_under entries key) }

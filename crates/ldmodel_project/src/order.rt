@@ -95,7 +95,7 @@ impl Order {
         ensures value { result.now ≡ self.now }
         ensures distinct { AreKeysDistinct self.now }
     {
-        // so that the invariant of the field is known
+        // for the prover: brings in the invariant of `self`
         let _places = &self.places;
         &self.keys
     }

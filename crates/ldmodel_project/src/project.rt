@@ -50,7 +50,7 @@ impl Model for Project {
 }
 
 impl Project {
-    /// The project without objects, with the script that says nothing.
+    /// The project without objects, with the empty script.
     pub fn new(alloc: Global, options: Options) -> Project
         ensures { held result ≡ empty_project options }
     {
@@ -94,7 +94,7 @@ impl Project {
     ///
     /// # Errors
     ///
-    /// Where `stage` fails, and as it does. The project is then as it was.
+    /// Those of `stage`. The project is then as it was.
     pub fn edit(&mut self, edit: Edit<'_>) -> Result<(), EditRefusal>
         ensures accepted { OnOk result (After (held self.old) (change_of edit.entry) (Ok (held self.new))) }
         ensures refused { IfErr result

@@ -1,4 +1,4 @@
-//! A project, lent whole for a link.
+//! A project, lent to a link.
 
 ghost use Rattle.std.specs.Prelude.{◌≡◌, length, option_copied, slice_get};
 ghost use Rattle.std.specs.Option.{option_map};
@@ -79,7 +79,7 @@ impl<'a> ProjectView<'a> {
         ensures named { AreObjectsNamed self.now.objects }
         ensures distinct { AreNamesDistinct self.now.objects }
     {
-        // so that what a view says of its objects is known
+        // for the prover: brings in the invariants of `self` and of its inputs
         let _inputs = self.inputs;
     }
 
@@ -88,7 +88,7 @@ impl<'a> ProjectView<'a> {
         ensures { AreObjectsRead self.now.objects }
     {
         for input in self.inputs {
-            // so that it is known that the bytes of an object fit
+            // for the prover: brings in the invariant of `input.object`, of its bytes
             let _bytes = input.object.data();
         }
     }

@@ -19,7 +19,7 @@ pub struct NameKinds {
 }
 
 impl NameKinds {
-    /// Of none.
+    /// The kinds of no names.
     pub fn none() -> NameKinds
         ensures { (name : List ℕ) → has_kind result name ≡ false }
     {

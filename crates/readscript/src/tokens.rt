@@ -21,7 +21,7 @@ fn kind_word(kind: TokenKind) -> &'static str {
     }
 }
 
-/// The tokens, those of one line of the text in one line.
+/// Prints the tokens; those of one line of the script stand on one line.
 fn push_list(out: &mut String, cursor: Cursor<'_>) -> Result<(), AllocError> {
     let count = cursor.len();
     let mut rest = cursor;

@@ -1,4 +1,4 @@
-//! A project lent whole for a link: the next one, before its edit is committed, or the one that is kept.
+//! A project, lent to a link: the next one, before its edit is committed, or the one that is kept.
 
 ghost use Rattle.std.specs.Prelude.{◌≡◌, IfOk};
 ghost use Rattle.ldmodel_project.specs.ProjectState.{held, project_of};
@@ -17,7 +17,7 @@ impl<'a> Next<'a> {
         requires { shown_inputs inputs.now ≡ objects_of self.now.entries }
         ensures { result ≡ project_of self.now }
     {
-        // so that the invariant of the field is known
+        // for the prover: brings in the invariant of `self.project`
         let _project = self.project;
         ProjectView::new(inputs, self.script(), self.options())
     }

@@ -70,7 +70,7 @@ impl<'a> Next<'a> {
         ensures value { result.now ≡ keys_of self.now.entries }
         ensures distinct { AreKeysDistinct result.now }
     {
-        // so that it is known that each object has a key of its own
+        // for the prover: brings in the invariant of `self.project`
         let _kept = self.project.keys();
         let staged = self.staged;
         &staged.objects.order

@@ -134,8 +134,8 @@ impl Project {
     ///
     /// # Errors
     ///
-    /// The first refusal that applies, or out of memory where no refusal applies for which the object or the script
-    /// need not be read.
+    /// The first refusal that applies; or out of memory, unless the edit is refused before its object or script is
+    /// read.
     pub fn stage(&mut self, edit: Edit<'_>, meter: &mut Meter) -> Result<Staged, EditRefusal>
         ensures same { SameHolding self.old self.new }
         ensures staged { Stages self.new (change_of edit.entry) result }
