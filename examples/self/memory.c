@@ -1,7 +1,7 @@
 /* memcpy, memmove, memset and memcmp in the place of musl's: a link copies names and lines of a few bytes by the ten
- * thousand, for which musl's string instructions take long to begin. Up to 128 bytes are loaded before any is stored, by
- * loads that may meet; more go by 64 at a time, or by the string instruction, which is the fastest for a page and more.
- * Where two ranges meet is of no account up to 128 bytes. memory_test.c tries them. */
+ * thousand, for which musl's string instructions take long to begin. Up to 128 bytes are loaded before any is stored,
+ * by loads that may overlap, so that it does not matter where the two ranges overlap; more go by 64 at a time, or by
+ * the string instruction, which is the fastest for a page and more. memory_test.c tries them. */
 #include <stddef.h>
 #include <stdint.h>
 
@@ -24,7 +24,7 @@ enum {
 #define PLAIN __attribute__((optimize("no-tree-loop-distribute-patterns")))
 #endif
 
-/* Copies up to 128 bytes, of ranges that may meet. */
+/* Copies up to 128 bytes, of ranges that may overlap. */
 static inline void copy_short(char *to, const char *from, size_t count)
 {
     char *end = to + count;
@@ -60,7 +60,7 @@ static inline void copy_short(char *to, const char *from, size_t count)
     }
 }
 
-/* Copies more than 128 bytes upwards: right where the ranges do not meet, and where `to` is the lower one. */
+/* Copies more than 128 bytes upwards: right where the ranges do not overlap, and where `to` is the lower one. */
 static PLAIN void copy_up(char *to, const char *from, size_t count)
 {
     /* the last bytes are loaded first, as the steps may store over them */
@@ -105,12 +105,16 @@ void *memcpy(void *restrict to, const void *restrict from, size_t count)
 
 void *memmove(void *to, const void *from, size_t count)
 {
+    /* how far one range begins after the other; where it begins before it, a number past all lengths */
+    size_t after = (uintptr_t)to - (uintptr_t)from, before = (uintptr_t)from - (uintptr_t)to;
     if (count <= SHORT)
         copy_short(to, from, count);
-    else if ((uintptr_t)to - (uintptr_t)from >= count)
-        return (uintptr_t)from - (uintptr_t)to >= count ? memcpy(to, from, count) : (copy_up(to, from, count), to);
-    else
+    else if (after < count)
         copy_down(to, from, count);
+    else if (before < count)
+        copy_up(to, from, count);
+    else
+        memcpy(to, from, count);
     return to;
 }
 

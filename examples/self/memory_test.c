@@ -1,4 +1,4 @@
-/* Tries memory.c beside plain loops: copies between all places of a short range and of a long one, that meet and that
+/* Tries memory.c beside plain loops: copies between all places of a short range and of a long one, that overlap and that
  * do not, fills and comparisons, of all lengths up to some hundreds and of some at the edges of a page. What lies beside
  * the range stays. Prints how many calls were made, and ends with status 1 at what is wrong. */
 #include <stddef.h>
