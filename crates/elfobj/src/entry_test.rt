@@ -1,9 +1,9 @@
-//! The test of the entries of one table, among tables whose entries may overlap in the file: an entry that has passed
-//! is passed over.
+//! The test of the entries of one table, among tables that may overlap in the file: an entry that has passed is not
+//! tested again.
 //!
 //! Entries that follow one another in the file have numbers from 0 on. The list `past` has a number for each entry: the
-//! entries from this one on and below that number have passed. It is the entry's own number while none is known to have
-//! passed. Each walk shortens the next ones, as in a union-find structure.
+//! entries from this one up to that number, without it, have passed. At first it is the entry's own number. Each walk
+//! shortens the next ones, as in a union-find structure.
 
 ghost use Rattle.std.specs.Prelude.{◌≡◌, ℕ, ◌≤◌, ◌<◌, ◌+◌, ◌*◌, IfOk, List, get_or, length};
 ghost use Rattle.std.specs.List.{list_any};
@@ -30,8 +30,8 @@ pub fn none_passed(alloc: Global, count: usize) -> Result<Vec<usize>, AllocError
     Ok(past)
 }
 
-/// The number that `past` has for this entry. The entry then takes over the number of the entry there, which reaches
-/// further.
+/// The number that `past` has for this entry. For the next walk the entry gets the number of the entry that it leads
+/// to.
 fn step_over(past: &mut [usize], entry: usize) -> usize
     requires { entry < length past.old }
     ensures value { result ≡ get_or past.old entry 0 }

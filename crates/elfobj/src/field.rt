@@ -39,6 +39,7 @@ pub fn end_inside(relocation: &Relocation, kind: SectionKind, size: u64) -> Opti
     }
 }
 
+/// Whether the relocations are in the order of their offsets.
 fn are_ascending(relocations: &[Relocation]) -> bool
     ensures { result ≡ true → IsNonDecreasingBy (λ r. r.offset) relocations.now }
 {
@@ -52,8 +53,8 @@ fn are_ascending(relocations: &[Relocation]) -> bool
     true
 }
 
-/// Makes `room` these relocations in the order of their offsets. They are copied where they have it, as assemblers
-/// write them, and else sorted.
+/// Fills `room` with these relocations in the order of their offsets. They are copied if they have that order, as
+/// assemblers write them, and else sorted.
 pub fn put_in_order(
     relocations: &[Relocation],
     room: &mut Vec<Relocation>,

@@ -1,6 +1,6 @@
-//! Whether two relocations of a table share a byte, for tables that may overlap. The tables are gone through in the
-//! order of their starts, with a mark on each byte that a field of a window of relocations takes. The window only moves
-//! on, so that each relocation enters it and leaves it once, however many tables have it.
+//! Whether two relocations of a table share a byte, for tables that may overlap. The tables are taken in the order of
+//! their starts, with a mark on each byte of a field in a window of relocations. The window only moves forward, so that
+//! each relocation enters and leaves it once, however many tables have it.
 
 ghost use Rattle.std.specs.Prelude.{◌≡◌, ℕ, ◌≤◌, ◌<◌, ◌+◌, ◌⊎◌, IfOk, false, get_or, length, map, true};
 ghost use Rattle.std.specs.List.{All, list_any, slice_range};
@@ -32,7 +32,7 @@ fn is_marked(marks: &[bool], relocation: &Relocation) -> bool
     false
 }
 
-/// Marks the bytes of a field, or takes their marks away.
+/// Marks the bytes of a field, or removes their marks.
 fn mark(marks: &mut [bool], relocation: &Relocation, is_taken: bool)
     requires { field_end relocation.now ≤ length marks.old }
     ensures long { length marks.new ≡ length marks.old }
@@ -48,7 +48,7 @@ fn mark(marks: &mut [bool], relocation: &Relocation, is_taken: bool)
     }
 }
 
-/// Takes the relocations before `start` from the window that begins at `from`.
+/// Removes the relocations before `start` from the window that begins at `from`.
 fn leave(all: &[Relocation], marks: &mut [bool], from: usize, start: usize, until: usize)
     requires window { IsWindow all.now from until marks.old }
     requires order { from ≤ start }
@@ -61,8 +61,8 @@ fn leave(all: &[Relocation], marks: &mut [bool], from: usize, start: usize, unti
     }
 }
 
-/// Adds relocations up to `end` to the window, and says whether one shares a byte with another there. It stops at the
-/// first one.
+/// Adds relocations up to `end` to the window, up to the first that shares a byte with one that is there. Returns
+/// whether there is such a one.
 fn enter(all: &[Relocation], marks: &mut [bool], from: usize, until: usize, end: usize) -> bool
     requires window { IsWindow all.now from until marks.old }
     requires order { until ≤ end }

@@ -1,5 +1,5 @@
 //! The object reader: relocatable ELF-64 objects for x86-64. Takes the bytes of a file; gives an `Object`, which lends
-//! slices of them, or gives them back with the lowest refusal that holds.
+//! slices of them, or the bytes and the lowest refusal whose condition holds.
 //!
 //! - `object`: reading, and what a caller gets; `section`, `symbol`, `relocation`, `refusal`: its types;
 //! - `symbols`, `ordered_table`: a table of symbols, or of fields in the order of their offsets, that passes all its
@@ -8,8 +8,8 @@
 //! - `relocation_fault` over `entry_test` and `field_marks`: entries tested before any is kept; whether fields share a
 //!   byte;
 //! - `field`, `relocation_run`, `linked`, `place`, `span`: what an object keeps of its sections and relocations;
-//! - `meter`, `memory`: what all crates share: the counts of work, which only rise, and the error for refused memory;
-//! - the part `file`: a file's tables and entries as its bytes spell them. Other families name this crate alone.
+//! - `meter`, `memory`: shared by all crates: the counts of work, and the error for refused memory;
+//! - the part `file`: the tables and entries of a file. Other families name this crate alone.
 #![tactic(auto)]
 
 mod entry_test;

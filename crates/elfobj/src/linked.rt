@@ -1,4 +1,4 @@
-//! The linked sections of an object, gathered from its section headers.
+//! The linked sections of an object, from its section headers.
 
 ghost use Rattle.std.specs.Prelude.{◌≡◌, [], ◌∷◌, ◌++◌, IfOk, IfSome, OnOk, false, length, unwrap_or};
 ghost use Rattle.elfobj.specs.Linkable.{IsLinkable, IsNameTable, IsPlaced, PassesTests};
@@ -17,7 +17,7 @@ use elfobj_file::section_header::SectionHeader;
 use elfobj_file::span::Span;
 use std::alloc::{AllocError, Global};
 
-/// The linked sections in table order, and where the parts of each lie.
+/// The linked sections in table order, with the places of their parts.
 #[derive(Drop)]
 pub struct LinkedSections {
     /// The sections.
@@ -26,7 +26,7 @@ pub struct LinkedSections {
     pub places: Vec<Place>,
 }
 
-/// The section of a header of this number and kind, whose name lies there, and its place.
+/// The section of a header, with this number, kind and name, and its place.
 fn section_at(
     bytes: &[u8],
     number: u16,
@@ -49,7 +49,7 @@ fn section_at(
     (section, place_of(name, header, kind, bytes.len()))
 }
 
-/// The section of a header of this number and kind, whose name stands in this table, and its place.
+/// The section of a header, with this number and kind and its name in this table, and its place.
 #[tactic(auto, unfolding(elfobj_file::specs::Sections::name_table))]
 fn placed_section(
     bytes: &[u8],
@@ -68,7 +68,7 @@ fn placed_section(
 }
 
 impl LinkedSections {
-    /// No sections, with room for this number of them.
+    /// No sections, with room for `count`.
     fn with_room(alloc: Global, count: usize) -> Result<LinkedSections, AllocError>
         ensures sections { IfOk result (λ l. l.sections.items ≡ []) }
         ensures places { IfOk result (λ l. l.places.items ≡ []) }
@@ -79,6 +79,7 @@ impl LinkedSections {
         })
     }
 
+    /// Adds a section and its place.
     fn push(&mut self, section: Section, place: Place) -> Result<(), AllocError>
         ensures sections { OnOk result (self.new.sections.items ≡ self.old.sections.items ++ section ∷ []) }
         ensures places { OnOk result (self.new.places.items ≡ self.old.places.items ++ place ∷ []) }
@@ -94,7 +95,7 @@ fn linked_count(headers: &[SectionHeader]) -> usize {
     headers.iter().filter(|h| h.linked_kind().is_some()).count()
 }
 
-/// The linked sections of a file whose section headers have passed their tests, in lists of just that length.
+/// The linked sections of a file whose section headers have passed their tests, in lists that have no spare room.
 pub fn linked_sections(
     alloc: Global,
     bytes: &[u8],
@@ -119,9 +120,9 @@ pub fn linked_sections(
     Ok(linked)
 }
 
-/// The linked sections of a file whose section headers are in bounds, with names in the table of this header, if the
-/// headers are within the profile, and their names are together no longer than the file, as compilers write them. Each
-/// name is looked through where it is needed. Of other files it finds only that they are not such.
+/// The linked sections of a file whose section headers are in bounds, with names in the table of this header. `None` if
+/// a header is outside the profile, or the names are together longer than the file, which compilers do not write. Each
+/// name is scanned when it is needed.
 #[inline(never)]
 pub fn passing_sections(
     alloc: Global,

@@ -1,4 +1,4 @@
-//! Counts of work, which only rise.
+//! Counts of work.
 
 use std::marker::Model;
 
@@ -7,9 +7,9 @@ use std::marker::Model;
 pub enum Count {
     /// Objects that were read, accepted or refused.
     Objects,
-    /// Names that were decided.
+    /// Names that were resolved.
     Names,
-    /// Pieces that were placed.
+    /// Input sections that were placed.
     Pieces,
     /// Relocations that were evaluated.
     Fields,
@@ -17,7 +17,7 @@ pub enum Count {
     Bytes,
 }
 
-/// Five counts of the work of a link, each from 0 to the greatest `u64`, where it stands still.
+/// Five counts of the work of a link. They only rise, and stay at the greatest `u64`.
 #[derive(Drop)]
 pub struct Meter {
     objects: u64,
@@ -53,7 +53,7 @@ impl Meter {
         }
     }
 
-    /// Raises one count. A count that would pass the greatest `u64` stands still there.
+    /// Raises one count, to the greatest `u64` at most.
     pub fn raise(&mut self, count: Count, by: u64)
         ensures { self.new ≡ raised self.old count by }
     {
@@ -66,35 +66,35 @@ impl Meter {
         }
     }
 
-    /// How many objects were read, accepted or refused.
+    /// The number of objects that were read, accepted or refused.
     pub fn objects(&self) -> u64
         ensures { result ≡ self.now.objects }
     {
         self.objects
     }
 
-    /// How many names were decided.
+    /// The number of names that were resolved.
     pub fn names(&self) -> u64
         ensures { result ≡ self.now.names }
     {
         self.names
     }
 
-    /// How many pieces were placed.
+    /// The number of input sections that were placed.
     pub fn pieces(&self) -> u64
         ensures { result ≡ self.now.pieces }
     {
         self.pieces
     }
 
-    /// How many relocations were evaluated.
+    /// The number of relocations that were evaluated.
     pub fn fields(&self) -> u64
         ensures { result ≡ self.now.fields }
     {
         self.fields
     }
 
-    /// How many bytes of the image were written.
+    /// The number of bytes of the image that were written.
     pub fn bytes(&self) -> u64
         ensures { result ≡ self.now.bytes }
     {

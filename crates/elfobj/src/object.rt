@@ -20,9 +20,9 @@ use crate::symbol::Symbol;
 use std::alloc::{AllocError, Global};
 use std::marker::Model;
 
-/// A relocatable ELF-64 object for x86-64, which only `Object::read` makes. It owns the bytes that it was
-/// read from, and lends names and contents of sections as slices of them. What it lends as slices of a public type, its
-/// sections and symbols, stands in lists of their own, beside the places that belong to them.
+/// A relocatable ELF-64 object for x86-64, which only `Object::read` makes. It owns the bytes that it was read from,
+/// and lends names and contents of sections as slices of them. Sections and symbols are lists of public types; the
+/// ranges of their names and contents are in lists beside these.
 #[derive(Drop)]
 pub struct Object {
     bytes: Vec<u8>,
@@ -55,9 +55,8 @@ impl Object {
     ghost use Rattle.elfobj_file.specs.Sections.{section_of};
     ghost use Rattle.elfobj_file.specs.Spans.{bytes_at};
 
-    /// Reads an object, and counts it whether it is one or not. Bytes that are no object are given back,
-    /// with the lowest refusal whose condition holds, or with `NoMemory` where memory runs out. What the ELF
-    /// header alone refuses is told without any memory.
+    /// Reads an object, and counts it, also if it is refused. Refused bytes come back, with the lowest refusal whose
+    /// condition holds, or with `NoMemory`. What the ELF header alone refuses needs no memory.
     pub fn read(
         alloc: Global,
         bytes: Vec<u8>,
@@ -99,7 +98,7 @@ impl Object {
         self.bytes.as_slice()
     }
 
-    /// Its linked sections, in the order of their headers, whose numbers thus ascend.
+    /// Its linked sections, in the order of their header numbers.
     pub fn sections(&self) -> &[Section]
         ensures value { result.now ≡ map section_of self.now.sections }
         ensures limits { All IsSectionOfProfile self.now.sections }
@@ -108,7 +107,7 @@ impl Object {
         &self.sections
     }
 
-    /// The place in `sections` of the section with this header number, if it is a linked one.
+    /// The index in `sections` of the section with this header number, if it is linked.
     pub fn section_at(&self, number: SectionIndex) -> Option<LinkedIndex>
         ensures found { IfSome result (λ i. IsNumberedAt (map section_of self.now.sections) number i.0) }
         ensures absent { IfNone result
@@ -126,7 +125,7 @@ impl Object {
         &self.bytes[place.name.start..place.name.end]
     }
 
-    /// Where the name of a section lies in the bytes that the object was read from. Sections may share it.
+    /// The range of a section's name in the bytes that the object was read from. Sections may share it.
     pub fn section_name_place(&self, section: LinkedIndex) -> Span
         requires { section.0 < length self.now.sections }
         ensures { slice_get (map (λ entry. entry.name) self.now.sections) section.0
@@ -135,7 +134,7 @@ impl Object {
         self.places[section.0].name
     }
 
-    /// The bytes of a section: as many as its size, but none for one that has no bytes in the file.
+    /// The bytes of a section; none if it has no bytes in the file (NOBITS).
     pub fn section_bytes(&self, section: LinkedIndex) -> &[u8]
         requires { section.0 < length self.now.sections }
         ensures { slice_get (map (λ entry. entry.bytes) self.now.sections) section.0 ≡ Some result.now }
@@ -144,8 +143,8 @@ impl Object {
         &self.bytes[place.bytes.start..place.bytes.end]
     }
 
-    /// The entries of its symbol table, in the table's order; none without a symbol table. The first is a null entry, a
-    /// local symbol that is not defined, so that the symbol of this index is the one that relocations number so.
+    /// The entries of its symbol table, in the table's order; none without a symbol table. The first is the null entry,
+    /// so that indices are those that relocations have.
     pub fn symbols(&self) -> &[Symbol]
         ensures value { result.now ≡ map (λ symbol. symbol.symbol) self.now.symbols }
         ensures limits { All IsSymbolOfProfile self.now.symbols }
@@ -155,7 +154,7 @@ impl Object {
         &self.symbols
     }
 
-    /// The name of a symbol: 1 to 65,535 bytes from `!` to `~`, but none for a local one.
+    /// The name of a symbol: 1 to 65,535 bytes from `!` to `~`, or no byte for a local one.
     pub fn name_of(&self, symbol: SymbolIndex) -> &[u8]
         requires { symbol.0 < length self.now.symbols }
         ensures { slice_get (map (λ entry. entry.name) self.now.symbols) symbol.0 ≡ Some result.now }
@@ -164,8 +163,8 @@ impl Object {
         &self.bytes[name.start..name.end]
     }
 
-    /// Where the name of a symbol lies in the bytes that the object was read from; at no bytes for a local one. Symbols
-    /// may share it.
+    /// The range of a symbol's name in the bytes that the object was read from; empty for a local one. Symbols may
+    /// share it.
     pub fn name_place(&self, symbol: SymbolIndex) -> Span
         requires { symbol.0 < length self.now.symbols }
         ensures { slice_get (map (λ entry. entry.name) self.now.symbols) symbol.0
@@ -174,7 +173,7 @@ impl Object {
         self.names[symbol.0 as usize]
     }
 
-    /// The relocations of a section, in the order of their table. Each names one of `symbols` and lies in its section,
+    /// The relocations of a section, in the order of their table. Each is of one of `symbols` and lies in its section,
     /// and no two share a byte; a section without bytes has none.
     pub fn relocations(&self, section: LinkedIndex) -> &[Relocation]
         requires { section.0 < length self.now.sections }
@@ -185,15 +184,15 @@ impl Object {
         &self.relocations[span.start..span.end]
     }
 
-    /// Makes `room` the relocations of this section in the order of their offsets. They are sorted where the table has
-    /// another order; where it has this one, as assemblers write it, they are copied.
+    /// Fills `room` with the relocations of this section in the order of their offsets. They are copied if the table
+    /// has that order, as assemblers write it, and else sorted.
     ///
     /// No second order is kept: tables may overlap in the file, so that the orders of all could take far more memory
     /// than the object.
     ///
     /// # Errors
     ///
-    /// Where there is no memory for the copy.
+    /// If there is no memory for the copy.
     pub fn relocations_by_offset(
         &self,
         section: LinkedIndex,

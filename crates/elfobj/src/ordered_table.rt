@@ -1,5 +1,5 @@
 //! Tables as compilers write them: their entries are all within the profile, and their fields come one after another.
-//! One pass tests such tables and decodes them. Of others it finds only that they are not such.
+//! One pass tests and decodes such tables, and gives up on others.
 
 ghost use Rattle.std.specs.Prelude.{◌≡◌, ◌≤◌, ◌+◌, ◌*◌, ◌++◌, IfOk, IfSome, false, length, map, true};
 ghost use Rattle.std.specs.List.{All, list_any};
@@ -16,7 +16,7 @@ use elfobj_file::relocation_entry::read_relocation_entry;
 use elfobj_file::span::Span;
 use std::alloc::{AllocError, Global};
 
-/// How many entries these tables have.
+/// The number of entries of these tables.
 fn entry_count(tables: &[SectionTable]) -> usize {
     let mut count = 0usize;
     for table in tables {
@@ -25,8 +25,8 @@ fn entry_count(tables: &[SectionTable]) -> usize {
     count
 }
 
-/// Appends the relocations of a table. It stops, and answers no, at an entry that is outside the profile or whose field
-/// begins before the end of the one before it.
+/// Appends the relocations of a table. It stops, and returns `false`, at an entry that is outside the profile or whose
+/// field begins before the end of the one before it.
 #[inline(never)]
 fn push_ordered(
     bytes: &[u8],

@@ -1,4 +1,4 @@
-//! Where the parts of a linked section lie: its name, its bytes and its relocations.
+//! The places of the parts of a linked section: its name, its bytes and its relocations.
 
 ghost use Rattle.std.specs.Prelude.{◌≡◌, ℕ, List, length, map};
 ghost use Rattle.elfobj_file.specs.Sections.{contents};
@@ -9,18 +9,18 @@ use crate::section::SectionKind;
 use elfobj_file::section_header::SectionHeader;
 use elfobj_file::span::{EMPTY_SPAN, Span};
 
-/// Where the parts of a section lie.
+/// The places of the parts of a section.
 #[derive(Clone, Copy)]
 pub struct Place {
     /// Its name in the file, without the zero byte.
     pub name: Span,
     /// Its bytes in the file.
     pub bytes: Span,
-    /// Its relocations among all of the object.
+    /// The range of its relocations among all of the object.
     pub relocations: Span,
 }
 
-/// Where the bytes of a section lie in a file of `len` bytes: nowhere for one without bytes in the file.
+/// The range of a section's bytes in a file of `len` bytes; empty for one without bytes in the file.
 fn contents_range(header: &SectionHeader, kind: SectionKind, len: usize) -> Span
     requires { IsFileWithin len header.now kind }
     ensures within { IsInside len result }
@@ -35,7 +35,7 @@ fn contents_range(header: &SectionHeader, kind: SectionKind, len: usize) -> Span
     }
 }
 
-/// The place of a section in a file of `len` bytes, where its name lies there, before its relocations are read.
+/// The place of a section in a file of `len` bytes, with its name there, before its relocations are read.
 pub fn place_of(name: Span, header: &SectionHeader, kind: SectionKind, len: usize) -> Place
     requires name { IsInside len name }
     requires file { IsFileWithin len header.now kind }
@@ -50,7 +50,7 @@ pub fn place_of(name: Span, header: &SectionHeader, kind: SectionKind, len: usiz
     }
 }
 
-/// Gives each place the stretch of its relocations.
+/// Gives each place the range of its relocations.
 pub fn place_relocations(places: &mut [Place], spans: &[Span])
     requires { length spans.now ≡ length places.old }
     ensures relocations { map (λ place. place.relocations) places.new ≡ spans.now }

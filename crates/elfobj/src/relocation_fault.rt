@@ -17,9 +17,9 @@ use std::alloc::{AllocError, Global};
 /// A way in which an entry is outside the profile, in the order of the refusals' numbers.
 #[derive(Clone, Copy)]
 pub enum EntryFault {
-    /// One of those below.
+    /// The first of those below.
     Any,
-    /// It names a symbol that isn't there.
+    /// Its symbol isn't one of the object's.
     Symbol,
     /// Its type is not of the profile.
     Kind,
@@ -51,8 +51,8 @@ pub fn is_refused_for(
 impl SectionTable {
     ghost use Rattle.elfobj.specs.EntryTests.{field_ends};
 
-    /// How many ends a field may have in its section: those from 0 to its size, of which a section without bytes in the
-    /// file has none. An entry whose field lies in a section lies in all that have no fewer.
+    /// The number of offsets at which a field may end in its section: 0 to its size, and none in a section without
+    /// bytes in the file. An entry whose field lies in a section lies in all sections that have no fewer.
     fn field_ends(&self) -> u128
         ensures { result ≡ field_ends self.now.section }
     {
@@ -62,6 +62,7 @@ impl SectionTable {
         }
     }
 
+    /// Whether the table has entries, and these are of a class.
     fn is_of_class(&self, class: usize) -> bool
         ensures yes { result ≡ true → (0 < self.now.count) × (self.now.start % 24 ≡ class) }
         ensures no { result ≡ false → 0 < self.now.count → self.now.start % 24 ≢ class }
@@ -83,8 +84,8 @@ pub fn smallest_first(
     Ok(sorted)
 }
 
-/// Whether an entry of a table of a class is outside the profile in this way, where `past` knows of no entry that it
-/// has passed. Each entry that passes is tested once, since the tables come in the order of the room in their sections.
+/// Whether an entry of the tables of a class is outside the profile in this way; in `past` none has passed yet.
+/// Each entry that passes is tested once, since the tables come in the order of their sections' sizes.
 fn is_refused_among(
     bytes: &[u8],
     tables: &[SectionTable],

@@ -1,6 +1,5 @@
 //! The relocations of an object, decoded. Tables may overlap in the file: those that lie a whole number of entries
-//! apart share one decoded run, so that no entry is decoded twice at one place of the file, however many tables have
-//! it.
+//! apart share one decoded run, so that no entry of the file is decoded twice.
 
 ghost use Rattle.std.specs.Prelude.{◌≡◌, ◌≤◌, ◌<◌, ◌+◌, ◌*◌, ◌/◌, ◌^◌, ◌++◌, IfOk, OnOk, length, map};
 ghost use Rattle.std.specs.List.{All};
@@ -16,25 +15,24 @@ use elfobj_file::relocation_entry::read_relocation_entry;
 use elfobj_file::span::{EMPTY_SPAN, Span};
 use std::alloc::{AllocError, Global};
 
-/// Where the entries that change a linked section lie in the file.
+/// The table of a linked section's relocations in the file.
 #[derive(Clone, Copy)]
 pub struct SectionTable {
     /// The section.
     pub section: Section,
-    /// Where its first entry begins.
+    /// The file offset of its first entry.
     pub start: usize,
-    /// How many there are.
+    /// The number of entries.
     pub count: usize,
 }
 
 /// Entries that follow one another in the file, decoded. An entry has 24 bytes (`RELA_SIZE`, the size of `Elf64_Rela`);
-/// its class is the offset in the file at which it begins, modulo 24. So entry number k of a class begins at 24 * k
-/// plus the class.
+/// its class is its offset in the file, modulo 24. So entry number k of a class begins at 24 * k plus the class.
 #[derive(Clone, Copy)]
 pub struct Run {
     /// The number of the first one.
     pub low: usize,
-    /// How many there are.
+    /// The number of entries.
     pub count: usize,
     /// Where they begin among all relocations.
     pub first: usize,
@@ -49,8 +47,8 @@ pub struct Relocations {
     pub spans: Vec<Span>,
 }
 
-/// The numbers of the entries of a class from the first to past the last that a table has. `24 ≤ len`: the file is no
-/// shorter than one `Elf64_Rela`.
+/// The numbers of a class's entries: that of the first that a table has, and the one past the last. `24 ≤ len`: the
+/// file is no shorter than one `Elf64_Rela`.
 pub fn class_range(tables: &[SectionTable], class: usize, len: usize) -> (usize, usize)
     requires class { class < 24 }
     requires long { 24 ≤ len }
@@ -71,7 +69,7 @@ pub fn class_range(tables: &[SectionTable], class: usize, len: usize) -> (usize,
     (low.min(end), end)
 }
 
-/// How many entries the runs of all classes have.
+/// The number of entries of the runs of all classes.
 fn entry_count(tables: &[SectionTable], len: usize) -> usize
     requires long { 24 ≤ len }
     requires within { All (λ t. t.start + 24 * t.count ≤ len) tables.now }
@@ -102,7 +100,7 @@ fn push_entries(
     Ok(())
 }
 
-/// The runs of all classes, each as long as its tables need, in one allocation of just that size.
+/// The runs of all classes, each as long as its tables need, in one allocation without spare room.
 fn read_runs(
     alloc: Global,
     bytes: &[u8],
@@ -124,7 +122,7 @@ fn read_runs(
     Ok((all, runs))
 }
 
-/// Where the relocations of a table lie among all, if this is the run of its class.
+/// The range of a table's relocations among all, if this is the run of its class.
 fn span_in(run: &Run, table: &SectionTable) -> Span
     requires low { run.now.low ≤ table.now.start / 24 }
     requires end { table.now.start / 24 + table.now.count ≤ run.now.low + run.now.count }
@@ -139,7 +137,7 @@ fn span_in(run: &Run, table: &SectionTable) -> Span
     }
 }
 
-/// Where the relocations of each table lie among all.
+/// The range of each table's relocations among all.
 fn find_spans(
     alloc: Global,
     bytes: &[u8],

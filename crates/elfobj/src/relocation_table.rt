@@ -32,6 +32,7 @@ use elfobj_file::section_header::SectionHeader;
 use elfobj_file::span::Span;
 use std::alloc::{AllocError, Global};
 
+/// Whether the section with this header number is linked.
 fn is_linked(headers: &[SectionHeader], number: usize) -> bool
     ensures { result ≡ is_linked headers.now number }
 {
@@ -41,6 +42,7 @@ fn is_linked(headers: &[SectionHeader], number: usize) -> bool
     }
 }
 
+/// Refusal 10, for a linked section: whether the table has no addends, a wrong size, or another symbol table.
 fn is_wrong_table(table: &SectionHeader, symtab: Option<usize>) -> bool
     ensures { result ≡ is_wrong_table symtab table.now }
 {
@@ -54,8 +56,9 @@ fn is_wrong_table(table: &SectionHeader, symtab: Option<usize>) -> bool
         || !is_of_symtab
 }
 
-/// Whether a relocation section changes no section, or a linked one in a way outside the profile. `tables` has for each
-/// section number the first relocation section before this one that changes it.
+/// Refusal 10, for what the header of a relocation section says: whether it is for no section, or for a linked one and
+/// outside the profile. `tables` has under each section number the first relocation section before this one that is for
+/// it.
 fn is_wrong_section(
     headers: &[SectionHeader],
     tables: &[Option<SectionHeader>],
@@ -72,7 +75,7 @@ fn is_wrong_section(
     is_linked(headers, changed) && (tables[changed].is_some() || is_wrong_table(table, symtab))
 }
 
-/// Enters a relocation section at the section number that it changes, if it is the first one for it.
+/// Enters a relocation section under the number of its section, if it is the first for it.
 fn enter(tables: &mut [Option<SectionHeader>], table: &SectionHeader)
     requires { table.now.sh_info < length tables.old }
     ensures { tables.new ≡ entered tables.old table.now }
@@ -83,6 +86,7 @@ fn enter(tables: &mut [Option<SectionHeader>], table: &SectionHeader)
     }
 }
 
+/// A list without tables, of this length.
 fn no_tables(alloc: Global, count: usize) -> Result<Vec<Option<SectionHeader>>, AllocError>
     ensures { IfOk result (λ v. v.items ≡ replicate count None) }
 {
@@ -93,8 +97,8 @@ fn no_tables(alloc: Global, count: usize) -> Result<Vec<Option<SectionHeader>>, 
     Ok(tables)
 }
 
-/// For each section number the relocation section that changes it; or `RelocationSection`, where one of them is outside
-/// the profile for what its header says.
+/// Under each section number its relocation section; or `RelocationSection`, if the header of one is outside the
+/// profile.
 fn changing_tables(
     alloc: Global,
     bytes: &[u8],
@@ -122,7 +126,7 @@ fn changing_tables(
     Ok(tables)
 }
 
-/// The entries of a section that this table changes, or none.
+/// The table of a section's entries, or an empty one.
 fn section_table(section: &Section, table: Option<SectionHeader>, len: usize) -> SectionTable
     requires within { IfSome table (λ h. h.sh_offset + h.sh_size ≤ len) }
     ensures section { result.section ≡ section.now }
@@ -143,7 +147,7 @@ fn section_table(section: &Section, table: Option<SectionHeader>, len: usize) ->
     }
 }
 
-/// The entries of each of these sections.
+/// The tables of these sections' entries.
 fn section_tables(
     alloc: Global,
     bytes: &[u8],
@@ -163,7 +167,7 @@ fn section_tables(
     Ok(own)
 }
 
-/// The lowest refusal that an entry of these tables gives.
+/// The lowest refusal of an entry of these tables.
 fn entry_refusal(
     alloc: Global,
     bytes: &[u8],
@@ -226,8 +230,8 @@ fn is_any_overlap(alloc: Global, relocations: &Relocations, size: usize) -> Resu
     is_any_shared(alloc, &relocations.all, &spans, size)
 }
 
-/// Reads the relocations of these tables, whatever order their fields have, or tells why they are refused. All entries
-/// are tested before any is kept.
+/// Reads the relocations of these tables, in any order of their fields, or returns their refusal. All entries are
+/// tested before any is kept.
 #[cold]
 #[inline(never)]
 fn read_tested(
@@ -262,7 +266,7 @@ fn read_tested(
 }
 
 /// Reads the relocations of the linked sections of a file whose section headers and symbols have passed their tests, or
-/// tells why it is no object.
+/// returns its refusal.
 pub fn read_relocations(
     alloc: Global,
     bytes: &[u8],
@@ -286,7 +290,7 @@ pub fn read_relocations(
     let Ok(tables) = section_tables(alloc, bytes, sections, &changing) else {
         return Err(ObjectRefusal::NoMemory);
     };
-    // What follows takes memory of its own.
+    // from here on memory is taken
     drop(changing);
     match read_ordered(alloc, bytes, &tables, symbols) {
         Ok(Some(relocations)) => Ok(relocations),

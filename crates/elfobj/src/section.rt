@@ -1,4 +1,4 @@
-//! Sections as callers see them, and where one of a number stands.
+//! Sections as callers see them, and how one is found by its number.
 
 ghost use Rattle.std.specs.Prelude.{◌≢◌, ◌<◌, IfNone, IfSome};
 ghost use Rattle.std.specs.List.{All, AllPairs};
@@ -6,7 +6,7 @@ ghost use Rattle.elfobj.specs.Numbering.{IsNumberedAt};
 
 pub use elfobj_file::section::{LinkedIndex, Section, SectionIndex, SectionKind};
 
-/// The place of the section with this number, by binary search.
+/// The index of the section with this number, by binary search.
 pub fn find_number(sections: &[Section], number: SectionIndex) -> Option<LinkedIndex>
     requires { AllPairs (λ earlier later. earlier.number.0 < later.number.0) sections.now }
     ensures found { IfSome result (λ i. IsNumberedAt sections.now number i.0) }

@@ -1,4 +1,4 @@
-//! The tests of the section headers, and what they leave to read.
+//! The tests of the section headers, and the reading of the rest of the file.
 
 ghost use Rattle.std.specs.Prelude.{◌≡◌, ◌⊎◌, ◌++◌, IfErr, IfNone, IfOk, IfSome, None, OnOk, Some, false, find, true};
 ghost use Rattle.std.specs.List.{list_any};
@@ -27,7 +27,7 @@ use elfobj_file::names::StringTable;
 use elfobj_file::section_header::{SectionHeader, read_headers};
 use std::alloc::Global;
 
-/// The header of the table that the sections' names stand in.
+/// The header of the section name table.
 #[tactic(auto, using(elfobj_file::proofs::Headers::count_of, elfobj_file::proofs::Headers::header_of))]
 fn name_table_header(bytes: &[u8], headers: &[SectionHeader]) -> SectionHeader
     requires table { HasSectionTable bytes.now }
@@ -37,12 +37,14 @@ fn name_table_header(bytes: &[u8], headers: &[SectionHeader]) -> SectionHeader
     headers[usize::from(name_table_number(bytes))]
 }
 
+/// Whether a header's section is out of bounds.
 fn is_any_out_of_bounds(headers: &[SectionHeader], len: u64) -> bool
     ensures { result ≡ list_any (is_out_of_bounds len) headers.now }
 {
     headers.iter().any(|h| h.is_out_of_bounds(len))
 }
 
+/// Whether a header is outside the profile.
 fn is_any_outside_profile(headers: &[SectionHeader], names: &StringTable) -> bool
     ensures { result ≡ list_any (is_outside_profile_by (table_of names.now)) headers.now }
 {
@@ -62,7 +64,7 @@ fn has_wrong_bounds(bytes: &[u8], names: &SectionHeader, headers: &[SectionHeade
 }
 
 /// The linked sections of a file whose section headers are in bounds, or `SectionProfile` where one of them is outside
-/// the profile. The table of names is looked through once.
+/// the profile. The table of names is scanned once.
 #[cold]
 #[inline(never)]
 fn looked_sections(
@@ -127,7 +129,7 @@ pub struct Parts {
     pub relocations: Vec<Relocation>,
 }
 
-/// Reads the other parts of a file whose section headers have passed their tests, or tells why it is no object.
+/// Reads the other parts of a file whose section headers have passed their tests, or returns its refusal.
 fn read_tables(
     alloc: Global,
     bytes: &[u8],
@@ -162,7 +164,7 @@ fn read_tables(
     })
 }
 
-/// Reads the parts of a file, or tells why it is no object.
+/// Reads the parts of a file, or returns its refusal.
 pub fn read_parts(alloc: Global, bytes: &[u8]) -> Result<Parts, ObjectRefusal>
     ensures ok { IfOk result (λ parts. object_refusal bytes.now ≡ None) }
     ensures read { IfOk result

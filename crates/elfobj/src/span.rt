@@ -1,3 +1,3 @@
-//! Stretches of the bytes of an object.
+//! Ranges of the bytes of an object.
 
 pub use elfobj_file::span::Span;

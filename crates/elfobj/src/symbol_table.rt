@@ -25,25 +25,28 @@ use elfobj_file::span::{EMPTY_SPAN, Span};
 use elfobj_file::symbol_entry::{SymbolEntry, read_symbol_entry};
 use std::alloc::{AllocError, Global};
 
-/// The number of the first header of a symbol table.
+/// The index of the first header of a symbol table.
 pub fn symbol_table_number(headers: &[SectionHeader]) -> Option<usize>
     ensures { result ≡ position is_symbol_table headers.now }
 {
     headers.iter().position(|h| h.is_symbol_table())
 }
 
+/// The first header of a symbol table.
 fn symbol_table_header(headers: &[SectionHeader]) -> Option<SectionHeader>
     ensures { result ≡ find is_symbol_table headers.now }
 {
     headers.iter().copied().find(|h| h.is_symbol_table())
 }
 
+/// Whether there are two symbol tables or more.
 fn are_several(headers: &[SectionHeader]) -> bool
     ensures { result ≡ nat_lt 1 (count_by is_symbol_table headers.now) }
 {
     headers.iter().filter(|h| h.is_symbol_table()).count() > 1
 }
 
+/// Whether the section with this header number is a string table.
 fn is_string_table(headers: &[SectionHeader], number: usize) -> bool
     ensures { result ≡ is_string_table headers.now number }
 {
@@ -53,6 +56,7 @@ fn is_string_table(headers: &[SectionHeader], number: usize) -> bool
     }
 }
 
+/// Refusal 8: whether the symbol table's header is outside the profile.
 fn has_wrong_header(headers: &[SectionHeader], table: &SectionHeader) -> bool
     ensures { result ≡ has_wrong_header headers.now table.now }
 {
@@ -64,6 +68,7 @@ fn has_wrong_header(headers: &[SectionHeader], table: &SectionHeader) -> bool
         || table.sh_size as usize / SYM_SIZE < table.sh_info as usize
 }
 
+/// The entries of a table whose bytes are in the file.
 fn read_entries(
     alloc: Global,
     bytes: &[u8],
@@ -81,18 +86,21 @@ fn read_entries(
     Ok(entries)
 }
 
+/// Whether all entries are local.
 fn are_all_local(entries: &[SymbolEntry]) -> bool
     ensures { result ≡ list_all is_local_entry entries.now }
 {
     entries.iter().all(|e| e.is_local())
 }
 
+/// Whether one of the entries is local.
 fn is_any_local(entries: &[SymbolEntry]) -> bool
     ensures { result ≡ list_any is_local_entry entries.now }
 {
     entries.iter().any(|e| e.is_local())
 }
 
+/// Refusal 8: whether an entry below `sh_info` isn't local, or one from there on is.
 fn has_misplaced_entry(table: &SectionHeader, entries: &[SymbolEntry]) -> bool
     requires some { 0 < table.now.sh_info }
     requires within { table.now.sh_info ≤ length entries.now }
@@ -110,6 +118,7 @@ fn past_null(entries: &[SymbolEntry]) -> &[SymbolEntry]
     &entries[1..]
 }
 
+/// Whether one of the entries is outside the profile.
 fn is_wrong_among(entries: &[SymbolEntry], sections: u16, strings: &StringTable) -> bool
     ensures { result ≡ list_any (is_wrong_symbol sections (table_of strings.now)) entries.now }
 {
@@ -124,7 +133,7 @@ fn is_any_wrong(entries: &[SymbolEntry], sections: u16, strings: &StringTable) -
     is_wrong_among(past_null(entries), sections, strings)
 }
 
-/// Where the name of an entry lies in the file.
+/// The range of an entry's name in the file.
 fn name_span(strings: &StringTable, entry: &SymbolEntry) -> Span
     requires { is_wrong_non_local (table_of strings.now) entry.now ≡ false }
     ensures within { IsInside (length strings.now.file.now) result }
@@ -155,8 +164,8 @@ fn named_symbols(
     Ok(symbols)
 }
 
-/// Reads the symbols of a table whose header has passed its tests, or tells why they are refused. Their string table is
-/// looked through once.
+/// Reads the symbols of a table whose header has passed its tests, or returns their refusal. Their string table is
+/// scanned once.
 #[cold]
 #[inline(never)]
 fn read_tested(
@@ -195,7 +204,7 @@ fn read_tested(
     }
 }
 
-/// Reads the symbols of a file whose section headers have passed their tests, or tells why it is no object.
+/// Reads the symbols of a file whose section headers have passed their tests, or returns its refusal.
 pub fn read_symbols(
     alloc: Global,
     bytes: &[u8],

@@ -1,5 +1,5 @@
-//! The symbols of an object, and the pass that reads them where all are within the profile, as compilers write them. Of
-//! other symbols it finds only that they are not such.
+//! The symbols of an object, and the pass that reads them if all are within the profile, as compilers write them. It
+//! gives up on others.
 
 ghost use Rattle.std.specs.Prelude.{◌≡◌, ℕ, ◌≤◌, ◌+◌, ◌/◌, ◌++◌, ◌∷◌, [], IfOk, IfSome, List, OnOk, drop, false};
 ghost use Rattle.std.specs.Prelude.{length};
@@ -16,16 +16,16 @@ use elfobj_file::span::{EMPTY_SPAN, Span};
 use elfobj_file::symbol_entry::read_symbol_entry;
 use std::alloc::{AllocError, Global};
 
-/// The symbols in table order, and where the name of each lies in the file.
+/// The symbols in table order, with the ranges of their names in the file.
 #[derive(Drop)]
 pub struct Symbols {
     /// The symbols.
     pub symbols: Vec<Symbol>,
-    /// The places of their names; local ones have empty names.
+    /// The ranges of their names; empty for local ones.
     pub names: Vec<Span>,
 }
 
-/// Entry number 0, which is a null entry whatever it says.
+/// Entry number 0, which is the null entry, whatever its bytes are.
 const NULL_SYMBOL: Symbol = Symbol {
     binding: Binding::Local,
     kind: SymbolKind::NoType,
@@ -35,7 +35,7 @@ const NULL_SYMBOL: Symbol = Symbol {
 };
 
 impl Symbols {
-    /// The null symbol alone, with room for this number of symbols.
+    /// The null symbol alone, with room for `count` symbols.
     pub fn of_null(alloc: Global, count: usize) -> Result<Symbols, AllocError>
         ensures { (file : List ℕ)
             → IfOk result (λ read. AreNamed file (null_symbol ∷ []) read.symbols.items read.names.items) }
@@ -48,7 +48,7 @@ impl Symbols {
         Ok(symbols)
     }
 
-    /// Adds a symbol and the place of its name.
+    /// Adds a symbol and the range of its name.
     pub fn push(&mut self, symbol: Symbol, name: Span) -> Result<(), AllocError>
         ensures symbols { OnOk result (self.new.symbols.items ≡ self.old.symbols.items ++ symbol ∷ []) }
         ensures names { OnOk result (self.new.names.items ≡ self.old.names.items ++ name ∷ []) }

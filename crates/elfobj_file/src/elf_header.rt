@@ -14,7 +14,7 @@ use crate::constants::{
 use crate::numbers::{read_u16, read_u32, read_u64};
 use crate::refusal::ObjectRefusal;
 
-/// Field `e_shoff`: where the section headers begin in the file.
+/// `e_shoff`: the file offset of the section headers.
 pub fn section_table_offset(bytes: &[u8]) -> u64
     requires { 64 ≤ length bytes.now }
     ensures { result ≡ e_shoff bytes.now }
@@ -22,7 +22,7 @@ pub fn section_table_offset(bytes: &[u8]) -> u64
     read_u64(bytes, 40)
 }
 
-/// Field `e_shnum`: how many section headers there are.
+/// `e_shnum`: the number of section headers.
 pub fn section_count(bytes: &[u8]) -> u16
     requires { 64 ≤ length bytes.now }
     ensures { result ≡ e_shnum bytes.now }
@@ -30,7 +30,7 @@ pub fn section_count(bytes: &[u8]) -> u16
     read_u16(bytes, 60)
 }
 
-/// Field `e_shstrndx`: the number of the header of the table that the sections' names stand in.
+/// `e_shstrndx`: the index of the header of the section name table.
 pub fn name_table_number(bytes: &[u8]) -> u16
     requires { 64 ≤ length bytes.now }
     ensures { result ≡ e_shstrndx bytes.now }
@@ -38,6 +38,7 @@ pub fn name_table_number(bytes: &[u8]) -> u16
     read_u16(bytes, 62)
 }
 
+/// Refusal 1: the file is shorter than an ELF header.
 #[tactic(auto, unfolding(crate::specs::Refusal::holds))]
 fn is_short(bytes: &[u8]) -> bool
     ensures value { result ≡ holds bytes.now Short }
@@ -46,6 +47,7 @@ fn is_short(bytes: &[u8]) -> bool
     bytes.len() < usize::from(EHDR_SIZE)
 }
 
+/// Refusal 2: the magic number is not that of ELF.
 #[tactic(auto, unfolding(crate::specs::Refusal::holds))]
 fn is_not_elf(bytes: &[u8]) -> bool
     requires { 64 ≤ length bytes.now }
@@ -54,6 +56,7 @@ fn is_not_elf(bytes: &[u8]) -> bool
     !(bytes[0] == 0x7f && bytes[1] == b'E' && bytes[2] == b'L' && bytes[3] == b'F')
 }
 
+/// Refusal 3: not a little-endian 64-bit relocatable object of version 1 for x86-64.
 #[tactic(auto, unfolding(crate::specs::Refusal::holds))]
 fn is_other_machine(bytes: &[u8]) -> bool
     requires { 64 ≤ length bytes.now }
@@ -64,6 +67,7 @@ fn is_other_machine(bytes: &[u8]) -> bool
     !(is_object && read_u16(bytes, 18) == EM_X86_64 && read_u32(bytes, 20) == u32::from(EV_CURRENT))
 }
 
+/// Refusal 4: section headers of another size, or not all inside the file.
 #[tactic(auto, unfolding(crate::specs::Refusal::holds))]
 fn is_table_outside(bytes: &[u8]) -> bool
     requires { 64 ≤ length bytes.now }
@@ -78,6 +82,7 @@ fn is_table_outside(bytes: &[u8]) -> bool
     room < size || room - size < section_table_offset(bytes)
 }
 
+/// Refusal 5: no section header, too many, or a name table that is not among them.
 #[tactic(auto, unfolding(crate::specs::Refusal::holds))]
 fn is_count_wrong(bytes: &[u8]) -> bool
     requires { 64 ≤ length bytes.now }
@@ -88,7 +93,7 @@ fn is_count_wrong(bytes: &[u8]) -> bool
     count == 0 || count > MAX_SECTION_HEADERS || count <= name_table_number(bytes)
 }
 
-/// The lowest refusal that the ELF header alone gives. Without one the section headers can be read.
+/// The lowest refusal whose condition the ELF header alone decides. If there is none, the section headers can be read.
 pub fn header_refusal(bytes: &[u8]) -> Option<ObjectRefusal>
     ensures value { result ≡ find (holds bytes.now) header_refusals }
     ensures table { IfNone result (HasSectionTable bytes.now) }

@@ -1,14 +1,14 @@
-//! How many of the bytes of one load, from the first on, may stand in a name.
+//! The length of a run of bytes that may occur in a name, tested a load of bytes at a time.
 
 ghost use Rattle.std.specs.Prelude.{◌≡◌, ◌+◌, ◌≤◌, length};
 ghost use Rattle.elfobj_file.specs.GraphicRuns.{IsGraphicFrom, first_set};
 
 use std::simd::prelude::*;
 
-/// How many bytes are loaded at once.
+/// The number of bytes in one load.
 pub(crate) const LANES: usize = 16;
 
-/// The place of the lowest bit that is set, or the number of lanes.
+/// The index of the lowest bit that is set, or the number of lanes if none is.
 #[inline(always)]
 fn first_set(mask: u64) -> usize
     ensures { result ≡ first_set mask LANES }
@@ -20,7 +20,7 @@ fn first_set(mask: u64) -> usize
     }
 }
 
-/// How many of the bytes from `at` on may stand in a name, one after another, up to as many as are loaded at once.
+/// The length of the run of bytes from `at` on that may occur in a name, at most that of one load.
 #[inline(always)]
 pub(crate) fn graphic_run(bytes: &[u8], at: usize) -> usize
     requires { at + LANES ≤ length bytes.now }

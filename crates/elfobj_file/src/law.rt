@@ -1,4 +1,4 @@
-//! The numbers of the standards, each written out a second time, so that a wrong one in `constants` is no definition.
+//! The numbers of the standards, each written a second time, so that a wrong one in `constants` is not proved.
 
 ghost use Rattle.std.specs.Prelude.{◌≡◌, ◌^◌};
 ghost use Rattle.elfobj_file.specs.declared.constants.TheConstants.{ELFCLASS64, ELFDATA2LSB, EV_CURRENT, ET_REL};

@@ -15,15 +15,15 @@ use crate::section_header::SectionHeader;
 use crate::span::Span;
 use std::alloc::{AllocError, Global};
 
-/// Whether a byte may stand in a name: one from `!` to `~`.
+/// Whether a byte may occur in a name: one from `!` to `~`.
 pub fn is_graphic(b: u8) -> bool
     ensures { result ≡ is_graphic b }
 {
     matches!(b, b'!'..=b'~')
 }
 
-/// A string table of a file, with the length of the name that begins at each of its bytes, so that no name is looked
-/// through again for each header or symbol that has it.
+/// A string table of a file, with the length of the name that begins at each of its bytes, so that a name is scanned
+/// once, however many headers or symbols have it.
 #[derive(Drop)]
 pub struct StringTable<'a> {
     file: &'a [u8],
@@ -33,8 +33,8 @@ pub struct StringTable<'a> {
     ghost right: { lengths.items ≡ name_lengths (file_bytes file.now header) } by { Prim.hlevel props },
 }
 
-/// The length of the name that begins with byte `b`, where the rest of the table begins with a zero byte, or with a
-/// name of length `next`; 0 stands for no name within the limits.
+/// The length of the name that begins with byte `b`, if the rest of the table begins with a zero byte, or with a name
+/// of length `next`; 0 for no name within the limits.
 fn length_before(b: u8, is_end: bool, next: u16) -> u16
     ensures { result ≡ length_before b is_end next }
 {
@@ -65,7 +65,7 @@ fn name_lengths(alloc: Global, table: &[u8]) -> Result<Vec<u16>, AllocError>
     Ok(lengths)
 }
 
-/// How many bytes that may stand in a name a table begins with, where this number of them are known to.
+/// The length of the run of bytes at the front of a table that may occur in a name, if the first `known` of them do.
 fn graphic_past(bytes: &[u8], known: usize) -> usize
     requires within { known ≤ length bytes.now }
     requires graphic { (k : ℕ) → k < known → is_graphic (get_or bytes.now k 0) ≡ true }
@@ -79,8 +79,8 @@ fn graphic_past(bytes: &[u8], known: usize) -> usize
     count
 }
 
-/// How many bytes that may stand in a name a table begins with. They are tested many at a time, and one by one at the
-/// end of the table.
+/// The length of the run of bytes at the front of a table that may occur in a name. They are tested many at a time, and
+/// one by one at the end of the table.
 fn graphic_count(bytes: &[u8]) -> usize
     ensures within { result ≤ length bytes.now }
     ensures graphic { (k : ℕ) → k < result → is_graphic (get_or bytes.now k 0) ≡ true }
@@ -96,8 +96,7 @@ fn graphic_count(bytes: &[u8]) -> usize
     graphic_past(bytes, count)
 }
 
-/// The length of the name that begins at this offset of a table, where it ends inside the table and is within the
-/// limits.
+/// The length of the name that begins at this offset of a table, if it ends inside the table and is within the limits.
 fn looked_length(table: &[u8], at: usize) -> Option<usize>
     ensures within { IfSome result (λ n. at + n ≤ length table.now) }
     ensures name { IfSome result (λ n. string_at table.now at ≡ Some (take n (drop at table.now))) }
@@ -117,9 +116,8 @@ fn looked_length(table: &[u8], at: usize) -> Option<usize>
     Some(length)
 }
 
-/// Where in the file the name lies that begins at this offset of the string table of a header, where it ends inside the
-/// table and is within the limits. Each call looks through the name: where many names may share their bytes, a
-/// `StringTable` is to be made.
+/// The range in the file of the name that begins at this offset of a header's string table, if it ends inside the table
+/// and is within the limits. Each call scans the name; for many names that may share bytes, make a `StringTable`.
 pub fn looked_name(file: &[u8], header: &SectionHeader, at: u32) -> Option<Span>
     requires { header.now.sh_offset + header.now.sh_size ≤ length file.now }
     ensures within { IfSome result (IsInside (length file.now)) }
@@ -141,7 +139,7 @@ pub fn looked_name(file: &[u8], header: &SectionHeader, at: u32) -> Option<Span>
 impl<'a> StringTable<'a> {
     ghost use Rattle.elfobj_file.specs.TableOf.{table_of};
 
-    /// Looks once through the string table of this header.
+    /// Scans the string table of this header once.
     pub fn of_header(
         alloc: Global,
         file: &'a [u8],
@@ -159,6 +157,7 @@ impl<'a> StringTable<'a> {
         })
     }
 
+    /// The length of the name at this offset, or 0 past the end of the table.
     #[tactic(auto, using(crate::proofs::StringTables::length_told))]
     fn length_at(&self, at: usize) -> u16
         ensures { result ≡ first_length (drop at (table_of self.now)) }
@@ -186,7 +185,7 @@ impl<'a> StringTable<'a> {
         Some(length)
     }
 
-    /// Where in the file the name lies that begins at this offset of the table.
+    /// The range in the file of the name that begins at this offset of the table.
     pub fn file_range(&self, at: u32) -> Span
         requires { option_map_or is_name (string_at (table_of self.now) at) false ≡ true }
         ensures within { IsInside (length self.now.file.now) result }

@@ -1,4 +1,4 @@
-//! Entries of a relocation section as they stand in the file (gABI, `Elf64_Rela`: 24 bytes each).
+//! Entries of a relocation section as they are in the file (gABI, `Elf64_Rela`: 24 bytes each).
 
 ghost use Rattle.std.specs.Prelude.{◌≡◌, ◌≤◌, ◌+◌, IfSome, false, length};
 ghost use Rattle.elfobj_file.specs.RelocationEntries.{relocation_entry_at};
@@ -9,11 +9,11 @@ use crate::relocation::{Relocation, RelocationKind, SymbolIndex};
 /// An entry.
 #[derive(Clone, Copy)]
 pub struct RelocationEntry {
-    /// Where its field begins in the section that it changes.
+    /// `r_offset`: where its field begins in the section that it changes.
     pub r_offset: u64,
-    /// The symbol and the type.
+    /// `r_info`: the symbol and the type.
     pub r_info: u64,
-    /// The addend.
+    /// `r_addend`: the addend.
     pub r_addend: i64,
 }
 
@@ -22,19 +22,21 @@ impl RelocationEntry {
     ghost use Rattle.elfobj_file.specs.Relocations.{relocation_of};
     ghost use Rattle.elfobj_file.specs.Tables.{names_no_symbol, is_strange_type};
 
+    /// `ELF64_R_SYM` of `r_info`.
     fn symbol(&self) -> u32
         ensures { result ≡ r_sym self.now }
     {
         (self.r_info >> 32) as u32
     }
 
+    /// `ELF64_R_TYPE` of `r_info`.
     fn type_number(&self) -> u32
         ensures { result ≡ r_type self.now }
     {
         (self.r_info & 0xffff_ffff) as u32
     }
 
-    /// Whether the symbol of the entry is none of this number of symbols.
+    /// Whether the entry's symbol is not one of an object with this many symbols.
     pub fn names_no_symbol(&self, symbols: usize) -> bool
         ensures { result ≡ names_no_symbol symbols self.now }
     {
@@ -48,7 +50,8 @@ impl RelocationEntry {
         RelocationKind::of_type(self.type_number()).is_none()
     }
 
-    /// The relocation as callers see it, if its symbol is one of this number of symbols and its type is of the profile.
+    /// The relocation as callers see it, if its type is of the profile and its symbol one of an object with this many
+    /// symbols.
     #[tactic(auto, unfolding(crate::specs::Relocations::relocation_of))]
     pub fn relocation_among(&self, symbols: usize) -> Option<Relocation>
         ensures value { IfSome result (λ relocation. relocation ≡ relocation_of self.now) }
@@ -68,7 +71,7 @@ impl RelocationEntry {
         })
     }
 
-    /// The relocation as callers see it; of a type outside the profile it is `None`.
+    /// The relocation as callers see it; its kind is `None` if its type is outside the profile.
     #[tactic(auto, unfolding(crate::specs::Relocations::relocation_of))]
     pub fn relocation(&self) -> Relocation
         ensures { result ≡ relocation_of self.now }

@@ -1,5 +1,4 @@
-//! Section headers as they stand in the file (gABI, `Elf64_Shdr`: 64 bytes each), and the tests of
-//! one of them.
+//! Section headers as they are in the file (gABI, `Elf64_Shdr`: 64 bytes each), and the tests of one of them.
 
 ghost use Rattle.std.specs.Prelude.{◌≡◌, ◌≤◌, ◌+◌, IfOk, IfSome, Some, [], false, length, unwrap_or};
 ghost use Rattle.elfobj_file.specs.SectionHeaders.{header_at, headers};
@@ -16,31 +15,31 @@ use crate::section::SectionKind;
 use crate::span::Span;
 use std::alloc::{AllocError, Global};
 
-/// The fields of a section header that the reader looks at.
+/// The fields of a section header that the reader uses.
 #[derive(Clone, Copy)]
 pub struct SectionHeader {
-    /// Where its name begins in the name table.
+    /// `sh_name`: where its name begins in the section name table.
     pub sh_name: u32,
-    /// What it holds, one of the `SHT_` numbers.
+    /// `sh_type`: one of the `SHT_` numbers.
     pub sh_type: u32,
     /// `SHF_` flags.
     pub sh_flags: u64,
-    /// Where its bytes begin in the file.
+    /// `sh_offset`: where its bytes begin in the file.
     pub sh_offset: u64,
-    /// How many bytes it has.
+    /// `sh_size`: its size in bytes.
     pub sh_size: u64,
-    /// The number of another header: for a symbol table its string table, for relocations their symbol table.
+    /// `sh_link`: for a symbol table the index of its string table, for relocations that of their symbol table.
     pub sh_link: u32,
-    /// For a symbol table the number of the first entry that isn't local; for relocations the number of the section
+    /// `sh_info`: for a symbol table the index of the first entry that isn't local; for relocations that of the section
     /// that they change.
     pub sh_info: u32,
-    /// The alignment of the section in memory.
+    /// `sh_addralign`: the alignment of the section in memory.
     pub sh_addralign: u64,
-    /// The size of an entry of a table.
+    /// `sh_entsize`: the size of an entry of a table.
     pub sh_entsize: u64,
 }
 
-/// Header number 0, which counts as unused whatever it says.
+/// Header number 0, which counts as unused whatever its bytes are.
 pub const NULL_HEADER: SectionHeader = SectionHeader {
     sh_name: 0,
     sh_type: SHT_NULL,
@@ -63,6 +62,7 @@ impl SectionHeader {
     ghost use Rattle.elfobj_file.specs.Symbols.{is_symbol_table};
     ghost use Rattle.elfobj_file.specs.TableOf.{table_of};
 
+    /// Whether the rest of the header is read: it is not unused.
     fn is_looked_at(&self) -> bool
         ensures { result ≡ is_looked_at self.now }
     {
@@ -76,8 +76,8 @@ impl SectionHeader {
         self.sh_flags & SHF_ALLOC != 0
     }
 
-    /// Whether it names bytes past the end of a file of `len` bytes, is too large, or has an alignment
-    /// that is neither 0 nor a power of two.
+    /// Whether its bytes end past a file of `len` bytes, it is too large, or its alignment is neither 0 nor a power of
+    /// two.
     pub fn is_out_of_bounds(&self, len: u64) -> bool
         ensures { result ≡ is_out_of_bounds len self.now }
     {
@@ -115,7 +115,7 @@ impl SectionHeader {
         self.sh_type == SHT_RELA || self.sh_type == SHT_REL
     }
 
-    /// What it holds, if its section is linked.
+    /// The kind of its section, if that is linked.
     pub fn linked_kind(&self) -> Option<SectionKind>
         ensures { result ≡ linked_kind self.now }
     {
@@ -126,8 +126,8 @@ impl SectionHeader {
         }
     }
 
-    /// What its section holds, and where its name lies in the file, if the section is linked and within the profile,
-    /// with the table of names of this header. Each call looks through the name.
+    /// The kind of its section and the range of its name in the file, if the section is linked and within the profile.
+    /// `names` is the header of the section name table. Each call scans the name.
     pub fn looked_section(&self, file: &[u8], names: &SectionHeader) -> Option<(SectionKind, Span)>
         requires { names.now.sh_offset + names.now.sh_size ≤ length file.now }
         ensures kind { IfSome result (λ section. linked_kind self.now ≡ Some section.0) }
@@ -145,7 +145,7 @@ impl SectionHeader {
         Some((kind, name))
     }
 
-    /// The bytes that it names.
+    /// The bytes of its section.
     pub fn file_bytes<'a>(&self, bytes: &'a [u8]) -> &'a [u8]
         requires { self.now.sh_offset + self.now.sh_size ≤ length bytes.now }
         ensures { result.now ≡ file_bytes bytes.now self.now }

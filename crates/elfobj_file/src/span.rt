@@ -1,6 +1,6 @@
-//! A stretch of a file or of a list.
+//! A range of a file or of a list.
 
-/// Where a stretch of a file or of a list begins and ends.
+/// A range of a file or of a list.
 #[derive(Clone, Copy, Debug, PartialEq, Eq)]
 pub struct Span {
     /// Where it begins.
@@ -9,5 +9,5 @@ pub struct Span {
     pub end: usize,
 }
 
-/// An empty stretch.
+/// An empty range.
 pub const EMPTY_SPAN: Span = Span { start: 0, end: 0 };

@@ -35,7 +35,7 @@ impl Binding {
     }
 }
 
-/// What a symbol stands for, `ELF64_ST_TYPE` of `st_info`.
+/// The type of a symbol, `ELF64_ST_TYPE` of `st_info`.
 #[derive(Clone, Copy, Debug, PartialEq, Eq)]
 pub enum SymbolKind {
     /// `STT_NOTYPE`: not said.
@@ -48,7 +48,7 @@ pub enum SymbolKind {
     Section,
     /// `STT_FILE`: the source file.
     File,
-    /// `STT_COMMON`. A type only: what makes a symbol a common block is `SHN_COMMON`, whatever its type.
+    /// `STT_COMMON`. Only `SHN_COMMON` makes a symbol a common block, whatever its type.
     Common,
 }
 
@@ -82,7 +82,7 @@ pub enum SymbolPlace {
     Absolute,
     /// `SHN_COMMON`: in a common block that the linker makes, whatever its type is.
     Common,
-    /// In the section of this number.
+    /// In the section with this index.
     Section(SectionIndex),
 }
 
@@ -91,7 +91,7 @@ pub enum SymbolPlace {
 pub struct Symbol {
     /// How far it is visible.
     pub binding: Binding,
-    /// What it stands for.
+    /// Its type.
     pub kind: SymbolKind,
     /// Where it is defined.
     pub place: SymbolPlace,

@@ -1,4 +1,4 @@
-//! Entries of the symbol table as they stand in the file (gABI, `Elf64_Sym`: 24 bytes each), and the tests of one of
+//! Entries of the symbol table as they are in the file (gABI, `Elf64_Sym`: 24 bytes each), and the tests of one of
 //! them.
 
 ghost use Rattle.std.specs.Prelude.{◌≡◌, ◌≤◌, ◌+◌, ◌||◌, IfSome, false, length, nat_lt};
@@ -16,18 +16,18 @@ use crate::section_header::SectionHeader;
 use crate::span::{EMPTY_SPAN, Span};
 use crate::symbol::{Binding, Symbol, SymbolKind, SymbolPlace};
 
-/// The fields of an entry that the reader looks at.
+/// The fields of an entry that the reader uses.
 #[derive(Clone, Copy)]
 pub struct SymbolEntry {
-    /// Where its name begins in the string table.
+    /// `st_name`: where its name begins in the string table.
     pub st_name: u32,
-    /// The binding and the type.
+    /// `st_info`: the binding and the type.
     pub st_info: u8,
-    /// The number of its section, or one of the `SHN_` numbers.
+    /// `st_shndx`: the index of its section, or one of the `SHN_` numbers.
     pub st_shndx: u16,
-    /// The value.
+    /// `st_value`: the value.
     pub st_value: u64,
-    /// The size.
+    /// `st_size`: the size.
     pub st_size: u64,
 }
 
@@ -62,18 +62,21 @@ impl SymbolEntry {
         self.bind() == STB_LOCAL
     }
 
+    /// Whether its section index is neither that of a section nor ABS nor COMMON.
     fn is_nowhere(&self, sections: u16) -> bool
         ensures { result ≡ is_nowhere sections self.now }
     {
         self.st_shndx >= sections && self.st_shndx != SHN_ABS && self.st_shndx != SHN_COMMON
     }
 
+    /// Whether it is local, and undefined or common.
     fn is_wrong_local(&self) -> bool
         ensures { result ≡ is_wrong_local self.now }
     {
         self.is_local() && (self.st_shndx == SHN_UNDEF || self.st_shndx == SHN_COMMON)
     }
 
+    /// Whether it isn't local, and is of type SECTION or FILE or has no name within the limits.
     fn is_wrong_non_local(&self, strings: &StringTable) -> bool
         ensures { result ≡ is_wrong_non_local (table_of strings.now) self.now }
     {
@@ -83,6 +86,7 @@ impl SymbolEntry {
                 || strings.name_length(self.st_name).is_none())
     }
 
+    /// Whether it is common, but not global, too large, or of an alignment that is no power of two.
     fn is_wrong_common(&self) -> bool
         ensures { result ≡ is_wrong_common self.now }
     {
@@ -99,7 +103,8 @@ impl SymbolEntry {
         self.bind() > STB_WEAK || self.kind_number() > STT_COMMON
     }
 
-    /// Whether the entry is outside the profile, in an object of this number of section headers with this string table.
+    /// Refusal 9: whether the entry is outside the profile, in an object with `sections` section headers and this
+    /// string table.
     pub fn is_wrong(&self, sections: u16, strings: &StringTable) -> bool
         ensures { result ≡ is_wrong_symbol sections (table_of strings.now) self.now }
     {
@@ -110,9 +115,8 @@ impl SymbolEntry {
             || self.is_wrong_common()
     }
 
-    /// Where the name lies in the file, if the entry is within the profile in an object of this number of section
-    /// headers, with the string table of this header. A local entry has an empty name. Each call looks through the
-    /// name.
+    /// The range of the name in the file, if the entry is within the profile in an object with `sections` section
+    /// headers and the string table of this header. A local entry has an empty name. Each call scans the name.
     pub fn looked_name(&self, sections: u16, file: &[u8], strings: &SectionHeader) -> Option<Span>
         requires { strings.now.sh_offset + strings.now.sh_size ≤ length file.now }
         ensures right { IfSome result (λ span. is_wrong_symbol sections
@@ -137,6 +141,7 @@ impl SymbolEntry {
         looked_name(file, strings, self.st_name)
     }
 
+    /// The binding; only an entry within the profile has it.
     fn binding(&self) -> Binding
         ensures { result ≡ binding_of (st_bind self.now) }
     {
@@ -147,6 +152,7 @@ impl SymbolEntry {
         }
     }
 
+    /// The type; only an entry within the profile has it.
     fn kind(&self) -> SymbolKind
         ensures { result ≡ symbol_kind_of (st_type self.now) }
     {
@@ -160,6 +166,7 @@ impl SymbolEntry {
         }
     }
 
+    /// Where the symbol is defined.
     fn place(&self) -> SymbolPlace
         ensures { result ≡ symbol_place_of self.now.st_shndx }
     {

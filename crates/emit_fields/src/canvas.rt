@@ -8,10 +8,10 @@ use elfobj::{Count, Meter};
 use std::alloc::{AllocError, Global};
 use std::marker::Model;
 
-/// Why a canvas can't have more room: there is no memory.
+/// The error of a canvas that cannot get more room: there is no memory.
 pub type NoMemory = AllocError;
 
-/// Copies bytes over as many others. Four of them, as most fields have, are copied as one word.
+/// Copies bytes over others of the same length. Four bytes, the size of most fields, are copied as one word.
 #[inline(always)]
 fn copy_over(to: &mut [u8], from: &[u8])
     requires { length to.old ≡ length from.now }
@@ -25,10 +25,10 @@ fn copy_over(to: &mut [u8], from: &[u8])
     }
 }
 
-/// How many zeros are added at once.
+/// The number of zeros that are added at once.
 const ZERO_BLOCK: usize = 256;
 
-/// Adds a block of zeros this many times, for which there is room.
+/// Adds `count` blocks of zeros, for which there is room.
 fn add_zero_blocks(bytes: &mut Vec<u8>, zeros: &[u8], count: usize)
     requires zeros { (i : ℕ) → slice_index_or zeros.now i 0 ≡ 0 }
     requires room { vec_len bytes.old + length zeros.now * count ≤ vec_capacity bytes.old }
@@ -43,8 +43,8 @@ fn add_zero_blocks(bytes: &mut Vec<u8>, zeros: &[u8], count: usize)
     }
 }
 
-/// A list of bytes, and room for a number of them: up to that length it grows without more memory. Its
-/// bytes change by [`Canvas::resize_reserved`] and [`Canvas::write`] alone.
+/// A list of bytes with reserved room, in which it grows without an allocation. Its bytes change by
+/// [`Canvas::resize_reserved`] and [`Canvas::write`] alone.
 #[derive(Drop)]
 pub struct Canvas {
     bytes: Vec<u8>,
@@ -60,7 +60,7 @@ impl Model for Canvas {
 }
 
 impl Canvas {
-    /// An empty canvas, which keeps the allocator.
+    /// An empty canvas.
     pub fn new(alloc: Global) -> Canvas
         ensures { result ≡ record { bytes = []; room = 0 } }
     {
@@ -69,7 +69,7 @@ impl Canvas {
         }
     }
 
-    /// How many bytes it has.
+    /// Its length in bytes.
     pub fn len(&self) -> usize
         ensures len { result ≡ length self.now.bytes }
         ensures within { result ≤ self.now.room }
@@ -91,8 +91,7 @@ impl Canvas {
         &self.bytes
     }
 
-    /// Makes room for a length of `n`, and no more. A refused call changes nothing, and comes only where the room was
-    /// less.
+    /// Reserves room for a length of `n`, and no more. It fails only if there was less room, and then changes nothing.
     pub fn reserve(&mut self, n: usize) -> Result<(), NoMemory>
         ensures bytes { self.new.bytes ≡ self.old.bytes }
         ensures room { OnOk result (n ≤ self.new.room) }
@@ -108,7 +107,7 @@ impl Canvas {
         self.bytes.reserve_exact(n - len)
     }
 
-    /// Sets the length to `n`, which the room must hold: keeps the bytes below it and adds zeros. It takes no
+    /// Sets the length to `n`, for which room must be reserved: keeps the bytes below it and adds zeros. It takes no
     /// memory and counts nothing.
     pub fn resize_reserved(&mut self, n: usize)
         requires { n ≤ self.old.room }

@@ -6,12 +6,12 @@ ghost use Rattle.std.specs.Prelude.{◌≡◌};
 
 use std::marker::Model;
 
-/// The bytes of an evaluated relocation, the lowest first. Only [`evaluate::field`] makes one.
+/// The bytes of an evaluated relocation, little-endian. Only [`evaluate::field`] makes one.
 #[derive(Debug, Drop)]
 pub struct Field {
     /// Its value as 8 bytes.
     bytes: [u8; 8],
-    /// How many of them it has.
+    /// The number of bytes that the field has.
     width: u8,
 }
 

@@ -1,7 +1,8 @@
-//! What the image is made of: relocation fields, the canvas that it is written on, and runs of bytes between pieces.
-//! Takes a relocation with the numbers of its symbol and its place; gives the field's bytes, or says that it overflows.
+//! What the image is made of: relocation fields, the canvas that it is written on, and runs of bytes between input
+//! sections. Takes a relocation, the value of its symbol and its address; gives the field's bytes, or an overflow.
 //!
-//! - `field`: fields, and what a relocation comes to (`field::evaluate`); `patch`: fields at their places in a piece;
+//! - `field`: fields, and the evaluation of a relocation (`field::evaluate`); `patch`: fields at their offsets in a
+//!   piece;
 //! - `canvas`: a list of bytes with room for more; `run`: runs of a pattern.
 #![tactic(auto)]
 

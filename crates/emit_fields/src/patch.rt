@@ -1,4 +1,4 @@
-//! Pieces with the fields that lie in them.
+//! Pieces (input sections) with their fields.
 
 ghost use Rattle.std.specs.Prelude.{◌≡◌, ◌≤◌, ◌<◌, ◌+◌, ◌-◌, ℕ, All, IfOk, List, length, slice_index, true};
 ghost use Rattle.std.specs.List.Sorted.{IsNonDecreasingBy};
@@ -10,10 +10,10 @@ use crate::field::Field;
 use elfobj::{Count, Meter};
 use std::alloc::AllocError;
 
-/// A field and where it lies.
+/// A field and its offset.
 #[derive(Debug, Drop)]
 pub struct Patch {
-    /// Where it begins in its piece, in bytes.
+    /// The offset of its first byte in its piece.
     pub offset: usize,
     /// Its bytes.
     pub field: Field,
@@ -31,12 +31,12 @@ fn is_ascending(patches: &[Patch]) -> bool
     true
 }
 
-/// Puts the fields of one piece, no two of which share a byte, into the order of their offsets. One pass, and no
-/// memory, where they are in that order already, as assemblers write them; else they are sorted.
+/// Puts the fields of one piece, no two of which share a byte, into the order of their offsets. If they have it
+/// already, as assemblers write them, that is one pass without memory; else they are sorted.
 ///
 /// # Errors
 ///
-/// Where there is no memory for the sort.
+/// If there is no memory for the sort.
 pub fn in_order(mut patches: Vec<Patch>) -> Result<Vec<Patch>, AllocError>
     requires { AreApart patches.items }
     ensures order { IfOk result (λ ordered. (n : ℕ) → All (IsWithin n) patches.items → AreInOrder 0 n ordered.items) }
@@ -81,7 +81,7 @@ fn write_up_to(
     patch.offset + field.len()
 }
 
-/// Writes a piece from `at` on: the bytes of the fields that lie in it, and its own between them, each byte once.
+/// Writes a piece from `at` on: its fields, and its own bytes between them, each byte once.
 pub fn write_patched(
     canvas: &mut Canvas,
     at: usize,

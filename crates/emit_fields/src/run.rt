@@ -7,10 +7,10 @@ ghost use Rattle.elfobj.specs.declared.meter.Count.TheVariants.{Bytes};
 use crate::canvas::Canvas;
 use elfobj::Meter;
 
-/// How many bytes are written at a time: a multiple of each length that a pattern may have.
+/// The size of a chunk in bytes: a multiple of each length that a pattern may have.
 const CHUNK: usize = 840;
 
-/// How long a run is at most that is written at once, without a chunk.
+/// The greatest length of a run that is written at once, without a chunk.
 const SHORT: usize = 32;
 
 /// The first `count` bytes of a run of a pattern, and zeros after them.
@@ -61,7 +61,7 @@ fn write_short_run(canvas: &mut Canvas, at: usize, n: usize, pattern: &[u8], met
     canvas.write(at, &short[..n], meter);
 }
 
-/// Writes a run by whole chunks and a rest, as `write_run` does.
+/// Writes a run in chunks, as `write_run` does.
 fn write_chunks(canvas: &mut Canvas, at: usize, n: usize, pattern: &[u8], meter: &mut Meter)
     requires within { at + n ≤ length canvas.old.bytes }
     requires some { 0 < length pattern.now }

@@ -1,4 +1,4 @@
-//! What a relocation comes to (x86-64 psABI, "Relocation Types").
+//! The evaluation of a relocation (x86-64 psABI, "Relocation Types").
 
 ghost use Rattle.std.specs.Prelude.{◌≡◌, ◌≢◌, ◌≤◌, ◌&&◌, IfOk, int_le, length};
 ghost use Rattle.byteorder.specs.Endian.{little_bytes};
@@ -11,7 +11,7 @@ use byteorder::{ByteOrder, LittleEndian};
 use elfobj::relocation::{Relocation, RelocationKind};
 use elfobj::{Count, Meter};
 
-/// The value modulo 2^64: S + A, or S + A - P for the kinds that count from their place.
+/// The value modulo 2^64: S + A, or S + A - P for PC-relative kinds.
 fn value(relocation: &Relocation, s: u64, p: u64) -> u64
     ensures { result ≡ relocation_value relocation.now s p }
 {
@@ -31,7 +31,7 @@ fn value(relocation: &Relocation, s: u64, p: u64) -> u64
     }
 }
 
-/// How many bytes the field has.
+/// The number of bytes of the field.
 #[tactic(auto, using(crate::proofs::FieldBytes::width_at_most))]
 fn width(kind: RelocationKind) -> u8
     ensures width { result ≡ width kind }
@@ -40,7 +40,7 @@ fn width(kind: RelocationKind) -> u8
     kind.width() as u8
 }
 
-/// Whether a number is neither below `low` nor above `high`.
+/// Whether a number is in the range from `low` to `high`.
 fn is_within(number: i64, low: i64, high: i64) -> bool
     ensures { result ≡ (int_le low number && int_le number high) }
 {
@@ -65,7 +65,7 @@ fn fits(kind: RelocationKind, value: u64) -> bool
     }
 }
 
-/// The lowest bytes of a value, as many as the field of the kind has.
+/// The field with the low bytes of a value.
 #[tactic(auto, using(crate::proofs::FieldBytes::take_little_bytes))]
 fn cut(kind: RelocationKind, value: u64) -> Field
     ensures { result ≡ little_bytes (width kind) value }
@@ -78,8 +78,8 @@ fn cut(kind: RelocationKind, value: u64) -> Field
     }
 }
 
-/// The field of a relocation at `p` against a symbol of value `s`, or its value where that is out of range.
-/// `NONE` has no field and is not handed in. It counts one relocation.
+/// The field of a relocation at address `p` (P) against a symbol of value `s` (S), or the value if it is out of range.
+/// It counts one relocation. `NONE`, which has no field, must not be passed.
 pub fn field(relocation: &Relocation, s: u64, p: u64, meter: &mut Meter) -> Result<Field, Overflow>
     requires { relocation.now.kind ≢ RelocationKind.None }
     ensures field { result ≡ field_of relocation.now s p }
