@@ -11,14 +11,14 @@ pub fn is_plain(b: u8) -> bool
     matches!(b, b'A'..=b'Z' | b'a'..=b'z' | b'0'..=b'9' | b'_' | b'.' | b'$' | b'/' | b'-')
 }
 
-/// Whether a byte may stand in a set: a byte that spells itself, `*` or `?`
+/// Whether a byte may occur in a set: a byte that spells itself, `*` or `?`
 pub fn is_set_byte(b: u8) -> bool
     ensures { result ≡ is_set_byte b }
 {
     is_plain(b) || matches!(b, b'*' | b'?')
 }
 
-/// Whether a byte may stand after `\`: one of `!` to `~`
+/// Whether a byte may follow a `\`: one of `!` to `~`
 pub fn is_graphic(b: u8) -> bool
     ensures { result ≡ is_escapable b }
 {

@@ -1,5 +1,5 @@
 //! Expressions as text: the notation of scripts, with parentheses round each operation, so that no two trees have one
-//! text. A space stands on both sides of an operator between operands, since a name may have a `-` in it.
+//! text. An operator between operands has spaces around it, since a name may contain a `-`.
 
 use crate::expression::{Expr, RegionQuery, SectionQuery};
 use crate::operator::{BinaryOperator, UnaryOperator};

@@ -1,4 +1,4 @@
-//! What `.` may be set to in an output section.
+//! The forms of assignments to `.` in an output section.
 
 ghost use Rattle.std.specs.Prelude.{◌≡◌};
 ghost use Rattle.ldscript_terms.specs.DotForms.{dot_form};
@@ -7,19 +7,19 @@ ghost use Rattle.ldscript_terms.specs.CodeTerms.{maybe_form_of, expr_of};
 use crate::expression::Expr;
 use crate::operator::BinaryOperator;
 
-/// An expression that `.` may be set to in an output section.
+/// The form of an assignment to `.` in an output section.
 #[derive(Clone, Copy)]
 pub enum DotForm<'a> {
-    /// `. + e`: `.` goes on by `e`.
+    /// `. + e`: `.` advances by `e`.
     Advance(&'a Expr),
     /// `ALIGN(e)`, `.` not in `e`: `.` is aligned to `e`.
     Align(&'a Expr),
-    /// `e`, with neither `.` nor `ALIGN`: `.` is the section's start and `e`.
+    /// `e`, with neither `.` nor `ALIGN`: `.` is the section's start plus `e`.
     Offset(&'a Expr),
 }
 
 impl Expr {
-    /// The form in which `.` may be set to it in an output section, or `None` where it has none of the three.
+    /// The form of `. = self` in an output section, or `None` if it has none of the three.
     pub fn dot_form(&self) -> Option<DotForm<'_>>
         ensures { maybe_form_of result ≡ dot_form (expr_of self.now) }
     {

@@ -1,4 +1,4 @@
-//! What holds of the grammar itself.
+//! Laws of the grammar.
 
 ghost use Rattle.std.specs.Prelude.{ℕ, List, []};
 ghost use Rattle.ldscript_tokens.specs.Tokens.{Lexeme, Name, Number, Text, Discard, Word, Punctuation};
@@ -8,13 +8,14 @@ ghost use Rattle.ldscript_tokens.specs.declared.token.Mark.TheVariants.{AddAssig
 ghost use Rattle.ldscript_terms.specs.Reading.{OneTree, OneReading, Stops, EndsAt};
 ghost use Rattle.ldscript_terms.specs.Grammar.{Whole};
 
-/// No tokens are two expressions: a tree whose rest can't go on it is the only one, and so is that rest.
+/// No tokens have two trees: if the tokens after an expression cannot continue it, then its tree and these tokens are
+/// the only ones.
 pub fn one_tree()
     ensures trees { (tokens : List Lexeme) → OneTree tokens }
     ensures readings { (tokens : List Lexeme) → OneReading tokens }
 {}
 
-/// An expression ends at the end of the tokens, at a mark of a statement, and at each token that is no mark.
+/// An expression cannot continue at the end of the tokens, at a mark of a statement, or at a token that is no mark.
 pub fn ends()
     ensures tokens { Stops Whole [] }
     ensures names { (name : List ℕ) → EndsAt (Name name) }

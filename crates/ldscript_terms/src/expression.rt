@@ -10,24 +10,24 @@ use ldscript_tokens::name::ScriptName;
 /// What an expression asks of a memory region.
 #[derive(Clone, Copy, Debug, PartialEq, Eq)]
 pub enum RegionQuery {
-    /// `ORIGIN`: where it begins.
+    /// `ORIGIN`: its first address.
     Origin,
-    /// `LENGTH`: how many bytes it has.
+    /// `LENGTH`: its size in bytes.
     Length,
 }
 
 /// What an expression asks of an output section.
 #[derive(Clone, Copy, Debug, PartialEq, Eq)]
 pub enum SectionQuery {
-    /// `ADDR`: where it begins.
+    /// `ADDR`: its first address.
     Address,
-    /// `LOADADDR`: where it is loaded.
+    /// `LOADADDR`: its load address.
     LoadAddress,
-    /// `SIZEOF`: how many bytes it has.
+    /// `SIZEOF`: its size in bytes.
     Size,
 }
 
-/// An expression. Parentheses leave nothing in it.
+/// An expression. It does not keep parentheses.
 #[derive(Drop)]
 #[cycle(expr)]
 pub enum Expr {
@@ -41,7 +41,7 @@ pub enum Expr {
     Unary(UnaryOperator, Box<Expr>),
     /// An operator with its left and right operand.
     Binary(BinaryOperator, Box<Expr>, Box<Expr>),
-    /// `test ? first : second`. Its parts lie together, so that no expression takes more than 24 bytes.
+    /// `test ? first : second`. Its parts are in a box of their own, so that no expression takes more than 24 bytes.
     Choice(Box<Branches>),
     /// `ORIGIN(region)` or `LENGTH(region)`.
     OfRegion(RegionQuery, ScriptName),
@@ -59,14 +59,14 @@ pub enum Expr {
 pub struct Branches {
     /// What is tested.
     pub test: Expr,
-    /// The value where the test is not 0.
+    /// The value if the test is not 0.
     pub first: Expr,
-    /// The value where the test is 0.
+    /// The value if the test is 0.
     pub second: Expr,
 }
 
 impl Expr {
-    /// Whether the token `.` is in it.
+    /// Whether it contains the token `.`.
     pub fn has_dot(&self) -> bool
         ensures { result ≡ has_dot (expr_of self.now) }
     {
@@ -79,7 +79,7 @@ impl Expr {
         }
     }
 
-    /// Whether an `ALIGN` of one argument is in it.
+    /// Whether it contains an `ALIGN` of one argument.
     pub fn has_align_dot(&self) -> bool
         ensures { result ≡ has_align_dot (expr_of self.now) }
     {
@@ -98,7 +98,7 @@ impl Expr {
         }
     }
 
-    /// Whether an `ALIGN` of one or two arguments is in it.
+    /// Whether it contains an `ALIGN` of one or two arguments.
     pub fn has_align(&self) -> bool
         ensures { result ≡ has_align (expr_of self.now) }
     {

@@ -1,4 +1,4 @@
-//! The part that a word begins with.
+//! The first part of a pattern's word.
 
 ghost use Rattle.std.specs.Prelude.{◌≡◌, ◌<◌, ◌≤◌, ◌+◌, length, Some, take_while};
 ghost use Rattle.ldscript_terms.specs.Spelling.{is_set_byte};
@@ -7,23 +7,23 @@ ghost use Rattle.ldscript_terms.specs.Front.{front, escape_front, set_front, set
 use crate::bytes::{byte_at, is_graphic, is_plain, is_set_byte};
 use crate::part::CodePart;
 
-/// A part that a word begins with. Its offsets are counted from there.
+/// The first part of a word. Its offsets count from the front of the word.
 #[derive(Clone, Copy, Debug, PartialEq, Eq)]
 pub struct Spelled {
     /// The part.
     pub part: CodePart,
-    /// How many bytes spell it.
+    /// The length of its spelling.
     pub count: usize,
 }
 
-/// A part that this number of bytes spells.
+/// A part, whose spelling has this length.
 fn found(part: CodePart, count: usize) -> Option<Spelled>
     ensures { result ≡ Some (record { part = part; count = count }) }
 {
     Some(Spelled { part, count })
 }
 
-/// How many bytes of a set stand at the front.
+/// The number of bytes of a set at the front.
 fn set_run(bytes: &[u8]) -> usize
     ensures value { result ≡ length (take_while is_set_byte bytes.now) }
     ensures within { result ≤ length bytes.now }
@@ -61,7 +61,7 @@ fn set_front(word: &[u8]) -> Option<Spelled>
     }
 }
 
-/// The part at the front of a word, if one is spelled there.
+/// The part at the front of a word, if there is one.
 #[tactic(auto, unfolding(crate::specs::Front::front))]
 pub fn front(word: &[u8]) -> Option<Spelled>
     requires { 0 < length word.now }

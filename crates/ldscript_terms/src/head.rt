@@ -1,4 +1,4 @@
-//! What stands at the front of tokens, as far as an expression asks.
+//! The first token or tokens of an expression.
 
 ghost use Rattle.std.specs.Prelude.{◌≡◌, ◌<◌, ℕ, suc, List, MatchOption};
 ghost use Rattle.ldscript_tokens.specs.Tokens.{Lexeme};
@@ -14,26 +14,26 @@ use ldscript_tokens::number::number_value;
 use ldscript_tokens::token::{Mark, TokenKind};
 use ldscript_tokens::words::is_free_name;
 
-/// How a primary expression begins.
+/// The beginning of a primary expression.
 #[derive(Clone, Copy)]
 pub enum Head<'a> {
-    /// With a number of this value, and ends there.
+    /// A number of this value, which is all of it.
     Number(u64),
-    /// With `.`, and ends there.
+    /// `.`, which is all of it.
     Dot,
-    /// With a name, and ends there.
+    /// A name, which is all of it.
     Name(&'a [u8]),
-    /// With a word that asks something of a memory region.
+    /// A function of a memory region.
     OfRegion(RegionQuery),
-    /// With a word that asks something of an output section.
+    /// A function of an output section.
     OfSection(SectionQuery),
-    /// With `ALIGN`.
+    /// `ALIGN`
     Align,
-    /// With `(`.
+    /// `(`
     Group,
 }
 
-/// How a name begins a primary expression, or `None` for a reserved word that begins none.
+/// The beginning of a primary expression that a name is, or `None` for a reserved word that begins none.
 #[tactic(auto, unfolding(crate::specs::Grammar::word_of))]
 fn word<'a>(name: &'a [u8]) -> Option<Head<'a>>
     ensures { MatchOption result (word_of name.now ≡ Reserved) (λ h. IsWord h (word_of name.now)) }
@@ -59,7 +59,7 @@ fn word<'a>(name: &'a [u8]) -> Option<Head<'a>>
     }
 }
 
-/// How a primary expression begins here and what follows, or `None` where none begins.
+/// The beginning of a primary expression and the cursor after it, or `None` if none begins here.
 pub fn read_head<'a>(tokens: &Cursor<'a>) -> Option<(Head<'a>, Cursor<'a>)>
     ensures { MatchOption result (NoReading Primary tokens.now) (λ x. HasHead tokens.now x.0 x.1) }
 {
@@ -90,7 +90,7 @@ pub fn read_head<'a>(tokens: &Cursor<'a>) -> Option<(Head<'a>, Cursor<'a>)>
     }
 }
 
-/// The mark that comes next, and what follows it.
+/// The mark that comes next, and the cursor after it.
 pub fn sign<'a>(tokens: &Cursor<'a>) -> Option<(Mark, Cursor<'a>)>
     ensures { MatchOption result ((mark : Mark) (rest : List Lexeme) → Begins tokens.now (Sign mark) rest → ⊥)
         (λ x. Begins tokens.now (Sign x.0) x.1) }
@@ -104,7 +104,7 @@ pub fn sign<'a>(tokens: &Cursor<'a>) -> Option<(Mark, Cursor<'a>)>
     }
 }
 
-/// What follows this mark, if it comes next.
+/// The cursor after this mark, if it comes next.
 pub fn after<'a>(tokens: &Cursor<'a>, wanted: Mark) -> Option<Cursor<'a>>
     ensures { MatchOption result ((rest : List Lexeme) → Begins tokens.now (Sign wanted) rest → ⊥)
         (λ rest. Begins tokens.now (Sign wanted) rest) }
@@ -115,7 +115,7 @@ pub fn after<'a>(tokens: &Cursor<'a>, wanted: Mark) -> Option<Cursor<'a>>
     if mark == wanted { Some(rest) } else { None }
 }
 
-/// The operator before an operand that comes next, and what follows it.
+/// The unary operator that comes next, and the cursor after it.
 pub fn unary_ahead<'a>(tokens: &Cursor<'a>) -> Option<(UnaryOperator, Cursor<'a>)>
     ensures { MatchOption result
         ((operator : UnaryOperator) (rest : List Lexeme) → BeginsUnary tokens.now operator rest → ⊥)
@@ -130,7 +130,7 @@ pub fn unary_ahead<'a>(tokens: &Cursor<'a>) -> Option<(UnaryOperator, Cursor<'a>
     }
 }
 
-/// The operator of the level above `below` that comes next, and what follows it.
+/// The binary operator of the level above `below` that comes next, and the cursor after it.
 pub fn binary_ahead<'a>(below: u8, tokens: &Cursor<'a>) -> Option<(BinaryOperator, Cursor<'a>)>
     requires { below < 9 }
     ensures { MatchOption result
@@ -150,7 +150,7 @@ pub fn binary_ahead<'a>(below: u8, tokens: &Cursor<'a>) -> Option<(BinaryOperato
     }
 }
 
-/// The name that comes next, if it is no reserved word and not `.`, and what follows it.
+/// The name that comes next, if it is no reserved word and not `.`, and the cursor after it.
 fn free_name<'a>(tokens: &Cursor<'a>) -> Option<(&'a [u8], Cursor<'a>)>
     ensures { MatchOption result ((n : List ℕ) (r : List Lexeme) → Begins tokens.now (Worded (Free n)) r → ⊥)
         (λ x. Begins tokens.now (Worded (Free x.0.now)) x.1) }
@@ -164,7 +164,7 @@ fn free_name<'a>(tokens: &Cursor<'a>) -> Option<(&'a [u8], Cursor<'a>)>
     }
 }
 
-/// The name in parentheses that comes next, and what follows it.
+/// The name in parentheses that comes next, and the cursor after it.
 pub fn name_in_parentheses<'a>(tokens: &Cursor<'a>) -> Option<(&'a [u8], Cursor<'a>)>
     ensures { MatchOption result ((name : List ℕ) (rest : List Lexeme) → BeginsNamed tokens.now name rest → ⊥)
         (λ x. BeginsNamed tokens.now x.0.now x.1) }

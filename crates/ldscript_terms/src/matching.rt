@@ -10,14 +10,14 @@ ghost use Rattle.ldscript_terms.specs.Trying.{IsWithin, Passed, TriedAs};
 use crate::bytes::is_plain;
 use crate::word::{first_part, is_at_end};
 
-/// What trying parts at the front of a name came to.
+/// The result of matching parts at the front of a name.
 #[derive(Clone, Copy)]
 pub enum Tried<'w, 'n> {
     /// Each part took one byte, and the name ends with the last.
     Whole,
     /// Each part before a `*` took one byte. These are the rest of the word after the `*`, and of the name.
     Star(&'w [u8], &'n [u8]),
-    /// No match from here: a part is not met, the name ends too early, or it goes on after the last part.
+    /// No match from here: a part does not match, or the name is too short or too long.
     Missed,
 }
 
@@ -29,7 +29,7 @@ fn split(bytes: &[u8]) -> Option<(u8, &[u8])>
     Some((*first, rest))
 }
 
-/// How many bytes at the front of a word spell themselves, and are those at the front of a name.
+/// The number of bytes at the front of a word that spell themselves and are those at the front of a name.
 fn plain_run(word: &[u8], name: &[u8]) -> usize
     ensures word { result ≤ length word.now }
     ensures name { result ≤ length name.now }
@@ -50,7 +50,7 @@ fn plain_run(word: &[u8], name: &[u8]) -> usize
     count
 }
 
-/// Lets each part of a word take a byte of the name's front, up to the first `*`.
+/// Matches each part of a word with a byte at the front of the name, up to the first `*`.
 fn try_front<'w, 'n>(word: &'w [u8], name: &'n [u8]) -> Tried<'w, 'n>
     ensures value { (ps : List Part) → SpellsPattern ps word.now → TriedAs ps name.now result }
     ensures within { IsWithin (length word.now) (length name.now) result }

@@ -1,22 +1,22 @@
-//! The operators of an expression, and how tightly they bind.
+//! The operators of an expression, and their precedence.
 
 ghost use Rattle.std.specs.Prelude.{◌≡◌, ◌<◌, ◌≤◌};
 ghost use Rattle.ldscript_terms.specs.Operators.{unary_of, binary_of, level_of};
 
 use ldscript_tokens::token::Mark;
 
-/// An operator before its operand.
+/// A unary operator.
 #[derive(Clone, Copy, Debug, PartialEq, Eq)]
 pub enum UnaryOperator {
     /// `!`: 1 of 0, else 0.
     Not,
     /// `-`, modulo 2^64.
     Negate,
-    /// `~`: each bit turned.
+    /// `~`: each bit inverted.
     Complement,
 }
 
-/// An operator between its operands.
+/// A binary operator.
 #[derive(Clone, Copy, Debug, PartialEq, Eq)]
 pub enum BinaryOperator {
     /// `*`
@@ -56,7 +56,7 @@ pub enum BinaryOperator {
 }
 
 impl BinaryOperator {
-    /// How loosely it binds: 1 for `* / %`, the tightest, to 9 for `||`.
+    /// Its level of precedence: 1 for `* / %`, the tightest, to 9 for `||`.
     pub fn level(self) -> u8
         ensures { result ≡ level_of self }
     {
@@ -77,7 +77,7 @@ impl BinaryOperator {
     }
 }
 
-/// The operator that a mark is before an operand.
+/// The unary operator that a mark is.
 pub fn unary_operator(mark: Mark) -> Option<UnaryOperator>
     ensures { result ≡ unary_of mark }
 {
@@ -89,7 +89,7 @@ pub fn unary_operator(mark: Mark) -> Option<UnaryOperator>
     }
 }
 
-/// The operator that a mark is between operands.
+/// The binary operator that a mark is.
 pub fn binary_operator(mark: Mark) -> Option<BinaryOperator>
     ensures { result ≡ binary_of mark }
 {

@@ -15,7 +15,7 @@ pub enum CodePart {
     AnyByte,
     /// This byte.
     Byte(u8),
-    /// One byte of the set whose ranges stand in the word from the first offset up to the second.
+    /// One byte of the set that the word spells from the first offset up to the second.
     OneOf(usize, usize),
 }
 
@@ -27,7 +27,7 @@ impl CodePart {
         matches!(self, CodePart::AnyRun)
     }
 
-    /// Whether a part other than `*` is met by this byte.
+    /// Whether a part other than `*` matches this byte.
     pub fn is_met_by(self, word: &[u8], byte: u8) -> bool
         requires { IsPlace (length word.now) self }
         ensures { IsTrue result ↔ Meets (part_of word.now self) (byte ∷ []) }
@@ -39,7 +39,7 @@ impl CodePart {
         }
     }
 
-    /// The byte, if it is nothing but a byte.
+    /// The byte, if the part is a single byte.
     pub fn byte(self) -> Option<u8>
         ensures { result ≡ code_byte self }
     {

@@ -14,18 +14,18 @@ use ldscript_tokens::name::ScriptName;
 use std::alloc::{AllocError, Global};
 use std::marker::Model;
 
-/// What is kept of a pattern. A script may have half a million, so its parts are read anew where a name is matched.
+/// What is kept of a pattern. A script may have half a million, so its parts are read anew for each match.
 #[derive(Drop)]
 enum Form {
-    /// The one name that it matches: it has bytes alone.
+    /// The one name that it matches, as it has no wildcard.
     Exact(ScriptName),
     /// The word that spells it, with a `*`, a `?` or a set.
     Wild(ScriptName),
 }
 
-/// A pattern that names meet as a whole. `*` matches any run of bytes, also an empty one; `?` one byte; both match
-/// `/` too. `\x` is the byte x. A set between `[` and `]` matches one of its bytes; in it `x-y` are the bytes from
-/// x to y, and a `-` that begins or ends it is itself. Any other byte is itself.
+/// A pattern, which matches whole names. `*` matches any run of bytes, also an empty one; `?` one byte; both match `/`
+/// too. `\x` is the byte x. A set between `[` and `]` matches one of its bytes; in it `x-y` are the bytes from x to y,
+/// and a `-` that begins or ends it is itself. Any other byte is itself.
 #[derive(Drop)]
 pub struct Pattern {
     form: Form,
@@ -56,8 +56,8 @@ fn form_of(alloc: Global, word: &[u8]) -> Result<Form, AllocError>
 }
 
 impl Pattern {
-    /// Reads the pattern that a word spells: `None` if it spells none, as one with a `]` outside a set, or with a set
-    /// that is empty, has no end, or has a `[` or a `\` in it.
+    /// Reads the pattern that a word spells. `None` if it spells none: it has a `]` outside a set, or a set that is
+    /// empty, has no end, or has a `[` or a `\` in it.
     ///
     /// # Errors
     ///
@@ -73,7 +73,7 @@ impl Pattern {
         Ok(Some(Pattern { form }))
     }
 
-    /// The one name that it matches, if it has bytes alone.
+    /// The one name that it matches, if it has no wildcard.
     pub fn exact_name(&self) -> Option<&[u8]>
         ensures value { MatchOption result (exact_name self.now ≡ None) (λ name. exact_name self.now ≡ Some name.now) }
         ensures only { IfSome result (λ wanted. (name : List ℕ) → Matches self.now name ↔ name ≡ wanted.now) }

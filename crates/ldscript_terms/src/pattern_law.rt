@@ -1,11 +1,11 @@
-//! What holds of the definitions themselves.
+//! Laws of the definitions.
 
 ghost use Rattle.std.specs.Prelude.{◌≡◌, ◌↔◌, ℕ, List, true};
 ghost use Rattle.ldscript_terms.specs.Parts.{Part};
 ghost use Rattle.ldscript_terms.specs.Spelling.{SpellsPattern};
 ghost use Rattle.ldscript_terms.specs.Matching.{Matches, is_match};
 
-/// A pattern matches a name, by a way to split the name among its parts, exactly where the test of the name says so.
+/// The test of a name says exactly whether the name can be split among the pattern's parts.
 #[tactic(auto, using(crate::proofs::Testing::match_by_splitting))]
 pub fn match_by_splitting()
     ensures { (pattern : List Part) (name : List ℕ) → (is_match pattern name ≡ true) ↔ Matches pattern name }

@@ -13,14 +13,14 @@ use ldscript_tokens::name::ScriptName;
 use ldscript_tokens::token::Mark;
 use std::alloc::{AllocError, Global};
 
-/// What a reader gives: what stands at the front of the tokens, with what follows it, or `None` where it does not stand
-/// there. The error, out of memory, says nothing of the tokens.
+/// What a reader returns: what it read at the front of the tokens, with the cursor after it, or `None` if it is not
+/// there. The only error is out of memory.
 pub type Parsed<'a, T> = Result<Option<(T, Cursor<'a>)>, AllocError>;
 
-/// The level of the operator that binds most loosely.
+/// The loosest level of precedence.
 const LOOSEST: u8 = 9;
 
-/// A number, `.`, a name, an expression in parentheses, or a word with its arguments.
+/// A number, `.`, a name, an expression in parentheses, or a function with its arguments.
 #[cycle(reader)]
 fn primary<'a>(alloc: Global, tokens: Cursor<'a>) -> Parsed<'a, Expr>
     ensures { Reads Primary tokens.entry (λ x. expr_of x.0) (λ x. x.1) result }
@@ -105,7 +105,7 @@ fn unary<'a>(alloc: Global, tokens: Cursor<'a>) -> Parsed<'a, Expr>
     Ok(Some((tree, rest)))
 }
 
-/// Operators of the level above `below` between operands, from left to right.
+/// Binary operators of the level above `below`, from left to right.
 #[cycle(reader)]
 fn binary<'a>(alloc: Global, below: u8, tokens: Cursor<'a>) -> Parsed<'a, Expr>
     requires { below < 9 }
@@ -168,8 +168,8 @@ fn whole<'a>(alloc: Global, tokens: Cursor<'a>) -> Parsed<'a, Expr>
     Ok(Some((tree, rest)))
 }
 
-/// Reads the expression at the front of the tokens, and returns it with what follows it: the only one that can't go on
-/// there. `None` where there is none, which includes a number of 2^64 or more and a reserved word as a name. The
+/// Reads the expression at the front of the tokens, and returns it with the cursor after it: the only one that the next
+/// token cannot continue. `None` if there is none, as with a number of 2^64 or more or a reserved word as a name. The
 /// operators are those of the GNU ld manual's "Expressions in Linker Scripts", in C's order.
 pub fn expr<'a>(alloc: Global, tokens: Cursor<'a>) -> Parsed<'a, Expr>
     ensures { Reads Whole tokens.entry (λ x. expr_of x.0) (λ x. x.1) result }

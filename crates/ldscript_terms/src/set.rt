@@ -1,9 +1,9 @@
-//! Sets of bytes, as they stand between `[` and `]`.
+//! Sets of bytes, as spelled between `[` and `]`.
 
 ghost use Rattle.std.specs.Prelude.{◌≡◌, ◌∷◌, [], ◌<◌, MatchOption, length};
 ghost use Rattle.ldscript_terms.specs.Parts.{ranges_of, is_in, is_in_any};
 
-/// The bytes from one to another, with both ends; none where `to` is below `from`.
+/// The bytes from one to another, with both ends; none if `to` is below `from`.
 #[derive(Clone, Copy, Debug, PartialEq, Eq)]
 pub struct ByteRange {
     /// The least byte.
@@ -45,7 +45,7 @@ fn first_range(body: &[u8]) -> Option<(ByteRange, &[u8])>
     }
 }
 
-/// Whether the byte is in a set, by what stands between its brackets.
+/// Whether the byte is in the set that is spelled between brackets.
 pub fn set_has(body: &[u8], byte: u8) -> bool
     ensures { result ≡ is_in_any byte (ranges_of body.now) }
 {

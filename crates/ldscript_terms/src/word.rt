@@ -11,7 +11,7 @@ use crate::front::front;
 use crate::part::CodePart;
 use std::alloc::{AllocError, Global};
 
-/// A word from a byte on.
+/// The rest of a word.
 fn word_from(word: &[u8], at: usize) -> &[u8]
     requires { at ≤ length word.now }
     ensures { result.now ≡ drop at word.now }
@@ -19,7 +19,7 @@ fn word_from(word: &[u8], at: usize) -> &[u8]
     &word[at..]
 }
 
-/// The part that a word begins with, and what follows it; `None` where the word has ended, or spells no pattern.
+/// The first part of a word, and the rest after it; `None` if the word has ended, or spells no pattern.
 pub fn first_part(word: &[u8]) -> Option<(CodePart, &[u8])>
     ensures value { MatchOption result (EndsHere word.now) (λ x. BeginsWith word.now (part_of word.now x.0) x.1.now) }
     ensures within { IfSome result (λ x. IsPlace (length word.now) x.0 × (length x.1.now < length word.now)) }
@@ -41,7 +41,7 @@ pub fn is_at_end(word: &[u8]) -> bool
     word.is_empty()
 }
 
-/// Whether these are the same bytes.
+/// Whether two words have the same bytes.
 pub fn is_same(left: &[u8], right: &[u8]) -> bool
     ensures { IsTrue result ↔ left.now ≡ right.now }
 {
@@ -66,7 +66,7 @@ pub fn is_spelled(word: &[u8]) -> bool
     rest.is_empty()
 }
 
-/// The bytes of the pattern that a word spells, if it has bytes alone.
+/// The bytes of the pattern that a word spells, if it has no wildcard.
 pub fn exact_bytes(alloc: Global, word: &[u8]) -> Result<Option<Vec<u8>>, AllocError>
     ensures { IfOk result (λ found. (parts : List Part) → SpellsPattern parts word.now
         → option_map (λ bytes. bytes.items) found ≡ exact_name parts) }

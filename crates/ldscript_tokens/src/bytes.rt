@@ -46,14 +46,14 @@ pub fn is_name_start(b: u8) -> bool
     is_letter(b) || matches!(b, b'_' | b'.')
 }
 
-/// Whether a byte may stand in a name: `A-Z a-z 0-9 _ . $ -`
+/// Whether a byte may occur in a name: `A-Z a-z 0-9 _ . $ -`
 pub fn is_name_byte(b: u8) -> bool
     ensures { result ≡ is_name_byte b }
 {
     is_name_start(b) || is_decimal_digit(b) || matches!(b, b'$' | b'-')
 }
 
-/// Whether a byte may stand in a word by itself: a byte of a name, or one of `/ * ? [ ]`
+/// Whether a byte may occur in a word without a `\`: a byte of a name, or one of `/ * ? [ ]`
 pub fn is_word_byte(b: u8) -> bool
     ensures { result ≡ is_word_byte b }
 {
@@ -67,7 +67,7 @@ pub fn is_graphic(b: u8) -> bool
     matches!(b, b'!'..=b'~')
 }
 
-/// Whether a byte may stand between double quotes: space to `~`, but no quote.
+/// Whether a byte may occur between double quotes: space to `~`, but no quote.
 pub fn is_text_byte(b: u8) -> bool
     ensures { result ≡ is_text_byte b }
 {

@@ -1,4 +1,4 @@
-//! A walk over the tokens of a text.
+//! A cursor over the tokens of a text.
 
 ghost use Rattle.std.specs.Prelude.{◌≡◌, ◌∷◌, ◌↔◌, [], ℕ, IsTrue, List, length, map, All, MatchOption};
 ghost use Rattle.ldscript_tokens.specs.Tokens.{Lexeme, lexeme, first_line, Name, Number, Text, Word, Punctuation};
@@ -15,7 +15,7 @@ fn split(tokens: &[CodeToken]) -> Option<(CodeToken, &[CodeToken])>
     Some((*first, rest))
 }
 
-/// The tokens of a text that are still to be read.
+/// The tokens of a text that are not yet read.
 #[derive(Drop)]
 pub struct Cursor<'a> {
     text: &'a [u8],
@@ -53,7 +53,7 @@ impl<'a> Cursor<'a> {
         }
     }
 
-    /// The next token's kind, bytes and line, and what follows it.
+    /// The next token's kind, bytes and line, and the cursor after it.
     pub fn next(self) -> Option<(TokenKind, &'a [u8], u32, Cursor<'a>)>
         ensures { MatchOption result (self.entry ≡ [])
             (λ x. self.entry ≡ lexeme (spelled_token x.0 x.1.now) x.2 ∷ x.3) }
@@ -70,7 +70,7 @@ impl<'a> Cursor<'a> {
         ))
     }
 
-    /// How many tokens are left.
+    /// The number of tokens that are left.
     pub fn len(&self) -> usize
         ensures { result ≡ length self.now }
     {
@@ -84,7 +84,7 @@ impl<'a> Cursor<'a> {
         self.rest.is_empty()
     }
 
-    /// The line of the next token, or 0 where none is left.
+    /// The line of the next token, or 0 if none is left.
     pub fn line(&self) -> u32
         ensures { result ≡ first_line self.now }
     {
@@ -94,7 +94,7 @@ impl<'a> Cursor<'a> {
         }
     }
 
-    /// What follows a mark, if that comes next.
+    /// The cursor after a mark, if that comes next.
     pub fn mark(self, mark: Mark) -> Option<Cursor<'a>>
         ensures { MatchOption result
             ((line : ℕ) (rest : List Lexeme) → self.entry ≡ lexeme (Punctuation mark) line ∷ rest → ⊥)
@@ -108,7 +108,7 @@ impl<'a> Cursor<'a> {
         }
     }
 
-    /// A number as it is spelled, and what follows it, if one comes next.
+    /// The spelling of a number, and the cursor after it, if one comes next.
     pub fn number(self) -> Option<(&'a [u8], Cursor<'a>)>
         ensures { MatchOption result
             ((spelled : List ℕ) (line : ℕ) (rest : List Lexeme) → self.entry ≡ lexeme (Number spelled) line ∷ rest → ⊥)
@@ -120,7 +120,7 @@ impl<'a> Cursor<'a> {
         }
     }
 
-    /// A name or `.`, and what follows it, if one comes next.
+    /// A name or `.`, and the cursor after it, if one comes next.
     pub fn name(self) -> Option<(&'a [u8], Cursor<'a>)>
         ensures { MatchOption result
             ((spelled : List ℕ) (line : ℕ) (rest : List Lexeme) → self.entry ≡ lexeme (Name spelled) line ∷ rest → ⊥)
@@ -132,7 +132,7 @@ impl<'a> Cursor<'a> {
         }
     }
 
-    /// A word, and what follows it, if one comes next.
+    /// A word, and the cursor after it, if one comes next.
     pub fn word(self) -> Option<(&'a [u8], Cursor<'a>)>
         ensures { MatchOption result
             ((spelled : List ℕ) (line : ℕ) (rest : List Lexeme) → self.entry ≡ lexeme (Word spelled) line ∷ rest → ⊥)
@@ -144,7 +144,7 @@ impl<'a> Cursor<'a> {
         }
     }
 
-    /// The bytes between double quotes, and what follows them, if a text in quotes comes next.
+    /// The bytes between double quotes, and the cursor after them, if a string comes next.
     pub fn text_in_quotes(self) -> Option<(&'a [u8], Cursor<'a>)>
         ensures { MatchOption result
             ((content : List ℕ) (line : ℕ) (rest : List Lexeme) → self.entry ≡ lexeme (Text content) line ∷ rest → ⊥)
@@ -156,7 +156,7 @@ impl<'a> Cursor<'a> {
         }
     }
 
-    /// What follows this very name, if that comes next.
+    /// The cursor after this name, if it comes next.
     pub fn this_name(self, wanted: &[u8]) -> Option<Cursor<'a>>
         ensures { MatchOption result
             ((line : ℕ) (rest : List Lexeme) → self.entry ≡ lexeme (Name wanted.now) line ∷ rest → ⊥)
@@ -166,7 +166,7 @@ impl<'a> Cursor<'a> {
         if name == wanted { Some(rest) } else { None }
     }
 
-    /// What follows this very word, if that comes next.
+    /// The cursor after this word, if it comes next.
     pub fn this_word(self, wanted: &[u8]) -> Option<Cursor<'a>>
         ensures { MatchOption result
             ((line : ℕ) (rest : List Lexeme) → self.entry ≡ lexeme (Word wanted.now) line ∷ rest → ⊥)

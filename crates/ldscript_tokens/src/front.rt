@@ -1,4 +1,4 @@
-//! What stands at the front of a text.
+//! The token at the front of a text.
 
 ghost use Rattle.std.specs.Prelude.{◌≡◌, ◌<◌, ◌≤◌, ◌+◌, true, length, drop, slice_index, IfSome, ◌==◌};
 ghost use Rattle.ldscript_tokens.specs.Bytes.{is_name_start, is_name_byte, is_octal_digit, is_decimal_digit};
@@ -16,10 +16,10 @@ use super::bytes::{
 use super::marks::longest_mark;
 use super::token::{Mode, TokenKind};
 
-/// The name of what is left out, a token by itself.
+/// `/DISCARD/`, a token by itself.
 const DISCARD: &[u8] = b"/DISCARD/";
 
-/// A token at the front of a text. Places are counted from there.
+/// A token at the front of a text. Indices count from there.
 #[derive(Clone, Copy, Debug, PartialEq, Eq)]
 pub struct FrontToken {
     /// What it is.
@@ -30,14 +30,14 @@ pub struct FrontToken {
     pub end: usize,
 }
 
-/// What stands at the front of a text. Places are counted from there.
+/// What is at the front of a text. Indices count from there.
 #[derive(Clone, Copy, Debug, PartialEq, Eq)]
 pub enum Ahead {
     /// The end of the text.
     Finished,
-    /// This number of bytes of white space or comment.
+    /// White space or a comment, of this many bytes.
     Space(usize),
-    /// A token, and how many bytes it takes with its quotes.
+    /// A token, and its length with its quotes.
     Found(FrontToken, usize),
     /// Bytes that begin no token.
     Unknown,
@@ -57,7 +57,7 @@ fn whole(kind: TokenKind, length: usize) -> Ahead
     )
 }
 
-/// How long a run of bytes of a name stands at the front.
+/// The length of the run of bytes of a name at the front.
 fn name_run(text: &[u8]) -> usize
     ensures value { result ≡ run_length is_name_byte text.now }
     ensures within { result ≤ length text.now }
@@ -65,7 +65,7 @@ fn name_run(text: &[u8]) -> usize
     text.iter().take_while(|b| is_name_byte(**b)).count()
 }
 
-/// How long a run of hex digits stands at the front.
+/// The length of the run of hex digits at the front.
 fn hex_run(text: &[u8]) -> usize
     ensures value { result ≡ run_length is_hex_digit text.now }
     ensures within { result ≤ length text.now }
@@ -73,7 +73,7 @@ fn hex_run(text: &[u8]) -> usize
     text.iter().take_while(|b| is_hex_digit(**b)).count()
 }
 
-/// How long a run of octal digits stands at the front.
+/// The length of the run of octal digits at the front.
 fn octal_run(text: &[u8]) -> usize
     ensures value { result ≡ run_length is_octal_digit text.now }
     ensures within { result ≤ length text.now }
@@ -81,7 +81,7 @@ fn octal_run(text: &[u8]) -> usize
     text.iter().take_while(|b| is_octal_digit(**b)).count()
 }
 
-/// How long a run of decimal digits stands at the front.
+/// The length of the run of decimal digits at the front.
 fn decimal_run(text: &[u8]) -> usize
     ensures value { result ≡ run_length is_decimal_digit text.now }
     ensures within { result ≤ length text.now }
@@ -89,7 +89,7 @@ fn decimal_run(text: &[u8]) -> usize
     text.iter().take_while(|b| is_decimal_digit(**b)).count()
 }
 
-/// How long a run of bytes that may stand between quotes stands at the front.
+/// The length of the run of bytes at the front that may occur between quotes.
 fn text_run(text: &[u8]) -> usize
     ensures value { result ≡ run_length is_text_byte text.now }
     ensures within { result ≤ length text.now }
@@ -97,7 +97,7 @@ fn text_run(text: &[u8]) -> usize
     text.iter().take_while(|b| is_text_byte(**b)).count()
 }
 
-/// How long the name at the front is: no name begins with `.-`.
+/// The length of the name at the front: no name begins with `.-`.
 fn name_length(text: &[u8]) -> usize
     requires { 0 < length text.now }
     ensures value { result ≡ name_length text.now }
@@ -110,7 +110,7 @@ fn name_length(text: &[u8]) -> usize
     }
 }
 
-/// A name, where a byte stands that begins one.
+/// A name, if the first byte begins one.
 #[tactic(auto, unfolding(crate::specs::Tokens::name_front))]
 fn name_front(text: &[u8]) -> Ahead
     requires { is_name_start (slice_index text.now 0) ≡ true }
@@ -120,7 +120,7 @@ fn name_front(text: &[u8]) -> Ahead
     whole(TokenKind::Name, name_length(text))
 }
 
-/// Whether `0x` or `0X` and a hex digit stand at the front.
+/// Whether `0x` or `0X` and a hex digit are at the front.
 pub fn is_hex(text: &[u8]) -> bool
     ensures value { result ≡ is_hex text.now }
     ensures within { result ≡ true → 2 < length text.now }
@@ -130,7 +130,7 @@ pub fn is_hex(text: &[u8]) -> bool
         && is_hex_digit(byte_at(text, 2))
 }
 
-/// How many bytes a number's digits take, with a `0x` before them.
+/// The length of a number's digits, with a `0x` before them.
 #[tactic(auto, unfolding(crate::specs::Tokens::digits_length))]
 pub fn digits_length(text: &[u8]) -> usize
     ensures value { result ≡ digits_length text.now }
@@ -146,7 +146,7 @@ pub fn digits_length(text: &[u8]) -> usize
     }
 }
 
-/// How many bytes a number takes with its suffix.
+/// The length of a number with its suffix.
 fn number_length(text: &[u8]) -> usize
     ensures value { result ≡ number_length text.now }
     ensures within { result ≤ length text.now }
@@ -159,7 +159,7 @@ fn number_length(text: &[u8]) -> usize
     }
 }
 
-/// A number, where a digit stands: none that a byte of a name other than `-` follows.
+/// A number, if a digit is first: no byte of a name other than `-` may follow it.
 #[tactic(auto, unfolding(crate::specs::Tokens::number_front))]
 fn number_front(text: &[u8]) -> Ahead
     requires { is_decimal_digit (slice_index text.now 0) ≡ true }
@@ -175,7 +175,7 @@ fn number_front(text: &[u8]) -> Ahead
     }
 }
 
-/// A text in double quotes, where the first of them stands.
+/// A string, if a double quote is first.
 #[tactic(auto, unfolding(crate::specs::Tokens::text_front))]
 fn text_front(text: &[u8]) -> Ahead
     requires { 0 < length text.now }
@@ -195,7 +195,7 @@ fn text_front(text: &[u8]) -> Ahead
     }
 }
 
-/// How many bytes stand before the first `*/`.
+/// The number of bytes before the first `*/`.
 fn star_slash(text: &[u8]) -> Option<usize>
     ensures value { result ≡ star_slash text.now }
     ensures within { IfSome result (λ n. n + 2 ≤ length text.now) }
@@ -208,7 +208,7 @@ fn star_slash(text: &[u8]) -> Option<usize>
     None
 }
 
-/// A comment, where `/*` stands.
+/// A comment, if `/*` is first.
 #[tactic(auto, unfolding(crate::specs::Tokens::comment_front))]
 fn comment_front(text: &[u8]) -> Ahead
     requires { 2 ≤ length text.now }
@@ -221,7 +221,7 @@ fn comment_front(text: &[u8]) -> Ahead
     }
 }
 
-/// A mark outside patterns.
+/// A mark of expression mode.
 #[tactic(auto, unfolding(crate::specs::Tokens::mark_front))]
 fn mark_front(text: &[u8]) -> Ahead
     requires { 0 < length text.now }
@@ -234,7 +234,7 @@ fn mark_front(text: &[u8]) -> Ahead
     }
 }
 
-/// What stands at the front outside patterns, where it is no white space or comment.
+/// What is at the front in expression mode, but for white space and comments.
 #[tactic(auto, unfolding(crate::specs::Tokens::expression_front))]
 fn expression_front(text: &[u8]) -> Ahead
     requires { 0 < length text.now }
@@ -255,7 +255,7 @@ fn expression_front(text: &[u8]) -> Ahead
     }
 }
 
-/// How many bytes the first byte or pair of a word takes, 0 where none stands.
+/// The length of the first byte or pair of a word; 0 if there is none.
 fn word_step(text: &[u8]) -> usize
     ensures none { result ≡ 0 → word_length text.now ≡ 0 }
     ensures some { 0 < result → word_length text.now ≡ result + word_length (drop result text.now) }
@@ -270,7 +270,7 @@ fn word_step(text: &[u8]) -> usize
     }
 }
 
-/// How many bytes the word at the front takes, 0 where none stands.
+/// The length of the word at the front; 0 if there is none.
 fn word_length(text: &[u8]) -> usize
     ensures value { result ≡ word_length text.now }
     ensures within { result ≤ length text.now }
@@ -297,7 +297,7 @@ fn word_front(text: &[u8]) -> Ahead
     }
 }
 
-/// What stands at the front in patterns, where it is no white space or comment.
+/// What is at the front in pattern mode, but for white space and comments.
 #[tactic(auto, unfolding(crate::specs::Tokens::pattern_front))]
 fn pattern_front(text: &[u8]) -> Ahead
     requires { 0 < length text.now }
@@ -310,7 +310,7 @@ fn pattern_front(text: &[u8]) -> Ahead
     }
 }
 
-/// What stands at the front of a text that is read in a mode.
+/// What is at the front of a text that is read in a mode.
 #[tactic(auto, unfolding(crate::specs::Tokens::front))]
 pub fn front(mode: Mode, text: &[u8]) -> Ahead
     ensures value { front_of text.now result ≡ front mode text.now }

@@ -1,4 +1,4 @@
-//! The cut of a text into tokens.
+//! The tokenization of a text.
 
 ghost use Rattle.std.specs.Prelude.{◌≡◌, ◌≤◌, ◌^◌, ◌+◌, ◌-◌, length, drop, map, All, IfOk, IfErr};
 ghost use Rattle.ldscript_tokens.specs.CodeTokens.{lexeme_of, front_of, IsAdvance};
@@ -17,7 +17,7 @@ use std::alloc::Global;
 pub const MAX_TEXT: usize = 1 << 20;
 
 impl FrontToken {
-    /// The token in a text that has `before` more bytes before it, on this line.
+    /// The token of the whole text, in which it begins `before` bytes later, on this line.
     fn behind(self, before: usize, line: u32) -> CodeToken
         requires room { before + self.end ≤ 2 ^ 20 }
         requires order { self.start ≤ self.end }
@@ -37,7 +37,7 @@ impl FrontToken {
     }
 }
 
-/// What stands at an index of a text.
+/// What is at an index of a text.
 fn ahead(state: LexState, text: &[u8], at: usize) -> Ahead
     requires { at ≤ length text.now }
     ensures value { front_of (drop at text.now) result ≡ front (mode_of state) (drop at text.now) }
@@ -46,7 +46,7 @@ fn ahead(state: LexState, text: &[u8], at: usize) -> Ahead
     front(state.mode(), &text[at..])
 }
 
-/// How many line feeds are among these bytes.
+/// The number of line feeds among these bytes.
 fn line_feeds(bytes: &[u8]) -> u32
     requires { length bytes.now ≤ 2 ^ 20 }
     ensures value { result ≡ line_feeds bytes.now }
@@ -61,7 +61,7 @@ fn line_feeds(bytes: &[u8]) -> u32
     count
 }
 
-/// The cut of a whole text, in one pass.
+/// The tokens of a whole text, in one pass.
 fn cut(alloc: Global, text: &[u8]) -> Result<Vec<CodeToken>, TokenRefusal>
     requires { length text.now ≤ 2 ^ 20 }
     ensures cut { IfOk result (λ v. IsCut text.now (map (lexeme_of text.now) v.items)) }
@@ -95,9 +95,9 @@ fn cut(alloc: Global, text: &[u8]) -> Result<Vec<CodeToken>, TokenRefusal>
     }
 }
 
-/// The tokens of a text, or why it is refused: `Limit` over 2^20 bytes; then `NotAToken` where it has no cut; then
-/// `Limit` where the tokens are past a limit: a number of 2^64 or more, a name or word over 255 bytes, more than
-/// 4,096 `{`, or a run with more than 64 signs.
+/// The tokens of a text, or its refusal: `Limit` over 2^20 bytes; then `NotAToken` if it has no tokens; then `Limit` if
+/// the tokens are past a limit: a number of 2^64 or more, a name or word over 255 bytes, more than 4,096 `{`, or a run
+/// with more than 64 signs.
 pub fn tokens(alloc: Global, text: &[u8]) -> Result<Vec<CodeToken>, TokenRefusal>
     ensures tokens { IfOk result (λ tokens. IsTokens text.now (map (lexeme_of text.now) tokens.items)) }
     ensures places { IfOk result (λ tokens. All (IsPlace (length text.now)) tokens.items) }

@@ -1,8 +1,8 @@
 //! The tokens of a linker script, with their lines. Takes a text; gives its tokens, or a refusal.
 //!
-//! - `lexer` over `front`, `modes` and `limits`: cutting a text; `cursor`: a walk over tokens; `refusal`;
-//! - `token`, `marks`, `words`, `name`, `number`, `bytes`: kinds of tokens, and how they are spelled;
-//! - `laws`: no text has two cuts.
+//! - `lexer` over `front`, `modes` and `limits`: tokenizing a text; `cursor`: a cursor over tokens; `refusal`;
+//! - `token`, `marks`, `words`, `name`, `number`, `bytes`: kinds of tokens, and their spelling;
+//! - `laws`: no text has two lists of tokens.
 #![tactic(auto)]
 
 pub mod bytes;

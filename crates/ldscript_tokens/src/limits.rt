@@ -18,7 +18,7 @@ const MAX_BRACES: usize = 4096;
 /// The greatest number of signs in a run.
 const MAX_SIGNS: usize = 64;
 
-/// Whether a number of this kind is below 2^64, and a name or word short.
+/// Whether a number token is below 2^64, and a name or word no longer than the limit.
 fn has_short_spelling(kind: TokenKind, spelled: &[u8]) -> bool
     ensures { IsTrue result ↔ HasShortSpelling (spelled_token kind spelled.now) }
 {
@@ -29,7 +29,7 @@ fn has_short_spelling(kind: TokenKind, spelled: &[u8]) -> bool
     }
 }
 
-/// Whether each number is below 2^64, and each name and word short.
+/// Whether each number is below 2^64, and each name and word no longer than the limit.
 fn have_short_spellings(text: &[u8], tokens: &[CodeToken]) -> bool
     requires { All (IsPlace (length text.now)) tokens.now }
     ensures { IsTrue result ↔ All HasShortSpelling (map (token_of text.now) tokens.now) }
@@ -42,7 +42,7 @@ fn have_short_spellings(text: &[u8], tokens: &[CodeToken]) -> bool
     true
 }
 
-/// How many `{` are among these tokens.
+/// The number of `{` among these tokens.
 fn open_braces(text: &[u8], tokens: &[CodeToken]) -> usize
     ensures { result ≡ count_by is_open_brace (map (token_of text.now) tokens.now) }
 {
@@ -55,7 +55,7 @@ fn open_braces(text: &[u8], tokens: &[CodeToken]) -> usize
     count
 }
 
-/// The mode in which a token counts: the `(` that begins a stretch belongs to it.
+/// The mode in which a token counts: the `(` that begins a stretch counts in expression mode.
 fn counted_mode(state: LexState, kind: TokenKind, spelled: &[u8]) -> Mode
     ensures { result ≡ counted_mode state (spelled_token kind spelled.now) }
 {
@@ -66,7 +66,7 @@ fn counted_mode(state: LexState, kind: TokenKind, spelled: &[u8]) -> Mode
     }
 }
 
-/// Whether no run goes through a token that counts in this mode.
+/// Whether a token that counts in this mode belongs to no run.
 fn is_break(mode: Mode, kind: TokenKind, spelled: &[u8]) -> bool
     ensures { result ≡ is_break mode (spelled_token kind spelled.now) }
 {
@@ -96,7 +96,7 @@ fn is_sign_mark(mark: Mark) -> bool
     )
 }
 
-/// How many signs the run has after a token, if it had `signs` before.
+/// The number of signs of the run after a token, if it had `signs` before.
 fn signs_after(signs: usize, mode: Mode, kind: TokenKind, spelled: &[u8]) -> usize
     requires { signs ≤ 64 }
     ensures { result ≡ (let t = spelled_token kind spelled.now in

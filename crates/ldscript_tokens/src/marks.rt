@@ -1,4 +1,4 @@
-//! The marks of the script language, as the table of the definition has them.
+//! The marks of the script language, as in the definition's table.
 
 ghost use Rattle.std.specs.Prelude.{◌≡◌, ◌<◌, ◌≤◌, ◌∷◌, [], length, take, IfSome};
 ghost use Rattle.std.specs.Option.{option_map};
@@ -12,7 +12,7 @@ use super::token::{Mark, Mode};
 pub struct MarkAhead {
     /// Which it is.
     pub mark: Mark,
-    /// How many bytes it takes.
+    /// Its length in bytes.
     pub length: usize,
 }
 
@@ -85,7 +85,7 @@ fn is_mark_in(mode: Mode, mark: Mark) -> bool
     }
 }
 
-/// The longest mark of a mode that stands at the front of a text.
+/// The longest mark of a mode at the front of a text.
 #[tactic(auto, using(crate::proofs::Longest::longest_by_bytes))]
 pub fn longest_mark(mode: Mode, text: &[u8]) -> Option<MarkAhead>
     requires { 0 < length text.now }

@@ -64,7 +64,7 @@ fn closed(stretch: ExpressionStretch, kind: TokenKind, spelled: &[u8]) -> Expres
     }
 }
 
-/// How many braces are open after a token.
+/// The number of braces that are open after a token.
 fn depth_after(depth: usize, kind: TokenKind, spelled: &[u8]) -> usize
     requires { depth ≤ 2 ^ 32 }
     ensures value { result ≡ depth_after depth (spelled_token kind spelled.now) }
@@ -78,7 +78,7 @@ fn depth_after(depth: usize, kind: TokenKind, spelled: &[u8]) -> usize
 }
 
 impl LexState {
-    /// Where a text begins.
+    /// The state at the beginning of a text.
     pub fn start() -> LexState
         ensures { result ≡ at_start }
     {
@@ -88,7 +88,7 @@ impl LexState {
         }
     }
 
-    /// How a token is read here.
+    /// The mode in which a token is read here.
     pub fn mode(self) -> Mode
         ensures { result ≡ mode_of self }
     {
@@ -99,8 +99,8 @@ impl LexState {
         }
     }
 
-    /// What holds after a token of a kind with its bytes. Few braces and parentheses are open here, so that their
-    /// numbers can grow.
+    /// The state after a token of this kind with these bytes. So few braces and parentheses are open that their counts
+    /// cannot overflow.
     #[tactic(auto, unfolding(crate::specs::Modes::state_after))]
     pub fn after(self, kind: TokenKind, spelled: &[u8]) -> LexState
         requires { IsShallow (2 ^ 32) self }

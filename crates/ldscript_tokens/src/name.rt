@@ -6,14 +6,14 @@ ghost use Rattle.ldscript_tokens.specs.Names.{kept, IsKept};
 use std::alloc::{AllocError, Global};
 use std::marker::Model;
 
-/// The greatest length of a name that lies in its value itself, in bytes.
+/// The greatest length in bytes of a name that is kept without the heap.
 const MAX_INLINE: usize = 14;
 
-/// Where the bytes of a name lie. Most names are short, and a script may have a million of them, so that a name takes
-/// no more than 16 bytes and none on the heap.
+/// The bytes of a name. Most names are short, and a script may have a million of them: a name takes 16 bytes, and a
+/// short one none on the heap.
 #[derive(Drop)]
 enum NameBytes {
-    /// Here: this number of these bytes.
+    /// In place: the length, and the bytes.
     Inline(u8, [u8; MAX_INLINE]),
     /// On the heap.
     Heap(Box<Vec<u8>>),
@@ -36,7 +36,7 @@ impl Model for ScriptName {
     ghost invariant = { λ name. IsKept name.bytes };
 }
 
-/// The bytes, in a value of their own.
+/// The bytes, copied in place.
 fn inline(bytes: &[u8]) -> NameBytes
     requires { length bytes.now ≤ 14 }
     ensures value { kept result ≡ bytes.now }

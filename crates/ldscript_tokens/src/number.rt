@@ -6,7 +6,7 @@ ghost use Rattle.ldscript_tokens.specs.Numbers.{digit_value, value_in, scale_of,
 use super::bytes::byte_at;
 use super::front::{digits_length, is_hex};
 
-/// What a digit of any base counts.
+/// The value of a digit of any base.
 fn digit_value(digit: u8) -> u64
     ensures { result ≡ digit_value digit }
 {
@@ -41,7 +41,7 @@ fn value_in(base: u64, digits: &[u8]) -> Option<u64>
     Some(value)
 }
 
-/// What a suffix makes of one.
+/// The factor of a suffix.
 fn scale_of(suffix: u8) -> u64
     ensures value { result ≡ scale_of suffix }
     ensures some { 0 < result }
@@ -53,7 +53,7 @@ fn scale_of(suffix: u8) -> u64
     }
 }
 
-/// The value of a number as it is spelled, with its suffix, or `None` from 2^64 on.
+/// The value of a number's spelling, with its suffix, or `None` from 2^64 on.
 #[tactic(auto, unfolding(crate::specs::Numbers::number_value))]
 pub fn number_value(spelled: &[u8]) -> Option<u64>
     ensures { SomeIff result (number_value spelled.now < 2 ^ 64) (number_value spelled.now) }

@@ -1,9 +1,9 @@
-//! Tokens of a script, as they lie in its text.
+//! Tokens of a script, as ranges of its text.
 
 ghost use Rattle.std.specs.Prelude.{◌≡◌, length, slice_range};
 ghost use Rattle.ldscript_tokens.specs.CodeTokens.{IsPlace};
 
-/// How the text is read where a token begins: as an expression, or as patterns of names.
+/// The mode in which a token is read: as part of an expression, or of patterns of names.
 #[derive(Clone, Copy, Debug, PartialEq, Eq)]
 pub enum Mode {
     /// Names, numbers, texts and operators.
@@ -86,13 +86,13 @@ pub enum TokenKind {
     Text,
     /// `/DISCARD/` outside a pattern.
     Discard,
-    /// A word in which pattern signs may stand.
+    /// A word, in which there may be pattern signs.
     Word,
     /// A mark.
     Punctuation(Mark),
 }
 
-/// A token by its place in a text. A text may have as many tokens as bytes, so it takes 16 bytes.
+/// A token as a range of the text. A text may have as many tokens as bytes, so it takes only 16 bytes.
 #[derive(Clone, Copy, Debug, PartialEq, Eq)]
 pub struct CodeToken {
     /// What it is.
@@ -120,18 +120,18 @@ impl CodeToken {
 pub enum ExpressionStretch {
     /// None.
     Closed,
-    /// None yet, but a `(` right here begins one.
+    /// None yet, but one begins if a `(` comes next.
     Awaited,
-    /// Up to and with the next `;`.
+    /// Through the next `;`.
     ToSemicolon,
-    /// Up to and with the `)` that closes the last of this number of open parentheses.
+    /// Through the `)` that closes the last of this many open parentheses.
     ToParenthesis(usize),
 }
 
-/// What the mode depends on: how many braces are open, and the stretch.
+/// What the mode depends on: the number of open braces, and the stretch.
 #[derive(Clone, Copy, Debug, PartialEq, Eq)]
 pub struct LexState {
-    /// `{` less `}` so far; a `}` at 0 leaves it at 0.
+    /// The number of `{` minus that of `}` so far; a `}` at 0 leaves it at 0.
     pub depth: usize,
     /// The stretch that is open here.
     pub stretch: ExpressionStretch,

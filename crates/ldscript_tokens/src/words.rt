@@ -1,10 +1,10 @@
-//! The names and words that a script may give.
+//! Names and words of a script, and reserved words.
 
 ghost use Rattle.std.specs.Prelude.{◌≡◌, bytes_eq};
 ghost use Rattle.std.specs.List.{list_any};
 ghost use Rattle.ldscript_tokens.specs.Words.{is_reserved, is_free_name, is_free_word};
 
-/// The words that the language keeps for itself.
+/// The reserved words.
 const RESERVED: [&[u8]; 32] = [
     b"ENTRY",
     b"MEMORY",
@@ -47,7 +47,7 @@ pub fn is_one_of(words: &[&[u8]], word: &[u8]) -> bool
     words.iter().any(|w| *w == word)
 }
 
-/// Whether the language keeps this word for itself.
+/// Whether a word is reserved.
 #[tactic(auto, unfolding(crate::specs::Words::is_reserved))]
 pub fn is_reserved(word: &[u8]) -> bool
     ensures { result ≡ is_reserved word.now }
