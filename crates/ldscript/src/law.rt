@@ -1,4 +1,4 @@
-//! What holds of the definitions themselves.
+//! Laws of the definitions.
 
 ghost use Rattle.std.specs.Prelude.{◌≡◌, ℕ, List};
 ghost use Rattle.ldscript.specs.Script.{IsTree};

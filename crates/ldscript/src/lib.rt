@@ -1,5 +1,5 @@
-//! The reader of linker scripts: the tree of a text, or why it has none. Takes a text; gives a `Script`, or the first
-//! refusal that holds. Crates above name this crate for all of the script reader (`tree`).
+//! The reader of linker scripts. Takes a text; gives a `Script`, or the first refusal whose condition holds. Crates
+//! above name this crate for all of the script reader (`tree`).
 //!
 //! - `script`: the whole; `read_script`, `read_region`, `read_item`, `read_section`, `read_body`, `read_directive`,
 //!   `read_input` over `steps`: a rule or two of the grammar each; `refusal`;

@@ -1,4 +1,4 @@
-//! Readers of what stands in an output section.
+//! Readers of the body of an output section.
 
 ghost use Rattle.std.specs.Prelude.{◌≡◌, ◌<◌, ℕ, List, IsTrue, length};
 ghost use Rattle.ldscript.specs.Steps.{◌▸◌, mark, statements};
@@ -16,7 +16,7 @@ use ldscript_tokens::cursor::Cursor;
 use ldscript_tokens::token::{Mark, Mode};
 use std::alloc::Global;
 
-/// The word of a data command, and what follows it.
+/// The word of a data command, and the cursor after it.
 fn width<'a>(tokens: Cursor<'a>) -> Option<(Width, Cursor<'a>)>
     ensures { Finds width_part tokens.entry (λ x. x.0) (λ x. x.1) result }
 {

@@ -1,4 +1,4 @@
-//! Readers of the commands that stand in more than one list.
+//! Readers of directives, which occur in several lists.
 
 ghost use Rattle.std.specs.Prelude.{◌≡◌, ◌<◌, ℕ, List, IsTrue, length};
 ghost use Rattle.ldscript_tokens.specs.Tokens.{Lexeme};

@@ -103,7 +103,7 @@ fn excluding_word<'a>(alloc: Global, tokens: Cursor<'a>) -> Parsed<'a, SectionWo
     Ok(Some((SectionWord { pattern, excluded }, rest)))
 }
 
-/// A word of an input statement; not each may have `EXCLUDE_FILE` before it.
+/// A word of an input statement; some may not have `EXCLUDE_FILE` before it.
 fn word<'a>(alloc: Global, may_exclude: bool, tokens: Cursor<'a>) -> Parsed<'a, SectionWord>
     ensures { Reads (word_part may_exclude) tokens.entry (λ x. x.0) (λ x. x.1) result }
 {
@@ -178,7 +178,7 @@ fn sort<'a>(tokens: Cursor<'a>) -> Option<(Sort, Cursor<'a>)>
     Some((sort, rest))
 }
 
-/// What stands between the parentheses of an input statement, and the `)` after it.
+/// The words in the parentheses of an input statement, and the `)` after them.
 fn selection<'a>(
     alloc: Global,
     tokens: Cursor<'a>,
@@ -200,7 +200,7 @@ fn selection<'a>(
     }
 }
 
-/// An input statement, and whether it stands under `KEEP`.
+/// An input statement, and whether it is under `KEEP`.
 fn plain<'a>(alloc: Global, keep: bool, tokens: Cursor<'a>) -> Parsed<'a, Input>
     ensures read { Reads plain_part tokens.entry (λ x. x.0) (λ x. x.1) result }
     ensures keep { IfOk result (λ found. IfSome found (λ x. x.0.keep ≡ keep)) }

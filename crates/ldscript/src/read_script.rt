@@ -78,7 +78,7 @@ fn top_command<'a>(alloc: Global, tokens: Cursor<'a>) -> Parsed<'a, Command>
     Ok(Some((Command::Directive(command), rest)))
 }
 
-/// All statements of a script, or `None` where the tokens are none.
+/// All statements of a script, or `None` if the tokens are no script.
 pub fn statements_of(
     alloc: Global,
     tokens: Cursor<'_>,

@@ -2,7 +2,7 @@
 
 /// Why `Script::read` refuses. A text of more than 2^20 bytes is `Limit`; else the refusals are tested in the order
 /// `NotTokens`, `Limit`, `NotAScript`, `Repeated`, `MisplacedDot`, and the first that applies is answered. `NoMemory`
-/// stands apart.
+/// says nothing about the text.
 #[derive(Clone, Copy, Debug, PartialEq, Eq)]
 pub enum ScriptRefusal {
     /// 1: somewhere no token begins, or a comment has no end.
@@ -11,8 +11,7 @@ pub enum ScriptRefusal {
     NotAScript,
     /// 3: something is given twice, or a memory region is named before it is declared.
     Repeated,
-    /// 4: a use of `.`, or of an `ALIGN` of one argument, which stands for one with `.`, that the profile does not
-    /// have.
+    /// 4: `.`, or an `ALIGN` of one argument, is used where the profile does not allow it.
     MisplacedDot,
     /// 5: the text, a number, a name, the braces or a run of operators is over its limit.
     Limit,

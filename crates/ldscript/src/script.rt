@@ -1,4 +1,4 @@
-//! The script of a text.
+//! Scripts, and how one is read from its text.
 
 ghost use Rattle.std.specs.Prelude.{◌≡◌, [], IfErr, IfOk};
 ghost use Rattle.std.specs.Option.{option_copied};
@@ -50,7 +50,7 @@ impl Model for Script {
     ghost invariant = { λ script. IsSound script.statements × IsTablesOf script.statements script.tables };
 }
 
-/// The tree of a text. Its tokens are let go before anything else takes memory.
+/// The tree of a text. Its tokens are dropped before anything else takes memory.
 fn read_tree(alloc: Global, text: &[u8]) -> Result<Sequence<Statement>, ScriptRefusal>
     ensures read { IfOk result (λ s. IsTree text.now s) }
     ensures refused { IfErr result (λ r. IsRefusal text.now r) }
@@ -69,7 +69,7 @@ fn read_tree(alloc: Global, text: &[u8]) -> Result<Sequence<Statement>, ScriptRe
 }
 
 impl Script {
-    /// The script that says nothing.
+    /// The empty script.
     pub fn empty(alloc: Global) -> Script
         ensures { result ≡ [] }
     {
@@ -87,7 +87,7 @@ impl Script {
         self.statements.as_slice()
     }
 
-    /// The command that assigns or provides a symbol, by its number among `all_directives`. The time is logarithmic in
+    /// The directive that assigns or provides a symbol, by its number among `all_directives`, in time logarithmic in
     /// the number of names.
     pub fn given(&self, name: &[u8]) -> Option<Given>
         ensures { result ≡ given_by self.now name.now }
@@ -116,14 +116,14 @@ impl Script {
         numbering::entry(self.statements.as_slice())
     }
 
-    /// The output sections in the order of the text, `/DISCARD/` not among them.
+    /// The output sections in the order of the text, without `/DISCARD/`.
     pub fn output_sections(&self, alloc: Global) -> Result<Vec<OutputSectionAt<'_>>, AllocError>
         ensures { IfOk result (λ found. shown_sections found.items ≡ output_sections self.now) }
     {
         numbering::output_sections(alloc, self.statements.as_slice())
     }
 
-    /// The input statements in the order of the text, those of `/DISCARD/` among them.
+    /// The input statements in the order of the text, with those of `/DISCARD/`.
     pub fn input_statements(&self, alloc: Global) -> Result<Vec<InputStatementAt<'_>>, AllocError>
         ensures { IfOk result (λ found. shown_inputs found.items ≡ input_statements self.now) }
     {

@@ -19,7 +19,7 @@ use ldscript_tokens::token::{Mark, Mode};
 use ldscript_tokens::words::is_free_name;
 use std::alloc::Global;
 
-/// Whether a word has bytes of names alone.
+/// Whether a word has only bytes that names may have.
 fn has_name_bytes(word: &[u8]) -> bool
     ensures { result ≡ list_all is_name_byte word.now }
 {
@@ -40,7 +40,7 @@ fn is_spelled_as_name(word: &[u8]) -> bool
     has_name_bytes(word)
 }
 
-/// Whether the word of a token of a mode may be given a value.
+/// Whether a token of a mode is a word that may be assigned to.
 fn may_be_given(mode: Mode, word: &[u8]) -> bool
     ensures { result ≡ is_name_in mode word.now }
 {
@@ -50,7 +50,7 @@ fn may_be_given(mode: Mode, word: &[u8]) -> bool
     }
 }
 
-/// The word at the front of a statement, and what follows it.
+/// The word at the front of a statement, and the cursor after it.
 fn front_word<'a>(mode: Mode, tokens: Cursor<'a>) -> Option<(&'a [u8], Cursor<'a>)>
     ensures { Finds (λ w. token (word_in mode w)) tokens.entry (λ x. x.0.now) (λ x. x.1) result }
 {
@@ -60,7 +60,7 @@ fn front_word<'a>(mode: Mode, tokens: Cursor<'a>) -> Option<(&'a [u8], Cursor<'a
     }
 }
 
-/// What follows this very word at the front of a statement.
+/// The cursor after this word at the front of a statement.
 pub fn after_key<'a>(mode: Mode, word: &[u8], tokens: Cursor<'a>) -> Option<Cursor<'a>>
     ensures { Follows (key mode word.now) tokens.entry (λ x. x) result }
 {
@@ -70,7 +70,7 @@ pub fn after_key<'a>(mode: Mode, word: &[u8], tokens: Cursor<'a>) -> Option<Curs
     }
 }
 
-/// A name at the front of a statement, and what follows it.
+/// A name at the front of a statement, and the cursor after it.
 pub fn front_name<'a>(mode: Mode, tokens: Cursor<'a>) -> Option<(&'a [u8], Cursor<'a>)>
     ensures { Finds (name_in mode) tokens.entry (λ x. x.0.now) (λ x. x.1) result }
 {
@@ -82,14 +82,14 @@ pub fn front_name<'a>(mode: Mode, tokens: Cursor<'a>) -> Option<(&'a [u8], Curso
     }
 }
 
-/// A name in an expression's place, and what follows it.
+/// A name in expression mode, and the cursor after it.
 pub fn plain_name<'a>(tokens: Cursor<'a>) -> Option<(&'a [u8], Cursor<'a>)>
     ensures { Finds name_part tokens.entry (λ x. x.0.now) (λ x. x.1) result }
 {
     front_name(Mode::Expression, tokens)
 }
 
-/// What follows a mark.
+/// The cursor after a mark.
 pub fn after(mark: Mark, tokens: Cursor<'_>) -> Option<Cursor<'_>>
     ensures { Follows (mark_part mark) tokens.entry (λ x. x) result }
 {
@@ -107,7 +107,7 @@ pub fn name_in_parentheses<'a>(tokens: Cursor<'a>) -> Option<(&'a [u8], Cursor<'
     Some((name, rest))
 }
 
-/// An expression and a mark after it that can't go on one.
+/// An expression and a mark after it that cannot continue an expression.
 pub fn ended<'a>(alloc: Global, tokens: Cursor<'a>, mark: Mark) -> Parsed<'a, Formula>
     requires { StopsAt Whole (Sign mark) }
     ensures { Reads (ended_part mark) tokens.entry (λ x. x.0) (λ x. x.1) result }

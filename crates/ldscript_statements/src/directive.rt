@@ -17,12 +17,12 @@ pub struct Assignment {
 pub struct Assertion {
     /// The condition: any number but 0.
     pub condition: Formula,
-    /// What is reported where it does not hold, without its quotes.
+    /// What is reported if it does not hold, without the quotes.
     pub message: ScriptName,
 }
 
-/// A directive: a command that may stand in a script, in `SECTIONS` and in an output section (GNU ld manual, "Assigning
-/// Values to Symbols", and ASSERT). It takes no room.
+/// A directive: a command that may occur in a script, in `SECTIONS` and in an output section (GNU ld manual, "Assigning
+/// Values to Symbols", and ASSERT). It places no bytes.
 #[derive(Drop)]
 pub enum Directive {
     /// `NAME = e`

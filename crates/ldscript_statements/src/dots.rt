@@ -14,7 +14,7 @@ use crate::section::{BodyCommand, BodyStatement};
 use crate::statement::{Command, Item, ItemCommand, Region, Statement};
 
 impl Formula {
-    /// Whether the expression has `.`, or an `ALIGN` of one argument, which stands for one with `.`.
+    /// Whether the expression has `.`, or an `ALIGN` of one argument, which means one with `.`.
     fn uses_dot(&self) -> bool
         ensures { result ≡ uses_dot self.now }
     {
@@ -45,7 +45,7 @@ fn directive_uses_dot(command: &Directive) -> bool
     }
 }
 
-/// Whether a command sets `.` in an output section to what `.` may not be set to.
+/// Whether a command sets `.` in an output section in none of the allowed forms.
 fn dot_misplaces(command: &DotCommand) -> bool
     ensures { result ≡ dot_misplaces command.now }
 {
@@ -55,6 +55,7 @@ fn dot_misplaces(command: &DotCommand) -> bool
     }
 }
 
+/// Whether a statement of an output section uses `.` where it may not be used.
 fn body_misplaces(statement: &BodyStatement) -> bool
     ensures { result ≡ body_misplaces statement.now }
 {
@@ -65,13 +66,14 @@ fn body_misplaces(statement: &BodyStatement) -> bool
     }
 }
 
-/// Whether a statement of an output section uses `.` where the profile does not have it.
+/// Whether one of these statements of an output section uses `.` where it may not be used.
 fn any_body_misplaces(all: &[BodyStatement]) -> bool
     ensures { result ≡ list_any body_misplaces all.now }
 {
     all.iter().any(|x| body_misplaces(x))
 }
 
+/// Whether a statement of `SECTIONS` uses `.` where it may not be used.
 fn item_misplaces(item: &Item) -> bool
     ensures { result ≡ item_misplaces item.now }
 {
@@ -82,26 +84,28 @@ fn item_misplaces(item: &Item) -> bool
     }
 }
 
+/// Whether a region uses `.`.
 fn region_misplaces(region: &Region) -> bool
     ensures { result ≡ region_misplaces region.now }
 {
     region.origin.uses_dot() || region.extent.uses_dot()
 }
 
-/// Whether a region uses `.` where the profile does not have it.
+/// Whether one of these regions uses `.`.
 fn any_region_misplaces(all: &[Region]) -> bool
     ensures { result ≡ list_any region_misplaces all.now }
 {
     all.iter().any(|x| region_misplaces(x))
 }
 
-/// Whether a statement of `SECTIONS` uses `.` where the profile does not have it.
+/// Whether one of these statements of `SECTIONS` uses `.` where it may not be used.
 fn any_item_misplaces(all: &[Item]) -> bool
     ensures { result ≡ list_any item_misplaces all.now }
 {
     all.iter().any(|x| item_misplaces(x))
 }
 
+/// Whether a statement of a script uses `.` where it may not be used.
 fn top_misplaces(statement: &Statement) -> bool
     ensures { result ≡ top_misplaces statement.now }
 {
@@ -113,7 +117,7 @@ fn top_misplaces(statement: &Statement) -> bool
     }
 }
 
-/// Whether `.` is used where the profile does not have it.
+/// Whether a script uses `.` where it may not be used (refusal 4).
 pub fn has_misplaced_dot(statements: &[Statement]) -> bool
     ensures { result ≡ has_misplaced_dot statements.now }
 {

@@ -10,7 +10,7 @@ use ldscript_tokens::bytes::{byte_at, is_hex_digit};
 use std::alloc::{AllocError, Global};
 use std::marker::Model;
 
-/// The bytes that gaps of an output section are filled with, over and over: 1 to 8 of them.
+/// The 1 to 8 bytes that gaps of an output section are filled with, repeated.
 #[derive(Drop)]
 pub struct Fill {
     bytes: Vec<u8>,
@@ -39,7 +39,7 @@ fn digit_value(digit: u8) -> u8
     }
 }
 
-/// The byte that two hex digits spell, or `None` if one of them is none.
+/// The byte that two hex digits spell, or `None` if one of them is no digit.
 fn hex_pair(high: u8, low: u8) -> Option<u8>
     ensures { result ≡ hex_pair high low }
 {
@@ -50,7 +50,7 @@ fn hex_pair(high: u8, low: u8) -> Option<u8>
     }
 }
 
-/// The bytes that this number of pairs of hex digits spell, from left to right, or `None` if one of them is no digit.
+/// The bytes that `count` pairs of hex digits spell, from left to right, or `None` if one of them is no digit.
 fn hex_bytes(alloc: Global, digits: &[u8], count: usize) -> Result<Option<Fill>, AllocError>
     requires some { 0 < count }
     requires few { count ≤ 8 }
@@ -66,7 +66,7 @@ fn hex_bytes(alloc: Global, digits: &[u8], count: usize) -> Result<Option<Fill>,
     Ok(Some(Fill::new(bytes)))
 }
 
-/// Whether these are as many digits as a fill has: an even number from 2 to 16.
+/// Whether a fill may have this many digits: an even number from 2 to 16.
 fn has_fill_length(digits: &[u8]) -> bool
     ensures value { result ≡ has_fill_length digits.now }
     ensures bounds { OnTrue result ((2 ≤ length digits.now) × (length digits.now ≤ 16)) }

@@ -7,7 +7,7 @@ use ldscript_terms::expression::Expr;
 use std::fmt;
 use std::marker::Model;
 
-/// An expression of a statement. Contracts see what it says, not where its parts lie in memory.
+/// An expression of a statement. Contracts see its value, not where its parts are in memory.
 #[derive(Drop)]
 pub struct Formula {
     expr: Expr,
@@ -35,7 +35,7 @@ impl Formula {
         Formula { expr }
     }
 
-    /// The expression, to be matched on.
+    /// The expression itself.
     pub fn expr(&self) -> &Expr
         ensures { expr_of result.now ≡ self.now }
     {

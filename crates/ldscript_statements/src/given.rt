@@ -1,6 +1,6 @@
-//! How a script gives a symbol its value.
+//! How a script defines a symbol.
 
-/// The directive that gives a symbol its value, by its number among those of the script.
+/// The directive that defines a symbol, by its number among those of the script.
 #[derive(Clone, Copy, Debug, PartialEq, Eq)]
 pub enum Given {
     /// `NAME = e`

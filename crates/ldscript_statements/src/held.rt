@@ -1,12 +1,12 @@
-//! Large parts of a tree that lie by themselves.
+//! Boxes for large parts of a tree.
 
 ghost use Rattle.std.specs.Prelude.{◌≡◌, IfOk};
 
 use std::alloc::{AllocError, Global};
 use std::marker::Model;
 
-/// A part of a tree beside which others are small, so that they don't take its room. Contracts see it as that part, not
-/// where it lies in memory.
+/// A large case of an enum of the tree, in a box, so that the other cases do not take its size. Contracts see it as the
+/// part itself.
 #[derive(Drop)]
 pub struct Held<T> {
     part: Box<T>,
@@ -28,11 +28,11 @@ impl<T> Held<T> {
 }
 
 impl<T: Drop> Held<T> {
-    /// Holds a part.
+    /// Boxes a part.
     ///
     /// # Errors
     ///
-    /// Where memory runs out. The part is then dropped.
+    /// If memory runs out. The part is then dropped.
     pub fn new(alloc: Global, part: T) -> Result<Held<T>, AllocError>
         ensures { IfOk result (λ held. held ≡ part) }
     {

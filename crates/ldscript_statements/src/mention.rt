@@ -28,7 +28,7 @@ impl<T: Drop> From<AllocFailed<T>> for NoRoom {
     }
 }
 
-/// One thing that a script does with a name, or a command that it may have once.
+/// A use of a name in a script, or a command that a script may have once.
 #[derive(Clone, Copy, PartialEq, Eq, PartialOrd, Ord)]
 pub(crate) enum Mention<'a> {
     /// `ENTRY`
@@ -55,6 +55,7 @@ fn note<'a>(list: &mut Vec<Mention<'a>>, mention: Mention<'a>) -> Result<(), NoR
     Ok(())
 }
 
+/// Adds what an expression mentions.
 fn note_expression<'a>(list: &mut Vec<Mention<'a>>, expr: &'a Expr) -> Result<(), NoRoom>
     ensures { OnOk result (Adds list.old.items list.new.items (in_expression (expr_of expr.now))) }
 {
@@ -76,12 +77,14 @@ fn note_expression<'a>(list: &mut Vec<Mention<'a>>, expr: &'a Expr) -> Result<()
     }
 }
 
+/// Adds what an expression of a statement mentions.
 fn note_formula<'a>(list: &mut Vec<Mention<'a>>, value: &'a Formula) -> Result<(), NoRoom>
     ensures { OnOk result (Adds list.old.items list.new.items (in_expression value.now)) }
 {
     note_expression(list, value.expr())
 }
 
+/// Adds what an expression mentions, if there is one.
 fn note_optional<'a>(list: &mut Vec<Mention<'a>>, value: &'a Option<Formula>) -> Result<(), NoRoom>
     ensures { OnOk result (Adds list.old.items list.new.items (in_optional value.now)) }
 {
@@ -91,6 +94,7 @@ fn note_optional<'a>(list: &mut Vec<Mention<'a>>, value: &'a Option<Formula>) ->
     }
 }
 
+/// Adds what an assignment mentions.
 fn note_assignment<'a>(
     list: &mut Vec<Mention<'a>>,
     assignment: &'a Assignment,
@@ -102,6 +106,7 @@ fn note_assignment<'a>(
     Ok(())
 }
 
+/// Adds what a directive mentions.
 fn note_directive<'a>(list: &mut Vec<Mention<'a>>, command: &'a Directive) -> Result<(), NoRoom>
     ensures { OnOk result (Adds list.old.items list.new.items (in_directive command.now)) }
 {
@@ -113,6 +118,7 @@ fn note_directive<'a>(list: &mut Vec<Mention<'a>>, command: &'a Directive) -> Re
     }
 }
 
+/// Adds what an assignment to `.` mentions.
 fn note_dot_command<'a>(list: &mut Vec<Mention<'a>>, command: &'a DotCommand) -> Result<(), NoRoom>
     ensures { OnOk result (Adds list.old.items list.new.items (in_dot_command command.now)) }
 {
@@ -121,6 +127,7 @@ fn note_dot_command<'a>(list: &mut Vec<Mention<'a>>, command: &'a DotCommand) ->
     }
 }
 
+/// Adds what a statement of an output section mentions.
 fn note_body_command<'a>(
     list: &mut Vec<Mention<'a>>,
     command: &'a BodyCommand,
@@ -135,6 +142,7 @@ fn note_body_command<'a>(
     }
 }
 
+/// Adds what the statements of an output section mention.
 fn note_body<'a>(list: &mut Vec<Mention<'a>>, body: &'a [BodyStatement]) -> Result<(), NoRoom>
     ensures { OnOk result (Adds list.old.items list.new.items (in_body body.now)) }
 {
@@ -144,6 +152,7 @@ fn note_body<'a>(list: &mut Vec<Mention<'a>>, body: &'a [BodyStatement]) -> Resu
     Ok(())
 }
 
+/// Adds the region that is named, if there is one.
 fn note_region_name<'a>(
     list: &mut Vec<Mention<'a>>,
     region: &'a Option<ScriptName>,
@@ -166,7 +175,7 @@ fn note_load_head<'a>(list: &mut Vec<Mention<'a>>, load: &'a Load) -> Result<(),
     }
 }
 
-/// Adds what is mentioned after a section's body for its load address.
+/// Adds what a section mentions after its body for its load address.
 fn note_load_tail<'a>(list: &mut Vec<Mention<'a>>, load: &'a Load) -> Result<(), NoRoom>
     ensures { OnOk result (Adds list.old.items list.new.items (in_load_tail load.now)) }
 {
@@ -176,6 +185,7 @@ fn note_load_tail<'a>(list: &mut Vec<Mention<'a>>, load: &'a Load) -> Result<(),
     }
 }
 
+/// Adds what an output section mentions.
 fn note_section<'a>(list: &mut Vec<Mention<'a>>, section: &'a OutputSection) -> Result<(), NoRoom>
     ensures { OnOk result (Adds list.old.items list.new.items (in_section section.now)) }
 {
@@ -189,6 +199,7 @@ fn note_section<'a>(list: &mut Vec<Mention<'a>>, section: &'a OutputSection) -> 
     Ok(())
 }
 
+/// Adds what a statement of `SECTIONS` mentions.
 fn note_item_command<'a>(
     list: &mut Vec<Mention<'a>>,
     command: &'a ItemCommand,
@@ -203,6 +214,7 @@ fn note_item_command<'a>(
     }
 }
 
+/// Adds what the statements of `SECTIONS` mention.
 fn note_items<'a>(list: &mut Vec<Mention<'a>>, items: &'a [Item]) -> Result<(), NoRoom>
     ensures { OnOk result (Adds list.old.items list.new.items (in_items items.now)) }
 {
@@ -212,6 +224,7 @@ fn note_items<'a>(list: &mut Vec<Mention<'a>>, items: &'a [Item]) -> Result<(), 
     Ok(())
 }
 
+/// Adds what the regions of `MEMORY` mention.
 fn note_regions<'a>(list: &mut Vec<Mention<'a>>, regions: &'a [Region]) -> Result<(), NoRoom>
     ensures { OnOk result (Adds list.old.items list.new.items (in_regions regions.now)) }
 {
@@ -223,6 +236,7 @@ fn note_regions<'a>(list: &mut Vec<Mention<'a>>, regions: &'a [Region]) -> Resul
     Ok(())
 }
 
+/// Adds what a statement of a script mentions.
 fn note_command<'a>(list: &mut Vec<Mention<'a>>, command: &'a Command) -> Result<(), NoRoom>
     ensures { OnOk result (Adds list.old.items list.new.items (in_top_command command.now)) }
 {

@@ -1,4 +1,4 @@
-//! What a script gives twice, and memory regions that it names before it has declared them.
+//! Clashes: names that a script defines twice, and memory regions that it names before their declaration.
 
 ghost use Rattle.std.specs.Prelude.{MatchBool, IfOk};
 ghost use Rattle.ldscript_statements.specs.Mentions.{HasClash};
@@ -10,8 +10,8 @@ use crate::statement::Statement;
 use std::alloc::Global;
 use std::collections::BTreeSet;
 
-/// Whether a mention may not stand after those that are in the set; if it may, it is put into the set. The set is in
-/// order, so that no choice of names makes it slow.
+/// Whether a mention clashes with those in the set; if not, it is inserted. The set is ordered, so that no choice of
+/// names makes it slow.
 fn meet<'a>(given: &mut BTreeSet<Mention<'a>>, mention: Mention<'a>) -> Result<bool, NoRoom>
     ensures { IfOk result (Meets given.old.keys given.new.keys (mention_of mention.entry)) }
 {
@@ -21,7 +21,7 @@ fn meet<'a>(given: &mut BTreeSet<Mention<'a>>, mention: Mention<'a>) -> Result<b
     }
 }
 
-/// Whether one of these may not stand after those before it.
+/// Whether one of these clashes with those before it.
 fn any_clashes(alloc: Global, mentions: &[Mention]) -> Result<bool, NoRoom>
     ensures { IfOk result (λ b. MatchBool b (HasClashIn (shown mentions.now)) (HasClashIn (shown mentions.now) → ⊥)) }
 {

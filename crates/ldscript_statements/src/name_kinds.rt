@@ -1,9 +1,9 @@
-//! Kinds of names: a table that notes of which it has any need not be searched for a name of another kind.
+//! Kinds of names: a table that notes which kinds it has need not be searched for a name of another kind.
 
 ghost use Rattle.std.specs.Prelude.{◌≡◌, ◌≢◌, ℕ, List, false};
 ghost use Rattle.ldscript_statements.specs.NameKinds.{has_kind, kind_of};
 
-/// A name is of one of 64 kinds, by its length and its second byte: the first one is mostly the same.
+/// A name is of one of 64 kinds, by its length and its second byte; the first byte is mostly the same.
 fn kind_of(name: &[u8]) -> u32
     ensures { result ≡ kind_of name.now }
 {
@@ -11,15 +11,15 @@ fn kind_of(name: &[u8]) -> u32
     ((name.len() % 64) as u32 * 31 + u32::from(second)) % 64
 }
 
-/// Of which kinds a table has names.
+/// The kinds of a table's names.
 #[derive(Clone, Copy)]
 pub struct NameKinds {
-    /// The bit under the number of a kind is set if it has a name of it.
+    /// The bit of each kind of which the table has a name.
     bits: u64,
 }
 
 impl NameKinds {
-    /// The kinds of no names.
+    /// The kinds of a table without names.
     pub fn none() -> NameKinds
         ensures { (name : List ℕ) → has_kind result name ≡ false }
     {

@@ -15,7 +15,7 @@ use std::collections::BTreeMap;
 #[derive(Drop)]
 pub struct NumberTable {
     numbers: BTreeMap<Vec<u8>, usize>,
-    /// Of its names: most that are looked for are of none of these.
+    /// The kinds of its names: most names that are looked up are of none of these.
     kinds: NameKinds,
     ghost known: { AreKindsOf kinds
         (λ name. is_some (get_by (λ key. slice_cmp nat_cmp name (vec_items key)) numbers)) },
@@ -24,7 +24,7 @@ pub struct NumberTable {
 impl NumberTable {
     ghost use Rattle.ldscript_statements.specs.NumberTables.{number_at};
 
-    /// The table of no name.
+    /// The empty table.
     pub(crate) fn new(alloc: Global) -> NumberTable
         ensures { (name : List ℕ) → number_at result name ≡ None }
     {
@@ -34,7 +34,7 @@ impl NumberTable {
         }
     }
 
-    /// Puts a number under a name, in place of one that is there.
+    /// Inserts a number under a name, in place of an earlier one.
     pub(crate) fn put(
         &mut self,
         alloc: Global,
@@ -50,8 +50,8 @@ impl NumberTable {
         Ok(())
     }
 
-    /// The number under a name, in time logarithmic in the names of the table, and constant where none of them has the
-    /// name's kind.
+    /// The number under a name, in time logarithmic in the number of names, and constant if none of them has the name's
+    /// kind.
     pub fn number(&self, name: &[u8]) -> Option<usize>
         ensures { result ≡ number_at self.now name.now }
     {

@@ -1,4 +1,4 @@
-//! The statements of a script in text order, out of their tree. A statement's number is its place in its list, from 0.
+//! Lists of a script's statements in text order. A statement's number is its index in its list.
 
 ghost use Rattle.std.specs.Prelude.{◌≡◌, ◌≤◌, [], ◌∷◌, OnOk, IfOk, length};
 ghost use Rattle.std.specs.Option.{option_copied};
@@ -36,9 +36,9 @@ pub struct OutputSectionAt<'a> {
 /// An input statement.
 #[derive(Clone, Copy)]
 pub struct InputStatementAt<'a> {
-    /// The line of the first token, which is `KEEP` where the statement has it.
+    /// The line of the first token, which is `KEEP` if the statement has it.
     pub line: u32,
-    /// Where it stands.
+    /// The output section that it is in, or `/DISCARD/`.
     pub place: InputPlace,
     /// What it takes.
     pub input: &'a Input,
@@ -53,6 +53,7 @@ pub struct DirectiveAt<'a> {
     pub command: &'a Directive,
 }
 
+/// Adds statements of `SECTIONS` to a list.
 fn add_items<'a>(list: &mut Vec<&'a Item>, these: &'a [Item]) -> Result<(), AllocError>
     ensures { OnOk result (AddsItems list.old.items list.new.items these.now) }
 {
@@ -62,6 +63,7 @@ fn add_items<'a>(list: &mut Vec<&'a Item>, these: &'a [Item]) -> Result<(), Allo
     Ok(())
 }
 
+/// Adds the statements of `SECTIONS`, if a command is that.
 fn add_command_items<'a>(list: &mut Vec<&'a Item>, command: &'a Command) -> Result<(), AllocError>
     ensures { OnOk result (AddsItems list.old.items list.new.items (items_of command.now)) }
 {
@@ -82,6 +84,7 @@ fn items<'a>(alloc: Global, statements: &'a [Statement]) -> Result<Vec<&'a Item>
     Ok(list)
 }
 
+/// Adds the output section that a statement of `SECTIONS` is, if it is one.
 fn add_section<'a>(list: &mut Vec<OutputSectionAt<'a>>, item: &'a Item) -> Result<(), AllocError>
     ensures { OnOk result (AddsSections list.old.items list.new.items (item_sections item.now.line item.now.command)) }
 {
@@ -96,6 +99,7 @@ fn add_section<'a>(list: &mut Vec<OutputSectionAt<'a>>, item: &'a Item) -> Resul
     }
 }
 
+/// The output sections among these statements of `SECTIONS`.
 fn sections_of_items<'a>(
     alloc: Global,
     items: &[&'a Item],
@@ -109,7 +113,7 @@ fn sections_of_items<'a>(
     Ok(list)
 }
 
-/// The output sections of a script, `/DISCARD/` not among them.
+/// The output sections of a script, without `/DISCARD/`.
 pub fn output_sections<'a>(
     alloc: Global,
     statements: &'a [Statement],
@@ -120,6 +124,7 @@ pub fn output_sections<'a>(
     sections_of_items(alloc, &items)
 }
 
+/// Adds the input statement that a statement of an output section is, if it is one.
 fn add_input<'a>(
     list: &mut Vec<InputStatementAt<'a>>,
     place: InputPlace,
@@ -138,6 +143,7 @@ fn add_input<'a>(
     }
 }
 
+/// Adds the input statements of an output section.
 fn add_body_inputs<'a>(
     list: &mut Vec<InputStatementAt<'a>>,
     place: InputPlace,
@@ -151,6 +157,7 @@ fn add_body_inputs<'a>(
     Ok(())
 }
 
+/// Adds the input statements of a `/DISCARD/`.
 fn add_discarded<'a>(
     list: &mut Vec<InputStatementAt<'a>>,
     inputs: &'a [InputStatement],
@@ -185,7 +192,7 @@ fn add_item_inputs<'a>(
     }
 }
 
-/// The number of output sections that a statement of `SECTIONS` is.
+/// 1 if a statement of `SECTIONS` is an output section, else 0.
 fn section_count(item: &Item) -> usize
     ensures count { result ≡ length (item_sections item.now.line item.now.command) }
     ensures small { result ≤ 1 }
@@ -196,6 +203,7 @@ fn section_count(item: &Item) -> usize
     }
 }
 
+/// The input statements of these statements of `SECTIONS`.
 fn inputs_of_items<'a>(
     alloc: Global,
     items: &[&'a Item],
@@ -212,7 +220,7 @@ fn inputs_of_items<'a>(
     Ok(list)
 }
 
-/// The input statements of a script, those of `/DISCARD/` among them.
+/// The input statements of a script, with those of `/DISCARD/`.
 pub fn input_statements<'a>(
     alloc: Global,
     statements: &'a [Statement],
@@ -223,6 +231,7 @@ pub fn input_statements<'a>(
     inputs_of_items(alloc, &items)
 }
 
+/// Adds a directive.
 fn add_directive<'a>(
     list: &mut Vec<DirectiveAt<'a>>,
     line: u32,
@@ -235,6 +244,7 @@ fn add_directive<'a>(
     Ok(())
 }
 
+/// Adds the directive that a statement of an output section is, if it is one.
 fn add_body_directive<'a>(
     list: &mut Vec<DirectiveAt<'a>>,
     statement: &'a BodyStatement,
@@ -248,6 +258,7 @@ fn add_body_directive<'a>(
     }
 }
 
+/// Adds the directives of an output section.
 fn add_body_directives<'a>(
     list: &mut Vec<DirectiveAt<'a>>,
     body: &'a [BodyStatement],
@@ -260,6 +271,7 @@ fn add_body_directives<'a>(
     Ok(())
 }
 
+/// Adds the directives of a statement of `SECTIONS`.
 fn add_item_directives<'a>(
     list: &mut Vec<DirectiveAt<'a>>,
     item: &'a Item,
@@ -274,6 +286,7 @@ fn add_item_directives<'a>(
     }
 }
 
+/// Adds the directives of `SECTIONS`.
 fn add_items_directives<'a>(
     list: &mut Vec<DirectiveAt<'a>>,
     items: &'a [Item],
@@ -286,6 +299,7 @@ fn add_items_directives<'a>(
     Ok(())
 }
 
+/// Adds the directives of a statement of a script.
 fn add_top_directives<'a>(
     list: &mut Vec<DirectiveAt<'a>>,
     statement: &'a Statement,
@@ -315,6 +329,7 @@ pub fn all_directives<'a>(
     Ok(list)
 }
 
+/// Adds memory regions to a list.
 fn add_regions<'a>(list: &mut Vec<&'a Region>, these: &'a [Region]) -> Result<(), AllocError>
     ensures { OnOk result (AddsRegions list.old.items list.new.items these.now) }
 {
@@ -324,6 +339,7 @@ fn add_regions<'a>(list: &mut Vec<&'a Region>, these: &'a [Region]) -> Result<()
     Ok(())
 }
 
+/// Adds the memory regions of `MEMORY`, if a command is that.
 fn add_command_regions<'a>(
     list: &mut Vec<&'a Region>,
     command: &'a Command,

@@ -3,7 +3,7 @@
 /// Where an input statement stands.
 #[derive(Clone, Copy, Debug, PartialEq, Eq)]
 pub enum InputPlace {
-    /// In the output section of this number.
+    /// In the output section with this number.
     InSection(usize),
     /// In `/DISCARD/`.
     InDiscard,

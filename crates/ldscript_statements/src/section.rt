@@ -1,4 +1,4 @@
-//! Output sections and what stands in them.
+//! Output sections and their bodies.
 
 use crate::directive::{Directive, DotCommand};
 use crate::fill::Fill;
@@ -7,7 +7,7 @@ use crate::input::Input;
 use crate::sequence::Sequence;
 use ldscript_tokens::name::ScriptName;
 
-/// How many bytes a data command takes.
+/// The width of a data command.
 #[derive(Clone, Copy, Debug, PartialEq, Eq)]
 pub enum Width {
     /// `BYTE`: one.
@@ -24,7 +24,7 @@ impl Width {
     ghost use Rattle.std.specs.Prelude.{◌≡◌};
     ghost use Rattle.ldscript_statements.specs.Widths.{byte_count};
 
-    /// How many bytes it is: 1, 2, 4 or 8.
+    /// The width in bytes: 1, 2, 4 or 8.
     pub fn byte_count(self) -> u8
         ensures { result ≡ byte_count self }
     {
@@ -59,14 +59,14 @@ pub struct BodyStatement {
     pub command: BodyCommand,
 }
 
-/// What an output section's head and tail say of its load address.
+/// The load address (LMA) that an output section's head and tail give.
 #[derive(Drop)]
 pub enum Load {
     /// Nothing.
     Unstated,
     /// `AT(e)`: the load address is this.
     At(Formula),
-    /// `AT>region`: the load address lies in this region.
+    /// `AT>region`: the load address is in this region.
     InRegion(ScriptName),
 }
 
@@ -81,10 +81,10 @@ pub struct OutputSection {
     pub load: Load,
     /// The alignment that `ALIGN(e)` in its head gives.
     pub alignment: Option<Formula>,
-    /// What stands in it, in order.
+    /// Its statements, in order.
     pub body: Sequence<BodyStatement>,
-    /// The memory region that `>region` gives.
+    /// The memory region of `>region`.
     pub region: Option<ScriptName>,
-    /// What gaps are filled with.
+    /// The fill of its gaps.
     pub fill: Option<Fill>,
 }

@@ -5,7 +5,7 @@ ghost use Rattle.std.specs.Prelude.{◌≡◌, [], ◌∷◌, ◌++◌, OnOk};
 use std::alloc::{AllocError, Global};
 use std::marker::Model;
 
-/// A list in the order of the text. Contracts see it as that list, not where it lies in memory.
+/// A list in the order of the text. Contracts see its elements, not where they are in memory.
 #[derive(Drop)]
 pub struct Sequence<T> {
     elements: Vec<T>,
@@ -38,7 +38,7 @@ impl<T> Sequence<T> {
 }
 
 impl<T: Drop> Sequence<T> {
-    /// Adds an element at the end. Most lists of a tree have one element, so the first takes the room of one.
+    /// Adds an element at the end. Most lists of a tree have one element, so the first allocation is for one.
     ///
     /// # Errors
     ///

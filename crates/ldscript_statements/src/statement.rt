@@ -30,7 +30,7 @@ pub enum ItemCommand {
     Directive(Directive),
     /// An output section.
     Section(Held<OutputSection>),
-    /// `/DISCARD/`: the input sections that are left out.
+    /// `/DISCARD/`: the input sections that are discarded.
     Discard(Sequence<InputStatement>),
 }
 

@@ -13,7 +13,7 @@ use crate::numbering::{DirectiveAt, OutputSectionAt, all_directives, output_sect
 use crate::statement::{Region, Statement};
 use std::alloc::{AllocError, Global};
 
-/// Where a script gives its names: symbols, output sections and memory regions.
+/// The numbers under which a script defines its names: symbols, output sections and memory regions.
 #[derive(Drop)]
 pub struct Tables {
     assigned: NumberTable,
@@ -22,6 +22,7 @@ pub struct Tables {
     regions: NumberTable,
 }
 
+/// Inserts the name of an assignment, if a directive is one.
 fn enter_assigned(
     alloc: Global,
     table: &mut NumberTable,
@@ -49,6 +50,7 @@ fn assigned_names(alloc: Global, directives: &[DirectiveAt]) -> Result<NumberTab
     Ok(table)
 }
 
+/// Inserts the name of a PROVIDE, if a directive is one.
 fn enter_provided(
     alloc: Global,
     table: &mut NumberTable,
@@ -105,7 +107,7 @@ fn region_names(alloc: Global, regions: &[&Region]) -> Result<NumberTable, Alloc
 }
 
 impl Tables {
-    /// The tables of no statement.
+    /// The tables of a script without statements.
     pub fn new(alloc: Global) -> Tables
         ensures { IsTablesOf [] result }
     {
