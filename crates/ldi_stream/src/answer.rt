@@ -11,7 +11,7 @@ use crate::fault::WriteFault;
 use itoa::Buffer;
 use ldmodel::edit::{EditRefusal, Linked};
 
-/// Writes all the bytes, or a beginning of them.
+/// Writes all the bytes; after an error a prefix of them.
 fn write_all<W: Sink>(sink: &mut W, bytes: &[u8]) -> Result<(), WriteFault>
     ensures ok { OnOk result (Appends (W.written sink.old) (W.written sink.new) bytes.now) }
     ensures err { OnErr result ((n : ℕ) × Appends (W.written sink.old) (W.written sink.new) (take n bytes.now)) }

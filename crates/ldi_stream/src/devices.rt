@@ -1,4 +1,4 @@
-//! Readers and writers that a stream is read from and its answers written to, and that count failed calls.
+//! The readers of streams and the writers of answers, which count failed calls.
 
 ghost use Rattle.std.specs.Prelude.{◌≡◌, ◌≤◌, ◌<◌, ℕ, List, [], Option, length, IfOk, OnOk};
 ghost use Rattle.std.specs.Io.KnownBytes.{ReadConsumes, WriteAppends, Keeps};
@@ -13,65 +13,65 @@ use std::marker::Model;
 
 /// A reader that counts its failed calls.
 pub trait Source {
-    /// What is left to read, where the reader shows it.
+    /// What is left to read, if the reader shows it.
     ghost rest: { Self → Option (List ℕ) };
 
-    /// How many calls have failed.
+    /// The number of failed calls.
     ghost failed: { Self → ℕ };
 
-    /// Reads bytes into the front of `buf`, and says how many: none only at the end or where `buf` is empty.
+    /// Reads bytes into the front of `buf`, and returns their number: 0 only at the end or if `buf` is empty.
     ///
     /// # Errors
     ///
-    /// Where the device failed. Nothing was read then.
+    /// If the device failed. Nothing was read then.
     fn read(&mut self, buf: &mut [u8]) -> Result<usize, ReadFault>
         ensures count { IfOk result (λ n. n ≤ length buf.old) }
         ensures bytes { ReadConsumes (rest self.old) (rest self.new) result buf.new }
         ensures counted { CountsFailure (failed self.old) (failed self.new) result };
 
-    /// How many calls have failed; 2^64 - 1 says that or more.
+    /// The number of failed calls, at most 2^64 - 1.
     fn failures(&self) -> u64
         ensures { result ≡ failed self.now };
 }
 
 /// A writer that counts its failed calls.
 pub trait Sink {
-    /// What was written so far, where the writer shows it.
+    /// What was written so far, if the writer shows it.
     ghost written: { Self → Option (List ℕ) };
 
-    /// The end of what was written that is held back, until a flush sends it on.
+    /// The last part of what was written, which is buffered until a flush.
     ghost held: { Self → List ℕ };
 
-    /// How many calls have failed.
+    /// The number of failed calls.
     ghost failed: { Self → ℕ };
 
-    /// Writes a front of `bytes`, and says how long it is: empty only where `bytes` is.
+    /// Writes a prefix of `bytes`, and returns its length: 0 only if `bytes` is empty.
     ///
     /// # Errors
     ///
-    /// Where the device failed, or took no byte of some. Nothing was written then.
+    /// If the device failed, or took none of some bytes. Nothing was written then.
     fn write(&mut self, bytes: &[u8]) -> Result<usize, WriteFault>
         ensures count { IfOk result (λ n. n ≤ length bytes.now) }
         ensures some { IfOk result (λ n. 0 < length bytes.now → 0 < n) }
         ensures bytes { WriteAppends (written self.old) (written self.new) result bytes.now }
         ensures counted { CountsFailure (failed self.old) (failed self.new) result };
 
-    /// Sends on what was written and is still held back.
+    /// Passes on what is buffered.
     ///
     /// # Errors
     ///
-    /// Where the device failed.
+    /// If the device failed.
     fn flush(&mut self) -> Result<(), WriteFault>
         ensures bytes { Keeps (written self.old) (written self.new) }
         ensures flushed { OnOk result (held self.new ≡ []) }
         ensures counted { CountsFailure (failed self.old) (failed self.new) result };
 
-    /// How many calls have failed; 2^64 - 1 says that or more.
+    /// The number of failed calls, at most 2^64 - 1.
     fn failures(&self) -> u64
         ensures { result ≡ failed self.now };
 }
 
-/// A reader of std as a source, with a buffer, since commands are read by the byte.
+/// A reader of std as a source, with a buffer, since commands are read byte by byte.
 #[derive(Drop)]
 pub struct CommandReader<R: Read + Drop> {
     reader: BufReader<R>,
@@ -142,7 +142,7 @@ impl<W: Write + Drop> Model for AnswerWriter<W> {
 }
 
 impl<W: Write + Drop> AnswerWriter<W> {
-    /// A sink that has not failed yet and holds nothing back.
+    /// A sink that has not failed yet, with an empty buffer.
     ///
     /// # Errors
     ///
@@ -159,7 +159,7 @@ impl<W: Write + Drop> AnswerWriter<W> {
         }
     }
 
-    /// The writer. What is held back is not sent on: after a failed call nothing more is written.
+    /// The writer. What is buffered is dropped: after a failed call nothing more is written.
     pub fn into_writer(self) -> W
         ensures { W.contents result ≡ self.sent }
     {

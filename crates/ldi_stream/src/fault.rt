@@ -14,7 +14,7 @@ pub struct ReadFault;
 #[error("the writer failed")]
 pub struct WriteFault;
 
-/// Why a run broke off.
+/// Why a run ended early.
 #[derive(Clone, Copy, Debug, PartialEq, Eq, Error)]
 pub enum RunFault {
     /// A call of the reader failed, within a command or between two.

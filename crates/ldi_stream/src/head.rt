@@ -1,4 +1,4 @@
-//! The line that a command begins with, cut into its words.
+//! The line of a command, split into words.
 
 ghost use Rattle.std.specs.Prelude.{◌≡◌, ◌<◌, ◌≤◌, ◌^◌, ◌↔◌, ◌∷◌, ◌++◌, ℕ, List, codes, decimal};
 ghost use Rattle.std.specs.Prelude.{IfSome, IfNone, IsTrue};
@@ -11,17 +11,17 @@ use bstr::ByteSlice;
 use itoa::Buffer;
 use ldmodel::edit::MAX_PAYLOAD;
 
-/// What a payload is meant for.
+/// The edit that a payload is for.
 #[derive(Clone, Copy, Debug)]
 pub enum Aim<'a> {
     /// A new object.
     Add {
         /// The name of the object.
         name: &'a [u8],
-        /// Before which of the objects it is to stand.
+        /// The position before which it is inserted.
         at: u64,
     },
-    /// Another object in the place of one.
+    /// A new object in place of one.
     Replace {
         /// The name of both.
         name: &'a [u8],
@@ -30,31 +30,31 @@ pub enum Aim<'a> {
     Script,
 }
 
-/// What the line of an edit says.
+/// The line of an edit.
 #[derive(Clone, Copy, Debug)]
 pub enum EditHead<'a> {
-    /// `add`, `replace` or `script`: a payload is to come.
+    /// `add`, `replace` or `script`, with a payload.
     WithPayload {
-        /// What it is meant for.
+        /// The edit that it is for.
         aim: Aim<'a>,
-        /// How many bytes it has.
+        /// Its length in bytes.
         count: usize,
     },
-    /// `move`: an object goes to another place.
+    /// `move`: an object moves to another place.
     Move {
         /// The name of the object.
         name: &'a [u8],
-        /// Before which of the other objects it is to stand.
+        /// The position among the other objects before which it is inserted.
         to: u64,
     },
-    /// `remove`: an object is taken out.
+    /// `remove`: an object is removed.
     Remove {
         /// The name of the object.
         name: &'a [u8],
     },
 }
 
-/// What is asked of a link.
+/// A query.
 #[derive(Clone, Copy, Debug, PartialEq, Eq)]
 pub enum Query {
     /// `image`: the image.
@@ -65,12 +65,12 @@ pub enum Query {
     Faults,
 }
 
-/// What a command's line says.
+/// The line of a command.
 #[derive(Clone, Copy, Debug)]
 pub enum CommandHead<'a> {
-    /// An edit is to be made.
+    /// An edit.
     Edit(EditHead<'a>),
-    /// Something is asked of the link.
+    /// A query.
     Ask(Query),
 }
 
@@ -84,7 +84,7 @@ fn split_word(bytes: &[u8]) -> Option<(&[u8], &[u8])>
     }
 }
 
-/// The number below 2^64 that a word spells in decimal, without needless zeros.
+/// The number below 2^64 that a word spells in decimal, without leading zeros.
 fn read_number(word: &[u8]) -> Option<u64>
     ensures found { IfSome result (λ n. (n < 2 ^ 64) × (word.now ≡ decimal n)) }
     ensures none { IfNone result ((n : ℕ) → n < 2 ^ 64 → word.now ≡ decimal n → ⊥) }
@@ -128,14 +128,14 @@ fn has_no(byte: u8, bytes: &[u8]) -> bool
     }
 }
 
-/// Whether a word may be an object's name: some bytes, and none of them a space or a line feed.
+/// Whether a word may be an object's name: it is not empty, and has no space and no line feed.
 fn is_word(word: &[u8]) -> bool
     ensures { IsTrue result ↔ IsWord word.now }
 {
     !word.is_empty() && has_no(b' ', word) && has_no(b'\n', word)
 }
 
-/// A name, and what stands after it and a space.
+/// A name, and what follows the space after it.
 fn read_name(words: &[u8]) -> Option<(&[u8], &[u8])>
     ensures found { IfSome result (λ p. IsWord p.0.now × (words.now ≡ p.0.now ++ 32 ∷ p.1.now)) }
     ensures none { IfNone result ((name rest : List ℕ) → IsWord name → words.now ≡ name ++ 32 ∷ rest → ⊥) }
@@ -148,7 +148,7 @@ fn read_name(words: &[u8]) -> Option<(&[u8], &[u8])>
     }
 }
 
-/// A place and the length of a payload.
+/// A position and the length of a payload.
 fn read_numbers(words: &[u8]) -> Option<(u64, usize)>
     ensures found { IfSome result (λ p. (p.0 < 2 ^ 64) × (p.1 ≤ 2 ^ 26) × (words.now ≡ numbers p.0 p.1)) }
     ensures none { IfNone result ((at count : ℕ) → at < 2 ^ 64 → count ≤ 2 ^ 26 → words.now ≡ numbers at count → ⊥) }
@@ -159,7 +159,7 @@ fn read_numbers(words: &[u8]) -> Option<(u64, usize)>
     Some((at, count))
 }
 
-/// What stands after `add `: a name, a place and a length.
+/// What follows `add `: a name, a position and a length.
 fn read_add(words: &[u8]) -> Option<EditHead<'_>>
     ensures found { IfSome result (λ h. IsRead (codes "add") words.now h) }
     ensures none { IfNone result (IsNoEdit (codes "add") words.now) }
@@ -170,7 +170,7 @@ fn read_add(words: &[u8]) -> Option<EditHead<'_>>
     Some(EditHead::WithPayload { aim, count })
 }
 
-/// What stands after `replace `: a name and a length.
+/// What follows `replace `: a name and a length.
 fn read_replace(words: &[u8]) -> Option<EditHead<'_>>
     ensures found { IfSome result (λ h. IsRead (codes "replace") words.now h) }
     ensures none { IfNone result (IsNoEdit (codes "replace") words.now) }
@@ -181,7 +181,7 @@ fn read_replace(words: &[u8]) -> Option<EditHead<'_>>
     Some(EditHead::WithPayload { aim, count })
 }
 
-/// What stands after `move `: a name and a place.
+/// What follows `move `: a name and a position.
 fn read_move(words: &[u8]) -> Option<EditHead<'_>>
     ensures found { IfSome result (λ h. IsRead (codes "move") words.now h) }
     ensures none { IfNone result (IsNoEdit (codes "move") words.now) }
@@ -191,7 +191,7 @@ fn read_move(words: &[u8]) -> Option<EditHead<'_>>
     Some(EditHead::Move { name, to })
 }
 
-/// What stands after `remove `: a name.
+/// What follows `remove `: a name.
 fn read_remove(words: &[u8]) -> Option<EditHead<'_>>
     ensures found { IfSome result (λ h. IsRead (codes "remove") words.now h) }
     ensures none { IfNone result (IsNoEdit (codes "remove") words.now) }
@@ -203,7 +203,7 @@ fn read_remove(words: &[u8]) -> Option<EditHead<'_>>
     }
 }
 
-/// What stands after `script `: a length.
+/// What follows `script `: a length.
 fn read_script(words: &[u8]) -> Option<EditHead<'_>>
     ensures found { IfSome result (λ h. IsRead (codes "script") words.now h) }
     ensures none { IfNone result (IsNoEdit (codes "script") words.now) }
@@ -213,7 +213,7 @@ fn read_script(words: &[u8]) -> Option<EditHead<'_>>
     Some(EditHead::WithPayload { aim, count })
 }
 
-/// What an edit's line says: its first word, and the words after it.
+/// The line of an edit, by its first word and the words after it.
 fn read_edit<'a>(first: &[u8], words: &'a [u8]) -> Option<EditHead<'a>>
     ensures found { IfSome result (λ h. IsRead first.now words.now h) }
     ensures none { IfNone result (IsNoEdit first.now words.now) }
@@ -233,7 +233,7 @@ fn read_edit<'a>(first: &[u8], words: &'a [u8]) -> Option<EditHead<'a>>
     }
 }
 
-/// What a line of one word asks.
+/// The query of a line of one word.
 fn read_query(word: &[u8]) -> Option<Query>
     ensures found { IfSome result (λ q. query_line (query_of q) ≡ word.now) }
     ensures none { IfNone result ((q : commands.Query) → query_line q ≡ word.now → ⊥) }
@@ -249,7 +249,7 @@ fn read_query(word: &[u8]) -> Option<Query>
     }
 }
 
-/// What a command's line says, without its line feed; none where it is no command's.
+/// Parses a command's line, without its line feed; `None` if it is no command's.
 pub fn read_head(line: &[u8]) -> Option<CommandHead<'_>>
     ensures found { IfSome result (λ head. Says line.now head) }
     ensures none { IfNone result (SaysNothing line.now) }

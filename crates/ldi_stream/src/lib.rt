@@ -25,20 +25,20 @@ pub mod serve;
 pub enum Status {
     /// At the end of the stream, with the status of the link.
     Done(u8),
-    /// At bytes that no command begins.
+    /// At bytes that begin no command.
     Malformed,
 }
 
-/// Reads the commands of `source` to its end, makes their edits in `linker`, and writes an answer to
-/// each into `sink`, which is flushed before a byte of the next command is read.
+/// Reads the commands of `source` to its end, makes their edits in `linker`, and writes an answer to each into `sink`,
+/// which is flushed before a byte of the next command is read.
 ///
-/// A stream that goes on with bytes that no command begins is answered `stream`, and ends the run with
-/// `Status::Malformed`. An edit whose payload finds no memory is read past and answered `refused 7 0`.
+/// Bytes that begin no command are answered `stream`, and end the run with `Status::Malformed`. An edit without memory
+/// for its payload is skipped and answered `refused 7 0`.
 ///
 /// # Errors
 ///
-/// `RunFault::Read` and `RunFault::Write` where a call of `source` or `sink` failed: nothing is read or
-/// written after it. `RunFault::Long` past 2^64 - 1 commands.
+/// `RunFault::Read` and `RunFault::Write` where a call of `source` or `sink` failed: nothing is read or written after
+/// it. `RunFault::Long` past 2^64 - 1 commands.
 pub fn run<R: Source, W: Sink, L: Linker>(
     alloc: Global,
     source: &mut R,
@@ -49,12 +49,12 @@ pub fn run<R: Source, W: Sink, L: Linker>(
     ensures answers { IfOk result (λ status. IfSome (R.rest source.old) (λ stream. (out : List ℕ)
         × Appends (W.written sink.old) (W.written sink.new) out
         × Answers (L.project linker.old) stream out (L.project linker.new) (status_of status))) }
-    // What stands after each outcome.
+    // What holds after each outcome.
     ensures ran { Ran (world (R.rest source.old) (W.written sink.old) (L.project linker.old))
         (world (R.rest source.new) (W.written sink.new) (L.project linker.new)) result }
-    // Nothing written is held back where a read fails, as any might, and at the end.
+    // Nothing is still buffered when a read fails, as any might, and at the end.
     ensures flushed { Flushed (W.held sink.old) (W.held sink.new) result }
-    // A fault is reported where a device's count of failures rose, and nowhere else.
+    // A fault is reported exactly if a device's count of failures rose.
     ensures counted { FaultsCounted (R.failed source.old) (R.failed source.new)
         (W.failed sink.old) (W.failed sink.new) result }
 {

@@ -1,4 +1,4 @@
-//! Lines of commands, read a byte at a time, so that no byte after a command is taken from the source.
+//! Lines of commands, read byte by byte, so that no byte after a command is read.
 
 ghost use Rattle.std.specs.Prelude.{◌≡◌, length};
 ghost use Rattle.ldi_stream.specs.Stepped.{CountsFailure, ByteRead, LineRead};
@@ -6,21 +6,21 @@ ghost use Rattle.ldi_stream.specs.Stepped.{CountsFailure, ByteRead, LineRead};
 use crate::devices::Source;
 use crate::fault::ReadFault;
 
-/// The greatest number of bytes in a command's line, without its line feed.
+/// The greatest length of a command's line in bytes, without its line feed.
 pub const MAX_LINE: usize = 512;
 
 /// How the reading of a line ends.
 #[derive(Clone, Copy, Debug, PartialEq, Eq)]
 pub enum LineEnd {
-    /// At its line feed, after this number of bytes.
+    /// At its line feed, after this many bytes.
     Line(usize),
     /// At the end of the stream, before a byte was read.
     Ended,
-    /// At the end of the stream within the line, or where the line is too long.
+    /// Within the line: the stream ends, or the line is too long.
     Broken,
 }
 
-/// Reads one byte, or meets the end.
+/// Reads one byte, or finds the end.
 fn read_byte<R: Source>(source: &mut R) -> Result<Option<u8>, ReadFault>
     ensures read { ByteRead (R.rest source.old) (R.rest source.new) result }
     ensures counted { CountsFailure (R.failed source.old) (R.failed source.new) result }

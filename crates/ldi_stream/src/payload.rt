@@ -1,4 +1,4 @@
-//! Payloads: the bytes that a command's line announces.
+//! Payloads of commands.
 
 ghost use Rattle.std.specs.Prelude.{◌≡◌, ◌<◌, ◌≤◌, ◌-◌, ℕ, List, length, IfOk, OnErr};
 ghost use Rattle.std.specs.Io.KnownBytes.{Consumes, IsAtEnd};
@@ -8,21 +8,21 @@ use crate::devices::Source;
 use crate::fault::ReadFault;
 use std::alloc::Global;
 
-/// How many bytes are read past in one read.
+/// The number of bytes that are skipped by one read.
 const SKIP_STEP: usize = 512;
 
-/// What reading a payload comes to.
+/// The result of reading a payload.
 #[derive(Drop)]
 pub enum Payload {
     /// All its bytes.
     Whole(Vec<u8>),
-    /// There was no memory for it, and all its bytes were read past.
+    /// There was no memory for it, and all its bytes were skipped.
     NoMemory,
     /// The stream ended within it.
     Short,
 }
 
-/// Fills the buffer from its front, to its end or to that of the stream, and says how far.
+/// Fills the buffer from its front, to its end or to that of the stream, and returns the number of bytes.
 fn fill<R: Source>(source: &mut R, buf: &mut [u8]) -> Result<usize, ReadFault>
     ensures filled { Filled (R.rest source.old) (R.rest source.new) buf.new result }
     ensures counted { CountsFailure (R.failed source.old) (R.failed source.new) result }
@@ -38,7 +38,7 @@ fn fill<R: Source>(source: &mut R, buf: &mut [u8]) -> Result<usize, ReadFault>
     Ok(at)
 }
 
-/// Reads past at most `count` bytes, and says how many there were.
+/// Skips at most `count` bytes, and returns their number.
 fn skip<R: Source>(source: &mut R, count: usize) -> Result<usize, ReadFault>
     ensures ok { IfOk result (λ n. (bytes : List ℕ) × (length bytes ≡ n) × (n ≤ count)
         × Consumes (R.rest source.old) (R.rest source.new) bytes × (n < count → IsAtEnd (R.rest source.new))) }
@@ -59,7 +59,7 @@ fn skip<R: Source>(source: &mut R, count: usize) -> Result<usize, ReadFault>
     Ok(at)
 }
 
-/// Reads a payload of `count` bytes. Where there is no memory for it, it is read past.
+/// Reads a payload of `count` bytes, or skips it if there is no memory for it.
 ///
 /// # Errors
 ///

@@ -1,4 +1,4 @@
-//! One command of a stream: read, made and answered.
+//! One command of a stream: read, executed and answered.
 
 ghost use Rattle.std.specs.Prelude.{◌≡◌, ℕ, List, [], Option, length, IfSome, OnOk};
 ghost use Rattle.ldmodel.specs.Answers.{EditReply, asked};
@@ -23,7 +23,7 @@ use ldmodel::meter::Meter;
 use ldmodel_laws::streams::{lines_without_feed, one_first_command};
 use std::alloc::Global;
 
-/// What a step of a run comes to.
+/// The result of a step of a run.
 #[derive(Clone, Copy, Debug, PartialEq, Eq)]
 pub enum ServeStep {
     /// A command was answered.
@@ -50,7 +50,7 @@ fn make_edit<W: Sink, L: Linker>(
     }
 }
 
-/// Makes the edit that a whole payload is meant for, and answers it.
+/// Makes the edit of a whole payload, and answers it.
 fn use_payload<W: Sink, L: Linker>(
     sink: &mut W,
     linker: &mut L,
@@ -104,7 +104,7 @@ fn serve_payload<R: Source, W: Sink, L: Linker>(
     }
 }
 
-/// Makes an edit that brings no payload, and answers it.
+/// Makes an edit without a payload, and answers it.
 fn serve_bare<W: Sink, L: Linker>(
     sink: &mut W,
     linker: &mut L,
@@ -120,7 +120,7 @@ fn serve_bare<W: Sink, L: Linker>(
     Ok(ServeStep::Next)
 }
 
-/// Makes the edit of a line that was read, with its payload, and answers it.
+/// Reads the payload of a line, if it has one, makes the edit and answers it.
 fn serve_edit<R: Source, W: Sink, L: Linker>(
     alloc: Global,
     source: &mut R,
@@ -144,7 +144,7 @@ fn serve_edit<R: Source, W: Sink, L: Linker>(
     }
 }
 
-/// What a query asks of the link.
+/// The answer of the link to a query.
 fn asked<L: Linker>(linker: &L, query: Query) -> &[u8]
     ensures { result.now ≡ asked (query_of query) (link (L.project linker.now)) }
 {
@@ -155,7 +155,7 @@ fn asked<L: Linker>(linker: &L, query: Query) -> &[u8]
     }
 }
 
-/// Answers bytes that no command begins.
+/// Answers bytes that begin no command.
 fn serve_bad<W: Sink>(sink: &mut W) -> Result<ServeStep, RunFault>
     ensures stepped { (old new : Option (List ℕ)) (project : Project) → IfSome old IsBad
         → Stepped (world old (W.written sink.old) project) (world new (W.written sink.new) project) result }
@@ -166,8 +166,7 @@ fn serve_bad<W: Sink>(sink: &mut W) -> Result<ServeStep, RunFault>
     Ok(ServeStep::End(Status::Malformed))
 }
 
-/// Reads one command, makes it and answers it; or meets the end of the stream, or bytes that no command
-/// begins.
+/// Reads one command, executes it and answers it; or finds the end of the stream, or bytes that begin no command.
 ///
 /// # Errors
 ///

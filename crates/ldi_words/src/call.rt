@@ -1,11 +1,11 @@
-//! What the words of a command line ask for.
+//! The calls that a command line can make.
 
 use ldmodel::options::Options;
 
 /// A call of one of the two programs.
 #[derive(Debug, Drop)]
 pub enum Call {
-    /// `ldi session`: link again after each edit that standard input gives.
+    /// `ldi session`: link again after each edit that comes by standard input.
     Session(Options),
     /// `ldi link`: link once.
     Link {

@@ -1,4 +1,4 @@
-//! Why the words of a command line came to no call.
+//! Why a command line makes no call.
 
 ghost use Rattle.std.specs.Prelude.{◌≡◌, ◌⊎◌};
 
@@ -11,10 +11,10 @@ const SHOWN: u8 = 0;
 const REFUSED: u8 = 2;
 /// The status after a device failed.
 const DEVICE: u8 = 3;
-/// The status where memory runs out.
+/// The status if memory runs out.
 const NO_MEMORY: u8 = 4;
 
-/// Why the words came to no call.
+/// Why a command line makes no call.
 #[derive(Debug, Drop)]
 pub enum WordsFault {
     /// Out of memory.
@@ -65,8 +65,8 @@ impl WordsFault {
     }
 
     /// Prints the fault and gives the status that a program ends with. Help and the version go to standard output, the
-    /// text of a refusal to standard error; out of memory, nothing is printed. The status is 3 where help or the
-    /// version cannot be written, else `exit_status`.
+    /// text of a refusal to standard error; out of memory, nothing is printed. The status is 3 if help or the version
+    /// cannot be written, else `exit_status`.
     pub fn report<R: Print + Eprint>(&self, rt: &R) -> u8
         ensures { (result ≡ exit_status self.now) ⊎ ((exit_status self.now ≡ 0) × (result ≡ 3)) }
     {

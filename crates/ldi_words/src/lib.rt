@@ -1,6 +1,6 @@
 //! The command lines of `ldi`, read with `clap`. Takes words; gives a `Call`, or what is wrong with them.
 //!
-//! - the root has `words`; `call`, `fault`: what comes of reading; `values`: what clap's matches hold;
+//! - the root has `words`; `call`, `fault`: its results; `values`: what clap's matches hold;
 //! - `command`: the command in clap's words.
 #![tactic(auto)]
 
@@ -25,9 +25,8 @@ pub const USAGE: &str = "usage: ldi <session|link> [OPTIONS], all words in UTF-8
 
 /// The call that the words of a command line ask for. The first word is the name of the program.
 ///
-/// A call comes only where `clap` finds no fault in the words. It is then the subcommand, with the values, that `clap`
-/// states for them. Words that `clap` takes fail only out of memory. Other words are refused with one of the kinds that
-/// `clap` states for them; help and the version, where the words ask for them, are such kinds too.
+/// The call is the subcommand and the values that `clap` finds in the words. Words that `clap` accepts fail only out of
+/// memory. Other words are refused with one of the kinds of `clap`'s errors, to which help and the version belong.
 pub fn words(alloc: Global, args: &[String]) -> Result<Call, WordsFault>
     // `choices` is the reference to the two handlings of orphans in the command, which a clause cannot name.
     ensures { (choices : Choices) × ListsOrphans choices

@@ -22,7 +22,7 @@ fn entry_of(alloc: Global, matches: &ArgMatches<'_>) -> Result<Option<Vec<u8>>, 
     }
 }
 
-/// What `--orphan-handling` says.
+/// The value of `--orphan-handling`.
 fn orphans_of(matches: &ArgMatches<'_>) -> Orphans
     requires { NamesOrphans (first_value (found_of matches.now) (codes "orphan-handling")) }
     ensures { first_value (found_of matches.now) (codes "orphan-handling")

@@ -19,26 +19,26 @@ pub enum Edit<'a> {
     Add {
         /// The name of the object: 1 to 255 bytes from `!` to `~`.
         name: &'a [u8],
-        /// Before which of the objects it is to stand, from 0 to their number.
+        /// The position before which it is inserted, from 0 to the number of objects.
         at: u64,
         /// The bytes of the object.
         bytes: Vec<u8>,
     },
-    /// Puts another object in the place of one.
+    /// Replaces an object by another one, under its name and in its place.
     Replace {
         /// The name of both.
         name: &'a [u8],
-        /// The bytes of the other.
+        /// The bytes of the new object.
         bytes: Vec<u8>,
     },
-    /// Takes an object out, and puts it in again at another place.
+    /// Moves an object to another place.
     Move {
         /// The name of the object.
         name: &'a [u8],
-        /// Before which of the other objects it is to stand, from 0 to their number.
+        /// The position among the other objects before which it is inserted, from 0 to their number.
         to: u64,
     },
-    /// Takes an object out.
+    /// Removes an object.
     Remove {
         /// The name of the object.
         name: &'a [u8],
@@ -50,7 +50,7 @@ pub enum Edit<'a> {
     },
 }
 
-/// What an accepted edit comes to.
+/// The answer to an accepted edit.
 #[derive(Clone, Copy, Debug, PartialEq, Eq)]
 pub struct Linked {
     /// 0 for a good link, 1 for one with faults.
@@ -94,7 +94,7 @@ impl EditRefusal {
         }
     }
 
-    /// For an object or a script the number of its reader's own refusal, else 0.
+    /// The number of the object's or the script's own refusal, else 0.
     pub fn inner_number(self) -> u8
         ensures { result ≡ inner_number (refusal_of self) }
     {

@@ -1,17 +1,16 @@
-//! The faults of a link, as layers hand them on: small values without names, which stand for those of the definitions
-//! (`specs/FaultCode.antt`). A name is found by the number or key that a fault has in its place.
+//! The faults of a link, as layers exchange them: small values with numbers and keys in place of names.
+//! `specs/FaultCode.antt` says which fault of the definitions each one is.
 
 use crate::names::{Entry, ObjectPlace};
 use crate::placed::{OutputIndex, RegionIndex};
 use crate::sections::SectionKey;
 use elfobj::section::SectionIndex;
 
-/// The number of a name that the script's expressions mention: its place among all that they mention, in the order of
-/// the text, from 0.
+/// A name that the script's expressions mention: its index among all mentions, in the order of the text.
 #[derive(Clone, Copy, Debug, PartialEq, Eq)]
 pub struct MentionIndex(pub u32);
 
-/// The number of an `ASSERT`: its place among those of the script, from 0.
+/// An `ASSERT`: its index among those of the script.
 #[derive(Clone, Copy, Debug, PartialEq, Eq)]
 pub struct AssertionIndex(pub u32);
 
@@ -24,18 +23,18 @@ pub enum Definer {
     Object(ObjectPlace),
 }
 
-/// Where a relocation stands.
+/// A relocation: its object, section and entry.
 #[derive(Clone, Copy, Debug, PartialEq, Eq)]
 pub struct SiteKey {
     /// The object.
     pub object: ObjectPlace,
-    /// The section that the relocation changes.
+    /// The section that it relocates.
     pub section: SectionIndex,
-    /// The number of its entry among the relocations of the section, in the order of the table, from 0.
+    /// The index of its entry among the relocations of the section, in the order of the table.
     pub entry: u32,
 }
 
-/// What is wrong with a link. Lines are lines of the script, from 1.
+/// A fault of a link. Lines are lines of the script, from 1.
 #[derive(Clone, Copy, Debug, PartialEq, Eq)]
 pub enum Fault {
     /// `F1 NAME OBJECT FIRST`: an object defines a name once more.
@@ -66,7 +65,7 @@ pub enum Fault {
         /// The line of the statement.
         line: u32,
     },
-    /// `F7 SECTION REGION`: an output section does not lie in its memory region.
+    /// `F7 SECTION REGION`: an output section does not fit into its memory region.
     RegionFull {
         /// The output section.
         section: OutputIndex,
@@ -82,24 +81,24 @@ pub enum Fault {
     AddressesMeet {
         /// The later one.
         section: OutputIndex,
-        /// The first one that it meets.
+        /// The first one that it overlaps.
         earlier: OutputIndex,
     },
     /// `F10 SECTION EARLIER`: two output sections share a load address.
     LoadAddressesMeet {
         /// The later one.
         section: OutputIndex,
-        /// The first one that it meets.
+        /// The first one that it overlaps.
         earlier: OutputIndex,
     },
-    /// `F11 LENGTH`: the image would have over 2^28 bytes.
+    /// `F11 LENGTH`: the image would have more than 2^28 bytes.
     ImageTooLong {
         /// The length of the image; padding can carry it past 2^64.
         length: u128,
     },
-    /// `F12 OBJECT SECTION OFFSET NAME`: nothing defines the name that a relocation names.
+    /// `F12 OBJECT SECTION OFFSET NAME`: nothing defines the symbol of a relocation.
     UndefinedSymbol(SiteKey),
-    /// `F13 OBJECT SECTION OFFSET INDEX`: the section of the symbol that a relocation names is not in the output.
+    /// `F13 OBJECT SECTION OFFSET INDEX`: the section of a relocation's symbol is not in the output.
     TargetNotInOutput(SiteKey),
     /// `F13 entry`: the section of the entry symbol is not in the output.
     EntryNotInOutput,

@@ -1,4 +1,4 @@
-//! What a script makes of a name by itself.
+//! Whether a directive assigns or provides.
 
 ghost use Rattle.std.specs.Prelude.{◌≡◌};
 ghost use Rattle.ldmodel.specs.ScriptNames.{is_assignment, is_provision};

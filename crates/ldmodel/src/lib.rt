@@ -1,10 +1,8 @@
-//! What a link is given and what it is: the definitions of a project, of an edit and of a link (`specs`), and the types
-//! that the layers of a link hand one another.
+//! The definitions of a project, of an edit and of a link (`specs`), and the types that the layers of a link exchange.
 //!
 //! - `edit`, `options`, `linker`: edits, their answers and limits; options; the trait of linkers;
-//! - `names`, `sections`, `rows`, `placed`, `segment`, `target`, `fault`, `script_symbol`: what layers hand
-//!   one another;
-//! - `given`: what a script makes of a name; `impossible`: the error of a case that cannot come up.
+//! - `names`, `sections`, `rows`, `placed`, `segment`, `target`, `fault`, `script_symbol`: what layers exchange;
+//! - `given`: whether a directive assigns or provides; `impossible`: the error of a case that cannot occur.
 #![tactic(auto)]
 
 pub mod edit;

@@ -1,14 +1,14 @@
-//! Keys of objects and names, places of objects, and how a name is resolved: what layers hand one another.
+//! Keys of objects and names, places of objects, and how a name is resolved.
 
-/// The number under which an object is kept, from when it is added until it is removed.
+/// The stable number of an object, valid from when it is added until it is removed.
 #[derive(Clone, Copy, Debug, PartialEq, Eq)]
 pub struct ObjectKey(pub usize);
 
-/// The place of an object among those of a project, from 0: what stands for it in a link.
+/// The index of an object in a project, which names it in a link.
 #[derive(Clone, Copy, Debug, PartialEq, Eq)]
 pub struct ObjectPlace(pub usize);
 
-/// The number under which a name is kept while an object declares it.
+/// The stable number of a symbol name, valid while an object declares it.
 #[derive(Clone, Copy, Debug, PartialEq, Eq)]
 pub struct NameKey(pub usize);
 
@@ -17,7 +17,7 @@ pub struct NameKey(pub usize);
 pub struct Entry {
     /// The key of the object.
     pub key: usize,
-    /// The number of the entry in the symbol table, from 0.
+    /// The index of the entry in the symbol table.
     pub symbol: u32,
 }
 
@@ -41,7 +41,7 @@ pub enum Case {
     Weak(Entry),
     /// A PROVIDE in the script.
     Provided,
-    /// Nothing.
+    /// Nothing: the name is undefined.
     Undefined,
     /// Two or more strong definitions, the script's assignment among them.
     Duplicate,

@@ -4,12 +4,12 @@ ghost use Rattle.std.specs.Prelude.{◌≡◌, ◌↔◌, IsTrue, option_map};
 
 use std::marker::Model;
 
-/// What becomes of sections that no statement of the script takes and whose size is not 0.
+/// The handling of orphans: nonempty sections that no statement of the script takes.
 #[derive(Clone, Copy, Debug, PartialEq, Eq)]
 pub enum Orphans {
-    /// Each one that the program needs is a fault.
+    /// Each live one is a fault.
     Error,
-    /// All of them are left out of the image.
+    /// They are discarded.
     Discard,
 }
 
@@ -36,8 +36,7 @@ impl Default for Options {
 
     ghost is_default = { λ o. o ≡ default_options };
 
-    /// The options of a link that is given none: no section is collected, the entry symbol is the script's, and
-    /// orphans are faults.
+    /// The default options: no section is collected, the entry symbol is the script's, and orphans are faults.
     fn default() -> Options {
         Options::new(false, None, Orphans::Error)
     }
@@ -46,22 +45,22 @@ impl Default for Options {
 impl Options {
     ghost use Rattle.ldmodel.specs.Options.{default_options};
 
-    /// Options that collect sections which the program cannot reach if `gc`, that start the program at the symbol
-    /// `entry`, if any, whatever the script's ENTRY names, and that treat orphans as `orphans` says.
+    /// Options: with `gc`, sections that the program cannot reach are discarded; `entry`, if any, is the entry symbol
+    /// in place of that of the script's ENTRY; `orphans` is the handling of orphans.
     pub fn new(gc: bool, entry: Option<Vec<u8>>, orphans: Orphans) -> Options
         ensures { result ≡ record { gc = gc; entry = option_map (λ name. name.items) entry; orphans = orphans } }
     {
         Options { gc, entry, orphans }
     }
 
-    /// Whether sections that the program cannot reach are left out of the image.
+    /// Whether sections that the program cannot reach are discarded (`--gc-sections`).
     pub fn gc(&self) -> bool
         ensures { result ≡ self.now.gc }
     {
         self.gc
     }
 
-    /// The name of the symbol at which the program starts. Where there is none, the script's ENTRY names it.
+    /// The entry symbol of `-e`. If there is none, it is that of the script's ENTRY.
     pub fn entry(&self) -> Option<&[u8]>
         ensures { option_map (λ name. name.now) result ≡ self.now.entry }
     {
@@ -71,14 +70,14 @@ impl Options {
         }
     }
 
-    /// What becomes of sections that no statement of the script takes.
+    /// The handling of orphans.
     pub fn orphans(&self) -> Orphans
         ensures { result ≡ self.now.orphans }
     {
         self.orphans
     }
 
-    /// Whether these are the options of a link that is given none.
+    /// Whether these are the default options.
     pub fn is_default(&self) -> bool
         ensures { IsTrue result ↔ (self.now ≡ default_options) }
     {

@@ -1,20 +1,20 @@
-//! Rows: the input sections that an output section holds, in their order.
+//! Rows: the input sections of an output section, in their order.
 
 use crate::sections::SectionKey;
 use elfobj::section::SectionKind;
 
-/// The number of an input statement: its place among all of the script, from 0.
+/// An input statement: its index among all of the script.
 #[derive(Clone, Copy, Debug, PartialEq, Eq)]
 pub struct InputIndex(pub u32);
 
-/// An input section in a row: all that its place in the output follows from.
+/// An input section in a row: all that its address in the output follows from.
 #[derive(Clone, Copy, Debug, PartialEq, Eq)]
 pub struct Piece {
     /// The input statement that takes it.
     pub statement: InputIndex,
-    /// Which input section it is.
+    /// The input section.
     pub section: SectionKey,
-    /// What it holds; `Nobits` for a common block.
+    /// Its kind; `Nobits` for a common block.
     pub kind: SectionKind,
     /// `sh_flags`; `SHF_ALLOC` and `SHF_WRITE` for a common block.
     pub flags: u64,

@@ -4,12 +4,12 @@ use crate::names::ObjectPlace;
 use elfobj::relocation::SymbolIndex;
 use elfobj::section::SectionIndex;
 
-/// What an input section is in its object.
+/// An input section within its object.
 #[derive(Clone, Copy, Debug, PartialEq, Eq)]
 pub enum Part {
-    /// The section of this header.
+    /// The section with this header number.
     InTable(SectionIndex),
-    /// The common block that this entry of the symbol table owns.
+    /// The common block of this entry of the symbol table.
     InCommon(SymbolIndex),
 }
 

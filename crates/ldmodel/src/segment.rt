@@ -5,7 +5,7 @@ use crate::placed::OutputIndex;
 /// A segment: one PT_LOAD of the image (`specs/PlacementView.antt` says which).
 #[derive(Clone, Copy, Debug, PartialEq, Eq)]
 pub struct Segment {
-    /// `p_offset`: where it begins in the file; padding can carry it past 2^64.
+    /// `p_offset`: where it begins in the file; with padding it can be 2^64 or more.
     pub offset: u128,
     /// `p_vaddr`: the first address of its first output section.
     pub start: u64,

@@ -3,8 +3,8 @@
 use crate::names::{NameKey, ObjectPlace};
 use elfobj::section::SectionIndex;
 
-/// What the value of a symbol that a relocation names depends on in a link. While the number of a target stays the
-/// same, so do the fields of all relocations against it.
+/// What the value of a relocation's symbol depends on. If a target has the same number in two links, all relocations
+/// against it have the same fields.
 #[derive(Clone, Copy, Debug, PartialEq, Eq)]
 pub enum Target {
     /// A name: its number is its value, 0 where nothing defines it.

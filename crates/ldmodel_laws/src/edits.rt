@@ -31,15 +31,15 @@ pub fn names_stay_distinct()
         → AreNamesDistinct q.objects }
 {}
 
-/// No edit is without an outcome. For an edit of objects the outcome is at hand. A script's text can't be without one,
-/// though relations say which it is (whether its tokens have a tree), and no function of the definitions decides them.
+/// Every edit has an outcome. For an edit of the script this is stated as 'it is not without one': relations say which
+/// it is (whether the tokens have a tree), and no function of the definitions computes it.
 pub fn some_outcome()
     ensures objects { (project : Project) (change : Change) → IsNoScript change → HasOutcome project change }
     ensures all { (project : Project) (change : Change) → (HasOutcome project change → ⊥) → ⊥ }
 {}
 
-/// No edit comes to 'out of memory': the definitions refuse an edit with numbers 1 to 6, an object with inner numbers 1
-/// to 13 and a script with 1 to 5.
+/// 'Out of memory' is no outcome: the definitions refuse an edit with numbers 1 to 6, an object with inner numbers 1 to
+/// 13 and a script with 1 to 5.
 pub fn memory_is_no_outcome()
     ensures outer { (project : Project) (change : Change) (refusal : Refusal) → After project change (Err refusal)
         → edit_refusal_number refusal ≤ 6 }

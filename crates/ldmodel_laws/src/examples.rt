@@ -17,9 +17,9 @@ ghost use Rattle.ldmodel_laws.specs.ExampleProjects.{unaligned, uses_end};
 ghost use Rattle.ldmodel_laws.specs.Examples.{any, common, defined, exactly, from_any, names, reference, section_names};
 ghost use Rattle.ldmodel_laws.specs.Examples.{undefined, word};
 
-/// Rows: one statement takes its sections together, object by object; two statements one after the other; a sort
-/// orders the sections of its statement, and those with equal keys stand as they did; EXCLUDE_FILE holds for one word;
-/// to a sort alignments 0 and 1 are the same.
+/// Rows: one statement takes its sections together, object by object; two statements one after the other; a sort orders
+/// the sections of its statement, and keeps the order of equal keys; EXCLUDE_FILE holds for one word; to a sort
+/// alignments 0 and 1 are the same.
 pub fn rows_by_example()
     ensures together { names (rows (of_two (both ∷ [])))
         ≡ (of_a (codes ".a") ∷ of_a (codes ".b") ∷ of_b (codes ".a") ∷ of_b (codes ".b") ∷ []) ∷ [] }

@@ -29,9 +29,9 @@ pub fn first_match_by_splitting()
     match_by_splitting();
 }
 
-/// With garbage collection a section is live exactly where a path of sections that are not left out leads to it from a
-/// root, each next one the target of some relocation of the one before; without it, where it is not left out. Live
-/// sections stand in the order of all.
+/// With garbage collection a section is live exactly if a path of sections that are not discarded leads to it from a
+/// root, each the target of a relocation of the one before; without it, if it is not discarded. Live sections are in
+/// the order of all input sections.
 pub fn live_by_path()
     ensures collected { (project : Project) (section : InputSection) → project.options.gc ≡ true
         → Contains (live project) section ↔ Path (is_root project) (refers_to project) (candidates project) section }
@@ -40,16 +40,16 @@ pub fn live_by_path()
         × (live project ≡ filter test (candidates project)) }
 {}
 
-/// Pieces in the order of a sort, such as those that a statement takes, are the one list that has them ascending by the
-/// key of the sort, and those with equal keys in the order that they had.
+/// Sorted pieces, as those that a statement takes, are the one list that ascends by the key of the sort and keeps the
+/// order of equal keys.
 pub fn row_by_order()
     ensures { (sort : Option Sort) (pieces sorted : List Piece)
         → IsOrdered (below sort) pieces sorted ↔ sorted ≡ sort_by (below sort) pieces }
 {}
 
-/// No input section stands in the rows twice, neither in one row nor in two: no two of all their entries are of one
-/// part of one object. The names of objects are distinct (`edits::names_stay_distinct`), and the sections of each have
-/// different numbers, as the object reader gives them.
+/// No input section is in the rows twice: no two of all their entries are the same part of the same object. The names
+/// of objects are distinct (`edits::names_stay_distinct`), and the sections of each have different numbers, as the
+/// object reader gives them.
 pub fn once_in_rows()
     ensures { (project : Project) → AreNamesDistinct project.objects → AreNumbered project
         → EachLater Differ (flat_map (λ row. row) (rows project)) }

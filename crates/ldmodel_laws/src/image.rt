@@ -18,16 +18,16 @@ ghost use Rattle.ldmodel.specs.Segments.{segments};
 ghost use Rattle.ldmodel_laws.specs.ImageBytes.{AreNamed, offset_in_file};
 ghost use Rattle.ldmodel_laws.specs.Spread.{IsSpread};
 
-/// A gap is a longest run of addresses of an output section that no input section and no data command covers: from
-/// where the gap of an address begins up to that address nothing is covered, and there the section starts, or something
-/// that is not empty ends.
+/// A gap is a maximal run of addresses of an output section that no input section and no data command covers: from the
+/// beginning of an address's gap up to that address nothing is covered, and at the beginning the section starts, or
+/// something nonempty ends.
 pub fn gap_is_longest_run()
     ensures { (output : PlacedOutput) (at : ℕ) → output.start ≤ at → IsBare output at
         → IsGapStart output at (gap_start output at) }
 {}
 
-/// The fields of an input section share no byte, where its relocations do not, as the object reader has found; and each
-/// field has a byte and ends in the section, where the relocations do.
+/// If the relocations of an input section share no byte and end in it, as the object reader has found, then so do their
+/// fields, and each field has a byte.
 pub fn fields_are_apart()
     ensures apart { (project : Project) (layout : Layout) (named : NamedObject) (section : LinkedSection) (start : ℕ)
         → object.AreApart section.relocations → patches.AreApart (fields_of project layout named section start) }
@@ -36,7 +36,7 @@ pub fn fields_are_apart()
         → All (IsWithin section.size) (fields_of project layout object section start) }
 {}
 
-/// The image has the bytes of an input section where it stands in the file, in an output section with file bytes: each
+/// The image has the bytes of an input section at its place in the file, if its output section has file bytes: each
 /// byte is that of the field that covers it, else that of the section. Output sections have different names, as the
 /// script reader has found, and nothing in them meets (`layout::nothing_meets`).
 pub fn byte_of_piece()

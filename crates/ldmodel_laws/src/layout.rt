@@ -20,10 +20,10 @@ ghost use Rattle.ldmodel_laws.specs.Placed.{IsFirstFault, IsPlacement};
 ghost use Rattle.ldmodel_laws.specs.Spread.{IsSpread, Notes, dots_in, dots_of, entries_in};
 ghost use Rattle.ldmodel_laws.specs.Traces.{Trace};
 
-/// A layout is that of a script exactly where the statements lead to it, each from where the one before it ended: the
-/// statements of the script, those of SECTIONS, those of the body of each output section, the regions of MEMORY, and
-/// the entries of each input statement, of which each starts at the least multiple of its alignment not below `.` and
-/// moves `.` to its end. A fault is the first exactly where the statements, regions or entries before one, at whatever
+/// A layout is that of a script exactly if the statements lead to it, each from the state that the one before it left:
+/// the statements of the script, those of SECTIONS, those of the body of each output section, the regions of MEMORY,
+/// and the entries of each input statement, of which each starts at the least multiple of its alignment not below `.`
+/// and moves `.` to its end. A fault is the first exactly if the statements, regions or entries before one, at any
 /// depth, lead to a state in which that one has it.
 pub fn placement_by_steps()
     ensures placed { (script : List Statement) (rows : List (List Piece)) (provided : List (List ℕ)) (layout : Layout)
@@ -32,25 +32,24 @@ pub fn placement_by_steps()
         → (placement script rows provided ≡ Err fault) ↔ IsFirstFault script rows provided fault }
 {}
 
-/// A layout comes of the regions and output sections of its script, each added once and in the order of the text;
-/// nothing else adds to them. An output section is added when its body is filled, effect by effect: `.` goes on to an
-/// address, an entry of the row or a data command takes its place, a symbol is given a value.
+/// A layout consists of the regions and output sections of its script, each added once and in the order of the text. An
+/// output section is added when its body is complete, effect by effect: `.` advances to an address, an entry of the row
+/// or a data command is placed, a symbol gets a value.
 pub fn layout_by_effects()
     ensures { (script : List Statement) (rows : List (List Piece)) (provided : List (List ℕ)) (layout : Layout)
         → placement script rows provided ≡ Ok layout
         → Trace nothing_placed (regions script) (output_sections script) layout }
 {}
 
-/// Each entry of every row is placed once and in the order of the row, whichever PROVIDEs are in force: what stands in
-/// the output sections are the rows.
+/// Each entry of every row is placed once and in the order of the row, whichever PROVIDEs are in force: the output
+/// sections contain the rows.
 pub fn placed_are_rows()
     ensures { (project : Project) (provided : List (List ℕ)) (layout : Layout)
         → placement project.script (rows project) provided ≡ Ok layout → map entries_in layout.sections ≡ rows project }
 {}
 
-/// What a layout keeps of `.` is its value before each statement of SECTIONS and of the body of an output section, one
-/// for each, in the order of the text: a statement of SECTIONS adds the value before itself and then those of its body,
-/// a statement of a body adds the value before itself, and a script has as many as it has such statements.
+/// A layout keeps the value of `.` before each statement of SECTIONS and of the body of an output section, in the order
+/// of the text: a statement of SECTIONS adds the value before itself and then those of its body.
 pub fn dots_by_statement()
     ensures counted { (script : List Statement) (rows : List (List Piece)) (provided : List (List ℕ)) (layout : Layout)
         → placement script rows provided ≡ Ok layout → length layout.dots ≡ dots_in script }
@@ -61,24 +60,24 @@ pub fn dots_by_statement()
         → body_step provided body statement ≡ Ok next → next.layout.dots ≡ body.layout.dots ++ body.layout.dot ∷ [] }
 {}
 
-/// An output section has file bytes exactly where it is loaded: one of size 0 has none.
+/// An output section has file bytes exactly if its load size is not 0.
 pub fn loaded_with_file_bytes()
     ensures { (section : OutputSection) (head : Head) (body : Body)
         → (placed_section section head body).has_file_bytes ≡ not ((placed_section section head body).load_size == 0) }
 {}
 
-/// In an output section of a placement nothing meets: its input sections and its data commands lie from its start up to
-/// its end, each past the earlier ones of its kind, and none of one kind shares an address with one of the other.
+/// In an output section of a placement nothing overlaps: its input sections and its data commands are between its start
+/// and its end, each after the earlier ones of its kind, and none of one kind shares an address with one of the other.
 pub fn nothing_meets()
     ensures { (script : List Statement) (rows : List (List Piece)) (provided : List (List ℕ)) (layout : Layout)
         → placement script rows provided ≡ Ok layout → Each IsSpread layout.sections }
 {}
 
-/// Two layouts of a script whose rows are the same before a number, and that both come to the same statement of
-/// SECTIONS before an output section of that number, differ in symbols alone, whichever PROVIDEs are in force in each:
-/// `.`, regions, output sections and their input sections are the same, and so are the values of symbols that both
-/// have. A PROVIDE gives its own symbol a value and moves nothing, no name is given a value twice, and what names a
-/// symbol that is not there has a fault.
+/// Two layouts of a script whose rows are the same before a number, and that both reach the statement of SECTIONS that
+/// is the output section of that number, differ in symbols alone, whichever PROVIDEs are in force in each: `.`,
+/// regions, output sections and their input sections are the same, and so are the values of symbols that both have.
+/// This is so since a PROVIDE gives its own symbol a value and moves nothing, no name is given a value twice, and a
+/// reference to a symbol that is not there is a fault.
 pub fn placements_alike()
     ensures { (script before : List Statement) (items : List Item) (first : ℕ) (old rows : List (List Piece))
         (earlier provided : List (List ℕ)) (layout t : Layout) → IsSound script → IsPartedAt script before items
@@ -86,8 +85,8 @@ pub fn placements_alike()
         → length t.sections ≤ first → AreAlike [] layout t }
 {}
 
-/// `placements_alike` step by step: what leads from layouts, or from bodies of output sections, that differ in symbols
-/// alone, leads to ones that do, and the names to come stay new.
+/// `placements_alike` step by step: a step from layouts, or from bodies of output sections, that differ in symbols
+/// alone leads to ones that do, and the names to come stay new.
 pub fn steps_stay_alike()
     ensures begun { (script : List Statement) → IsSound script
         → AreAlike (names_given (all_directives script)) nothing_placed nothing_placed }

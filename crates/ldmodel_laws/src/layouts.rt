@@ -12,10 +12,10 @@ ghost use Rattle.ldmodel_laws.specs.LayoutExamples.{one_body};
 ghost use Rattle.ldmodel_laws.specs.LayoutExamples.{overlaps_of, rom_and_ram, starts_of, text_data_bss, two_at};
 ghost use Rattle.ldmodel_laws.specs.LayoutExamples.{two_rows};
 
-/// Layout: regions go on with the sections in them, those of `AT>region` with load ends; a region without room is a
-/// fault; `.` counts from the start of an output section, does not go back there, and outside wraps modulo 2^64;
-/// alignments 0 and 1 are the same; output sections that share an address are a fault, and may stand in any order; a
-/// gap is filled.
+/// Layout: a region's next free address moves with the sections in it, that of `AT>region` with load ends; a region
+/// without room is a fault; `.` counts from the start of an output section, does not go back there, and outside wraps
+/// modulo 2^64; alignments 0 and 1 are the same; output sections that share an address are a fault, and may come in any
+/// order; a gap is filled.
 pub fn layout_by_example()
     ensures regions { numbers_of (placement rom_and_ram text_data_bss [])
         ≡ (0x8000 ∷ 6 ∷ 0x8000 ∷ 6 ∷ []) ∷ (0x20000 ∷ 8 ∷ 0x8008 ∷ 8 ∷ []) ∷ (0x20008 ∷ 16 ∷ 0x8010 ∷ 0 ∷ []) ∷ [] }

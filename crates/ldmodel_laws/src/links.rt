@@ -9,9 +9,9 @@ ghost use Rattle.ldmodel_laws.specs.ExampleProjects.{both_but_b, call_and_return
 ghost use Rattle.ldmodel_laws.specs.Examples.{defined};
 
 /// The empty project has an image without segments. A live section that no statement takes, and a name with two strong
-/// definitions, are faults. A call in `a.o` reaches `f` in `b.o`, which stands 8 bytes on, with a gap between: the
-/// call's field is 3, since it counts from its own end. A common block takes room in `.bss`, and the symbol table of
-/// the image has it as global data of 16 bytes in section 1.
+/// definitions, are faults. A call in `a.o` reaches `f` in `b.o`, 8 bytes further, after a gap: the call's field is 3,
+/// since it counts from its own end. A common block takes room in `.bss`, and the symbol table of the image has it as
+/// global data of 16 bytes in section 1.
 pub fn link_by_example()
     ensures empty_status { (link (empty_project default_options)).status ≡ 0 }
     ensures empty_map { (link (empty_project default_options)).map ≡ codes "entry 0000000000000000" ++ 10 ∷ [] }

@@ -7,15 +7,14 @@ ghost use Rattle.ldmodel.specs.Project.{Project};
 ghost use Rattle.ldmodel.specs.ScriptNames.{is_assigned, is_provided};
 ghost use Rattle.ldmodel_laws.specs.Renumbering.{AreTablesOf, renumbered, renumbered_decision};
 
-/// What a name stands for doesn't depend on how objects are numbered, by their places or by keys.
+/// How a name is resolved does not depend on how objects are numbered, by their places or by keys.
 pub fn decided_renumbered()
     ensures { (number : ℕ → ℕ) (is_assigned is_provided : Bool) (declarations : List Declaration)
         → decided is_assigned is_provided (map (renumbered number) declarations)
         ≡ renumbered_decision number (decided is_assigned is_provided declarations) }
 {}
 
-/// What a name stands for may as well be decided over the symbol tables of the objects under keys, in the order of the
-/// objects.
+/// A name is resolved in the same way over the symbol tables of the objects under keys, in the order of the objects.
 pub fn decision_by_keys()
     ensures { (number : ℕ → ℕ) (project : Project) (tables : List (ℕ × List NamedSymbol)) (name : List ℕ)
         → AreTablesOf number project.objects tables

@@ -7,8 +7,8 @@ ghost use Rattle.ldmodel.specs.Segments.{SectionInFile, Segment, file_offset, in
 ghost use Rattle.ldmodel_laws.specs.FileOrder.{AreInFileOrder};
 ghost use Rattle.ldmodel_laws.specs.ImageBytes.{AreNamed};
 
-/// The segments of output sections are their one file layout: two neighbours of nonzero size share a segment exactly
-/// where the test holds, and each segment begins at the least place past the file bytes before it that is congruent to
+/// The segments of output sections are their one file layout: two neighbours of nonzero size share a segment exactly if
+/// the test holds, and each segment begins at the lowest file offset past the file bytes before it that is congruent to
 /// its address modulo the page size.
 pub fn segments_by_neighbours()
     ensures is { (sections : List PlacedOutput) → IsFileLayout sections (segments sections) }
@@ -16,14 +16,14 @@ pub fn segments_by_neighbours()
         → IsFileLayout sections placed → placed ≡ segments sections }
 {}
 
-/// Output sections with file bytes do not meet in the image: they lie past the headers and up to the end of its loaded
-/// part, where the symbol table may begin, each past the earlier ones.
+/// Output sections with file bytes do not overlap in the image: they are between the headers and the end of its loaded
+/// part, each after the earlier ones.
 pub fn files_in_order()
     ensures { (sections : List PlacedOutput) → AreInFileOrder (segments sections) }
 {}
 
-/// The output sections in the file are those of nonzero size, in their order; and where names differ, each begins where
-/// the offset that its name has says.
+/// The output sections in the file are those of nonzero size, in their order; and if their names are distinct, the
+/// offset that a name has is that of its section.
 pub fn sections_in_file()
     ensures all { (sections : List PlacedOutput)
         → map (λ (x : SectionInFile). x.section) (in_file (segments sections)) ≡ nonempty sections }

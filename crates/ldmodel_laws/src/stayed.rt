@@ -31,8 +31,8 @@ pub fn untouched_bytes()
         ≡ byte_at new.project new.layout (piece.range.offset + i) }
 {}
 
-/// Retargeted sites are found: a site in an input section that stayed whose symbol has another value names a target
-/// whose number is another in the two links; so an index from targets to sites has it under such a target.
+/// Retargeted sites are found: a site in an input section that stayed whose symbol has another value has a target with
+/// different numbers in the two links; so an index from targets to sites has it under such a target.
 pub fn retargeted_by_target()
     ensures { (old new : GoodLink) → IsGood old → IsGood new
         → (site : Site) (symbol : NamedSymbol) → Contains (retargeted old new) site → site_symbol site ≡ Some symbol
@@ -40,13 +40,12 @@ pub fn retargeted_by_target()
         ≢ target_number new.project new.layout (target_of site.object symbol) }
 {}
 
-/// A link without faults is good: what `untouched_bytes` and `retargeted_by_target` ask of it holds.
+/// A link without faults is good: it has what `untouched_bytes` and `retargeted_by_target` require.
 pub fn faultless_is_good()
     ensures { (link : GoodLink) → IsFaultless link → IsGood link }
 {}
 
-/// An input section in an output section is one of the link; and those that stayed are those of the new link that the
-/// old one has too.
+/// An input section in an output section is one of the link; and those that stayed are input sections of both links.
 pub fn stayed_in_both()
     ensures linked { (link : GoodLink) (output : PlacedOutput) (placed : PlacedPiece)
         → Contains link.layout.sections output
@@ -64,8 +63,8 @@ pub fn pieces_in_image()
         → i < piece.range.length → piece.range.offset + i < image_length old.project old.layout }
 {}
 
-/// Each site of an input section has a field, which is as wide as its relocation says; and the image has the field in
-/// its place, where the relocations of the section share no byte, as the object reader has found.
+/// Each site of an input section has a field of its relocation's width; and the image has the field at its place, if
+/// the relocations of the section share no byte, as the object reader has found.
 pub fn fields_in_image()
     ensures found { (link : GoodLink) → IsGood link → (piece : LinkedPiece) → Contains (link_pieces link) piece
         → (site : Site)
@@ -83,8 +82,8 @@ pub fn fields_in_image()
         → byte_at link.project link.layout (piece.range.offset + (site.relocation.offset + i)) ≡ slice_index field i }
 {}
 
-/// A site whose symbol has the same value in both links has the same field in them. In an input section that stayed,
-/// where the old link is good, it has a field: a relocation that need not be evaluated again has no fault.
+/// A site whose symbol has the same value in both links has the same field in them. In an input section that stayed, if
+/// the old link is good, it has a field: a relocation that need not be evaluated again has no fault.
 pub fn unmoved_sites()
     ensures same { (old new : GoodLink) (site : Site) → HasSameValue old new site
         → site_field new.project new.layout site ≡ site_field old.project old.layout site }
@@ -93,9 +92,9 @@ pub fn unmoved_sites()
         → HasField new site }
 {}
 
-/// The sites in input sections that stayed are retargeted exactly where their symbols have other values, compared as
+/// The sites in input sections that stayed are retargeted exactly if their symbols have other values, compared as
 /// values and not as numbers: 0 is also the number of a symbol that nothing defines and of one whose section is not in
-/// the output. So a test that fails exactly where the values are equal keeps the retargeted sites, in their order.
+/// the output. So a filter by unequal values keeps the retargeted sites, in their order.
 pub fn moved_by_value()
     ensures one { (old new : GoodLink) → IsGood old → IsGood new → (piece : LinkedPiece) (site : Site)
         → Contains (stayed old new) piece → Contains (sites_in new.project piece) site
@@ -106,9 +105,9 @@ pub fn moved_by_value()
         → filter test (flat_map (sites_in new.project) (stayed old new)) ≡ retargeted old new }
 {}
 
-/// The sites of a link in the order of its objects and in the order of its input sections are two lists of the same
-/// sites, each as often, also of those that a test keeps. The sites by input sections are those in input sections that
-/// stayed, and the others. The layout may have faults of relocation; one without faults at all is such a layout.
+/// The sites of a link in the order of its objects and in that of its input sections are permutations of each other,
+/// also after a filter. The sites by input sections are those in input sections that stayed, and the others. The layout
+/// may have faults of relocation; one without faults at all is such a layout.
 pub fn sites_by_piece()
     ensures same { (project : Project) (layout : Layout) → IsPlacedOnce project layout
         → IsPermutation (sites project layout) (flat_map (sites_in project) (linked_pieces project layout)) }
@@ -121,8 +120,8 @@ pub fn sites_by_piece()
 {}
 
 /// Whether a site lies in an input section that stayed follows from the object and the number of its section: an input
-/// section stayed exactly where its part of its object is among those that did. So one pass over the sites in the order
-/// of the objects finds those that are retargeted, by a test of values too, and those outside of what stayed.
+/// section stayed exactly if its part of its object is among those that did. So one pass over the sites in the order of
+/// the objects finds those that are retargeted, by a test of values too, and those outside of what stayed.
 pub fn stayed_by_part()
     ensures piece { (old new : GoodLink) → IsPlacedOnce new.project new.layout → (piece : LinkedPiece)
         → Contains (link_pieces new) piece → has_part_stayed old new piece.object piece.part ≡ has_stayed old piece }

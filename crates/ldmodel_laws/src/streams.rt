@@ -8,15 +8,14 @@ pub fn lines_without_feed()
     ensures { (command : Command) → IsCommand command → HasNo 10 (line command) }
 {}
 
-/// No spelling of a command begins another: a text that begins with two commands begins with one, and what follows it
-/// is the same.
+/// No command's spelling is a prefix of another's: if a text begins with two commands, they are the same, and so is the
+/// rest.
 pub fn one_first_command()
     ensures { (command other : Command) (x y : List ℕ) → IsCommand command → IsCommand other
         → spelling command ++ x ≡ spelling other ++ y → (command ≡ other) × (x ≡ y) }
 {}
 
-/// No stream is cut into commands in two ways: where no command begins what is left, the commands are the same and so
-/// is what is left.
+/// No stream is split into commands in two ways: if no command begins the rest, the commands and the rest are unique.
 pub fn one_cutting()
     ensures { (ones others : List Command) (tail rest : List ℕ) → AreCommands ones → AreCommands others
         → (BeginsCommand tail → ⊥) → (BeginsCommand rest → ⊥)

@@ -1,4 +1,4 @@
-//! Laws of what relocations name.
+//! Laws of targets.
 
 ghost use Rattle.std.specs.Prelude.{◌≡◌, ◌≢◌};
 ghost use Rattle.elfobj.specs.Symbols.{NamedSymbol};
@@ -7,9 +7,9 @@ ghost use Rattle.ldmodel.specs.Project.{NamedObject, Project};
 ghost use Rattle.ldmodel.specs.SymbolValues.{NotInOutput, number_or_0};
 ghost use Rattle.ldmodel.specs.Targets.{referenced_value, target_number, target_of};
 
-/// While the number of a target stays the same from one link to another, so does the value of each symbol of an object
-/// that turns on it, where its section is in the output of both: so an index from targets to relocations finds each
-/// relocation whose symbol has another value.
+/// If a target has the same number in two links, each symbol that depends on it has the same value in both, if its
+/// section is in the output of both: so an index from targets to relocations finds each relocation whose symbol has
+/// another value.
 pub fn target_decides_value()
     ensures { (project r : Project) (layout t : Layout) (object : NamedObject) (symbol : NamedSymbol)
         → referenced_value project layout object symbol ≢ NotInOutput → referenced_value r t object symbol ≢ NotInOutput

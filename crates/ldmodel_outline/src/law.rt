@@ -1,4 +1,4 @@
-//! Laws of two projects of which one object differs in the bytes and the relocations of its sections alone.
+//! Laws of two projects that differ only in the bytes and relocations of one object's sections.
 
 ghost use Rattle.std.specs.Prelude.{◌≡◌, ℕ, List, Ok, Some, slice_get, []};
 ghost use Rattle.elfobj.specs.Symbols.{NamedSymbol};
@@ -16,7 +16,7 @@ ghost use Rattle.ldmodel.specs.SymbolValues.{entry_point, name_value};
 ghost use Rattle.ldmodel.specs.Targets.{referenced_value};
 ghost use Rattle.ldmodel_laws.specs.Outline.{HasSameFrame, DiffersInContents};
 
-/// Names stand for the same, and have the same faults.
+/// Names are resolved in the same way, and have the same faults.
 pub fn rewritten_names()
     ensures decided { (project q : Project) (i : ℕ) → DiffersInContents project q i → (name : List ℕ)
         → decision project name ≡ decision q name }
@@ -25,14 +25,14 @@ pub fn rewritten_names()
         ≡ name_faults q }
 {}
 
-/// The same input sections stand in the same rows, and as many are orphans.
+/// The rows are the same, and there are as many orphans.
 pub fn rewritten_rows()
     ensures rows { (project q : Project) (i : ℕ) → DiffersInContents project q i → rows project ≡ rows q }
     ensures faults { (project q : Project) (i : ℕ) → DiffersInContents project q i → gathering_faults project
         ≡ gathering_faults q }
 {}
 
-/// Symbols have the same values at a layout.
+/// Symbols have the same values over one layout.
 pub fn rewritten_values()
     ensures names { (project q : Project) (i : ℕ) → DiffersInContents project q i → (layout : Layout) (name : List ℕ)
         → name_value project layout name ≡ name_value q layout name }
@@ -66,7 +66,7 @@ pub fn rewritten_layout()
     ensures { (project q : Project) (i : ℕ) → DiffersInContents project q i → layout project ≡ layout q }
 {}
 
-/// Where the first link has no faults, and no relocation of the second project is a fault, neither has the second link.
+/// If the first link has no faults, and no relocation of the second project is a fault, the second link has none.
 pub fn rewritten_link()
     ensures { (project next : Project) (i : ℕ) → DiffersInContents project next i → (placed : Layout)
         → layout project ≡ Ok placed
