@@ -35,7 +35,7 @@ fn print_read<W: Write>(out: &mut W, name: &str, object: &Object) -> io::Result<
     Ok(())
 }
 
-/// That a file is refused, with the numbers that `ldi` says of it, and where and why.
+/// That a file is refused, with the numbers of `ldi`'s answer, and where and why.
 fn print_refused<W: Write>(
     alloc: Global,
     out: &mut W,
@@ -50,7 +50,7 @@ fn print_refused<W: Write>(
     }
 }
 
-/// Says of a file that it is read, or where and why it is refused, and gives the status to end with.
+/// Prints that a file is accepted, or where and why it is refused, and returns the exit status.
 ///
 /// # Errors
 ///

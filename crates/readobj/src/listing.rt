@@ -28,6 +28,7 @@ fn print_flags<W: Write>(out: &mut W, flags: u64) -> io::Result<()> {
     Ok(())
 }
 
+/// The line of a section.
 fn print_section<W: Write>(out: &mut W, section: &Section, name: &[u8]) -> io::Result<()> {
     let kind = names::section_kind(section.kind);
     write!(out, "section {} {kind} ", section.number.0)?;
@@ -37,6 +38,7 @@ fn print_section<W: Write>(out: &mut W, section: &Section, name: &[u8]) -> io::R
     out.write_all(b"\n")
 }
 
+/// The place of a symbol: `UND`, `ABS`, `COM` or the number of a section.
 fn print_place<W: Write>(out: &mut W, place: SymbolPlace) -> io::Result<()> {
     match place {
         SymbolPlace::Undefined => out.write_all(b"UND"),
@@ -46,6 +48,7 @@ fn print_place<W: Write>(out: &mut W, place: SymbolPlace) -> io::Result<()> {
     }
 }
 
+/// The line of a symbol.
 fn print_symbol<W: Write>(out: &mut W, i: u32, symbol: &Symbol, name: &[u8]) -> io::Result<()> {
     let binding = names::binding(symbol.binding);
     let kind = names::symbol_kind(symbol.kind);
@@ -59,6 +62,7 @@ fn print_symbol<W: Write>(out: &mut W, i: u32, symbol: &Symbol, name: &[u8]) -> 
     out.write_all(b"\n")
 }
 
+/// The line of a relocation.
 fn print_relocation<W: Write>(
     out: &mut W,
     section: u16,

@@ -7,11 +7,11 @@
 //!       PLACE (NAME): REASON
 //!         to do: ADVICE
 //!
-//! on standard output, the last where there is advice. An object that gcc made for link-time optimization alone has no
-//! code, which a line `warning: ..` says. Sections and relocations are the linked ones, symbols the entries of the
+//! on standard output, the last where there is advice. A line `warning: ..` says that an object has no code, as gcc
+//! made it for link-time optimization alone. Sections and relocations are the linked ones, symbols the entries of the
 //! symbol table from entry 0 on. N after `refused 4` is the reader's number; a file that is too long for `ldi` is
-//! `refused 6 0`. It ends with status 0 where the file is an object, with 1 where it is refused, with 2 where there are
-//! more words, with 3 where the file cannot be read or standard output cannot be written, and with 4 out of memory.
+//! `refused 6 0`. It ends with status 0 if the file is an object, with 1 if it is refused, with 2 if there are more
+//! words, with 3 if the file cannot be read or standard output cannot be written, and with 4 out of memory.
 //!
 //! Without a word it reads a stream of objects from standard input, each of which is a line `object LEN` or
 //! `object LEN TITLE` and LEN bytes right after it. For each it prints a line `object TITLE`, then one line for each
@@ -33,11 +33,11 @@
 //! `variants` in place of `object` asks what the reader says of all beginnings of the object, from the empty one to the
 //! whole one, and of the object with one byte set to 00, 7F or FF, for every byte. It prints a line `variants TITLE`,
 //! then `beginnings` and a line `  FROM..TO: ANSWER` for all lengths from FROM to TO, then for each value
-//! `each byte VALUE` and the same for the places of the byte. ANSWER is `object`, or `refused N` where the bytes are
-//! refused and came back as they were, or `lost` where others came back.
+//! `each byte VALUE` and the same for the places of the byte. ANSWER is `object`, or `refused N` if the bytes are
+//! refused and came back unchanged, or `lost` if others came back.
 //!
-//! It ends with status 0 after the last object, with status 1 where the stream goes on with no object, and with status
-//! 3 where a device failed or memory was refused.
+//! It ends with status 0 after the last object, with status 1 after bytes that begin no object, and with status 3 if a
+//! device failed or memory was refused.
 #![tactic(auto)]
 
 mod file;
@@ -65,7 +65,7 @@ const USAGE: &str = "usage: readobj [FILE], all words in UTF-8";
 
 /// All objects were read.
 const READ: u8 = 0;
-/// The stream goes on with something other than an object.
+/// The next bytes of the stream begin no object.
 const MALFORMED: u8 = 1;
 /// A device failed, or memory was refused.
 const FAILED: u8 = 3;
@@ -113,7 +113,7 @@ fn show_frame<W: Write>(alloc: Global, out: &mut W, frame: &Frame) -> io::Result
     }
 }
 
-/// The lines of all objects of a stream, and the status to end with.
+/// The lines of all objects of a stream, and the exit status.
 fn show_objects<W: Write>(alloc: Global, out: &mut W, stream: &[u8]) -> io::Result<u8> {
     let mut rest = stream;
     for _ in 0..u64::MAX {
@@ -129,7 +129,7 @@ fn show_objects<W: Write>(alloc: Global, out: &mut W, stream: &[u8]) -> io::Resu
     Ok(READ)
 }
 
-/// Reads standard input, prints, and gives the status to end with.
+/// Reads standard input, prints, and returns the exit status.
 fn show_stream(rt: &HostRuntime) -> io::Result<u8> {
     let alloc = rt.alloc();
     let mut stream = Vec::new(alloc);
@@ -140,7 +140,7 @@ fn show_stream(rt: &HostRuntime) -> io::Result<u8> {
     Ok(status)
 }
 
-/// Prints what is to be said of a file, and gives the status to end with.
+/// Prints the lines of a file, and returns the exit status.
 fn show_named(rt: &HostRuntime, file: NamedFile) -> io::Result<u8> {
     let mut out = BufWriter::new(rt.alloc(), io::writer(rt))?;
     let status = show_file(rt.alloc(), &mut out, file)?;

@@ -3,27 +3,27 @@
 
 use std::str;
 
-/// What is asked of an object.
+/// What is printed of an object.
 #[derive(Clone, Copy)]
 pub enum Kind {
     /// Its lines.
     Object,
-    /// What is said of its beginnings, and of it with a byte set to another value.
+    /// The reader's answers to its prefixes, and to it with a byte set to another value.
     Variants,
 }
 
 /// An object of the stream.
 #[derive(Clone, Copy)]
 pub struct Frame<'a> {
-    /// What is asked of it.
+    /// What is printed of it.
     pub kind: Kind,
-    /// What the line says of it, perhaps nothing.
+    /// Its title, perhaps empty.
     pub title: &'a [u8],
     /// Its bytes.
     pub bytes: &'a [u8],
 }
 
-/// The words of a line around its first space.
+/// A line, split at its first space.
 fn split_at_space(line: &[u8]) -> (&[u8], &[u8]) {
     match line.iter().position(|b| *b == b' ') {
         Some(at) => (&line[..at], &line[at + 1..]),
@@ -31,7 +31,7 @@ fn split_at_space(line: &[u8]) -> (&[u8], &[u8]) {
     }
 }
 
-/// What a word asks.
+/// What a word asks to be printed.
 fn kind_of(word: &[u8]) -> Option<Kind> {
     if word == b"object".as_slice() {
         Some(Kind::Object)
@@ -42,11 +42,12 @@ fn kind_of(word: &[u8]) -> Option<Kind> {
     }
 }
 
+/// The number that decimal digits spell.
 fn number(digits: &[u8]) -> Option<usize> {
     str::from_utf8(digits).ok()?.parse().ok()
 }
 
-/// The first object of a stream, and the rest of the stream; `None` where it begins with no object.
+/// The first object of a stream, and the rest of the stream; `None` if it begins with no object.
 pub fn split_frame(stream: &[u8]) -> Option<(Frame<'_>, &[u8])> {
     let end = stream.iter().position(|b| *b == b'\n')?;
     let (word, words) = split_at_space(&stream[..end]);

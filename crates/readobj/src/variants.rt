@@ -1,4 +1,4 @@
-//! What the reader says of all beginnings of an object, and of the object with one byte set to another value.
+//! The reader's answers to all prefixes of an object, and to the object with one byte set to another value.
 
 use elfobj::{Meter, Object, ObjectRefusal};
 use std::alloc::{AllocError, Global};
@@ -8,18 +8,18 @@ use std::io::Write;
 /// The values that a byte is set to.
 const VALUES: [u8; 3] = [0x00, 0x7f, 0xff];
 
-/// What the reader says of some bytes.
+/// The reader's answer to some bytes.
 #[derive(Clone, Copy, PartialEq, Eq)]
 enum Answer {
     /// They are an object.
     Object,
-    /// They are refused, and came back as they were.
+    /// They are refused, and came back unchanged.
     Refused(ObjectRefusal),
     /// They are refused, and others came back.
     Lost,
 }
 
-/// What the reader says of these bytes.
+/// The reader's answer to these bytes.
 fn answer_to(alloc: Global, bytes: &[u8]) -> Result<Answer, AllocError> {
     let given = Vec::from_slice(alloc, bytes)?;
     let mut meter = Meter::new();
@@ -34,7 +34,7 @@ fn answer_to(alloc: Global, bytes: &[u8]) -> Result<Answer, AllocError> {
     }
 }
 
-/// The answers to all beginnings, the shortest first.
+/// The answers to all prefixes, the shortest first.
 fn answers_to_beginnings(alloc: Global, bytes: &[u8]) -> Result<Vec<Answer>, AllocError> {
     let mut answers = Vec::new(alloc);
     for length in 0..=bytes.len() {
@@ -43,7 +43,7 @@ fn answers_to_beginnings(alloc: Global, bytes: &[u8]) -> Result<Vec<Answer>, All
     Ok(answers)
 }
 
-/// The answers where one byte is set to a value, the first byte first.
+/// The answers with one byte set to a value, the first byte first.
 fn answers_to_changes(alloc: Global, bytes: &[u8], value: u8) -> Result<Vec<Answer>, AllocError> {
     let mut answers = Vec::new(alloc);
     for at in 0..bytes.len() {
@@ -54,7 +54,7 @@ fn answers_to_changes(alloc: Global, bytes: &[u8], value: u8) -> Result<Vec<Answ
     Ok(answers)
 }
 
-/// Prints the answers by their numbers from 0 on, in one line those that are the same one after another.
+/// Prints the answers by their numbers from 0 on, equal ones one after another in one line.
 fn print_runs<W: Write>(out: &mut W, answers: &[Answer]) -> io::Result<()> {
     let mut from = 0;
     for (at, answer) in answers.iter().enumerate() {
@@ -73,7 +73,7 @@ fn print_runs<W: Write>(out: &mut W, answers: &[Answer]) -> io::Result<()> {
     Ok(())
 }
 
-/// Prints what the reader says of all beginnings of an object, and of it with a byte set to each of the values.
+/// Prints the reader's answers to all prefixes of an object, and to it with a byte set to each of the values.
 pub fn print_variants<W: Write>(alloc: Global, out: &mut W, bytes: &[u8]) -> io::Result<()> {
     writeln!(out, "beginnings")?;
     print_runs(out, &answers_to_beginnings(alloc, bytes)?)?;

@@ -1,5 +1,5 @@
-//! Why the object reader refuses a file, for people: the reader's own answer is a number alone. The file is looked at
-//! anew, and nothing but the safety of that is proved.
+//! Why the object reader refuses a file, for people: the reader's own answer is only a number. The file is examined
+//! anew, and only the safety of that is proved.
 
 mod advice;
 pub mod explain;

@@ -1,4 +1,4 @@
-//! Answers to commands: as a session spells them, and as they are printed here.
+//! Answers to commands, as a session writes them and as they are printed here.
 
 use crate::printing::{AS_LINES, print_bytes};
 use relink::{EditRefusal, Linked};
@@ -15,7 +15,7 @@ pub enum Answer<'a> {
     Image(&'a [u8]),
     /// The map, or the fault lines.
     Text(&'a [u8]),
-    /// No command begins the bytes.
+    /// The bytes begin no command.
     Malformed,
 }
 

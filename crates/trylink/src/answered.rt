@@ -1,11 +1,11 @@
-//! What a whole stream is answered, and whether the ways agree.
+//! The answers to a whole stream, and whether the ways agree.
 
 use crate::printing::{IN_LINE, print_bytes};
 use std::alloc::AllocError;
 
 /// The status after bytes that no command begins.
 pub const MALFORMED: u8 = 2;
-/// How many bytes are shown from the first one that differs.
+/// The number of bytes that are shown from the first difference on.
 const SHOWN: usize = 64;
 
 /// The answers to a stream, and the status of the run.
@@ -17,12 +17,12 @@ pub struct Answered {
     pub status: u8,
 }
 
-/// How many bytes two lists begin with alike.
+/// The length of the common prefix of two lists.
 fn common_length(a: &[u8], b: &[u8]) -> usize {
     a.iter().zip(b).take_while(|(x, y)| x == y).count()
 }
 
-/// Prints the bytes from a place on, and the status.
+/// Prints the bytes from an index on, and the status.
 fn print_from(label: &str, run: &Answered, at: usize, out: &mut String) -> Result<(), AllocError> {
     let (status, count) = (run.status, run.answers.len());
     write!(out, "  {label}: status {status}, {count} bytes\n    ")?;

@@ -51,7 +51,7 @@ impl Calls {
         }
     }
 
-    /// What a query asks of the link.
+    /// The answer of the link to a query.
     fn asked(&self, query: Query) -> Answer<'_> {
         match query {
             Query::Image => Answer::Image(self.output.image()),
@@ -68,7 +68,7 @@ impl Calls {
         }
     }
 
-    /// The answers to a stream, each printed as it comes, after its command.
+    /// The answers to a stream, each printed at once, after its command.
     fn answer_all(&mut self, stream: &[u8], out: &mut String) -> Result<Answered, AllocError> {
         let alloc = self.alloc;
         let mut answers = Vec::new(alloc);
@@ -96,7 +96,7 @@ impl Calls {
     }
 }
 
-/// The answers to a stream by calls, each printed as it comes, after its command.
+/// The answers to a stream by calls, each printed at once, after its command.
 pub fn answer_by_calls(task: Task<'_>, out: &mut String) -> Result<Answered, AllocError> {
     let mut calls = Calls::new(task.alloc, task.seed, task.own_options()?)?;
     calls.answer_all(task.bytes, out)

@@ -1,4 +1,4 @@
-//! The commands of a stream, cut from its bytes.
+//! The commands of a stream.
 
 use crate::printing::split_line;
 use ldi_stream::head::{Aim, CommandHead, EditHead, Query, read_head};
@@ -8,13 +8,13 @@ use std::alloc::{AllocError, Global};
 /// A command.
 #[derive(Drop)]
 pub enum Command<'a> {
-    /// An edit is to be made.
+    /// An edit.
     Make(Edit<'a>),
-    /// Something is asked of the link.
+    /// A query.
     Ask(Query),
 }
 
-/// The edit that a payload is meant for.
+/// The edit that a payload is for.
 fn edit_of<'a>(alloc: Global, aim: Aim<'a>, payload: &'a [u8]) -> Result<Edit<'a>, AllocError> {
     match aim {
         Aim::Add { name, at } => {
@@ -29,7 +29,7 @@ fn edit_of<'a>(alloc: Global, aim: Aim<'a>, payload: &'a [u8]) -> Result<Edit<'a
     }
 }
 
-/// The first command of these bytes, and the bytes after it; `None` where no command begins them.
+/// The first command of these bytes, and the bytes after it; `None` if they begin no command.
 pub fn split_command(
     alloc: Global,
     stream: &[u8],

@@ -18,7 +18,7 @@ pub fn print_meter(meter: &Meter, out: &mut String) -> Result<(), AllocError> {
     )
 }
 
-/// Makes an edit, and prints its answer, and what it counts if it is accepted.
+/// Makes an edit, and prints its answer and, if it is accepted, its counts.
 fn print_edit<L: Linker>(
     alloc: Global,
     linker: &mut L,

@@ -4,7 +4,7 @@ use std::alloc::Global;
 use std::io;
 use std::io::{ErrorKind, Read, Write};
 
-/// How many calls were made, and the number of the one that fails, counted from 1; 0 for none.
+/// The number of calls that were made, and the number of the one that fails, from 1; 0 for none.
 #[derive(Drop)]
 struct Calls {
     made: u64,
@@ -12,7 +12,7 @@ struct Calls {
 }
 
 impl Calls {
-    /// None was made, and the one with this number is to fail.
+    /// No call was made, and the one with this number will fail.
     fn failing_at(number: u64) -> Calls {
         Calls {
             made: 0,
@@ -20,7 +20,7 @@ impl Calls {
         }
     }
 
-    /// Makes a call, and says whether it goes well.
+    /// Makes a call, and returns whether it succeeds.
     fn make(&mut self) -> bool {
         self.made = self.made.saturating_add(1);
         self.made != self.fails_at
@@ -36,7 +36,7 @@ pub struct ShortReader<'a> {
 }
 
 impl<'a> ShortReader<'a> {
-    /// Gives at most `longest` bytes a call. The read with the last number is to fail, counted from 1; 0 for none.
+    /// Gives at most `longest` bytes a call. The read with the last number will fail, from 1; 0 for none.
     pub fn new(bytes: &'a [u8], longest: usize, failing_read: u64) -> ShortReader<'a> {
         ShortReader {
             rest: bytes,
@@ -70,8 +70,8 @@ pub struct ShortWriter {
 }
 
 impl ShortWriter {
-    /// Takes at most `longest` bytes a call. The write and the flush with the last two numbers are to fail, counted
-    /// from 1; 0 for none.
+    /// Takes at most `longest` bytes a call. The write and the flush with the last two numbers will fail, from 1; 0 for
+    /// none.
     pub fn new(
         alloc: Global,
         longest: usize,

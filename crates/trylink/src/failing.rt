@@ -1,5 +1,4 @@
-//! What a session answers through a reader and a writer that take a few bytes a call, and where one of their calls
-//! fails.
+//! A session's answers through a reader and a writer that take a few bytes a call, and if one of their calls fails.
 
 use crate::answer::checksum;
 use crate::devices::{ShortReader, ShortWriter};
@@ -16,7 +15,7 @@ enum Call {
     Flush,
 }
 
-/// How many bytes a read gives and a write takes at most.
+/// The greatest number of bytes that a read gives and a write takes.
 #[derive(Clone, Copy)]
 pub struct Longest {
     /// Of a read.
@@ -33,7 +32,7 @@ fn fault_of(call: Call) -> RunFault {
     }
 }
 
-/// Whether a run with this call failing reports it and has written a beginning of all answers, or is whole.
+/// Whether a run in which this call fails reports it and has written a prefix of all answers, or is complete.
 fn is_right(call: Call, ended: &Ended, whole: &Ended) -> bool {
     if ended.outcome.is_ok() {
         ended.outcome == whole.outcome && ended.written.as_slice() == whole.written.as_slice()
@@ -42,7 +41,7 @@ fn is_right(call: Call, ended: &Ended, whole: &Ended) -> bool {
     }
 }
 
-/// Answers the stream by a new session, where the call with this number fails, counted from 1; none for 0.
+/// Answers the stream by a new session, in which the call with this number fails, from 1; none for 0.
 fn answer(task: Task<'_>, longest: Longest, call: Call, number: u64) -> Result<Ended, AllocError> {
     let (read, write, flush) = match call {
         Call::Read => (number, 0, 0),
@@ -88,7 +87,7 @@ fn print_failing(
     )
 }
 
-/// Prints what a session answers to the stream, and what comes of it where each call of a device fails.
+/// Prints a session's answers to the stream, and what happens if each call of a device fails in turn.
 pub fn print_devices(task: Task<'_>, longest: Longest, out: &mut String) -> Result<(), AllocError> {
     let whole = answer(task, longest, Call::Read, 0)?;
     let (count, sum) = (whole.written.len(), checksum(&whole.written));

@@ -9,8 +9,8 @@ use relink::driver::from_files::link;
 use std::alloc::{AllocError, Global};
 use std::str;
 
-/// The first file of these bytes, its word and what it holds, and the bytes after it; `None` where they begin with
-/// none. A file is a line of its word, which may have spaces, a space and its length, and then as many bytes.
+/// The first file of these bytes, with its word and contents, and the bytes after it; `None` if they begin with none. A
+/// file is a line of its word, which may have spaces, a space and its length, and then the contents.
 pub fn split_file(bytes: &[u8]) -> Option<(&str, &[u8], &[u8])> {
     let (line, rest) = split_line(bytes)?;
     let (word, length) = str::from_utf8(line).ok()?.rsplit_once(' ')?;
@@ -23,7 +23,7 @@ pub fn split_file(bytes: &[u8]) -> Option<(&str, &[u8], &[u8])> {
 struct Objects {
     /// Their words.
     words: Vec<String>,
-    /// What they hold.
+    /// Their contents.
     files: Vec<ObjectFile>,
 }
 

@@ -36,9 +36,9 @@ pub struct Frame<'a> {
     pub title: (&'a str, &'a str),
     /// The words after `ldi session`, one space between each two; `None` where there is none.
     pub words: Option<&'a str>,
-    /// The bytes, but for what `repeats` adds.
+    /// The bytes, without those that `repeats` adds.
     stored: &'a [u8],
-    /// How often the last byte stands once more.
+    /// How often the last byte is repeated.
     repeats: usize,
 }
 
@@ -63,7 +63,7 @@ fn kind_of(word: &str) -> Option<Kind> {
     None
 }
 
-/// The number of bytes, and how often the last of them stands once more.
+/// The number of bytes, and how often the last of them is repeated.
 fn read_length(word: &str) -> Option<(usize, usize)> {
     match word.split_once('+') {
         Some((length, repeats)) => Some((length.parse().ok()?, repeats.parse().ok()?)),

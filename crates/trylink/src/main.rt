@@ -7,18 +7,17 @@
 //!     stream NAME LEN WORDS..
 //!
 //! and a line feed, and then the LEN bytes of a stream. The WORDS, one space between each two, are those after
-//! `ldi session`. `LEN+COUNT` in place of `LEN` says that the last byte of the stream stands COUNT times more.
+//! `ldi session`. `LEN+COUNT` in place of `LEN` says that the last byte of the stream is repeated COUNT times.
 //!
 //! `list` in place of `stream` asks for a checksum in place of the answers, `counts` for what each edit counts in a
-//! session, `devices` for what comes where a reader or a writer fails, and `steps` for the same of readers and writers
+//! session, `devices` for what happens if a reader or a writer fails, and `steps` for the same of readers and writers
 //! that take one byte, seven, and all bytes a call. The bytes of a frame of `files` and of `surface` are files, the
 //! script first: a line of a file's word and its length, and then what it holds. `files` asks what `ldi link` makes of
 //! them, and `surface` what the public calls of single crates do (`surface`).
 //!
 //! For each frame it prints `stream NAME WORDS..`, and then each command (`printing::print_command`) and under it its
-//! answer. That of a map or of fault lines has the text; that of an image goes on with a checksum
-//! (`answer::checksum`). Then it prints `status S`, and `same` where all ways give one status and the same bytes, or
-//! else where they differ.
+//! answer. That of a map or of fault lines has the text; that of an image goes on with a checksum (`answer::checksum`).
+//! Then it prints `status S`, and `same` where all ways give one status and the same bytes, or else where they differ.
 //!
 //! For a frame of `counts` it prints each edit, its answer, and how many objects it read, names it decided, input
 //! sections it placed, relocations it evaluated and bytes of the image it wrote.
@@ -30,8 +29,8 @@
 //! device's or had written what is no beginning of the answers, and how many bytes all of them had written. A frame of
 //! `steps` has these lines three times.
 //!
-//! For a frame of `files` it prints the word and the length of each file, `status S`, what stands on standard error,
-//! and after a link the image and the map as a stream answers them.
+//! For a frame of `files` it prints the word and the length of each file, `status S`, the text on standard error, and
+//! after a link the image and the map as a stream answers them.
 #![tactic(auto)]
 
 mod answer;
@@ -71,7 +70,7 @@ const CUT: u8 = 1;
 /// A device failed, or memory was refused.
 const FAILED: u8 = 3;
 
-/// What the devices of a frame of `devices` take.
+/// The number of bytes that the devices of a frame of `devices` take.
 const DEVICES: Longest = Longest {
     read: 1,
     write: 100,
@@ -91,7 +90,7 @@ fn compare(task: Task<'_>, shows: bool, out: &mut String) -> Result<(), AllocErr
     print_agreement(&by_session, &by_plain, &by_calls, out)
 }
 
-/// Prints what comes where a reader and a writer take one byte a call, seven, and all.
+/// Prints what happens with a reader and a writer that take one byte a call, seven, and all.
 fn print_steps(task: Task<'_>, out: &mut String) -> Result<(), AllocError> {
     for (step, name) in [
         (1, "one byte"),

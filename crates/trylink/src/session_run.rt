@@ -42,7 +42,7 @@ impl Ended {
     }
 }
 
-/// What a linker answers to the stream of a reader.
+/// The answers of a linker to the stream of a reader.
 fn answer_by<L: Linker>(
     alloc: Global,
     linker: &mut L,
@@ -56,7 +56,7 @@ fn answer_by<L: Linker>(
     Ok(Ended { outcome, written })
 }
 
-/// What a new session answers to the stream of a reader.
+/// The answers of a new session to the stream of a reader.
 pub fn run_session(
     task: Task<'_>,
     reader: ShortReader<'_>,

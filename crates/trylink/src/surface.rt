@@ -19,13 +19,13 @@ use place::{Placement, place};
 use std::alloc::{AllocError, Global};
 use symres::Names;
 
-/// What the object is called.
+/// The name of the object.
 const FILE: &[u8] = b"a.o";
 /// The name of a section.
 const SECTION: &[u8] = b".text";
 /// The first section of an object.
 const FIRST: LinkedIndex = LinkedIndex(0);
-/// The name that is decided.
+/// The name that is resolved.
 const NAME: &[u8] = b"f";
 /// The value of the symbol where a field is evaluated, and the place of the field.
 const VALUE: u64 = 0x40_1010;
@@ -65,7 +65,7 @@ fn print_matches(alloc: Global, script: &Script, out: &mut String) -> Result<(),
     }
 }
 
-/// What a name stands for while the object is entered, and when it is withdrawn.
+/// How a name is resolved while the object is entered, and after it is withdrawn.
 fn print_decisions(
     names: &mut Names,
     script: &Script,
@@ -119,7 +119,7 @@ fn row_of(alloc: Global, object: &Object) -> Result<Vec<Piece>, AllocError> {
     Ok(row)
 }
 
-/// What a `Placement` says, and the segments and headers of its output sections.
+/// A `Placement`, and the segments and headers of its output sections.
 fn print_placement(
     alloc: Global,
     placement: &Placement,

@@ -1,4 +1,4 @@
-//! What each way of answering is given.
+//! The input of each way of answering.
 
 use relink::Options;
 use std::alloc::{AllocError, Global};
@@ -9,7 +9,7 @@ use std::hash::RandomState;
 pub struct Task<'a> {
     /// The memory.
     pub alloc: Global,
-    /// What hash tables are seeded with.
+    /// The seed of hash tables.
     pub seed: RandomState,
     /// The options.
     pub options: &'a Options,

@@ -1,5 +1,5 @@
-//! Why bytes are refused, for people: where in the file, and what is wrong there. It looks at the file anew, and
-//! nothing but its safety is proved.
+//! Why bytes are refused, for people: where in the file, and what is wrong there. The file is examined anew, and only
+//! the safety of that is proved.
 
 use crate::why::look::{entry, header, header_count, is_name_at, symbol, symbol_table};
 use crate::why::told::{Told, tell};
@@ -43,6 +43,7 @@ pub struct Explanation {
 
 // The ELF header
 
+/// Why the file is not a relocatable object for x86-64.
 fn machine_reason(bytes: &[u8]) -> &'static str {
     if bytes.len() < usize::from(EHDR_SIZE) {
         "it is short"
@@ -61,6 +62,7 @@ fn machine_reason(bytes: &[u8]) -> &'static str {
     }
 }
 
+/// What is wrong with the place of the section headers.
 fn section_table_reason(bytes: &[u8]) -> &'static str {
     if bytes.len() >= usize::from(EHDR_SIZE) && read_u16(bytes, 58) != SHDR_SIZE {
         "its section headers are not of 64 bytes"
@@ -69,6 +71,7 @@ fn section_table_reason(bytes: &[u8]) -> &'static str {
     }
 }
 
+/// What is wrong with the number of section headers.
 fn section_count_reason(bytes: &[u8]) -> &'static str {
     match header_count(bytes) {
         0 => "it has no section headers",
@@ -79,6 +82,7 @@ fn section_count_reason(bytes: &[u8]) -> &'static str {
 
 // Section headers
 
+/// Why a section is out of bounds.
 fn bounds_reason(header: &SectionHeader, len: u64) -> Option<&'static str> {
     let end = header.sh_offset.saturating_add(header.sh_size);
     if header.sh_type == SHT_NULL {
@@ -94,6 +98,7 @@ fn bounds_reason(header: &SectionHeader, len: u64) -> Option<&'static str> {
     }
 }
 
+/// The first section that is out of bounds.
 fn bounds(bytes: &[u8]) -> Option<Explanation> {
     if bytes.len() >= usize::from(EHDR_SIZE) {
         let names = name_table_number(bytes);
@@ -116,6 +121,7 @@ fn bounds(bytes: &[u8]) -> Option<Explanation> {
     None
 }
 
+/// Why an allocated section is outside the profile.
 fn profile_reason(
     bytes: &[u8],
     header: &SectionHeader,
@@ -134,6 +140,7 @@ fn profile_reason(
     }
 }
 
+/// The first allocated section that is outside the profile.
 fn profile(bytes: &[u8]) -> Option<Explanation> {
     if bytes.len() < usize::from(EHDR_SIZE) {
         return None;
@@ -152,6 +159,7 @@ fn profile(bytes: &[u8]) -> Option<Explanation> {
 
 // The symbol table
 
+/// What is wrong with the header of the symbol table.
 fn symbol_table_reason(bytes: &[u8], table: &SectionHeader) -> Option<&'static str> {
     let count = table.sh_size / SYM_SIZE as u64;
     let strings = u16::try_from(table.sh_link).unwrap_or(0);
@@ -172,7 +180,7 @@ fn symbol_table_reason(bytes: &[u8], table: &SectionHeader) -> Option<&'static s
     }
 }
 
-/// The first entry past the null entry that stands on the wrong side of `sh_info`.
+/// The first entry past the null entry that is on the wrong side of `sh_info`.
 fn misplaced(bytes: &[u8], table: &SectionHeader) -> Option<Explanation> {
     for number in 1..table.sh_size / SYM_SIZE as u64 {
         let is_first = number < u64::from(table.sh_info);
@@ -193,6 +201,7 @@ fn misplaced(bytes: &[u8], table: &SectionHeader) -> Option<Explanation> {
     None
 }
 
+/// What is wrong with the symbol table, apart from single symbols.
 fn symbols(bytes: &[u8]) -> Option<Explanation> {
     let first = symbol_table(bytes)?;
     for number in first..header_count(bytes) {
@@ -213,6 +222,7 @@ fn symbols(bytes: &[u8]) -> Option<Explanation> {
     }
 }
 
+/// What is wrong with a common block.
 fn common_reason(entry: &SymbolEntry) -> Option<&'static str> {
     if entry.st_shndx != SHN_COMMON {
         None
@@ -227,6 +237,7 @@ fn common_reason(entry: &SymbolEntry) -> Option<&'static str> {
     }
 }
 
+/// Why a symbol is outside the profile.
 fn symbol_reason(
     bytes: &[u8],
     entry: &SymbolEntry,
@@ -252,6 +263,7 @@ fn symbol_reason(
     }
 }
 
+/// The first symbol that is outside the profile.
 fn symbol_entries(bytes: &[u8]) -> Option<Explanation> {
     let table = header(bytes, symbol_table(bytes)?);
     let strings = header(bytes, u16::try_from(table.sh_link).unwrap_or(0));
@@ -269,7 +281,7 @@ fn symbol_entries(bytes: &[u8]) -> Option<Explanation> {
 
 // Relocation sections
 
-/// The section that a relocation section changes, if it is linked.
+/// The section of a relocation section, if it is linked.
 fn changed(bytes: &[u8], table: &SectionHeader) -> Option<Section> {
     let number = u16::try_from(table.sh_info).unwrap_or(0);
     let header = header(bytes, number);
@@ -283,6 +295,7 @@ fn changed(bytes: &[u8], table: &SectionHeader) -> Option<Section> {
     })
 }
 
+/// Whether an earlier relocation section is for the same section.
 fn is_second(bytes: &[u8], number: u16, table: &SectionHeader) -> bool {
     (0..number).any(|k| {
         let other = header(bytes, k);
@@ -290,6 +303,7 @@ fn is_second(bytes: &[u8], number: u16, table: &SectionHeader) -> bool {
     })
 }
 
+/// What is wrong with the header of a relocation section.
 fn relocation_section_reason(
     bytes: &[u8],
     number: u16,
@@ -314,6 +328,7 @@ fn relocation_section_reason(
     }
 }
 
+/// The first relocation section whose header is outside the profile.
 fn relocation_sections(bytes: &[u8]) -> Option<Explanation> {
     for number in 0..header_count(bytes) {
         let table = header(bytes, number);
@@ -329,6 +344,7 @@ fn relocation_sections(bytes: &[u8]) -> Option<Explanation> {
     None
 }
 
+/// Why an entry of a relocation section has this refusal.
 fn entry_reason(
     refusal: ObjectRefusal,
     entry: &RelocationEntry,
@@ -350,7 +366,7 @@ fn entry_reason(
     }
 }
 
-/// The first entry of a linked section that gives this refusal.
+/// The first entry of a linked section's relocations that gives this refusal.
 fn entries(bytes: &[u8], refusal: ObjectRefusal) -> Option<Explanation> {
     let symbols = header(bytes, symbol_table(bytes)?).sh_size as usize / SYM_SIZE;
     for number in 0..header_count(bytes) {
@@ -402,6 +418,7 @@ fn is_shared(alloc: Global, bytes: &[u8], table: &SectionHeader) -> Result<bool,
     Ok(do_neighbours_meet(&sorted))
 }
 
+/// The first relocation section of which two entries share a byte.
 fn overlap(alloc: Global, bytes: &[u8]) -> Result<Option<Explanation>, AllocError> {
     for number in 0..header_count(bytes) {
         let table = header(bytes, number);
@@ -418,7 +435,7 @@ fn overlap(alloc: Global, bytes: &[u8]) -> Result<Option<Explanation>, AllocErro
     Ok(None)
 }
 
-/// Where and why these bytes are refused so.
+/// Where and why these bytes have this refusal.
 fn find_explanation(
     alloc: Global,
     bytes: &[u8],
@@ -450,7 +467,7 @@ fn find_explanation(
     }))
 }
 
-/// Where and why `Object::read` refused these bytes with this refusal, and what to do, for people; none where it did
+/// Where and why `Object::read` refused these bytes with this refusal, and what to do, for people; `None` if it did
 /// not.
 pub fn explain(
     alloc: Global,

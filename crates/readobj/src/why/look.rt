@@ -1,4 +1,4 @@
-//! Looks into a file that may be no object.
+//! Reads parts of a file that may be no object.
 
 ghost use Rattle.std.specs.Prelude.{◌≡◌, IfSome, length};
 
@@ -39,7 +39,7 @@ pub fn header(bytes: &[u8], number: u16) -> SectionHeader {
     }
 }
 
-/// How many section headers there are.
+/// The number of section headers.
 pub fn header_count(bytes: &[u8]) -> u16 {
     if bytes.len() < usize::from(EHDR_SIZE) {
         return 0;
@@ -113,7 +113,7 @@ pub fn symbol_of(bytes: &[u8], number: u64) -> Option<SymbolEntry> {
     symbol(bytes, &table, number)
 }
 
-/// The name of a symbol, if it may be shown; that of its section, where it stands for that.
+/// The name of a symbol, if it may be shown; for a symbol of a section, that of the section.
 pub fn symbol_name(bytes: &[u8], number: u64) -> Option<&str> {
     let table = header(bytes, symbol_table(bytes)?);
     let entry = symbol_of(bytes, number)?;

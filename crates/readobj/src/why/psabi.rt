@@ -67,9 +67,9 @@ pub const FLAGS: [(u64, &str); 9] = [
 
 /// The type of symbols of thread-local variables.
 pub const STT_TLS: u8 = 6;
-/// The type of symbols of functions that choose a function when a program starts.
+/// The type of symbols of indirect functions (IFUNC).
 pub const STT_GNU_IFUNC: u8 = 10;
-/// The binding of symbols that are one in a whole process.
+/// The binding of symbols that are unique in a process.
 pub const STB_GNU_UNIQUE: u8 = 10;
 
 /// The name of a relocation type, without `R_X86_64_`.

@@ -1,4 +1,4 @@
-//! What is said of a refused object: the place with its name, the reason with numbers and names, and what to do.
+//! The message on a refused object: the place with its name, the reason with numbers and names, and what to do.
 
 use crate::why::advice::advice;
 use crate::why::explain::{Explanation, Place};
@@ -9,10 +9,10 @@ use elfobj::file::constants::{PROFILE_FLAGS, STB_WEAK, STT_COMMON};
 use elfobj::section::SectionKind;
 use std::fmt;
 
-/// What stands at the place of a refusal.
+/// Details of the place of a refusal.
 #[derive(Clone, Copy)]
 enum Detail {
-    /// Nothing more is said.
+    /// None.
     Nothing,
     /// A section of this type.
     SectionType(u32),
@@ -134,7 +134,7 @@ fn place_name(bytes: &[u8], place: Place) -> Option<&str> {
     }
 }
 
-/// What is to be said of a section outside of the profile.
+/// The details of a section outside of the profile.
 fn section_detail(bytes: &[u8], number: u16) -> Detail {
     let header = header(bytes, number);
     if SectionKind::of_type(header.sh_type).is_none() {
@@ -146,7 +146,7 @@ fn section_detail(bytes: &[u8], number: u16) -> Detail {
     }
 }
 
-/// What is to be said of a symbol outside of the profile.
+/// The details of a symbol outside of the profile.
 fn symbol_detail(bytes: &[u8], number: u64) -> Detail {
     match symbol_of(bytes, number) {
         Some(entry) if entry.bind() > STB_WEAK => Detail::Binding(entry.bind()),
@@ -155,7 +155,7 @@ fn symbol_detail(bytes: &[u8], number: u64) -> Detail {
     }
 }
 
-/// What is to be said of an entry of a relocation section.
+/// The details of an entry of a relocation section.
 fn entry_detail(bytes: &[u8], table: u16, number: u64) -> Detail {
     match entry(bytes, &header(bytes, table), number) {
         Some(entry) => {
@@ -166,7 +166,7 @@ fn entry_detail(bytes: &[u8], table: u16, number: u64) -> Detail {
     }
 }
 
-/// The name of the symbol that a relocation is against, where the place is one.
+/// The name of the symbol of a relocation, if the place is one.
 fn target_name(bytes: &[u8], place: Place) -> Option<&str> {
     match place {
         Place::Entry(table, number) => {
@@ -177,7 +177,7 @@ fn target_name(bytes: &[u8], place: Place) -> Option<&str> {
     }
 }
 
-/// What is said of a place for a refusal.
+/// The details of a place for a refusal.
 fn detail_of(bytes: &[u8], refusal: ObjectRefusal, place: Place) -> Detail {
     match place {
         Place::Header => Detail::Nothing,
@@ -190,7 +190,7 @@ fn detail_of(bytes: &[u8], refusal: ObjectRefusal, place: Place) -> Detail {
     }
 }
 
-/// What is said of bytes that are refused so, for this reason.
+/// The message on bytes that are refused for this reason.
 pub fn tell(bytes: &[u8], refusal: ObjectRefusal, explanation: Explanation) -> Told<'_> {
     let place = explanation.place;
     let name = place_name(bytes, place);
