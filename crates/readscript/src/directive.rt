@@ -1,10 +1,11 @@
-//! Statements that stand in several places: assignments, `PROVIDE`, `ASSERT`.
+//! Directives: assignments, `PROVIDE`, `ASSERT`.
 
 use crate::text::push_bytes;
 use ldscript::tree::{Assignment, Directive, DotCommand};
 use std::alloc::AllocError;
 use std::fmt::Write;
 
+/// Adds `NAME = e`.
 fn push_assignment(out: &mut String, assignment: &Assignment) -> Result<(), AllocError> {
     push_bytes(out, assignment.name.as_bytes())?;
     write!(out, " = {}", assignment.value)

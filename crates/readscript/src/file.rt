@@ -12,7 +12,7 @@ const READ: u8 = 0;
 /// The file is refused.
 const REFUSED: u8 = 1;
 
-/// That a file is a script, and what of it has another meaning to GNU ld.
+/// That a file is a script, and its statements that have another meaning to GNU ld.
 fn print_read<W: Write>(
     alloc: Global,
     out: &mut W,
@@ -26,7 +26,7 @@ fn print_read<W: Write>(
     out.write_all(lines.as_bytes())
 }
 
-/// That a file is refused, with the numbers that `ldi` says of it, and where and why.
+/// That a file is refused, with the numbers of `ldi`'s answer, and where and why.
 fn print_refused<W: Write>(
     alloc: Global,
     out: &mut W,
@@ -39,7 +39,7 @@ fn print_refused<W: Write>(
     out.write_all(lines.as_bytes())
 }
 
-/// Says of a file that it is read, or where and why it is refused, and gives the status to end with.
+/// Prints that a file is accepted, or where and why it is refused, and returns the exit status.
 ///
 /// # Errors
 ///

@@ -1,10 +1,10 @@
-//! Frames of the input: a line that says what follows and how many bytes, and then those bytes.
+//! Frames of the input: a line with a word and lengths, and then the bytes of these lengths.
 
-/// What is asked.
+/// What a frame asks for.
 pub enum Frame<'a> {
     /// The tree of a script.
     Script(&'a [u8]),
-    /// All that is said of a text, for people.
+    /// All messages on a text, for people.
     Places(&'a [u8]),
     /// The numbers of a script's statements.
     Numbers(&'a [u8]),
@@ -14,7 +14,7 @@ pub enum Frame<'a> {
     Match(&'a [u8], &'a [u8]),
 }
 
-/// What the input begins with.
+/// The front of the input.
 pub enum Next<'a> {
     /// Nothing is left but white space.
     Finished,
@@ -29,7 +29,7 @@ fn length_of(digits: &[u8]) -> Option<usize> {
     std::str::from_utf8(digits).ok()?.parse::<usize>().ok()
 }
 
-/// The bytes before the first one like this, and those after it.
+/// The bytes before the first one that equals this, and those after it.
 fn split_at_byte(bytes: &[u8], wanted: u8) -> Option<(&[u8], &[u8])> {
     let at = bytes.iter().position(|b| *b == wanted)?;
     let (before, rest) = bytes.split_at_checked(at)?;
@@ -37,12 +37,12 @@ fn split_at_byte(bytes: &[u8], wanted: u8) -> Option<(&[u8], &[u8])> {
     Some((before, after))
 }
 
-/// A text of this length, in decimal, at the front of the bytes, and what follows it.
+/// A text of this length, in decimal, at the front of the bytes, and the rest.
 fn counted<'a>(digits: &[u8], bytes: &'a [u8]) -> Option<(&'a [u8], &'a [u8])> {
     bytes.split_at_checked(length_of(digits)?)
 }
 
-/// The frame that begins with this line, and what follows it.
+/// The frame that begins with this line, and the rest.
 fn frame_of<'a>(line: &[u8], bytes: &'a [u8]) -> Option<(Frame<'a>, &'a [u8])> {
     let (word, lengths) = split_at_byte(line, b' ')?;
     if word == b"script".as_slice() {
@@ -70,7 +70,7 @@ fn frame_of<'a>(line: &[u8], bytes: &'a [u8]) -> Option<(Frame<'a>, &'a [u8])> {
     None
 }
 
-/// What the input begins with.
+/// The front of the input.
 pub fn next_frame(input: &[u8]) -> Next<'_> {
     let rest = input.trim_ascii_start();
     if rest.is_empty() {

@@ -4,7 +4,7 @@ use crate::pattern::{push_pattern, push_patterns};
 use ldscript::tree::{Input, SectionWord, Sort};
 use std::alloc::AllocError;
 
-/// A word, with the files that it leaves out.
+/// A word, with the files that it excludes.
 fn push_word(out: &mut String, word: &SectionWord) -> Result<(), AllocError> {
     let excluded = word.excluded.as_slice();
     if !excluded.is_empty() {
@@ -26,7 +26,7 @@ fn push_words(out: &mut String, words: &[SectionWord]) -> Result<(), AllocError>
     Ok(())
 }
 
-/// What is taken of which files.
+/// The files and the sections that are taken.
 pub fn push_input(out: &mut String, input: &Input) -> Result<(), AllocError> {
     if input.keep {
         out.push_str("keep ")?;

@@ -7,12 +7,12 @@
 //!     FILE: refused 5 N
 //!       line LINE: REASON
 //!
-//! on standard output. The statements are those that stand outside of all others; a warning is of one that has another
-//! meaning to GNU ld. N after `refused 5` is the reader's number. Under it stand all places where something is wrong,
-//! in the order of the text, as far as they are found: what GNU ld has and the profile does not by the word and the
+//! on standard output. The statements are those at the top of the script; a warning is of one that has another meaning
+//! to GNU ld. N after `refused 5` is the reader's number. Under it are all places where something is wrong, in the
+//! order of the text, as far as they are found. What GNU ld has and the profile does not is named by its word and the
 //! table of docs/scripts.md that says what to write. A file that is too long for `ldi` is `refused 6 0`. It ends with
-//! status 0 where the file is a script, with 1 where it is refused, with 2 where there are more words, with 3 where the
-//! file cannot be read or standard output cannot be written, and with 4 out of memory.
+//! status 0 if the file is a script, with 1 if it is refused, with 2 if there are more words, with 3 if the file cannot
+//! be read or standard output cannot be written, and with 4 out of memory.
 //!
 //! Without a word it reads standard input to its end: frames, each a line and the bytes that it counts. White space
 //! before a frame is skipped. All lengths are decimal.
@@ -37,32 +37,32 @@
 //!     8     FILE(PATTERN)
 //!     9 NAME = EXPR
 //!
-//! A number at the front of a line is the statement's line in the text. Of a section only what is stated is printed;
+//! A number at the front of a line is the statement's line in the text. Of a section only the given parts are printed;
 //! its load address is `at EXPR` or `at> REGION`, and BYTES are decimal. A section's statements are data (`byte`,
-//! `short`, `long`, `quad`), input statements, and those that also stand in `sections`: `. = EXPR`, `. += EXPR`,
-//! `NAME = EXPR`, `provide NAME = EXPR` and `assert EXPR "MESSAGE"`, the last three at the top too. A sort is
-//! `by name: ` or `by alignment: `. In an EXPR each operation has its parentheses, and numbers are decimal. A PATTERN
-//! is `*` alone, which every name matches; or the one name that matches it, with `\` before each byte that would not be
-//! plain in a pattern; or `~`, which stands for any other pattern. Where an `EXCLUDE_FILE` belongs to a PATTERN,
-//! `exclude(PATTERN PATTERN) ` stands before it. A refused text has `refused N` in place of a tree, with the reader's
+//! `short`, `long`, `quad`), input statements, and those that `sections` has too: `. = EXPR`, `. += EXPR`,
+//! `NAME = EXPR`, `provide NAME = EXPR` and `assert EXPR "MESSAGE"`, of which the last three are at the top too. A sort
+//! is `by name: ` or `by alignment: `. In an EXPR each operation has its parentheses, and numbers are decimal. A
+//! PATTERN is `*` alone, which every name matches; or the one name that matches it, with `\` before each byte that
+//! would not be plain in a pattern; or `~` for any other pattern. If an `EXCLUDE_FILE` belongs to a PATTERN,
+//! `exclude(PATTERN PATTERN) ` is before it. A refused text has `refused N` in place of a tree, with the reader's
 //! number, and under it the line and the reason of that number, for people.
 //!
-//! For `places` it prints an empty line, its line, the text, `accepted` or `refused N`, and the lines that stand under
-//! a file.
+//! For `places` it prints an empty line, its line, the text, `accepted` or `refused N`, and the lines that are printed
+//! of a file.
 //!
 //! For `numbers` it prints the same of the text, the name of `ENTRY`, and then by their numbers, each with its line,
-//! the memory regions, the output sections, the input statements with their places, and the assignments, `PROVIDE`s
-//! and `ASSERT`s; after each name what the script's tables say of it.
+//! the memory regions, the output sections, the input statements with their places, and the assignments, `PROVIDE`s and
+//! `ASSERT`s; after each name its entry in the script's tables.
 //!
 //! For `tokens` it prints the same of the text, the number of its tokens, and if these are 40 at most, the tokens of
 //! each line of the text with their kinds. For a `match` it prints the word and the name in quotes, and whether the
-//! name matches: `yes`, `no`, or `no pattern` where the word spells none.
+//! name matches: `yes`, `no`, or `no pattern` if the word spells none.
 //!
-//! In what is printed of a text a byte that is neither printable ASCII nor a line feed is `<XX>`, in hexadecimal. A
-//! text of more than 4,096 bytes is not printed, and its tree isn't either: it is `accepted` or `refused N`.
+//! In a printed text a byte that is neither printable ASCII nor a line feed is `<XX>`, in hexadecimal. A text of more
+//! than 4,096 bytes is not printed, and its tree isn't either: it is `accepted` or `refused N`.
 //!
-//! A malformed frame is answered by the line `malformed frame` and ends the program with status 2. It ends with
-//! status 3 where a device failed or there is no memory.
+//! A malformed frame is answered by the line `malformed frame` and ends the program with status 2. It ends with status
+//! 3 if a device failed or there is no memory.
 #![tactic(auto)]
 
 mod directive;
@@ -115,7 +115,7 @@ fn answer(alloc: Global, frame: Frame<'_>) -> Result<String, AllocError> {
     Ok(out)
 }
 
-/// Prints the answers to all frames, and gives the status to end with.
+/// Prints the answers to all frames, and returns the exit status.
 fn print_answers<W: Write>(alloc: Global, out: &mut W, input: &[u8]) -> io::Result<u8> {
     let mut rest = input;
     // a frame takes a byte at least
@@ -136,7 +136,7 @@ fn print_answers<W: Write>(alloc: Global, out: &mut W, input: &[u8]) -> io::Resu
     Ok(0)
 }
 
-/// Reads standard input, prints, and gives the status to end with.
+/// Reads standard input, prints, and returns the exit status.
 fn show_stream(rt: &HostRuntime) -> io::Result<u8> {
     let alloc = rt.alloc();
     let mut input = Vec::new(alloc);
@@ -147,7 +147,7 @@ fn show_stream(rt: &HostRuntime) -> io::Result<u8> {
     Ok(status)
 }
 
-/// Prints what is to be said of a file, and gives the status to end with.
+/// Prints the lines of a file, and returns the exit status.
 fn show_named(rt: &HostRuntime, file: &NamedFile) -> io::Result<u8> {
     let mut out = BufWriter::new(rt.alloc(), io::writer(rt))?;
     let status = show_file(rt.alloc(), &mut out, file)?;

@@ -1,5 +1,5 @@
-//! What a script says that GNU ld reads in another way, or that no link takes: for people. It goes over the tree of a
-//! script that is read, and nothing but its safety is proved.
+//! Warnings for people: what GNU ld understands in another way, or no link accepts. They come from the tree of a
+//! script, and only the safety of that is proved.
 
 mod class;
 mod names;

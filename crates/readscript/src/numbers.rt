@@ -1,4 +1,4 @@
-//! The numbers of statements, and what the tables of a script say of names.
+//! The numbers of statements, and the names in the tables of a script.
 
 use crate::directive::push_directive;
 use crate::input::push_input;
@@ -22,6 +22,7 @@ fn push_found(
     }
 }
 
+/// Adds the memory regions.
 fn push_regions(alloc: Global, out: &mut String, script: &Script) -> Result<(), AllocError> {
     for (number, region) in script.regions(alloc)?.iter().enumerate() {
         let line = region.line;
@@ -34,6 +35,7 @@ fn push_regions(alloc: Global, out: &mut String, script: &Script) -> Result<(), 
     Ok(())
 }
 
+/// Adds the output sections.
 fn push_sections(alloc: Global, out: &mut String, script: &Script) -> Result<(), AllocError> {
     for (number, found) in script.output_sections(alloc)?.iter().enumerate() {
         let line = found.line;
@@ -46,6 +48,7 @@ fn push_sections(alloc: Global, out: &mut String, script: &Script) -> Result<(),
     Ok(())
 }
 
+/// Adds the place of an input statement.
 fn push_place(out: &mut String, place: InputPlace) -> Result<(), AllocError> {
     match place {
         InputPlace::InSection(number) => write!(out, "in section {number}: "),
@@ -53,6 +56,7 @@ fn push_place(out: &mut String, place: InputPlace) -> Result<(), AllocError> {
     }
 }
 
+/// Adds the input statements.
 fn push_inputs(alloc: Global, out: &mut String, script: &Script) -> Result<(), AllocError> {
     for (number, found) in script.input_statements(alloc)?.iter().enumerate() {
         let line = found.line;
@@ -64,7 +68,7 @@ fn push_inputs(alloc: Global, out: &mut String, script: &Script) -> Result<(), A
     Ok(())
 }
 
-/// How a symbol gets its value.
+/// How a symbol is defined.
 fn push_given(out: &mut String, name: &[u8], given: Option<Given>) -> Result<(), AllocError> {
     push_bytes(out, name)?;
     match given {
@@ -74,6 +78,7 @@ fn push_given(out: &mut String, name: &[u8], given: Option<Given>) -> Result<(),
     }
 }
 
+/// Adds the directives.
 fn push_commands(alloc: Global, out: &mut String, script: &Script) -> Result<(), AllocError> {
     for (number, found) in script.all_directives(alloc)?.iter().enumerate() {
         let line = found.line;
@@ -89,6 +94,7 @@ fn push_commands(alloc: Global, out: &mut String, script: &Script) -> Result<(),
     Ok(())
 }
 
+/// Adds the name of `ENTRY`.
 fn push_entry(out: &mut String, script: &Script) -> Result<(), AllocError> {
     if let Some(name) = script.entry() {
         out.push_str("entry ")?;

@@ -4,7 +4,7 @@ use crate::text::push_bytes;
 use ldscript::{Pattern, matches};
 use std::alloc::{AllocError, Global};
 
-/// Whether a byte of a pattern stands for itself without a `\`.
+/// Whether a byte of a pattern is itself without a `\`.
 fn is_plain(byte: u8) -> bool {
     byte.is_ascii_alphanumeric() || matches!(byte, b'_' | b'.' | b'$' | b'/' | b'-')
 }

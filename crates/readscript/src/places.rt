@@ -1,5 +1,5 @@
-//! All that is said of a text, for people: where and why it is refused, or what of a script has another meaning to GNU
-//! ld.
+//! All messages on a text, for people: where and why it is refused, or which statements of a script have another
+//! meaning to GNU ld.
 
 use crate::meaning::warnings::warnings;
 use crate::text::{is_shown, push_text};
@@ -8,8 +8,7 @@ use ldscript::{Script, ScriptRefusal};
 use std::alloc::{AllocError, Global};
 use std::fmt::Write;
 
-/// A line for each place where a text is refused, in its order. What is said of several places of a line in the same
-/// words stands there once.
+/// A line for each place where a text is refused, in its order; the same message on several places of a line once.
 pub fn push_places(alloc: Global, out: &mut String, text: &[u8]) -> Result<(), AllocError> {
     let mut last = None;
     for place in &explain(alloc, text)?.places {

@@ -7,6 +7,7 @@ use ldscript::tree::{BodyCommand, BodyStatement, Load, OutputSection, Width};
 use std::alloc::AllocError;
 use std::fmt::Write;
 
+/// The word of a data command.
 fn width_word(width: Width) -> &'static str {
     match width {
         Width::Byte => "byte",
@@ -16,6 +17,7 @@ fn width_word(width: Width) -> &'static str {
     }
 }
 
+/// Adds the line of a statement of the body.
 fn push_body(out: &mut String, statement: &BodyStatement) -> Result<(), AllocError> {
     let line = statement.line;
     write!(out, "{line}     ")?;
@@ -28,6 +30,7 @@ fn push_body(out: &mut String, statement: &BodyStatement) -> Result<(), AllocErr
     out.push_str("\n")
 }
 
+/// Adds the load address.
 fn push_load(out: &mut String, load: &Load) -> Result<(), AllocError> {
     match load {
         Load::Unstated => Ok(()),
@@ -39,6 +42,7 @@ fn push_load(out: &mut String, load: &Load) -> Result<(), AllocError> {
     }
 }
 
+/// Adds the bytes of the fill.
 fn push_fill(out: &mut String, fill: &[u8]) -> Result<(), AllocError> {
     out.push_str(" fill")?;
     for byte in fill {
@@ -47,7 +51,7 @@ fn push_fill(out: &mut String, fill: &[u8]) -> Result<(), AllocError> {
     Ok(())
 }
 
-/// What its head and its tail say.
+/// What its head and its tail give.
 fn push_head(out: &mut String, section: &OutputSection) -> Result<(), AllocError> {
     out.push_str("section ")?;
     push_bytes(out, section.name.as_bytes())?;

@@ -8,6 +8,7 @@ use ldscript::tree::{Command, InputStatement, Item, ItemCommand, Region, Stateme
 use std::alloc::AllocError;
 use std::fmt::Write;
 
+/// Adds a `/DISCARD/`, a line for each input statement.
 fn push_discard(out: &mut String, inputs: &[InputStatement]) -> Result<(), AllocError> {
     out.push_str("discard\n")?;
     for statement in inputs {
@@ -32,6 +33,7 @@ fn push_item(out: &mut String, item: &Item) -> Result<(), AllocError> {
     out.push_str("\n")
 }
 
+/// Adds the line of a memory region.
 fn push_region(out: &mut String, region: &Region) -> Result<(), AllocError> {
     let line = region.line;
     write!(out, "{line}   region ")?;

@@ -10,6 +10,7 @@ use std::fmt::Write;
 /// The greatest number of tokens that are printed.
 const MOST_SHOWN: usize = 40;
 
+/// The word for a kind of tokens.
 fn kind_word(kind: TokenKind) -> &'static str {
     match kind {
         TokenKind::Name => "name",
@@ -21,7 +22,7 @@ fn kind_word(kind: TokenKind) -> &'static str {
     }
 }
 
-/// Prints the tokens; those of one line of the script stand on one line.
+/// Prints the tokens; those of one line of the script are on one line.
 fn push_list(out: &mut String, cursor: Cursor<'_>) -> Result<(), AllocError> {
     let count = cursor.len();
     let mut rest = cursor;

@@ -1,6 +1,6 @@
-//! Why a text is no script, for people: on which lines, and what is wrong there. A scan looks for GNU ld's language
-//! outside of the profile, and a walk goes over the tokens once more with the rules of the grammar. Nothing but their
-//! safety is proved.
+//! Why a text is no script, for people: on which lines, and what is wrong there. A scan finds GNU ld's language outside
+//! of the profile, and a walk goes through the tokens once more by the rules of the grammar. Only the safety of the two
+//! is proved.
 
 mod body;
 mod clash;

@@ -1,20 +1,20 @@
-//! Which values GNU ld 2.40 takes for addresses, and which for numbers. In an output section it counts numbers from the
-//! section's start, so that what is assigned there is an address to it.
+//! Which values GNU ld 2.40 takes for addresses, and which for numbers. In an output section its numbers count from the
+//! section's start, so that what is assigned there is an address.
 
 use ldscript::terms::expression::{Expr, SectionQuery};
 use ldscript::terms::operator::BinaryOperator;
 use std::collections::BTreeMap;
 
-/// What GNU ld takes a value for.
+/// The class of a value for GNU ld.
 #[derive(Clone, Copy, PartialEq, Eq)]
 pub enum Class {
-    /// An address: a place of a section.
+    /// An address, relative to a section.
     Address,
     /// A number.
     Number,
 }
 
-/// The symbols that are given so far.
+/// The symbols that are defined so far.
 pub type Symbols<'a> = BTreeMap<&'a [u8], Class>;
 
 /// The class of a sum or a difference.

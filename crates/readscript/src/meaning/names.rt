@@ -1,4 +1,4 @@
-//! Names in expressions: whether what they name stands above.
+//! Names in expressions: whether they are defined above.
 
 use crate::meaning::sections::Reading;
 use crate::meaning::warning::Caution;
@@ -12,7 +12,7 @@ pub fn text_of(name: &[u8]) -> &str {
 }
 
 impl<'a> Reading<'a> {
-    /// Warns of a symbol that is given nowhere above. Where that does not matter, it warns of a `-` in it alone.
+    /// Warns of a symbol that is defined nowhere above. If that does not matter, it warns only of a `-` in it.
     fn check_symbol(&mut self, name: &'a [u8], must_stand: bool) -> Result<(), AllocError> {
         if self.symbols.contains_key(&name) {
             return Ok(());
@@ -34,7 +34,7 @@ impl<'a> Reading<'a> {
         Ok(())
     }
 
-    /// Warns of names in an expression, which are to stand above if `must_stand`.
+    /// Warns of names in an expression, which must be defined above if `must_stand`.
     pub fn check_names(&mut self, value: &'a Expr, must_stand: bool) -> Result<(), AllocError> {
         match value {
             Expr::Number(_) | Expr::Dot | Expr::OfRegion(_, _) => Ok(()),

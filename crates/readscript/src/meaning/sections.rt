@@ -14,7 +14,7 @@ use std::collections::BTreeMap;
 /// The words that GNU ld takes for the type of an output section, and this profile for a symbol.
 const TYPES: [&str; 5] = ["COPY", "INFO", "OVERLAY", "DSECT", "READONLY"];
 
-/// How the names of sections begin that compilers make without ALLOC.
+/// The prefixes of names of sections that compilers make without ALLOC.
 const UNLOADED: [&str; 11] = [
     ".debug",
     ".zdebug",
@@ -32,15 +32,15 @@ const UNLOADED: [&str; 11] = [
 /// What was read so far.
 #[derive(Drop)]
 pub struct Reading<'a> {
-    /// The symbols that are given.
+    /// The symbols that are defined.
     pub symbols: Symbols<'a>,
     /// The output sections that have ended.
     pub sections: BTreeMap<&'a [u8], u32>,
-    /// What is said, in the order of the text.
+    /// The warnings, in the order of the text.
     pub warnings: Vec<Warning<'a>>,
     /// The line of the statement that is read.
     line: u32,
-    /// The section without ALLOC that stands at 0 and that `.` follows here.
+    /// The section without ALLOC at address 0 after which `.` is used here.
     at_zero: Option<&'a [u8]>,
 }
 
@@ -56,7 +56,7 @@ fn add<'a, V: Drop>(
     }
 }
 
-/// Whether an expression has `.`, or an `ALIGN` of one argument, which stands for one with `.`.
+/// Whether an expression has `.`, or an `ALIGN` of one argument, which means one with `.`.
 fn uses_dot(value: &Expr) -> bool {
     value.has_dot() || value.has_align_dot()
 }
@@ -108,7 +108,7 @@ impl<'a> Reading<'a> {
         }
     }
 
-    /// An expression that is evaluated where it stands
+    /// An expression that is evaluated at its place in the text
     fn read_value(&mut self, value: &'a Formula) -> Result<(), AllocError> {
         if uses_dot(value.expr()) {
             self.warn_of_zero()?;
@@ -116,7 +116,7 @@ impl<'a> Reading<'a> {
         self.check_names(value.expr(), true)
     }
 
-    /// An assignment or a PROVIDE; it may stand in an output section
+    /// An assignment or a PROVIDE, perhaps in an output section
     fn read_assignment(
         &mut self,
         assignment: &'a Assignment,

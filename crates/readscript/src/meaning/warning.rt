@@ -1,15 +1,15 @@
-//! What is said of a statement that is taken.
+//! Warnings of statements that are accepted.
 
 use std::fmt;
 
-/// What is said of a statement.
+/// A warning.
 #[derive(Clone, Copy, PartialEq, Eq)]
 pub enum Caution<'a> {
     /// `. = e` in an output section, where `e` is an address.
     DotToAddress,
     /// A number is assigned to this symbol in an output section.
     NumberInSection(&'a str),
-    /// `.` is used after this section, which stands at 0 and has sections without ALLOC.
+    /// `.` is used after this section, which is at address 0 and has sections without ALLOC.
     DotAfter(&'a str),
     /// `.` in `AT(e)`.
     DotInLoad,
@@ -17,18 +17,18 @@ pub enum Caution<'a> {
     Dash(&'a str),
     /// This type of an output section is read as a symbol.
     SectionType(&'a str),
-    /// This symbol is given nowhere above.
+    /// This symbol is defined nowhere above.
     Unknown(&'a str),
     /// This output section does not end above.
     Incomplete(&'a str),
 }
 
-/// What is said of the statement on a line.
+/// A warning of the statement on a line.
 #[derive(Clone, Copy)]
 pub struct Warning<'a> {
     /// The line.
     pub line: u32,
-    /// What is said.
+    /// The warning.
     pub caution: Caution<'a>,
 }
 

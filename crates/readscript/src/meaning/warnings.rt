@@ -5,7 +5,7 @@ use crate::meaning::warning::Warning;
 use ldscript::Script;
 use std::alloc::{AllocError, Global};
 
-/// What is said of the statements of a script, in the order of the text.
+/// The warnings of the statements of a script, in the order of the text.
 ///
 /// # Errors
 ///

@@ -1,11 +1,11 @@
-//! What a script gives twice, or names too early.
+//! What a script defines twice, or names too early.
 
 use crate::why::reason::Explanation;
 use crate::why::walk::{Note, Use};
 use std::alloc::{AllocError, Global};
 use std::collections::BTreeMap;
 
-/// The names that were given so far, by what was done with them.
+/// The names so far, by what was done with them.
 #[derive(Drop)]
 struct Given<'a> {
     commands: BTreeMap<&'a [u8], u32>,
@@ -14,7 +14,7 @@ struct Given<'a> {
     regions: BTreeMap<&'a [u8], u32>,
 }
 
-/// Takes a name; `false` says that it was there.
+/// Inserts a name; returns `false` if it was there.
 fn takes<'a>(names: &mut BTreeMap<&'a [u8], u32>, note: &Note<'a>) -> Result<bool, AllocError> {
     if names.contains_key(note.name) {
         return Ok(false);

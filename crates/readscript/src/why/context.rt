@@ -1,10 +1,10 @@
-//! Where in a script a piece stands, as far as the pieces before it say.
+//! The place of a piece in a script, as far as the pieces before it show.
 
 use crate::why::pieces::{Piece, PieceKind};
 use ldscript::tokens::token::{Mark, TokenKind};
 use ldscript::tokens::words::is_reserved;
 
-/// What a block outside of all others is.
+/// The kind of an outermost block.
 #[derive(Clone, Copy, PartialEq, Eq)]
 enum Block {
     /// `MEMORY`.
@@ -15,27 +15,28 @@ enum Block {
     Other,
 }
 
-/// Where a piece stands.
+/// The place of a piece.
 #[derive(Drop)]
 pub struct Context<'a> {
     /// The piece before the last one.
     pub before: Piece<'a>,
     /// The piece before this one.
     pub last: Piece<'a>,
-    /// How many braces are open.
+    /// The number of open braces.
     pub depth: usize,
-    /// How many parentheses are open since the last `;` or brace.
+    /// The number of parentheses that are open since the last `;` or brace.
     pub open: usize,
-    /// Whether an output section has just ended, and what stands here may belong to it.
+    /// Whether an output section has just ended, so that the piece may belong to its tail.
     pub is_after_section: bool,
     block: Block,
-    /// The parentheses that are open where what is skipped begins.
+    /// The number of open parentheses where the skipping began.
     skipped_from: Option<usize>,
     /// The line of an `OVERLAY` whose braces may hold output sections.
     overlay: Option<u32>,
     is_overlay_seen: bool,
 }
 
+/// The mark that a piece is, if it is one.
 fn mark_of(piece: &Piece<'_>) -> Option<Mark> {
     match piece.kind {
         PieceKind::Token(TokenKind::Punctuation(mark)) => Some(mark),
@@ -43,12 +44,13 @@ fn mark_of(piece: &Piece<'_>) -> Option<Mark> {
     }
 }
 
+/// Whether a piece is a NAME.
 fn is_name(piece: &Piece<'_>) -> bool {
     piece.kind == PieceKind::Token(TokenKind::Name)
 }
 
 impl<'a> Context<'a> {
-    /// At the beginning of a text.
+    /// The place at the beginning of a text.
     pub fn new() -> Context<'a> {
         Context {
             before: Piece::edge(),
@@ -63,7 +65,7 @@ impl<'a> Context<'a> {
         }
     }
 
-    /// Whether it stands in `MEMORY`, outside of parentheses.
+    /// Whether it is in `MEMORY`, outside of parentheses.
     pub fn is_in_memory(&self) -> bool {
         self.block == Block::Memory && self.depth == 1 && self.open == 0
     }
@@ -80,7 +82,7 @@ impl<'a> Context<'a> {
         is_name(&self.last) && is_first && !is_reserved(self.last.bytes)
     }
 
-    /// Whether it stands in the head of an output section.
+    /// Whether it is in the head of an output section.
     pub fn is_in_head(&self) -> bool {
         let follows = matches!(
             mark_of(&self.last),
@@ -92,7 +94,7 @@ impl<'a> Context<'a> {
             && (follows || is_name(&self.last))
     }
 
-    /// Whether it stands where the type of an output section does, after a `(`.
+    /// Whether it is at the place of an output section's type, after a `(`.
     pub fn is_in_type(&self) -> bool {
         let is_after_name = match self.before.kind {
             PieceKind::Token(TokenKind::Name) => !is_reserved(self.before.bytes),
@@ -113,7 +115,7 @@ impl<'a> Context<'a> {
         }
     }
 
-    /// Whether it stands after the `:` of a head, or after what stands in parentheses behind that.
+    /// Whether it is after the `:` of a head, or after parentheses that follow the `:`.
     pub fn follows_colon(&self) -> bool {
         matches!(
             mark_of(&self.last),
@@ -121,15 +123,15 @@ impl<'a> Context<'a> {
         )
     }
 
-    /// Skips what stands in the parentheses that open next.
+    /// Skips the contents of the parentheses that open next.
     pub fn skip_arguments(&mut self) {
         if self.skipped_from.is_none() {
             self.skipped_from = Some(self.open);
         }
     }
 
-    /// Whether a piece is passed over: it stands in the parentheses of a command that is outside of the profile, or in
-    /// a block that is neither MEMORY nor SECTIONS.
+    /// Whether a piece is skipped: it is in the parentheses of a command that is outside of the profile, or in a block
+    /// that is neither MEMORY nor SECTIONS.
     pub fn is_skipped(&self, piece: &Piece<'_>) -> bool {
         let is_foreign = self.depth > 0 && self.block == Block::Other;
         let is_end = mark_of(piece) == Some(Mark::CloseBrace);
@@ -158,6 +160,7 @@ impl<'a> Context<'a> {
         }
     }
 
+    /// Passes a mark.
     fn pass_mark(&mut self, mark: Mark) {
         match mark {
             Mark::OpenParenthesis => self.open = self.open.saturating_add(1),
@@ -205,7 +208,7 @@ impl<'a> Context<'a> {
         }
     }
 
-    /// Passes a word: in the tail of an output section one stands after `>` or `:`.
+    /// Passes a word, which may follow `>` or `:` in the tail of an output section.
     fn pass_word(&mut self, piece: &Piece<'a>, next: &Piece<'a>) {
         let is_of_tail = matches!(mark_of(&self.last), Some(Mark::Greater | Mark::Colon))
             || piece.bytes == b"AT".as_slice();

@@ -1,4 +1,4 @@
-//! What is counted of the tokens of a text, and the limits of it.
+//! Counts of the tokens of a text, and their limits.
 
 use ldscript::tokens::number::number_value;
 use ldscript::tokens::token::{ExpressionStretch, LexState, Mark, Mode, TokenKind};
@@ -10,12 +10,12 @@ const MAX_BRACES: usize = 4096;
 /// The greatest number of signs in a run.
 const MAX_SIGNS: usize = 64;
 
-/// What is counted from the beginning of the text on.
+/// Counts from the beginning of the text on.
 #[derive(Drop)]
 pub struct Counts {
     /// The `{`.
     braces: usize,
-    /// The signs of the run that goes on here: operators and `(`.
+    /// The signs of the current run: operators and `(`.
     signs: usize,
 }
 
@@ -46,7 +46,7 @@ fn is_in_run(state: LexState, kind: TokenKind) -> bool {
 }
 
 impl Counts {
-    /// At the beginning of a text.
+    /// The counts at the beginning of a text.
     pub fn new() -> Counts {
         Counts {
             braces: 0,
@@ -54,7 +54,7 @@ impl Counts {
         }
     }
 
-    /// Counts a token, and says which limit is passed with it. One past by several tokens is said of the first.
+    /// Counts a token, and returns the limit that it exceeds, if it is the first token to do so.
     pub fn passed_limit(
         &mut self,
         state: LexState,

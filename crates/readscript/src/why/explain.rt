@@ -15,22 +15,22 @@ use std::alloc::{AllocError, Global};
 /// What is found in a text that is refused.
 #[derive(Drop)]
 pub struct Survey<'a> {
-    /// All places, in the order of the text; a place that has no line stands first.
+    /// All places, in the order of the text; a place without a line is first.
     pub places: Vec<Finding<'a>>,
-    /// What the refusal's number comes from. None where no reason is found.
+    /// The place and reason of the refusal's number; `None` if no reason is found.
     pub refusal: Option<Finding<'a>>,
 }
 
 /// What a walk over the tokens of a text finds.
 #[derive(Drop)]
 struct Walked {
-    /// The statements that are none.
+    /// The pieces of text that are no statements.
     stops: Vec<Stopped>,
-    /// What is given twice, or named too early, and then each misplaced `.`.
+    /// What is defined twice, or named too early, and then each misplaced `.`.
     others: Vec<Explanation>,
 }
 
-/// The statements of a text, which has these tokens, as a walk finds them.
+/// What a walk finds in a text with these tokens.
 fn walk_over(alloc: Global, walk: &mut Walk<'_>) -> Result<Walked, AllocError> {
     match walk.pass_script() {
         Ok(()) => {}
@@ -48,7 +48,7 @@ fn walk_over(alloc: Global, walk: &mut Walk<'_>) -> Result<Walked, AllocError> {
     Ok(Walked { stops, others })
 }
 
-/// What is found in a text that has tokens. None where it has none.
+/// What is found in a text that has tokens; `None` if it has none.
 fn walk_text(alloc: Global, text: &[u8]) -> Result<Option<Walked>, AllocError> {
     match tokens(alloc, text) {
         Ok(tokens) => {
@@ -61,8 +61,8 @@ fn walk_text(alloc: Global, text: &[u8]) -> Result<Option<Walked>, AllocError> {
     }
 }
 
-/// What is found in any text. Where it has no tokens, what is no token is left out, once; where that has none either,
-/// the walk finds nothing.
+/// What is found in any text. If it has no tokens, the walk is over a copy without what is no token; if that has no
+/// tokens either, the walk finds nothing.
 fn walk_any(alloc: Global, text: &[u8]) -> Result<Walked, AllocError> {
     if let Some(walked) = walk_text(alloc, text)? {
         return Ok(walked);
@@ -76,7 +76,7 @@ fn walk_any(alloc: Global, text: &[u8]) -> Result<Walked, AllocError> {
     })
 }
 
-/// Where and why a text has no tokens within the limits. None where it has.
+/// Where and why a text has no tokens within the limits; `None` if it has.
 fn token_stop(alloc: Global, text: &[u8]) -> Result<Option<Explanation>, AllocError> {
     match tokens(alloc, text) {
         Ok(_) => Ok(None),
@@ -85,7 +85,7 @@ fn token_stop(alloc: Global, text: &[u8]) -> Result<Option<Explanation>, AllocEr
     }
 }
 
-/// The first of these places, ordered by their lines, that stands where a statement stops.
+/// The first of these places, ordered by their lines, that is where a statement stops.
 fn place_of<'a>(found: &[Finding<'a>], stopped: &Stopped) -> Option<Finding<'a>> {
     let last = stopped.explanation.line.unwrap_or(0);
     let mut below: usize = 0;
@@ -107,8 +107,8 @@ fn place_of<'a>(found: &[Finding<'a>], stopped: &Stopped) -> Option<Finding<'a>>
     }
 }
 
-/// Puts what a walk finds beside what GNU ld's language has: where a statement stops at a place of that, no more is
-/// said of it. `token_stop` is where a text has no tokens, if it has none.
+/// Joins what a walk finds with the places of GNU ld's language: if a statement stops at such a place, there is only
+/// that message. `token_stop` is where a text has no tokens, if it has none.
 fn joined<'a>(
     alloc: Global,
     foreign: &[Finding<'a>],
@@ -142,7 +142,7 @@ fn joined<'a>(
     Ok(Survey { places, refusal })
 }
 
-/// That a text is too long, which is all that is said of it.
+/// The message that a text is too long, the only one on it.
 fn too_long(alloc: Global) -> Result<Survey<'static>, AllocError> {
     let finding = Finding::Wrong(Explanation::of_all("the text is longer than 1,048,576 bytes"));
     let mut places = Vec::new(alloc);
@@ -153,7 +153,7 @@ fn too_long(alloc: Global) -> Result<Survey<'static>, AllocError> {
     })
 }
 
-/// What is found in a text that is refused. For a text that `Script::read` takes it says nothing.
+/// What is found in a text that is refused. It says nothing about a text that `Script::read` accepts.
 ///
 /// # Errors
 ///

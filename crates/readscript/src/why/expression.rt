@@ -1,5 +1,5 @@
-//! Where tokens stop being an expression. The reader of expressions says only that they are none; so a walk goes over
-//! operands and operators, with what is open around them.
+//! Where tokens stop being an expression. The reader of expressions says only that they are none; so a walk goes
+//! through operands and operators, with the open parentheses and choices around them.
 
 use crate::why::reason::Stop;
 use crate::why::walk::Walk;
@@ -9,10 +9,10 @@ use ldscript::tokens::token::{Mark, Mode, TokenKind};
 use ldscript::tokens::words::is_reserved;
 use std::alloc::Global;
 
-/// The words that ask something of a memory region or an output section.
+/// The functions of a memory region or an output section.
 const QUERIES: [&[u8]; 5] = [b"ORIGIN", b"LENGTH", b"ADDR", b"LOADADDR", b"SIZEOF"];
 
-/// What is open around a place in an expression.
+/// An open construct around a place in an expression.
 #[derive(Clone, Copy)]
 enum Open {
     /// `(`
@@ -25,6 +25,7 @@ enum Open {
     Choice,
 }
 
+/// Adds an open construct.
 fn push(open: &mut Vec<Open>, what: Open) -> Result<(), Stop> {
     match open.push(what) {
         Ok(()) => Ok(()),
@@ -33,7 +34,7 @@ fn push(open: &mut Vec<Open>, what: Open) -> Result<(), Stop> {
 }
 
 impl<'a> Walk<'a> {
-    /// `(NAME)` after a word that asks something of a region or a section
+    /// `(NAME)` after a function of a region or a section
     fn pass_asked(&mut self) -> Result<(), Stop> {
         self.pass(
             Mark::OpenParenthesis,
@@ -46,7 +47,7 @@ impl<'a> Walk<'a> {
         )
     }
 
-    /// A word where an operand is expected; whether the operand ends with it.
+    /// A word as an operand; returns whether the operand ends with it.
     fn pass_word(&mut self, word: &[u8], open: &mut Vec<Open>) -> Result<bool, Stop> {
         if word == b"ALIGN".as_slice() {
             self.pass_token();
@@ -99,7 +100,7 @@ impl<'a> Walk<'a> {
         Err(self.wrong("a number, a name, `.` or `(` is expected here, in an expression"))
     }
 
-    /// Stops where an expression cannot end here, since something is open.
+    /// Stops if an expression cannot end here, since something is open.
     fn end_operators(&mut self, open: &[Open]) -> Result<bool, Stop> {
         let reason = match open.last() {
             None => return Ok(false),
@@ -112,7 +113,7 @@ impl<'a> Walk<'a> {
         Err(self.wrong(reason))
     }
 
-    /// What stands after an operand; whether another operand follows.
+    /// What follows an operand; returns whether another operand follows.
     fn pass_operators(&mut self, open: &mut Vec<Open>) -> Result<bool, Stop> {
         for _ in 0..=self.tokens.len() {
             let Some((TokenKind::Punctuation(mark), _, _, _)) = self.tokens.copy().next() else {

@@ -1,4 +1,4 @@
-//! What is said of a place of a refused text.
+//! Messages on places of a refused text.
 
 use crate::why::reason::Explanation;
 use std::fmt;
@@ -8,13 +8,13 @@ use std::fmt;
 pub enum Table {
     /// Statements outside of `SECTIONS`.
     Commands,
-    /// What stands in `MEMORY`.
+    /// Memory regions.
     Memory,
     /// Heads and tails of output sections.
     OutputSections,
-    /// Which input sections are taken.
+    /// Input statements.
     InputStatements,
-    /// Bytes that a script gives.
+    /// Data and fills.
     Data,
     /// Assignments.
     Symbols,
@@ -36,7 +36,7 @@ impl fmt::Display for Table {
     }
 }
 
-/// What GNU ld takes and the profile does not have.
+/// What GNU ld accepts and the profile does not have.
 #[derive(Clone, Copy, PartialEq, Eq)]
 pub enum Foreign<'a> {
     /// A word, or a mark.
@@ -45,7 +45,7 @@ pub enum Foreign<'a> {
     Misplaced(&'a str),
     /// `:NAME` after an output section.
     Segment(&'a str),
-    /// What is said of it.
+    /// Its message.
     Construct(&'static str),
 }
 
@@ -60,7 +60,7 @@ impl<'a> fmt::Display for Foreign<'a> {
     }
 }
 
-/// What is said of a place.
+/// A message on a place.
 #[derive(Clone, Copy, PartialEq, Eq)]
 pub enum Finding<'a> {
     /// GNU ld has this, on this line, and the profile does not; a table says what to write.
@@ -70,7 +70,7 @@ pub enum Finding<'a> {
 }
 
 impl<'a> Finding<'a> {
-    /// The line, or 0 where the whole text is meant.
+    /// The line, or 0 for the whole text.
     pub fn line(&self) -> u32 {
         match self {
             Finding::OutsideProfile(line, _, _) => *line,

@@ -1,11 +1,12 @@
-//! The words of GNU ld's language that the profile does not have, and the table of docs/scripts.md that each stands in.
+//! The words of GNU ld's language that the profile does not have, each with its table of docs/scripts.md.
 
 use crate::why::finding::Table;
 
 /// A word and its table.
 type Row = (&'static str, Table);
 
-/// The words that are meant so where `(` follows: no name of the profile has it after it, but for an output section's.
+/// The words that are functions or commands if `(` follows: of names in the profile, only that of an output section has
+/// one after it.
 const CALLS: [Row; 38] = [
     ("INPUT", Table::Commands),
     ("GROUP", Table::Commands),
@@ -65,13 +66,13 @@ const TYPES: [&str; 7] = [
     "NOLOAD", "COPY", "INFO", "OVERLAY", "DSECT", "READONLY", "TYPE",
 ];
 
-/// The words that stand for input sections by themselves.
+/// The words that are input statements by themselves.
 const INPUTS: [&str; 3] = ["CONSTRUCTORS", "CREATE_OBJECT_SYMBOLS", "LINKER_VERSION"];
 
 /// The words that GNU ld takes for ORIGIN and LENGTH.
 const REGION_WORDS: [&str; 4] = ["org", "o", "len", "l"];
 
-/// What stands before `=` in an assignment that the profile does not have.
+/// The bytes before `=` in an assignment that the profile does not have.
 const ASSIGNMENTS: [(&str, &str); 7] = [
     ("-", "-="),
     ("*", "*="),
@@ -82,7 +83,7 @@ const ASSIGNMENTS: [(&str, &str); 7] = [
     ("|", "|="),
 ];
 
-/// The word of a list that has these bytes.
+/// The word of a list with these bytes.
 fn find(words: &[&'static str], bytes: &[u8]) -> Option<&'static str> {
     for word in words {
         if word.as_bytes() == bytes {
@@ -92,7 +93,7 @@ fn find(words: &[&'static str], bytes: &[u8]) -> Option<&'static str> {
     None
 }
 
-/// The word with these bytes that is meant so where `(` follows, and its table.
+/// The word with these bytes that is a function or command if `(` follows, and its table.
 pub fn call(bytes: &[u8]) -> Option<Row> {
     for row in CALLS.iter() {
         if row.0.as_bytes() == bytes {
@@ -122,7 +123,7 @@ pub fn section_type(bytes: &[u8]) -> Option<&'static str> {
     find(&TYPES, bytes)
 }
 
-/// The word with these bytes that stands for input sections by itself.
+/// The word with these bytes that is an input statement by itself.
 pub fn input(bytes: &[u8]) -> Option<&'static str> {
     find(&INPUTS, bytes)
 }
@@ -132,7 +133,7 @@ pub fn region_word(bytes: &[u8]) -> Option<&'static str> {
     find(&REGION_WORDS, bytes)
 }
 
-/// The assignment whose `=` stands after these bytes.
+/// The assignment with these bytes before its `=`.
 pub fn assignment(bytes: &[u8]) -> Option<&'static str> {
     for (before, spelled) in ASSIGNMENTS.iter() {
         if before.as_bytes() == bytes {

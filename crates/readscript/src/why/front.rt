@@ -1,5 +1,5 @@
-//! What stands at the front of a text, by the lexer's rules, or why no token does. The lexer itself says only that none
-//! does, and nothing of the limits.
+//! The token at the front of a text, by the lexer's rules, or why there is none. The lexer itself says only that there
+//! is none, and nothing about limits.
 
 use ldscript::tokens::bytes::{
     is_decimal_digit, is_hex_digit, is_name_byte, is_name_start, is_octal_digit, is_space,
@@ -56,20 +56,20 @@ const PATTERN_MARKS: [(&[u8], Mark); 7] = [
 pub enum Ahead {
     /// The end of the text.
     Finished,
-    /// White space or a comment of this number of bytes.
+    /// White space or a comment of this many bytes.
     Space(usize),
-    /// A token of a kind and this number of bytes, with its quotes.
+    /// A token of a kind and this many bytes, with its quotes.
     Token(TokenKind, usize),
     /// No token, for this reason.
     Nothing(&'static str),
 }
 
-/// The byte at a place, or 0 past the end.
+/// The byte at an index, or 0 past the end.
 fn byte_at(text: &[u8], at: usize) -> u8 {
     text.get(at).copied().unwrap_or(0)
 }
 
-/// The first of these marks that stands at the front.
+/// The first of these marks that is at the front.
 fn mark_at(text: &[u8], marks: &[(&[u8], Mark)]) -> Option<Ahead> {
     for (spelled, mark) in marks {
         if text.starts_with(spelled) {
@@ -79,7 +79,7 @@ fn mark_at(text: &[u8], marks: &[(&[u8], Mark)]) -> Option<Ahead> {
     None
 }
 
-/// A comment, where `/*` stands.
+/// A comment, if `/*` is first.
 fn comment(text: &[u8]) -> Ahead {
     let inside = text.get(2..).unwrap_or(&[]);
     match inside.windows(2).position(|w| w == b"*/".as_slice()) {
@@ -88,7 +88,7 @@ fn comment(text: &[u8]) -> Ahead {
     }
 }
 
-/// How many bytes the number at the front takes with its suffix.
+/// The length of the number at the front with its suffix.
 fn number_length(text: &[u8]) -> usize {
     let digits = match text {
         [b'0', b'x' | b'X', digits @ ..] if is_hex_digit(byte_at(digits, 0)) => {
@@ -104,7 +104,7 @@ fn number_length(text: &[u8]) -> usize {
     }
 }
 
-/// A number, where a digit stands.
+/// A number, if a digit is first.
 fn number(text: &[u8]) -> Ahead {
     let length = number_length(text);
     let after = byte_at(text, length);
@@ -118,7 +118,7 @@ fn number(text: &[u8]) -> Ahead {
     })
 }
 
-/// A text in double quotes, where the first of them stands.
+/// A string, if a double quote is first.
 fn quoted(text: &[u8]) -> Ahead {
     let inside = text.get(1..).unwrap_or(&[]);
     let length = inside.iter().take_while(|b| is_text_byte(**b)).count();
@@ -129,7 +129,7 @@ fn quoted(text: &[u8]) -> Ahead {
     }
 }
 
-/// A name, where a byte stands that begins one: none begins with `.-`.
+/// A name, if the first byte begins one: none begins with `.-`.
 fn name(text: &[u8]) -> Ahead {
     let length = if text.starts_with(b".-") {
         1
@@ -152,7 +152,7 @@ fn strange(byte: u8) -> Ahead {
     })
 }
 
-/// What stands at the front outside of patterns.
+/// What is at the front in expression mode.
 fn expression_front(text: &[u8]) -> Ahead {
     let first = byte_at(text, 0);
     if is_name_start(first) {
@@ -168,7 +168,7 @@ fn expression_front(text: &[u8]) -> Ahead {
     }
 }
 
-/// How many bytes the word at the front takes.
+/// The length of the word at the front.
 fn word_length(text: &[u8]) -> usize {
     let mut length: usize = 0;
     for _ in 0..=text.len() {
@@ -197,7 +197,7 @@ fn strange_in_pattern(byte: u8) -> Ahead {
     })
 }
 
-/// What stands at the front in patterns.
+/// What is at the front in pattern mode.
 fn pattern_front(text: &[u8]) -> Ahead {
     if let Some(mark) = mark_at(text, &PATTERN_MARKS) {
         return mark;
@@ -208,7 +208,7 @@ fn pattern_front(text: &[u8]) -> Ahead {
     }
 }
 
-/// What stands at the front of a text that is read in a mode.
+/// What is at the front of a text that is read in a mode.
 pub fn front(mode: Mode, text: &[u8]) -> Ahead {
     match text {
         [] => Ahead::Finished,

@@ -31,7 +31,7 @@ impl<'a> Walk<'a> {
         }
     }
 
-    /// Patterns up to `)`, one at least; if so, `EXCLUDE_FILE` may stand before each.
+    /// Patterns up to `)`, one at least; with `may_exclude`, `EXCLUDE_FILE` may be before each.
     fn pass_patterns(&mut self, may_exclude: bool) -> Result<(), Stop> {
         if self.passes(Mark::CloseParenthesis) {
             return Err(self.wrong("one pattern at least is expected between `(` and `)`"));

@@ -1,5 +1,5 @@
-//! On which line a text stops having tokens within the limits, and why. The lexer says only that it does; so the text
-//! is cut once more, with the same rules.
+//! The line on which a text stops having tokens within the limits, and why. The lexer says only that it does; so the
+//! text is tokenized once more, by the same rules.
 
 use crate::why::counts::Counts;
 use crate::why::front::{Ahead, front};
@@ -7,7 +7,7 @@ use crate::why::reason::Explanation;
 use ldscript::tokens::refusal::TokenRefusal;
 use ldscript::tokens::token::{ExpressionStretch, LexState, TokenKind};
 
-/// More braces and parentheses than a text can open. Nothing is ever cut to it: it shows that their numbers can grow.
+/// More braces and parentheses than a text can open. It is never reached, and shows that their counts cannot overflow.
 const MOST_OPEN: usize = 1 << 30;
 
 /// What the mode depends on after a token.

@@ -1,5 +1,5 @@
-//! The pieces of any text, one after another, by the lexer's rules as far as they hold: what is no token is a piece
-//! too, and the cut goes on behind it.
+//! The pieces of any text, one after another, by the lexer's rules as far as they apply: what is no token is a piece
+//! too, and the next one follows it.
 
 use crate::why::counts::Counts;
 use crate::why::front::{Ahead, front};
@@ -11,7 +11,7 @@ use std::alloc::{AllocError, Global};
 /// The words whose parentheses GNU ld reads as an expression, beside those of the profile.
 const STRETCH_WORDS: [&str; 4] = ["PROVIDE_HIDDEN", "HIDDEN", "SQUAD", "FILL"];
 
-/// What a piece is.
+/// The kind of a piece.
 #[derive(Clone, Copy, PartialEq, Eq)]
 pub enum PieceKind {
     /// Nothing: the text ends, or begins.
@@ -25,7 +25,7 @@ pub enum PieceKind {
 /// A piece of a text.
 #[derive(Clone, Copy)]
 pub struct Piece<'a> {
-    /// What it is.
+    /// Its kind.
     pub kind: PieceKind,
     /// Its bytes, with the quotes of a text.
     pub bytes: &'a [u8],
@@ -33,12 +33,12 @@ pub struct Piece<'a> {
     pub start: usize,
     /// Its line, from 1.
     pub line: u32,
-    /// The limit that is passed with it.
+    /// The limit that it exceeds.
     pub passed: Option<&'static str>,
 }
 
 impl<'a> Piece<'a> {
-    /// What stands before a text and after it.
+    /// The piece before a text and after it.
     pub fn edge() -> Piece<'a> {
         Piece {
             kind: PieceKind::Edge,
@@ -50,12 +50,12 @@ impl<'a> Piece<'a> {
     }
 }
 
-/// How many bytes stand before the end of the line.
+/// The number of bytes before the end of the line.
 fn rest_of_line(text: &[u8]) -> usize {
     text.iter().take_while(|b| **b != b'\n').count()
 }
 
-/// How many bytes a text in quotes takes after the first of them, or else the rest of its line.
+/// The length of a string after its first quote, or else of the rest of its line.
 fn quoted_length(inside: &[u8]) -> usize {
     let length = inside
         .iter()
@@ -67,7 +67,7 @@ fn quoted_length(inside: &[u8]) -> usize {
     }
 }
 
-/// How many bytes are passed over where no token stands.
+/// The number of bytes that are skipped if there is no token.
 fn strange_length(mode: Mode, text: &[u8]) -> usize {
     match text {
         [b'/', b'*', ..] => text.len(),
@@ -81,7 +81,7 @@ fn strange_length(mode: Mode, text: &[u8]) -> usize {
     }
 }
 
-/// A text that is cut.
+/// A text that is split into pieces.
 #[derive(Drop)]
 pub struct Pieces<'a> {
     rest: &'a [u8],
@@ -103,7 +103,7 @@ impl<'a> Pieces<'a> {
         }
     }
 
-    /// Goes on by this number of bytes, and gives them.
+    /// Advances by this many bytes, and returns them.
     fn advance(&mut self, length: usize) -> &'a [u8] {
         let rest = self.rest;
         let bytes = rest.get(..length).unwrap_or(rest);
@@ -113,7 +113,7 @@ impl<'a> Pieces<'a> {
         bytes
     }
 
-    /// Changes the state as a token does.
+    /// Changes the state by a token.
     fn pass(&mut self, kind: TokenKind, bytes: &[u8]) {
         self.state = after(self.state, kind, bytes);
         let is_stretch = STRETCH_WORDS.iter().any(|w| w.as_bytes() == bytes);

@@ -1,11 +1,11 @@
-//! What is said of a refused text.
+//! Messages on refused texts.
 
 use std::fmt;
 
 /// Where a text is refused, and why.
 #[derive(Clone, Copy, PartialEq, Eq)]
 pub struct Explanation {
-    /// The line, from 1; `None` says that the whole of the text is meant.
+    /// The line, from 1; `None` for the whole text.
     pub line: Option<u32>,
     /// Whether the text ends on this line, before what is expected.
     pub is_at_end: bool,
@@ -59,7 +59,7 @@ impl fmt::Display for Explanation {
 /// Why the walk over a script's tokens stops.
 #[derive(Clone, Copy)]
 pub enum Stop {
-    /// The grammar does not go on so.
+    /// The grammar has no such statement.
     Wrong(Explanation),
     /// Out of memory.
     NoMemory,

@@ -1,11 +1,11 @@
-//! How the walk goes on where the grammar does not: what is no statement is noted, and left out.
+//! How the walk continues after an error: what is no statement is noted, and skipped.
 
 use crate::why::reason::Stop;
 use crate::why::walk::{Stopped, Walk};
 use ldscript::tokens::cursor::Cursor;
 use ldscript::tokens::token::{Mark, TokenKind};
 
-/// How many tokens the head of an output section has at most, where its `{` is looked for.
+/// The number of tokens among which the `{` of an output section's head is searched.
 const MOST_OF_HEAD: usize = 256;
 
 /// Whether a token may begin a statement, or end the list of statements.
@@ -22,7 +22,7 @@ fn may_begin(tokens: &Cursor<'_>) -> bool {
     }
 }
 
-/// What is open in a statement that is left out.
+/// What is open in a statement that is skipped.
 #[derive(Clone, Copy)]
 struct Nesting {
     braces: usize,
@@ -30,7 +30,7 @@ struct Nesting {
 }
 
 impl Nesting {
-    /// Passes a token. Gives whether a statement may end with it.
+    /// Passes a token. Returns whether a statement may end with it.
     fn passes(&mut self, kind: TokenKind) -> bool {
         let TokenKind::Punctuation(mark) = kind else {
             return false;
@@ -91,7 +91,7 @@ impl<'a> Walk<'a> {
             let is_parenthesis = kind == TokenKind::Punctuation(Mark::CloseParenthesis);
             let may_end = nesting.passes(kind)
                 && (!is_parenthesis || (is_call && may_begin(&rest)));
-            // a word by itself is left out alone
+            // a word by itself is skipped alone
             let is_alone = rest.len() == failed
                 && rest.len().saturating_add(1) == start.len()
                 && may_begin(&rest);
@@ -102,11 +102,11 @@ impl<'a> Walk<'a> {
         self.tokens = rest;
     }
 
-    /// Goes on behind the statement that began with these tokens, which has this outcome.
+    /// Continues after the statement that began with these tokens, which has this outcome.
     ///
     /// # Errors
     ///
-    /// Where the text ends in the statement, and where memory runs out.
+    /// If the text ends in the statement, and if memory runs out.
     pub fn recover(&mut self, start: Cursor<'a>, outcome: Result<(), Stop>) -> Result<(), Stop> {
         match outcome {
             Ok(()) => Ok(()),
@@ -127,7 +127,7 @@ impl<'a> Walk<'a> {
     ///
     /// # Errors
     ///
-    /// Where it has none, and where memory runs out.
+    /// If it has none, and if memory runs out.
     pub fn recover_head(&mut self, from: u32, stop: Stop) -> Result<(), Stop> {
         let mut rest = self.tokens.copy();
         for _ in 0..MOST_OF_HEAD {

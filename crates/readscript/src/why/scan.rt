@@ -1,4 +1,4 @@
-//! All places of a text where GNU ld's language goes outside of the profile, in their order: one pass over its pieces,
+//! All places of a text where GNU ld's language is outside of the profile, in their order: one pass over its pieces,
 //! with the two pieces before and the one after. It reads any text, and does not say that the rest is right.
 
 use crate::why::context::Context;
@@ -16,7 +16,7 @@ use std::str::from_utf8;
 /// The words of sorts that the profile has.
 const SORTS: [&str; 3] = ["SORT", "SORT_BY_NAME", "SORT_BY_ALIGNMENT"];
 
-/// What is outside of the profile, and the table that it stands in.
+/// What is outside of the profile, and its table.
 type Outside = Option<(Foreign<'static>, Table)>;
 
 /// Whether a piece has these bytes.
@@ -29,7 +29,7 @@ fn is_mark(piece: &Piece<'_>, mark: Mark) -> bool {
     piece.kind == PieceKind::Token(TokenKind::Punctuation(mark))
 }
 
-/// Whether a piece is a name, or a word in which pattern signs may stand.
+/// Whether a piece is a name, or a word, in which there may be pattern signs.
 fn is_word(piece: &Piece<'_>) -> bool {
     matches!(
         piece.kind,
@@ -45,12 +45,12 @@ fn word_of(word: Option<&'static str>, table: Table) -> Outside {
     }
 }
 
-/// What is said of a construct that is no word.
+/// The message on a construct that is no word.
 fn construct(what: &'static str, table: Table) -> Outside {
     Some((Foreign::Construct(what), table))
 }
 
-/// A word of a sort in a place that the profile has not for it.
+/// A word of a sort in a place where the profile does not have it.
 fn misplaced_sort(context: &Context<'_>, word: &Piece<'_>) -> Outside {
     for sort in SORTS {
         if is(word, sort) {
@@ -102,7 +102,7 @@ fn called_word(context: &Context<'_>, word: &Piece<'_>) -> Outside {
     }
 }
 
-/// Whether a file's name may follow `INCLUDE` so.
+/// Whether this may be the file's name after `INCLUDE`.
 fn is_file_name(next: &Piece<'_>) -> bool {
     is_word(next)
         || matches!(
@@ -188,7 +188,7 @@ fn assigned(context: &Context<'_>) -> Outside {
     None
 }
 
-/// The name of the segment that stands after a `:` in the tail of an output section.
+/// The name of the segment after a `:` in the tail of an output section.
 fn segment<'a>(context: &Context<'_>, piece: &Piece<'_>, next: &Piece<'a>) -> Option<&'a str> {
     if !context.is_after_section || !is_mark(piece, Mark::Colon) || !is_word(next) {
         return None;
@@ -221,7 +221,7 @@ fn at_mark(context: &Context<'_>, mark: Mark, next: &Piece<'_>) -> Outside {
     }
 }
 
-/// What is outside of the profile at a text in quotes: a name that is given or asked for stands in them.
+/// What is outside of the profile at a string: a name in quotes.
 fn at_text(context: &Context<'_>, next: &Piece<'_>) -> Outside {
     let is_given = is_mark(next, Mark::Assign) || is_mark(next, Mark::Colon);
     let is_asked = is_mark(&context.last, Mark::OpenParenthesis)
@@ -256,7 +256,7 @@ fn at_token(
     }
 }
 
-/// Adds what is said of a piece.
+/// Adds the messages on a piece.
 fn add_findings<'a>(
     found: &mut Vec<Finding<'a>>,
     context: &mut Context<'a>,
@@ -290,8 +290,8 @@ fn add_findings<'a>(
     Ok(())
 }
 
-/// All places of a text that are outside of the profile, ordered by their lines, and all where no token stands or a
-/// limit is passed.
+/// All places of a text that are outside of the profile, ordered by their lines, and all where there is no token or a
+/// limit is exceeded.
 ///
 /// # Errors
 ///

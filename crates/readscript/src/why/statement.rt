@@ -5,7 +5,7 @@ use crate::why::walk::{Use, Walk};
 use ldscript::Expr;
 use ldscript::tokens::token::{Mark, Mode};
 
-/// What is noted under `ENTRY`, `MEMORY` and `SECTIONS`, which a script has once at most.
+/// The name under which `ENTRY`, `MEMORY` and `SECTIONS` are noted, which a script has once at most.
 const COMMANDS: [&[u8]; 3] = [b"ENTRY", b"MEMORY", b"SECTIONS"];
 
 /// What is wrong after the name of a region.
@@ -20,13 +20,13 @@ struct Field {
     long: &'static [u8],
     /// Another one.
     short: &'static [u8],
-    /// What is wrong where the word does not stand.
+    /// The message if the word is missing.
     missing: &'static str,
-    /// What is wrong where `=` does not follow.
+    /// The message if `=` does not follow.
     no_mark: &'static str,
 }
 
-/// Where a region begins.
+/// `ORIGIN`: where a region begins.
 const ORIGIN: Field = Field {
     word: b"ORIGIN",
     long: b"org",
@@ -35,7 +35,7 @@ const ORIGIN: Field = Field {
     no_mark: "`=` is expected after ORIGIN",
 };
 
-/// How many bytes a region has.
+/// `LENGTH`: the size of a region.
 const LENGTH: Field = Field {
     word: b"LENGTH",
     long: b"len",
@@ -44,10 +44,10 @@ const LENGTH: Field = Field {
     no_mark: "`=` is expected after LENGTH",
 };
 
-/// The most tokens of a region's attributes that are passed over.
+/// The greatest number of tokens of a region's attributes that are skipped.
 const MOST_ATTRIBUTES: usize = 16;
 
-/// Whether an expression has `.`, or an `ALIGN` of one argument, which stands for one with `.`.
+/// Whether an expression has `.`, or an `ALIGN` of one argument, which means one with `.`.
 pub fn uses_dot(value: &Expr) -> bool {
     value.has_dot() || value.has_align_dot()
 }
@@ -63,7 +63,7 @@ impl<'a> Walk<'a> {
         )
     }
 
-    /// The attributes of a region, which the profile does not have, up to and with their `)`
+    /// The attributes of a region, which the profile does not have, through their `)`
     fn pass_attributes(&mut self, line: u32) -> Result<(), Stop> {
         if self.tokens.copy().mark(Mark::OpenParenthesis).is_none() {
             return Ok(());
@@ -148,7 +148,7 @@ impl<'a> Walk<'a> {
         self.pass_ended(end, reason)
     }
 
-    /// Notes a symbol that is given, before its `=`.
+    /// Notes a symbol that is defined, before its `=`.
     fn note_given(&mut self, name: &'a [u8], line: u32) -> Result<(), Stop> {
         if self.tokens.copy().mark(Mark::Assign).is_none() {
             return Ok(());
@@ -192,7 +192,7 @@ impl<'a> Walk<'a> {
         )
     }
 
-    /// `NAME = e ;`, `PROVIDE` or `ASSERT`: what stands in all places. At the top `.` is misplaced in each of them.
+    /// A directive: `NAME = e ;`, `PROVIDE` or `ASSERT`. At the top `.` is misplaced in each of them.
     pub fn pass_directive(&mut self, mode: Mode, is_top: bool) -> Result<(), Stop> {
         let line = self.tokens.line();
         if self.passes_key(mode, b"ASSERT") {
@@ -214,7 +214,7 @@ impl<'a> Walk<'a> {
         Ok(())
     }
 
-    /// `. = e ;` and `. += e ;`, after the `.`: the number that it is set to, or `None` where it is added.
+    /// `. = e ;` and `. += e ;`, after the `.`: the number that it is set to, or `None` if it is added.
     pub fn pass_dot(&mut self) -> Result<Option<Expr>, Stop> {
         let reason = "`;` is expected after the expression";
         if self.passes(Mark::AddAssign) {

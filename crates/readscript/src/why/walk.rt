@@ -1,4 +1,4 @@
-//! A walk over the tokens of a script, which stops where the grammar does not go on.
+//! A walk over the tokens of a script, which stops at the first error of the grammar.
 
 use crate::why::expression::expression_stop;
 use crate::why::reason::{Explanation, Stop};
@@ -10,7 +10,7 @@ use ldscript::tokens::token::{Mark, Mode, TokenKind};
 use ldscript::tokens::words::{is_free_name, is_reserved};
 use std::alloc::Global;
 
-/// Whether a word in which pattern signs may stand is spelled like a name.
+/// Whether a word of pattern mode is spelled like a name.
 fn is_spelled_as_name(word: &[u8]) -> bool {
     match word {
         [b'.', b'-', ..] => false,
@@ -19,25 +19,25 @@ fn is_spelled_as_name(word: &[u8]) -> bool {
     }
 }
 
-/// What a script does with a name.
+/// The use of a name in a script.
 #[derive(Clone, Copy, PartialEq, Eq)]
 pub enum Use {
-    /// Gives it by `ENTRY`, `MEMORY` or `SECTIONS`.
+    /// The command `ENTRY`, `MEMORY` or `SECTIONS`.
     Command,
-    /// Gives it to an output section.
+    /// An output section of this name.
     Section,
-    /// Assigns or provides it.
+    /// An assignment or a PROVIDE.
     Symbol,
-    /// Declares a region of this name.
+    /// The declaration of a region.
     Declared,
-    /// Uses a region of this name.
+    /// The use of a region.
     Used,
 }
 
-/// A name in the script, what is done with it, and the line.
+/// A name in the script, its use, and the line.
 #[derive(Clone, Copy)]
 pub struct Note<'a> {
-    /// What is done.
+    /// The use.
     pub what: Use,
     /// The name.
     pub name: &'a [u8],
@@ -45,7 +45,7 @@ pub struct Note<'a> {
     pub line: u32,
 }
 
-/// Where a statement stops being one of the grammar.
+/// An error in a statement.
 #[derive(Clone, Copy)]
 pub struct Stopped {
     /// The line on which the statement begins.
@@ -57,15 +57,15 @@ pub struct Stopped {
 /// The walk: the tokens to come, and what was noted on the way.
 #[derive(Drop)]
 pub struct Walk<'a> {
-    /// For what it keeps.
+    /// The allocator of what it keeps.
     pub alloc: Global,
     /// The tokens to come.
     pub tokens: Cursor<'a>,
     /// The line of the text's last token.
     pub last_line: u32,
-    /// What the script does with names, in the order of the text.
+    /// The uses of names, in the order of the text.
     pub notes: Vec<Note<'a>>,
-    /// The statements that are none, in the order of the text.
+    /// The errors in statements, in the order of the text.
     pub stops: Vec<Stopped>,
     /// Each misplaced `.`, in the order of the text.
     pub misplaced: Vec<Explanation>,
@@ -84,7 +84,7 @@ impl<'a> Walk<'a> {
         }
     }
 
-    /// Why the walk stops where the next token is wrong, or missing.
+    /// The error of a next token that is wrong or missing.
     pub fn wrong(&self, reason: &'static str) -> Stop {
         Stop::Wrong(if self.tokens.is_empty() {
             Explanation::at_end(self.last_line, reason)
@@ -93,7 +93,7 @@ impl<'a> Walk<'a> {
         })
     }
 
-    /// Notes what is done with a name on a line.
+    /// Notes the use of a name on a line.
     pub fn note(&mut self, what: Use, name: &'a [u8], line: u32) -> Result<(), Stop> {
         match self.notes.push(Note { what, name, line }) {
             Ok(()) => Ok(()),
@@ -109,7 +109,7 @@ impl<'a> Walk<'a> {
         }
     }
 
-    /// Whether a mark comes next, which is passed then.
+    /// Passes a mark if it comes next, and returns whether it did.
     pub fn passes(&mut self, mark: Mark) -> bool {
         match self.tokens.copy().mark(mark) {
             Some(rest) => {
@@ -129,7 +129,7 @@ impl<'a> Walk<'a> {
         }
     }
 
-    /// Whether this very word comes next in a mode, which is passed then.
+    /// Passes this word if it comes next in a mode, and returns whether it did.
     pub fn passes_key(&mut self, mode: Mode, word: &[u8]) -> bool {
         let rest = match mode {
             Mode::Expression => self.tokens.copy().this_name(word),
@@ -183,7 +183,7 @@ impl<'a> Walk<'a> {
         Ok(word)
     }
 
-    /// Notes the regions of `ORIGIN (NAME)` and `LENGTH (NAME)` among this number of tokens.
+    /// Notes the regions of `ORIGIN (NAME)` and `LENGTH (NAME)` among this many tokens.
     fn note_regions(&mut self, tokens: Cursor<'a>, count: usize) -> Result<(), Stop> {
         let mut rest = tokens;
         for _ in 0..count {
