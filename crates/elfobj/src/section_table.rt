@@ -63,8 +63,8 @@ fn has_wrong_bounds(bytes: &[u8], names: &SectionHeader, headers: &[SectionHeade
     names.sh_type != SHT_STRTAB || is_any_out_of_bounds(headers, bytes.len() as u64)
 }
 
-/// The linked sections of a file whose section headers are in bounds, or `SectionProfile` where one of them is outside
-/// the profile. The table of names is scanned once.
+/// The linked sections of a file whose section headers are in bounds, or `SectionProfile` if one of them is outside the
+/// profile. The table of names is scanned once.
 #[cold]
 #[inline(never)]
 fn looked_sections(
@@ -94,8 +94,8 @@ fn looked_sections(
     }
 }
 
-/// The linked sections of a file whose section headers are in bounds, or `SectionProfile` where one of them is outside
-/// the profile.
+/// The linked sections of a file whose section headers are in bounds, or `SectionProfile` if one of them is outside the
+/// profile.
 fn read_sections(
     alloc: Global,
     bytes: &[u8],

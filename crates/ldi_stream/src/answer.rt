@@ -52,7 +52,7 @@ fn write_answer<W: Sink>(sink: &mut W, word: &[u8], a: u64, b: u64) -> Result<()
 ///
 /// # Errors
 ///
-/// Where a call of `sink` failed: a beginning of the answer is written then.
+/// If a call of `sink` failed. A prefix of the answer is written then.
 pub fn write_linked<W: Sink>(sink: &mut W, linked: Linked) -> Result<(), WriteFault>
     ensures text { Writes (W.written sink.old) (W.written sink.new)
         (answer_line (codes "linked") linked.status linked.length) result }
@@ -66,7 +66,7 @@ pub fn write_linked<W: Sink>(sink: &mut W, linked: Linked) -> Result<(), WriteFa
 ///
 /// # Errors
 ///
-/// Where a call of `sink` failed: a beginning of the answer is written then.
+/// If a call of `sink` failed. A prefix of the answer is written then.
 pub fn write_refused<W: Sink>(sink: &mut W, refusal: EditRefusal) -> Result<(), WriteFault>
     ensures text { Writes (W.written sink.old) (W.written sink.new) (refused_line (refusal_of refusal)) result }
     ensures flushed { OnOk result (W.held sink.new ≡ []) }
@@ -81,7 +81,7 @@ pub fn write_refused<W: Sink>(sink: &mut W, refusal: EditRefusal) -> Result<(), 
 ///
 /// # Errors
 ///
-/// Where a call of `sink` failed: a beginning of the answer is written then.
+/// If a call of `sink` failed. A prefix of the answer is written then.
 #[tactic(auto, unfolding(ldmodel::specs::Answers::bytes_answer))]
 pub fn write_bytes<W: Sink>(sink: &mut W, bytes: &[u8]) -> Result<(), WriteFault>
     ensures text { Writes (W.written sink.old) (W.written sink.new) (bytes_answer bytes.now) result }
@@ -99,7 +99,7 @@ pub fn write_bytes<W: Sink>(sink: &mut W, bytes: &[u8]) -> Result<(), WriteFault
 ///
 /// # Errors
 ///
-/// Where a call of `sink` failed: a beginning of the answer is written then.
+/// If a call of `sink` failed. A prefix of the answer is written then.
 pub fn write_malformed<W: Sink>(sink: &mut W) -> Result<(), WriteFault>
     ensures text { Writes (W.written sink.old) (W.written sink.new) stream_line result }
     ensures flushed { OnOk result (W.held sink.new ≡ []) }

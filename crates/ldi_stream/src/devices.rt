@@ -89,7 +89,7 @@ impl<R: Read + Drop> CommandReader<R> {
     ///
     /// # Errors
     ///
-    /// Where there is no memory for the buffer.
+    /// If there is no memory for the buffer.
     #[tactic(auto, using(crate::proofs::KnownBuffers::rest_of_new))]
     pub fn new(alloc: Global, reader: R) -> Result<CommandReader<R>, NoMemory>
         ensures { IfOk result (λ input. input ≡ record { rest = R.remaining reader; failed = 0 }) }
@@ -146,7 +146,7 @@ impl<W: Write + Drop> AnswerWriter<W> {
     ///
     /// # Errors
     ///
-    /// Where there is no memory for the buffer.
+    /// If there is no memory for the buffer.
     pub fn new(alloc: Global, writer: W) -> Result<AnswerWriter<W>, NoMemory>
         ensures { IfOk result (λ output. output ≡ record { sent = W.contents writer; held = []; failed = 0 }) }
     {

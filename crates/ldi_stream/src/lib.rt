@@ -37,8 +37,8 @@ pub enum Status {
 ///
 /// # Errors
 ///
-/// `RunFault::Read` and `RunFault::Write` where a call of `source` or `sink` failed: nothing is read or written after
-/// it. `RunFault::Long` past 2^64 - 1 commands.
+/// `RunFault::Read` and `RunFault::Write` if a call of `source` or `sink` failed: nothing is read or written after it.
+/// `RunFault::Long` past 2^64 - 1 commands.
 pub fn run<R: Source, W: Sink, L: Linker>(
     alloc: Global,
     source: &mut R,

@@ -34,7 +34,7 @@ fn read_byte<R: Source>(source: &mut R) -> Result<Option<u8>, ReadFault>
 ///
 /// # Errors
 ///
-/// Where a read failed.
+/// If a read failed.
 pub fn read_line<R: Source>(source: &mut R, line: &mut [u8]) -> Result<LineEnd, ReadFault>
     requires { length line.old ≡ 512 }
     ensures read { LineRead (R.rest source.old) (R.rest source.new) line.new result }

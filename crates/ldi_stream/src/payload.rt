@@ -63,7 +63,7 @@ fn skip<R: Source>(source: &mut R, count: usize) -> Result<usize, ReadFault>
 ///
 /// # Errors
 ///
-/// Where a read failed.
+/// If a read failed.
 pub fn read_payload<R: Source>(
     alloc: Global,
     source: &mut R,

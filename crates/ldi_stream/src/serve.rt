@@ -170,7 +170,7 @@ fn serve_bad<W: Sink>(sink: &mut W) -> Result<ServeStep, RunFault>
 ///
 /// # Errors
 ///
-/// Where a call of `source` or `sink` failed.
+/// If a call of `source` or `sink` failed.
 pub fn serve_one<R: Source, W: Sink, L: Linker>(
     alloc: Global,
     source: &mut R,

@@ -7,7 +7,7 @@ use elfobj::section::SectionIndex;
 /// against it have the same fields.
 #[derive(Clone, Copy, Debug, PartialEq, Eq)]
 pub enum Target {
-    /// A name: its number is its value, 0 where nothing defines it.
+    /// A name: its number is its value, 0 if nothing defines it.
     Name(NameKey),
     /// A section of an object, for a local symbol in it: its number is where the section starts.
     Section(ObjectPlace, SectionIndex),

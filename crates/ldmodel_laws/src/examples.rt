@@ -55,7 +55,7 @@ pub fn live_by_example()
 {}
 
 /// Names: of common entries the first owns the block, which has the greatest size and alignment; a second global
-/// definition is a fault; a PROVIDE holds where an object has an undefined entry, and gives way to a definition.
+/// definition is a fault; a PROVIDE holds if an object has an undefined entry, and gives way to a definition.
 pub fn names_by_example()
     ensures commons { decision (of_symbols (common 4 8 (codes "buf")) (common 16 4 (codes "buf"))) (codes "buf")
         ≡ Common (record { object = 0; symbol = 1 }) 16 8 }

@@ -149,7 +149,7 @@ impl Script {
     ///
     /// # Errors
     ///
-    /// The first refusal that applies, or `NoMemory` where memory runs out.
+    /// The first refusal that applies, or `NoMemory` if memory runs out.
     pub fn read(alloc: Global, text: &[u8]) -> Result<Script, ScriptRefusal>
         ensures read { IfOk result (λ script. IsScript text.now script) }
         ensures refused { IfErr result (λ refusal. IsRefusal text.now refusal) }

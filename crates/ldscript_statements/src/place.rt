@@ -1,6 +1,6 @@
-//! Where an input statement stands.
+//! The place of an input statement.
 
-/// Where an input statement stands.
+/// The place of an input statement.
 #[derive(Clone, Copy, Debug, PartialEq, Eq)]
 pub enum InputPlace {
     /// In the output section with this number.

@@ -42,7 +42,7 @@ impl<T: Drop> Sequence<T> {
     ///
     /// # Errors
     ///
-    /// Where memory runs out.
+    /// If memory runs out.
     pub fn push(&mut self, element: T) -> Result<(), AllocError>
         ensures { OnOk result (self.new ≡ self.old ++ element ∷ []) }
     {

@@ -61,7 +61,7 @@ impl Pattern {
     ///
     /// # Errors
     ///
-    /// Where memory runs out.
+    /// If memory runs out.
     pub fn read(alloc: Global, word: &[u8]) -> Result<Option<Pattern>, AllocError>
         ensures { IfOk result (λ found. MatchOption found ((parts : List Part) → SpellsPattern parts word.now → ⊥)
             (λ parts. IsPatternOf word.now parts)) }

@@ -52,7 +52,7 @@ impl ScriptName {
     ///
     /// # Errors
     ///
-    /// Where memory runs out.
+    /// If memory runs out.
     pub fn new(alloc: Global, bytes: &[u8]) -> Result<ScriptName, AllocError>
         ensures { IfOk result (λ n. n ≡ bytes.now) }
     {

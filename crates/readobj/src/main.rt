@@ -7,9 +7,9 @@
 //!       PLACE (NAME): REASON
 //!         to do: ADVICE
 //!
-//! on standard output, the last where there is advice. A line `warning: ..` says that an object has no code, as gcc
-//! made it for link-time optimization alone. Sections and relocations are the linked ones, symbols the entries of the
-//! symbol table from entry 0 on. N after `refused 4` is the reader's number; a file that is too long for `ldi` is
+//! on standard output, the last if there is advice. A line `warning: ..` says that an object has no code, as gcc made
+//! it for link-time optimization alone. Sections and relocations are the linked ones, symbols the entries of the symbol
+//! table from entry 0 on. N after `refused 4` is the reader's number; a file that is too long for `ldi` is
 //! `refused 6 0`. It ends with status 0 if the file is an object, with 1 if it is refused, with 2 if there are more
 //! words, with 3 if the file cannot be read or standard output cannot be written, and with 4 out of memory.
 //!

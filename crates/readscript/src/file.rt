@@ -43,7 +43,7 @@ fn print_refused<W: Write>(
 ///
 /// # Errors
 ///
-/// Where the lines cannot be written; of kind `OutOfMemory` where memory runs out.
+/// If the lines cannot be written; of kind `OutOfMemory` if memory runs out.
 pub fn show_file<W: Write>(alloc: Global, out: &mut W, file: &NamedFile) -> io::Result<u8> {
     if file.is_too_long() {
         print_too_long(out, file.name.as_str())?;

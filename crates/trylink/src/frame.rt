@@ -17,7 +17,7 @@ pub enum Kind {
     Sum,
     /// What each edit counts in a session.
     Counts,
-    /// The answers where a call of a device fails, which gives one byte or takes some.
+    /// The answers if a call of a device fails; a read gives one byte, a write takes some.
     Devices,
     /// The same of devices that take a byte a call, a few, and all.
     Steps,
@@ -34,7 +34,7 @@ pub struct Frame<'a> {
     pub kind: Kind,
     /// What the frame's line begins with: the word for that, and the name.
     pub title: (&'a str, &'a str),
-    /// The words after `ldi session`, one space between each two; `None` where there is none.
+    /// The words after `ldi session`, one space between each two; `None` if there is none.
     pub words: Option<&'a str>,
     /// The bytes, without those that `repeats` adds.
     stored: &'a [u8],
@@ -71,7 +71,7 @@ fn read_length(word: &str) -> Option<(usize, usize)> {
     }
 }
 
-/// The first frame of these bytes, and the bytes after it; `None` where they begin with none.
+/// The first frame of these bytes, and the bytes after it; `None` if they begin with none.
 pub fn split_frame(input: &[u8]) -> Option<(Frame<'_>, &[u8])> {
     let (line, rest) = split_line(input)?;
     let (word, line) = str::from_utf8(line).ok()?.split_once(' ')?;
@@ -115,7 +115,7 @@ impl Frame<'_> {
         Ok(args)
     }
 
-    /// The options that the words ask for; `None` where these are refused.
+    /// The options that the words ask for; `None` if these are refused.
     pub fn options(&self, alloc: Global) -> Result<Option<Options>, AllocError> {
         let args = self.command_line(alloc)?;
         match words(alloc, &args) {

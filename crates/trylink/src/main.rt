@@ -17,7 +17,8 @@
 //!
 //! For each frame it prints `stream NAME WORDS..`, and then each command (`printing::print_command`) and under it its
 //! answer. That of a map or of fault lines has the text; that of an image goes on with a checksum (`answer::checksum`).
-//! Then it prints `status S`, and `same` where all ways give one status and the same bytes, or else where they differ.
+//! Then it prints `status S`, and `same` if all ways give one status and the same bytes, or else the place where they
+//! differ.
 //!
 //! For a frame of `counts` it prints each edit, its answer, and how many objects it read, names it decided, input
 //! sections it placed, relocations it evaluated and bytes of the image it wrote.

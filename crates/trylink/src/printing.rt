@@ -7,14 +7,14 @@ const LONGEST_LINE: usize = 100;
 /// Of what length a script is shown at most.
 const LONGEST_SCRIPT: usize = 2000;
 
-/// A line feed where bytes are shown in one line.
+/// A line feed, if bytes are shown in one line.
 pub const IN_LINE: &str = "<0a>";
-/// A line feed where lines are shown as lines.
+/// A line feed, if lines are shown as lines.
 pub const AS_LINES: &str = "\n";
-/// A line feed where each line is shown after a bar.
+/// A line feed, if each line is shown after a bar.
 const AFTER_BARS: &str = "\n| ";
 
-/// The first line of these bytes, and what follows its line feed; `None` where they have none.
+/// The first line of these bytes, and what follows its line feed; `None` if they have none.
 pub fn split_line(bytes: &[u8]) -> Option<(&[u8], &[u8])> {
     let end = bytes.iter().position(|b| *b == b'\n')?;
     Some((&bytes[..end], &bytes[end + 1..]))

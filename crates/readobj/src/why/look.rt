@@ -23,7 +23,7 @@ pub fn part(bytes: &[u8], offset: u64, size: usize) -> Option<&[u8]>
     rest.get(..size)
 }
 
-/// A section header, by its number; NULL where there is none.
+/// A section header, by its number; NULL if there is none.
 pub fn header(bytes: &[u8], number: u16) -> SectionHeader {
     if number == 0 || bytes.len() < usize::from(EHDR_SIZE) {
         return NULL_HEADER;

@@ -9,7 +9,7 @@ use std::alloc::{AllocError, Global};
 ///
 /// # Errors
 ///
-/// Where memory runs out.
+/// If memory runs out.
 pub fn warnings(alloc: Global, script: &Script) -> Result<Vec<Warning<'_>>, AllocError> {
     let mut reading = Reading::new(alloc);
     for statement in script.statements() {

@@ -157,7 +157,7 @@ fn too_long(alloc: Global) -> Result<Survey<'static>, AllocError> {
 ///
 /// # Errors
 ///
-/// Where memory runs out.
+/// If memory runs out.
 pub fn explain(alloc: Global, text: &[u8]) -> Result<Survey<'_>, AllocError> {
     if text.len() > MAX_TEXT {
         return too_long(alloc);

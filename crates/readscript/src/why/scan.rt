@@ -295,7 +295,7 @@ fn add_findings<'a>(
 ///
 /// # Errors
 ///
-/// Where memory runs out.
+/// If memory runs out.
 pub fn scan(alloc: Global, text: &[u8]) -> Result<Vec<Finding<'_>>, AllocError> {
     let mut found = Vec::new(alloc);
     let mut context = Context::new();
