@@ -35,9 +35,9 @@ pub const PF_W: u32 = 2;
 /// The segment may be read, in `p_flags`.
 pub const PF_R: u32 = 4;
 
-/// An unused header.
+/// An unused section header, in `sh_type`.
 pub const SHT_NULL: u32 = 0;
-/// Contents of the program.
+/// Contents defined by the program: code or data.
 pub const SHT_PROGBITS: u32 = 1;
 /// The symbol table.
 pub const SHT_SYMTAB: u32 = 2;
@@ -47,7 +47,7 @@ pub const SHT_STRTAB: u32 = 3;
 pub const SHT_RELA: u32 = 4;
 /// Notes.
 pub const SHT_NOTE: u32 = 7;
-/// Space without bytes in the file.
+/// Zeros, without bytes in the file.
 pub const SHT_NOBITS: u32 = 8;
 /// Relocations without addends.
 pub const SHT_REL: u32 = 9;
@@ -73,14 +73,14 @@ pub const SHF_STRINGS: u64 = 0x20;
 /// All flags that an allocated section may have: WRITE, ALLOC, EXECINSTR, MERGE and STRINGS.
 pub const PROFILE_FLAGS: u64 = SHF_WRITE | SHF_ALLOC | SHF_EXECINSTR | SHF_MERGE | SHF_STRINGS;
 
-/// Binding of a symbol: inside its object alone.
+/// Binding of a symbol: local to its object.
 pub const STB_LOCAL: u8 = 0;
-/// Binding of a symbol: in all objects.
+/// Binding of a symbol: global.
 pub const STB_GLOBAL: u8 = 1;
-/// Binding of a symbol: in all objects, with less weight.
+/// Binding of a symbol: weak.
 pub const STB_WEAK: u8 = 2;
 
-/// Type of a symbol: not said.
+/// Type of a symbol: none given.
 pub const STT_NOTYPE: u8 = 0;
 /// Type of a symbol: data.
 pub const STT_OBJECT: u8 = 1;
@@ -93,11 +93,11 @@ pub const STT_FILE: u8 = 4;
 /// Type of a symbol: data of a common block.
 pub const STT_COMMON: u8 = 5;
 
-/// Section number of a symbol that the object does not define.
+/// Section index of an undefined symbol.
 pub const SHN_UNDEF: u16 = 0;
-/// Section number of a symbol whose value is a number.
+/// Section index of an absolute symbol.
 pub const SHN_ABS: u16 = 0xfff1;
-/// Section number of a symbol in a common block.
+/// Section index of a common block.
 pub const SHN_COMMON: u16 = 0xfff2;
 
 /// Type of a relocation: nothing.
@@ -108,9 +108,9 @@ pub const R_X86_64_64: u32 = 1;
 pub const R_X86_64_PC32: u32 = 2;
 /// Type of a relocation: L + A - P in 4 bytes.
 pub const R_X86_64_PLT32: u32 = 4;
-/// Type of a relocation: S + A in 4 bytes, without a sign.
+/// Type of a relocation: S + A in 4 bytes, zero-extended.
 pub const R_X86_64_32: u32 = 10;
-/// Type of a relocation: S + A in 4 bytes, with a sign.
+/// Type of a relocation: S + A in 4 bytes, sign-extended.
 pub const R_X86_64_32S: u32 = 11;
 /// Type of a relocation: S + A in 2 bytes.
 pub const R_X86_64_16: u32 = 12;

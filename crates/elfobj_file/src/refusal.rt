@@ -1,8 +1,7 @@
 //! Why bytes are no object of the profile.
 
-/// Why `Object::read` refuses. The numbers from 1 to 13 belong to conditions on the bytes, in the order of the tests:
-/// the lowest whose condition holds is answered. `NoMemory` is no condition on the bytes, and may stand in the place of
-/// any answer that the ELF header alone does not give. It has the last number, 14, so that each refusal has a number.
+/// Why `Object::read` refuses. 1 to 13 are conditions on the bytes, in the order of the tests: the lowest one that
+/// holds is answered. `NoMemory` may replace any answer but 1 to 5, which the ELF header alone gives.
 #[derive(Clone, Copy, Debug, PartialEq, Eq)]
 pub enum ObjectRefusal {
     /// 1: fewer bytes than an ELF header has.
@@ -20,13 +19,12 @@ pub enum ObjectRefusal {
     SectionBounds,
     /// 7: an allocated section with a type, a flag or a name that the profile does not have.
     SectionProfile,
-    /// 8: two symbol tables; or one whose header is wrong, or whose local entries don't all stand before the
-    /// others.
+    /// 8: two symbol tables; or one whose header is wrong, or whose local entries are not all before the others.
     SymbolTable,
     /// 9: a symbol with a binding, a type, a section, a name or a common block that the profile does not have.
     Symbol,
     /// 10: a relocation section whose `sh_info` is no header's number; or one of a linked section that has no addends,
-    /// is the second, has a wrong header, or names a symbol that isn't there.
+    /// is the second, has a wrong header, or has an entry of a symbol that isn't there.
     RelocationSection,
     /// 11: a relocation of a linked section whose type the profile does not have.
     RelocationType,

@@ -5,11 +5,11 @@ use crate::constants::{
     R_X86_64_PC16, R_X86_64_PC32, R_X86_64_PC64, R_X86_64_PLT32,
 };
 
-/// The number of a symbol in its table, from 0.
+/// The index of a symbol in its table.
 #[derive(Clone, Copy, Debug, PartialEq, Eq)]
 pub struct SymbolIndex(pub u32);
 
-/// What a relocation does, by the psABI's name without `R_X86_64_`.
+/// The type of a relocation, by the psABI's name without `R_X86_64_`.
 #[derive(Clone, Copy, Debug, PartialEq, Eq)]
 pub enum RelocationKind {
     /// `R_X86_64_NONE`: nothing.
@@ -20,9 +20,9 @@ pub enum RelocationKind {
     Pc32,
     /// `R_X86_64_PLT32`: in a static link the same as `PC32`.
     Plt32,
-    /// `R_X86_64_32`: S + A in 4 bytes, without a sign.
+    /// `R_X86_64_32`: S + A in 4 bytes, zero-extended.
     Abs32,
-    /// `R_X86_64_32S`: S + A in 4 bytes, with a sign.
+    /// `R_X86_64_32S`: S + A in 4 bytes, sign-extended.
     Abs32Signed,
     /// `R_X86_64_16`: S + A in 2 bytes.
     Abs16,
@@ -82,7 +82,7 @@ impl RelocationKind {
         }
     }
 
-    /// How many bytes it changes: 8, 4, 2, 1, or 0 for `None`.
+    /// The width of its field in bytes: 8, 4, 2, 1, or 0 for `None`.
     pub fn width(self) -> u64
         ensures { result ≡ width self }
     {
@@ -102,11 +102,11 @@ impl RelocationKind {
 /// An entry of a RELA section.
 #[derive(Clone, Copy, Debug, PartialEq, Eq)]
 pub struct Relocation {
-    /// `r_offset`: where its field begins in the section that it changes.
+    /// `r_offset`: where its field begins in its section.
     pub offset: u64,
-    /// The number of the symbol that it names.
+    /// The index of its symbol.
     pub symbol: SymbolIndex,
-    /// What it does.
+    /// Its type.
     pub kind: RelocationKind,
     /// `r_addend`: the constant A.
     pub addend: i64,

@@ -5,15 +5,15 @@ use crate::constants::{
     SHT_X86_64_UNWIND,
 };
 
-/// The number of a section header in its table, from 0.
+/// The index of a section header in its table.
 #[derive(Clone, Copy, Debug, PartialEq, Eq)]
 pub struct SectionIndex(pub u16);
 
-/// The place of a linked section among the linked sections of its object, from 0.
+/// The index of a linked section among the linked sections of its object.
 #[derive(Clone, Copy, Debug, PartialEq, Eq)]
 pub struct LinkedIndex(pub usize);
 
-/// What a linked section holds, by its `sh_type`.
+/// The kind of a linked section, by its `sh_type`.
 #[derive(Clone, Copy, Debug, PartialEq, Eq)]
 pub enum SectionKind {
     /// `SHT_PROGBITS`: code or data.
@@ -36,7 +36,7 @@ impl SectionKind {
     ghost use Rattle.std.specs.Prelude.{◌≡◌};
     ghost use Rattle.elfobj_file.specs.SectionKinds.{kind_of};
 
-    /// What a section of this `sh_type` holds, if it is a type that is linked.
+    /// The kind of sections of this `sh_type`, if they are linked.
     #[tactic(auto, unfolding(crate::specs::SectionKinds::kind_of))]
     pub fn of_type(sh_type: u32) -> Option<SectionKind>
         ensures { result ≡ kind_of sh_type }
@@ -57,13 +57,13 @@ impl SectionKind {
 /// A linked section: one with `SHF_ALLOC` and one of the types of `SectionKind`.
 #[derive(Clone, Copy, Debug, PartialEq, Eq)]
 pub struct Section {
-    /// The number of the section among the section headers.
+    /// The index of its section header.
     pub number: SectionIndex,
-    /// What it holds.
+    /// Its kind.
     pub kind: SectionKind,
     /// `sh_flags`: `SHF_ALLOC`, with any of `SHF_WRITE`, `SHF_EXECINSTR`, `SHF_MERGE`, `SHF_STRINGS`.
     pub flags: u64,
-    /// `sh_size`: how many bytes it takes in memory, at most 2^31.
+    /// `sh_size`: its size in memory in bytes, at most 2^31.
     pub size: u64,
     /// `sh_addralign`: 0 or a power of two.
     pub alignment: u64,

@@ -6,14 +6,14 @@ use crate::constants::{
 };
 use crate::section::SectionIndex;
 
-/// How far a symbol is visible, `ELF64_ST_BIND` of `st_info`.
+/// The binding of a symbol, `ELF64_ST_BIND` of `st_info`.
 #[derive(Clone, Copy, Debug, PartialEq, Eq)]
 pub enum Binding {
-    /// `STB_LOCAL`: inside its object alone.
+    /// `STB_LOCAL`: visible only in its object.
     Local,
-    /// `STB_GLOBAL`: in all objects; a definition that isn't common is strong.
+    /// `STB_GLOBAL`: visible in all objects; a definition that isn't common is strong.
     Global,
-    /// `STB_WEAK`: in all objects; a definition gives way to a strong one.
+    /// `STB_WEAK`: visible in all objects; a definition gives way to a strong one.
     Weak,
 }
 
@@ -38,7 +38,7 @@ impl Binding {
 /// The type of a symbol, `ELF64_ST_TYPE` of `st_info`.
 #[derive(Clone, Copy, Debug, PartialEq, Eq)]
 pub enum SymbolKind {
-    /// `STT_NOTYPE`: not said.
+    /// `STT_NOTYPE`: none given.
     NoType,
     /// `STT_OBJECT`: data.
     Object,
@@ -78,7 +78,7 @@ impl SymbolKind {
 pub enum SymbolPlace {
     /// `SHN_UNDEF`: not in this object.
     Undefined,
-    /// `SHN_ABS`: nowhere; its value is a number.
+    /// `SHN_ABS`: absolute; its value is a number.
     Absolute,
     /// `SHN_COMMON`: in a common block that the linker makes, whatever its type is.
     Common,
@@ -89,7 +89,7 @@ pub enum SymbolPlace {
 /// An entry of the symbol table.
 #[derive(Clone, Copy, Debug, PartialEq, Eq)]
 pub struct Symbol {
-    /// How far it is visible.
+    /// Its binding.
     pub binding: Binding,
     /// Its type.
     pub kind: SymbolKind,

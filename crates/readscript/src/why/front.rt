@@ -51,7 +51,7 @@ const PATTERN_MARKS: [(&[u8], Mark); 7] = [
     (b"=", Mark::Assign),
 ];
 
-/// What stands at the front of a text.
+/// What is at the front of a text.
 #[derive(Clone, Copy)]
 pub enum Ahead {
     /// The end of the text.
