@@ -1,6 +1,6 @@
 -- A table of places that is filled key by key.
-use Rattle.std.proofs.Common.{◌≡◌, ◌∙◌, ℕ, zero, suc, ◌+◌, ◌++◌, ◌<◌, ◌≤◌, List, [], length, get_or, take}
-use Rattle.std.proofs.Common.{refl, ap, sym, arith, Bool, true, false, cond, replicate, subst}
+use Rattle.std.proofs.Common.{◌≡◌, ◌∙◌, ℕ, ◌+◌, ◌<◌, ◌≤◌, List, [], length, get_or, take}
+use Rattle.std.proofs.Common.{refl, ap, sym, arith, Bool, true, false, cond, subst}
 use Rattle.std.specs.Prelude.{nat_eq, Option, Some, None, MatchOption, position}
 use Rattle.std.specs.List.{count_by, remove}
 use Rattle.std.proofs.lemmas.Bool.{eqb-true, eq-eqb}
@@ -22,25 +22,9 @@ IsPlaceOf keys n k place =
 abbrev pub HasFirst : List ℕ → ℕ → List (Option ℕ) → Type 0
 HasFirst keys n places = (k : ℕ) → IsPlaceOf keys n k (get_or places k None)
 
-abbrev nowhere : Option ℕ
-nowhere = None
-
-none_at : (n k : ℕ) → get_or (replicate n nowhere) k nowhere ≡ nowhere
-none_at zero k = refl
-none_at (suc n) zero = refl
-none_at (suc n) (suc k) = none_at n k
-
-take_none : (m : ℕ) → take m (replicate 0 nowhere) ≡ []
-take_none zero = refl
-take_none (suc m) = refl
-
 -- a table of no places
-pub first_empty : (keys : List ℕ) (old new : List (Option ℕ)) (m n : ℕ) → old ≡ []
-    → new ≡ take m old ++ replicate n None → HasFirst keys 0 new
-first_empty keys old new m n empty is k =
-    let all : new ≡ replicate n None = is ∙ ap (λ l. take m l ++ replicate n None) empty
-    ∙ ap (λ l. l ++ replicate n None) (take_none m) in
-    subst (IsPlaceOf keys 0 k) (sym (ap (λ l. get_or l k None) all ∙ none_at n k)) refl
+pub first_empty : (keys : List ℕ) (places : List (Option ℕ)) → places ≡ [] → HasFirst keys 0 places
+first_empty keys places empty k = subst (λ (table : List (Option ℕ)). IsPlaceOf keys 0 k (get_or table k None)) (sym empty) refl
 
 pub first_more : (keys : List ℕ) (n key : ℕ) (old new : List (Option ℕ)) → n < length keys → get_or keys n 0 ≡ key
     → HasFirst keys n old → IsNoted old new key n → HasFirst keys (n + 1) new

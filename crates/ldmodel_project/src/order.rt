@@ -30,7 +30,8 @@ impl Model for Order {
     ghost invariant = { λ o. AreKeysDistinct o.keys.items × HasPlaces o.keys.items o.places.items };
 }
 
-/// Notes where a key stands. Where the table has no place for the key, it grows so that the key's is the last.
+/// Notes where a key stands. Where the table has no place for the key, it grows so that the key's is the last: for keys
+/// that ascend from 0 on by one place each.
 fn note_place(places: &mut Vec<Option<usize>>, key: usize, place: usize) -> Result<(), NoMemory>
     ensures { OnOk result (IsNoted places.old.items places.new.items key place) }
 {
@@ -52,9 +53,8 @@ pub fn places_of(alloc: Global, keys: &[usize]) -> Result<Vec<Option<usize>>, No
     requires { AreKeysDistinct keys.now }
     ensures { IfOk result (λ places. HasPlaces keys.now places.items) }
 {
-    let mut places = Vec::new(alloc);
     // the greatest key asks for as many, since no two keys are the same
-    places.resize(keys.len(), None)?;
+    let mut places = Vec::with_capacity(alloc, keys.len())?;
     for (place, key) in keys.iter().enumerate() {
         note_place(&mut places, *key, place)?;
     }

@@ -3,9 +3,7 @@ use Rattle.ldmodel_project.proofs.Noting.{first_empty, has_places}
 use Rattle.ldmodel_project.proofs.order.places_of.Goals as goal
 
 pub loop-place-init : goal.loop-place-init
-loop-place-init c =
-    first_empty c.args.keys.now c.new-places.result.items c.resize.new.self.items _ _ c.new-places.ensures.items
-    c.in_ok-resize.ensures.items
+loop-place-init c = first_empty c.args.keys.now c.in_ok-places.places.items c.in_ok-places.ensures.items
 
 pub returns : goal.returns
 returns c =
