@@ -17,6 +17,10 @@ abbrev pub slot_of : List Slots → ℕ → ℕ → Option ℕ
 slot_of slots n k =
     if nat_lt k (slots_of slots n).count then Some ((slots_of slots n).begin + k) else None
 
+-- the header numbers of object number n, of which number k has the number that is k past the first
+abbrev pub slots_at : InputSectionTable → ℕ → Slots
+slots_at t n = slots_of t.objects.items n
+
 -- the number of a common block
 abbrev pub block_of : InputSectionTable → ℕ → ℕ → Option ℕ
 block_of t n x = option_map (λ (j : ℕ). t.slots + j) (position (is_ranked (n, true, x)) t.blocks.items)

@@ -15,6 +15,7 @@ use ldmodel::names::ObjectPlace;
 use ldmodel::sections::Part;
 use ldmodel_project::view::ProjectView;
 use std::alloc::Global;
+use std::ops::Range;
 
 /// The number of an input section of a link, under which each phase has a column. The header numbers of all objects
 /// come first, those of each object after those of the one before, and then the common blocks, in the order of objects
@@ -39,7 +40,7 @@ pub struct InputSectionTable {
 impl InputSectionTable {
     ghost use Rattle.gather_sections.specs.SectionTable.{AreBlockRanks, IsTableOf, block_of, len_of, linked_of};
     ghost use Rattle.gather_sections.specs.SectionTable.{number_of};
-    ghost use Rattle.gather_sections.specs.SectionTable.{slot_of};
+    ghost use Rattle.gather_sections.specs.SectionTable.{slot_of, slots_at};
 
     /// The numbers of the input sections of a project, whose common blocks have these ranks. The time grows with the
     /// numbers of objects and of common blocks.
@@ -76,6 +77,21 @@ impl InputSectionTable {
         Some(slots.linked)
     }
 
+    /// The numbers of the sections of an object, by their header numbers up to that of the last linked one; none for an
+    /// object that is not there.
+    pub fn numbers_of(&self, object: ObjectPlace) -> Range<usize>
+        ensures start { result.start ≡ (slots_at self.now object.0).begin }
+        ensures end { result.end ≡ (slots_at self.now object.0).begin + (slots_at self.now object.0).count }
+    {
+        match self.objects.get(object.0) {
+            None => 0..0,
+            Some(slots) => {
+                let begin = slots.begin as usize;
+                begin..begin + slots.count as usize
+            }
+        }
+    }
+
     /// How many numbers there are.
     pub fn len(&self) -> u32
         ensures { result ≡ len_of self.now }
@@ -84,6 +100,7 @@ impl InputSectionTable {
     }
 
     /// The number of a section of an object.
+    #[inline(always)]
     fn find_slot(&self, object: ObjectPlace, section: SectionIndex) -> Option<SectionNumber>
         ensures is { option_map (λ i. i.0) result ≡ slot_of self.now.objects.items object.0 section.0 }
         ensures below { IfSome result (λ i. i.0 < self.now.slots) }
@@ -97,7 +114,8 @@ impl InputSectionTable {
         }
     }
 
-    /// The number of the common block of a symbol of an object.
+    /// The number of the common block of a symbol of an object. It stays out of the loops that `find` is compiled into.
+    #[inline(never)]
     fn find_block(&self, object: ObjectPlace, symbol: SymbolIndex) -> Option<SectionNumber>
         ensures is { option_map (λ i. i.0) result ≡ block_of self.now object.0 symbol.0 }
         ensures below { IfSome result (λ i. i.0 < len_of self.now) }
@@ -108,6 +126,7 @@ impl InputSectionTable {
 
     /// The number of a part of an object, if it is in the link. For a section the time is constant, for a common block
     /// it is logarithmic in the number of common blocks.
+    #[inline(always)]
     pub fn find(&self, object: ObjectPlace, part: Part) -> Option<SectionNumber>
         ensures is { option_map (λ i. i.0) result ≡ number_of self.now object.0 part }
         ensures below { IfSome result (λ i. i.0 < len_of self.now) }
