@@ -1,6 +1,6 @@
 //! The parts of a layout that is whole, handed on.
 
-ghost use Rattle.std.specs.Prelude.{◌≡◌, ◌++◌, map, IfOk, OnOk};
+ghost use Rattle.std.specs.Prelude.{◌≡◌, ◌++◌, ◌∷◌, [], map, IfOk, OnOk};
 ghost use Rattle.ldmodel.specs.PlacementView.{data_of, region_of as region_numbers};
 ghost use Rattle.place_terms.specs.Keyed.{KeyedPiece, data_at_of};
 ghost use Rattle.place_terms.specs.RegionTable.{region_of};
@@ -25,12 +25,25 @@ pub fn numbers_of(alloc: Global, parts: SectionParts<'_, '_>) -> Result<Vec<Plac
     Ok(list)
 }
 
+/// Adds an address to the end of a list. Room was made for it, so the code that grows a list stays out of the loop.
+#[inline(always)]
+fn push_start(list: &mut Vec<u64>, start: u64) -> Result<(), AllocError>
+    ensures { OnOk result (list.new.items ≡ list.old.items ++ start ∷ []) }
+{
+    if list.len() < list.capacity() {
+        list.push_reserved(start);
+        return Ok(());
+    }
+    list.push(start)?;
+    Ok(())
+}
+
 fn add_starts(list: &mut Vec<u64>, pieces: &[PieceAt<'_>]) -> Result<(), AllocError>
     ensures { OnOk result (list.new.items ≡ list.old.items
         ++ map (λ (x : KeyedPiece). x.start) (map keyed_piece pieces.now)) }
 {
     for at in pieces {
-        list.push(at.start)?;
+        push_start(list, at.start)?;
     }
     Ok(())
 }
