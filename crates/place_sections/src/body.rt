@@ -20,6 +20,7 @@ use place_terms::sections::{DataAt, PieceAt};
 
 impl<'d, 'a> CurrentOutput<'d, 'a> {
     /// Places the next entry of the row at `start`.
+    #[inline(always)]
     #[tactic(auto, unfolding(ldmodel::specs::Placement::piece_placed))]
     fn put_piece(
         &self,
@@ -52,6 +53,7 @@ impl<'d, 'a> CurrentOutput<'d, 'a> {
     }
 
     /// Places the next entry of the row anew.
+    #[inline(always)]
     #[tactic(auto, unfolding(ldmodel::specs::Placement::piece_placed))]
     fn place_piece(
         &self,
