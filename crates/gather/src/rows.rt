@@ -51,14 +51,28 @@ fn counts(
     Ok(counts)
 }
 
+/// Adds a piece to the end of a list. Room was made for it, so the code that grows a list stays out of callers' loops.
+#[inline(always)]
+fn push_piece(list: &mut Vec<Piece>, piece: Piece) -> Result<(), NoMemory>
+    ensures { OnOk result (list.new.items ≡ list.old.items ++ piece ∷ []) }
+{
+    if list.len() < list.capacity() {
+        list.push_reserved(piece);
+        return Ok(());
+    }
+    list.push(piece)?;
+    Ok(())
+}
+
 /// Adds a piece to those of its statement.
+#[inline(always)]
 pub(crate) fn add_piece(buckets: &mut Vec<Vec<Piece>>, piece: Piece) -> Result<(), NoMemory>
     ensures { OnOk result ((xs : List Piece) (count : ℕ) → AreBuckets xs count buckets.old.items
         → AreBuckets (xs ++ piece ∷ []) count buckets.new.items) }
 {
     let number = piece.statement.0 as usize;
     if number < buckets.len() {
-        buckets[number].push(piece)?;
+        push_piece(&mut buckets[number], piece)?;
     }
     Ok(())
 }

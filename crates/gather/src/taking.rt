@@ -41,6 +41,7 @@ pub(crate) struct Taken {
 }
 
 /// Takes a section, unless it is discarded.
+#[inline(always)]
 fn take_section(
     taken: &mut Taken,
     statements: &[InputStatementAt<'_>],
