@@ -15,7 +15,7 @@ use Rattle.symres_decisions.specs.Change.{reversed}
 use Rattle.symres_decisions.specs.Change.{put_in, symbols_at, symbols_or}
 use Rattle.symres_decisions.specs.Counted.{CountsNames}
 use Rattle.symres_decisions.specs.Decided.{AreCases, HasCase, case_at}
-use Rattle.symres_decisions.specs.Decisions.{AreUsedIf, IsNoted, IsWhole}
+use Rattle.symres_decisions.specs.Decisions.{AreUsedIf, IsNoted, IsTextOf, IsWhole}
 use Rattle.symres_decisions.specs.Texts.{AreDone, AreFound, AreOpen, DecidedFor, HasPlaces, IsCleared, declares}
 use Rattle.symres_decisions.specs.Texts.{touches}
 use Rattle.symres_decisions.specs.declared.change.ObjectAt.{ObjectAt}
@@ -24,6 +24,8 @@ use Rattle.symres_decisions.specs.declared.texts.KeySource.TheVariants as source
 use Rattle.symres_decisions.proofs.Clearing.{none_cleared}
 use Rattle.symres_decisions.proofs.Exchanging.{Law, in_names, in_objects, in_order, out_names, out_objects, out_order}
 use Rattle.symres_decisions.proofs.Exchanging.{room_back}
+use Rattle.symres_decisions.proofs.Listed.{Listed}
+use Rattle.symres_decisions.proofs.MakingRoom.{text_same}
 use Rattle.symres_decisions.proofs.OneName.{raised_twice}
 use Rattle.symres_decisions.proofs.Tables.{fits_back}
 use Rattle.symres_decisions.specs.Room.{HaveEntries}
@@ -166,6 +168,10 @@ module _ (script : List Statement) (c : ObjectChange) (s0 s1 s2 : State)
   noted_after noted is sure =
       subst IsInByteOrder
       (sym (in_order s1 s2 c.key.0 c.into h.into ∙ out_order s0 s1 c.key.0 c.out h.out)) (is sure)
+
+  pub text_after : (text : Option (List Listed)) → IsTextOf s0 text → IsTextOf s2 text
+  text_after text is =
+      text_same s0 s2 text (in_order s1 s2 c.key.0 c.into h.into ∙ out_order s0 s1 c.key.0 c.out h.out) is
 
   pub counted_after : CountsNames m0 m2 (declared_by c.out ++ declared_by c.into)
   counted_after =

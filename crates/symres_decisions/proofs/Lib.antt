@@ -15,5 +15,5 @@ pub mod Touched
 pub mod Changed
 pub mod MakingRoom
 pub mod ProjectNames
-mod SameCases
 pub mod Used
+pub mod Written

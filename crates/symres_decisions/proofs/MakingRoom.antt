@@ -3,7 +3,7 @@ use Rattle.std.proofs.Common.{◌≡◌, ◌∙◌, ◌<◌, ◌≤◌, ◌+◌,
 use Rattle.std.proofs.Common.{length, filter}
 use Rattle.std.proofs.Common.{Option, Some, None, Result, Ok, Err, OnOk, get_or, set, drop, refl, ap, sym, subst, arith}
 use Rattle.std.proofs.Common.{⊎_elim, ◌⊎◌, inl, inr, get_or-set_other, get_or-set_same}
-use Rattle.std.specs.Prelude.{nat_lt}
+use Rattle.std.specs.Prelude.{IfSome, nat_lt}
 use Rattle.std.specs.List.{All}
 use Rattle.std.specs.Cmp.Lexicographic.{nat_list_cmp_total}
 use Rattle.std.proofs.lemmas.Bool.{cases_eq, cases_lt, eq-eqb, ne_eqb}
@@ -20,7 +20,7 @@ use Rattle.symres_table.specs.State.{State, comes_before, entries_of, slot}
 use Rattle.symres_decisions.specs.Change.{Fits, IsReadyFor, MayFollow, symbols_at}
 use Rattle.symres_decisions.specs.Counted.{is_used}
 use Rattle.symres_decisions.specs.Decided.{AreCases, HasCase, IsCase, case_at}
-use Rattle.symres_decisions.specs.Decisions.{IsNoted, IsWhole}
+use Rattle.symres_decisions.specs.Decisions.{IsNoted, IsTextOf, IsWhole}
 use Rattle.symres_decisions.specs.Room.{AreKeptWhere, AreUnused, HaveCasesBelow, HaveCasesFrom, KeepsUsed, OnlyDrops}
 use Rattle.symres_decisions.specs.Room.{kept_where}
 use Rattle.symres_decisions.specs.Room.{AreOldOrNew, StandsFrom}
@@ -89,6 +89,16 @@ pub noted_none_more : (a b : State) (noted : Bool) (more : List Listed) → b.or
     → length b.order ≡ length a.order → IsNoted a noted → IsNoted b noted
 noted_none_more a b noted more order count =
     noted_same a b noted (order ∙ none_more a.order more (ap length (sym order) ∙ count))
+
+-- the text of the names, where they stand as they did
+pub text_same : (a b : State) (text : Option (List Listed)) → b.order ≡ a.order → IsTextOf a text → IsTextOf b text
+text_same a b text same h = subst (λ (names : List Listed). IfSome text (λ t. t ≡ names)) (sym same) h
+
+-- no name became known
+pub text_none_more : (a b : State) (text : Option (List Listed)) (more : List Listed) → b.order ≡ a.order ++ more
+    → length b.order ≡ length a.order → IsTextOf a text → IsTextOf b text
+text_none_more a b text more order count =
+    text_same a b text (order ∙ none_more a.order more (ap length (sym order) ∙ count))
 
 -- names that only stand in another order
 pub whole_ordered : (a b : State) (cases : List (Option Case)) → b ≡ record a { order = b.order } → IsWhole a cases

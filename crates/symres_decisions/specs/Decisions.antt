@@ -1,5 +1,5 @@
 -- What names stand for, as callers see it.
-use Rattle.std.specs.Prelude.{ℕ, ◌≡◌, ◌⊎◌, Bool, true, List, [], Option, Some}
+use Rattle.std.specs.Prelude.{ℕ, ◌≡◌, ◌⊎◌, Bool, true, List, [], Option, Some, IfSome}
 use Rattle.ldscript.specs.statements.declared.statement.Statement.{Statement}
 use Rattle.ldmodel.specs.HandedOver.{decision_of}
 use Rattle.ldmodel.specs.Names.{decided}
@@ -22,6 +22,10 @@ pub record IsWhole (names : State) (cases : List (Option Case)) : Type 0 where
 -- where this is noted, the names stand in byte order
 abbrev pub IsNoted : State → Bool → Type 0
 IsNoted names in_order = in_order ≡ true → IsInByteOrder names.order
+
+-- where a text of the names is kept, it has them as they are listed
+abbrev pub IsTextOf : State → Option (List (List ℕ × ℕ)) → Type 0
+IsTextOf names text = IfSome text (λ t. t ≡ names.order)
 
 -- where this is noted, each known name has an entry
 abbrev pub AreUsedIf : State → Bool → Type 0

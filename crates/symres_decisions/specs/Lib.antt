@@ -6,3 +6,4 @@ pub mod Counted
 pub mod Texts
 pub mod Change
 pub mod Room
+pub mod NameText

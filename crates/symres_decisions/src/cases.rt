@@ -68,6 +68,7 @@ impl Cases {
         self.doubled
     }
 
+    #[inline(always)]
     pub fn get(&self, key: usize) -> Option<Case>
         ensures { result ≡ case_at self.now key }
     {

@@ -19,6 +19,7 @@ use crate::all::{decide_all, places_for};
 use crate::cases::Cases;
 use crate::entered::enter_all;
 use crate::keyed_object::KeyedObject;
+use crate::name_text::NameText;
 use crate::single::given_case;
 use elfobj::Meter;
 use elfobj::memory::NoMemory;
@@ -44,16 +45,19 @@ pub struct Decisions {
     pub(crate) all_used: bool,
     // room for the keys of the names of the object that goes at a change
     pub(crate) noted: Vec<NameKey>,
+    // the names as they are listed, one after the other in memory
+    pub(crate) text: Option<NameText>,
 }
 
 impl Model for Decisions {
-    ghost use Rattle.symres_decisions.specs.Decisions.{AreUsedIf, DecisionsState, IsNoted, IsWhole};
+    ghost use Rattle.symres_decisions.specs.Decisions.{AreUsedIf, DecisionsState, IsNoted, IsTextOf, IsWhole};
 
     ghost Value = { DecisionsState };
 
     ghost view = { λ a. record { names = a.names; cases = a.cases } };
 
-    ghost invariant = { λ a. IsWhole a.names a.cases × IsNoted a.names a.in_order × AreUsedIf a.names a.all_used };
+    ghost invariant = { λ a. IsWhole a.names a.cases × IsNoted a.names a.in_order × AreUsedIf a.names a.all_used
+        × IsTextOf a.names a.text };
 }
 
 impl Decisions {
@@ -84,6 +88,7 @@ impl Decisions {
             in_order: false,
             all_used: false,
             noted: Vec::new(alloc),
+            text: None,
         })
     }
 
@@ -134,6 +139,7 @@ impl Decisions {
     }
 
     /// What the name of a key stands for, if the key has one.
+    #[inline(always)]
     pub fn case_of(&self, name: NameKey) -> Option<Case>
         ensures case { result ≡ case_at self.now.cases name.0 }
         ensures complete { HasName self.now.names.names name.0 → HasCase self.now.cases name.0 }
@@ -211,9 +217,15 @@ impl Decisions {
         self.in_order
     }
 
-    /// Puts the names into byte order, so that listings after this need not be sorted. Where memory is refused they
-    /// stand as before. Where they stand so, the time is constant.
-    pub fn put_in_order(&mut self)
+    /// The names as they are listed, one after the other in memory, if they are kept so.
+    pub fn text(&self) -> Option<&NameText>
+        ensures { IfSome result (λ text. text.now ≡ self.now.names.order) }
+    {
+        self.text.as_ref()
+    }
+
+    /// Puts the names into byte order. Where memory is refused, they stand as before.
+    fn sort(&mut self)
         ensures names { self.new.names ≡ record self.old.names { order = self.new.names.order } }
         ensures cases { self.new.cases ≡ self.old.cases }
         ensures objects { self.new.names.objects ≡ self.old.names.objects }
@@ -222,9 +234,33 @@ impl Decisions {
         if self.in_order {
             return;
         }
+        self.text = None;
         match self.names.sort_names() {
             Ok(()) => self.in_order = true,
             Err(_refused) => {}
         }
+    }
+
+    /// Writes the names one after the other, if they stand in byte order and there is memory for it.
+    fn write_text(&mut self)
+        ensures { self.new ≡ self.old }
+    {
+        if !self.in_order || self.text.is_some() {
+            return;
+        }
+        self.text = NameText::of(*self.noted.allocator(), &self.names).ok();
+    }
+
+    /// Puts the names into byte order, and writes them one after the other in memory, so that listings after this need
+    /// not be sorted and are quick to read. Where memory is refused they stand as before. Where they stand so, the time
+    /// is constant.
+    pub fn put_in_order(&mut self)
+        ensures names { self.new.names ≡ record self.old.names { order = self.new.names.order } }
+        ensures cases { self.new.cases ≡ self.old.cases }
+        ensures objects { self.new.names.objects ≡ self.old.names.objects }
+        ensures kept { (script : List Statement) → AreKept script self.old → AreKept script self.new }
+    {
+        self.sort();
+        self.write_text();
     }
 }

@@ -4,11 +4,7 @@ ghost use Rattle.std.specs.Prelude.{◌≡◌, ◌≤◌, ◌++◌, ℕ, List, [
 ghost use Rattle.elfobj.specs.Symbols.{NamedSymbol};
 ghost use Rattle.ldmodel.specs.Names.{distinct, names_in_objects, symbol_tables};
 ghost use Rattle.ldmodel.specs.Project.{NamedObject};
-ghost use Rattle.ldscript.specs.statements.declared.statement.Statement.{Statement};
 ghost use Rattle.symres_decisions.specs.Counted.{declared_in, declared_names};
-ghost use Rattle.symres_decisions.specs.Decided.{HasCase, case_at};
-ghost use Rattle.symres_decisions.specs.Decisions.{AreKept, DecisionsState};
-ghost use Rattle.symres_table.specs.State.{IsNamed};
 
 /// The names that a list of symbol tables declares are those that the objects of these tables do, under whatever keys;
 /// and those of one table are those of its object.
@@ -22,13 +18,4 @@ pub fn names_of_objects()
 /// A longer list has at least as many names, each counted once.
 pub fn distinct_more()
     ensures { (names more : List (List ℕ)) → length (distinct names) ≤ length (distinct (names ++ more)) }
-{}
-
-/// While the objects and the script stay, a name that keeps its key keeps its case: so names that become known, or are
-/// forgotten, change no other.
-pub fn same_cases()
-    ensures { (script : List Statement) (a b : DecisionsState) (k : ℕ) (name : List ℕ) → AreKept script a
-        → AreKept script b → b.names.objects ≡ a.names.objects → IsNamed a.names.names k name
-        → IsNamed b.names.names k name → HasCase a.cases k → HasCase b.cases k
-        → case_at b.cases k ≡ case_at a.cases k }
 {}

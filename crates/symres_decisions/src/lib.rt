@@ -3,7 +3,8 @@
 //!
 //! - `decisions` with `changing` and `room`: what is kept, and how it follows a change; `keyed_object`, `change`: what
 //!   is taken;
-//! - `cases`: cases by the keys of names; `entered`, `all`, `single`: all names at first;
+//! - `cases`: cases by the keys of names; `entered`, `all`, `single`: all names at first; `name_text`: names one after the
+//!   other in memory;
 //! - `exchange`, `texts`, `noted`: the names of one object; `law`.
 #![tactic(auto)]
 
@@ -16,6 +17,7 @@ mod entered;
 mod exchange;
 pub mod keyed_object;
 pub mod law;
+pub mod name_text;
 mod noted;
 mod room;
 mod single;

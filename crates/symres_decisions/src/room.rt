@@ -5,7 +5,7 @@ ghost use Rattle.ldscript.specs.statements.declared.statement.Statement.{Stateme
 ghost use Rattle.symres_decisions.specs.Change.{CanGo, Fits, IsReadyFor};
 ghost use Rattle.symres_decisions.specs.Counted.{is_used};
 ghost use Rattle.symres_decisions.specs.Decided.{AreCases, case_at, HasCase};
-ghost use Rattle.symres_decisions.specs.Decisions.{AreKept, AreUsedIf, IsNoted, IsWhole};
+ghost use Rattle.symres_decisions.specs.Decisions.{AreKept, AreUsedIf, IsNoted, IsTextOf, IsWhole};
 ghost use Rattle.symres_decisions.specs.Room.{AreKeptWhere, AreUnused, HaveCasesBelow, HaveCasesFrom, kept_where};
 ghost use Rattle.symres_decisions.specs.Room.{KeepsUsed};
 ghost use Rattle.symres_decisions.specs.Room.{AreOldOrNew, OnlyDrops};
@@ -14,6 +14,7 @@ ghost use Rattle.symres_table.specs.State.{entries_of, Forgets, HasName, IsNamed
 use crate::cases::Cases;
 use crate::change::ObjectChange;
 use crate::decisions::Decisions;
+use crate::name_text::NameText;
 use crate::noted::reserve_keys;
 use crate::single::given_case;
 use elfobj::Object;
@@ -128,15 +129,18 @@ fn make_room(
     cases: &mut Cases,
     in_order: &mut bool,
     all_used: &mut bool,
+    text: &mut Option<NameText>,
 ) -> Result<(), NoMemory>
     requires whole { IsWhole names.old cases.old }
     requires order { IsNoted names.old in_order.old }
     requires all { AreUsedIf names.old all_used.old }
+    requires text { IsTextOf names.old text.old }
     requires sound { AreCases script.now names.old cases.old }
     ensures objects { names.new.objects ≡ names.old.objects }
     ensures whole { IsWhole names.new cases.new }
     ensures order { IsNoted names.new in_order.new }
     ensures all { AreUsedIf names.new all_used.new }
+    ensures text { IsTextOf names.new text.new }
     ensures sound { AreCases script.now names.new cases.new }
     ensures used { KeepsUsed names.old names.new }
     ensures ready { OnOk result (MayEnter names.new object.now.symbols) }
@@ -149,6 +153,7 @@ fn make_room(
     }
     *in_order = false;
     *all_used = false;
+    *text = None;
     match settle_new(names, script, from, cases) {
         Ok(()) => Ok(()),
         Err(refused) => {
@@ -179,6 +184,7 @@ impl Decisions {
                 &mut self.cases,
                 &mut self.in_order,
                 &mut self.all_used,
+                &mut self.text,
             ),
             None => Ok(()),
         }
@@ -198,6 +204,7 @@ impl Decisions {
         if self.all_used {
             return;
         }
+        self.text = None;
         drop_unused(&mut self.names, &mut self.cases);
         self.all_used = true;
     }

@@ -4,7 +4,7 @@ use Rattle.symres_decisions.specs.Decisions.{DecisionsState}
 use Rattle.symres_table.specs.State.{AreDistinct, IsFresh, slot}
 use Rattle.symres_decisions.proofs.Changed.{Steps, back_after, counted_after, frame_after, kept_after, noted_after}
 use Rattle.symres_decisions.proofs.Changed.{places_after}
-use Rattle.symres_decisions.proofs.Changed.{used_after, whole_after}
+use Rattle.symres_decisions.proofs.Changed.{text_after, used_after, whole_after}
 use Rattle.symres_decisions.proofs.Clearing.{listed_apart}
 use Rattle.symres_decisions.proofs.Exchanging.{in_names, out_known, out_names, out_objects}
 use Rattle.symres_decisions.proofs.Tables.{out_fresh}
@@ -120,6 +120,7 @@ invariant_of-self c = (
   noted_after _ _ _ _ _ _ _ _ _ _ _ _ _ (steps c) c.self.inside.in_order c.self.invariant.1,
   used_after _ _ _ _ _ _ _ _ _ _ _ _ _ (steps c) c.self.inside.all_used c.are_still_used-self-inside.result c.self.invariant.2
       c.are_still_used-self-inside.ensures.before c.are_still_used-self-inside.ensures.gone c.are_still_used-self-inside.ensures.come,
+  text_after _ _ _ _ _ _ _ _ _ _ _ _ _ (steps c) _ c.self.invariant.3,
 )
 
 pub returns-clause-kept : goal.returns-clause-kept

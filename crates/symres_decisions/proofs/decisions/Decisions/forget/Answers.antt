@@ -10,6 +10,7 @@ invariant_of-self c = (
   noted_forgotten c.self.inside.names c.drop_unused.new.names c.self.inside.in_order c.drop_unused.ensures.forgets
       c.self.invariant.1,
   left_used c.self.inside.names c.drop_unused.new.names c.drop_unused.ensures.forgets true,
+  tt,
 )
 
 pub returns-clause-used : goal.returns-clause-used

@@ -1,6 +1,6 @@
 use Rattle.symres_decisions.proofs.Used.{used_ordered}
 use Rattle.symres_decisions.proofs.MakingRoom.{sound_ordered, whole_ordered}
-use Rattle.symres_decisions.proofs.decisions.Decisions.put_in_order.Goals as goal
+use Rattle.symres_decisions.proofs.decisions.Decisions.sort.Goals as goal
 
 pub invariant_of-self : goal.invariant_of-self
 invariant_of-self c = (
@@ -9,6 +9,7 @@ invariant_of-self c = (
   λ sure. c.in-Ok.ensures.sorted,
   used_ordered c.self.inside.names c.sort_names.new.self c.self.inside.all_used c.sort_names.ensures.same
       c.self.invariant.2,
+  tt,
 )
 
 pub returns-in-Ok-clause-kept : goal.returns-in-Ok-clause-kept
