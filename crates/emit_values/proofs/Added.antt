@@ -1,11 +1,11 @@
 -- Symbols of the output, one by one.
-use Rattle.std.proofs.Common.{◌≡◌, ◌∙◌, ℕ, List, [], ◌∷◌, ◌++◌, ap, subst, sym}
+use Rattle.std.proofs.Common.{◌≡◌, ◌∙◌, ◌<◌, ℕ, List, [], ◌∷◌, ◌++◌, ap, get_or, length, refl, subst, sym}
 use Rattle.std.specs.Prelude.{None, Option, Some, slice_get}
 use Rattle.std.specs.Option.{option_map}
 use Rattle.std.specs.Borrow.{Bor}
 use Rattle.std.specs.List.{All}
 use Rattle.std.proofs.lemmas.List.Elements.{All-push}
-use Rattle.std.proofs.lemmas.Option.{same_Some}
+use Rattle.std.proofs.lemmas.Option.{same_Some, slice_get_read}
 use Rattle.ldmodel.specs.HandedOver.{decision_of}
 use Rattle.ldmodel.specs.Layout.{Layout, script_value}
 use Rattle.ldmodel.specs.Names.{Decision, decision}
@@ -16,12 +16,13 @@ use Rattle.ldmodel.specs.SymbolValues.{SymbolValue, decided_value, name_value}
 use Rattle.ldmodel.specs.declared.names.Case.{Case}
 use Rattle.emit_relocate.specs.Values.{value_of}
 use Rattle.symres.specs.table.State.{IsNamed}
-use Rattle.emit_values.specs.NameRows.{decided_row, facts, row_of, shown_row}
+use Rattle.emit_values.specs.NameRows.{Resolved, decided_row, facts, resolved, shown_resolved, shown_row}
 use Rattle.emit_values.specs.NameRows as model_row
 use Rattle.emit_values.specs.ScriptValues.{value_in}
 use Rattle.emit_values.specs.Symbols.{AddsSymbols, AreSources, KeepsFacts, defined, shown, symbol_with}
 use Rattle.emit_values.specs.Values.{HasFacts, shown_symbol}
 use Rattle.emit_values.specs.declared.name_row.NameRow.{NameRow}
+use Rattle.emit_values.specs.declared.name_rows.ResolvedName.{ResolvedName}
 use Rattle.emit_values.specs.declared.symbols.Sources.{Sources}
 use Rattle.emit_values.specs.declared.values.OutputSymbol.{OutputSymbol}
 
@@ -34,26 +35,28 @@ same_symbol p s x d v =
     ∙ ap (λ (w : SymbolValue). let y : model.OutputSymbol =
     record { name = x.name.now; decision = decision p x.name.now; value = w } in y) v
 
-module _ (p : Project) (s : Layout) (src : Sources) (h : AreSources p s src) (name : Bor (List ℕ)) (case : Case)
-    (row : NameRow) where
+module _ (p : Project) (s : Layout) (src : Sources) (h : AreSources p s src) (name : Bor (List ℕ)) where
   -- of a name with a key
-  module _ (k : ℕ) (named : IsNamed src.symbol_table.now.names k name.now)
-      (case_at : Some case ≡ slice_get src.cases.now k) (row_at : Some row ≡ slice_get src.rows.now k) where
-    decided : decision_of (λ key. key) case ≡ decision p name.now
-    decided = same_Some _ _ (ap (option_map (decision_of (λ key. key))) case_at ∙ h.cases k name.now named)
+  module _ (k : ℕ) (named : IsNamed src.symbol_table.now.names k name.now) (x : ResolvedName)
+      (within : k < length src.rows.now) (read : x ≡ get_or src.rows.now k x) where
+    is : shown_resolved x ≡ resolved p s name.now
+    is =
+        same_Some _ _
+        (ap (option_map shown_resolved) (sym (slice_get_read src.rows.now (length src.rows.now) k x refl within read))
+        ∙ h.rows k name.now named)
 
-    row_is : shown_row row ≡ row_of p s name.now
-    row_is = same_Some _ _ (ap (option_map shown_row) row_at ∙ h.rows k name.now named)
+    decided : decision_of (λ key. key) x.case ≡ decision p name.now
+    decided = ap (λ (r : Resolved). r.decision) is
 
-    pub named_symbol : shown_symbol (symbol_with name case row) ≡ output_symbol p s name.now
+    pub named_symbol : shown_symbol (symbol_with name x.case x.row) ≡ output_symbol p s name.now
     named_symbol =
-        same_symbol p s (symbol_with name case row) decided (ap (λ (r : model_row.NameRow). r.value) row_is)
+        same_symbol p s (symbol_with name x.case x.row) decided (ap (λ (r : Resolved). r.row.value) is)
 
-    pub named_facts : HasFacts p s (symbol_with name case row)
-    named_facts = ap (λ (r : model_row.NameRow). r.facts) row_is ∙ ap (facts p s) (sym decided)
+    pub named_facts : HasFacts p s (symbol_with name x.case x.row)
+    named_facts = ap (λ (r : Resolved). r.row.facts) is ∙ ap (facts p s) (sym decided)
 
   -- of another name
-  module _ (given : Option ℕ) (is : given ≡ value_in src.given.now name.now)
+  module _ (case : Case) (row : NameRow) (given : Option ℕ) (is : given ≡ value_in src.given.now name.now)
       (row_is : given ≡ script_value s name.now
       → shown_row row ≡ decided_row p s name.now (decision_of (λ key. key) case)) where
     by_script : shown_row row ≡ decided_row p s name.now (decision_of (λ key. key) case)
@@ -69,18 +72,11 @@ module _ (p : Project) (s : Layout) (src : Sources) (h : AreSources p s src) (na
     pub unnamed_facts : HasFacts p s (symbol_with name case row)
     unnamed_facts = ap (λ (r : model_row.NameRow). r.facts) by_script
 
--- each key of a name has a case and a row
-pub has_case : (p : Project) (s : Layout) (src : Sources) (h : AreSources p s src) (name : List ℕ) (k : ℕ)
-    → IsNamed src.symbol_table.now.names k name → None ≡ slice_get src.cases.now k → ⊥
-has_case p s src h name k named e =
-    let none : None ≡ Some (decision p name) =
-    ap (option_map (decision_of (λ key. key))) e ∙ h.cases k name named in
-    cc
-
+-- each key of a name has a row
 pub has_row : (p : Project) (s : Layout) (src : Sources) (h : AreSources p s src) (name : List ℕ) (k : ℕ)
     → IsNamed src.symbol_table.now.names k name → None ≡ slice_get src.rows.now k → ⊥
 has_row p s src h name k named e =
-    let none : None ≡ Some (row_of p s name) = ap (option_map shown_row) e ∙ h.rows k name named in
+    let none : None ≡ Some (resolved p s name) = ap (option_map shown_resolved) e ∙ h.rows k name named in
     cc
 
 pub adds_one : (p : Project) (s : Layout) (x : OutputSymbol) (old new : List OutputSymbol)

@@ -31,9 +31,11 @@ use Rattle.emit_relocate.specs.Values.{address_from, value_of}
 use Rattle.emit_relocate.specs.declared.value.SymbolValue as code_value
 use Rattle.emit_values.specs.LinkView.{IsLinkView}
 use Rattle.emit_values.specs.NameRows.{IsPlaceIn, IsPlaceOf, NameRow, decided_row, defining_symbol, entry_row, facts}
-use Rattle.emit_values.specs.NameRows.{AreRowsBelow, AreValuesBelow, IsRowUnder, row_of, shown_row}
+use Rattle.emit_values.specs.NameRows.{AreCasesBelow, AreResolvedBelow, AreValuesBelow, IsCaseUnder, IsRowUnder}
+use Rattle.emit_values.specs.NameRows.{Resolved, resolved, row_of, shown_resolved, shown_row}
 use Rattle.emit_values.specs.declared.link_view.LinkView.{LinkView}
 use Rattle.emit_values.specs.declared.name_row.NameRow as code
+use Rattle.emit_values.specs.declared.name_rows.ResolvedName as code_rows
 use Rattle.emit_values.specs.declared.name_row.Standing.{Standing}
 
 -- ---- the header of the output section that a part of an object stands in
@@ -147,7 +149,7 @@ module _ (p : Project) (s : Layout) (e : Entry) where
       ∙ ap with_symbol h
 
 -- the row of a name, by what it stands for
-pub row_by_decision : (p : Project) (s : Layout) (name : List ℕ) (d : Decision) → d ≡ decision p name
+row_by_decision : (p : Project) (s : Layout) (name : List ℕ) (d : Decision) → d ≡ decision p name
     → decided_row p s name d ≡ row_of p s name
 unfolding name_value
 row_by_decision p s name d e =
@@ -162,21 +164,29 @@ module _ (l : KnownLink) (v : LinkView) (h : IsLinkView l v) where
 
   -- the row of a name, by what its key stands for
   pub row_named : (c : Case) (name : List ℕ) (x : code.NameRow)
-      → Some (decision_of l.number c) ≡ Some (decision l.project name)
+      → decision_of l.number c ≡ decision l.project name
       → shown_row x ≡ decided_row l.project l.layout name (decision_of (λ key. key) c)
       → shown_row x ≡ row_of l.project l.layout name
   row_named c name x e is =
-      is ∙ row_by_decision l.project l.layout name (decision_of (λ key. key) c)
-      (decided_same c name (same_Some _ _ e))
+      is ∙ row_by_decision l.project l.layout name (decision_of (λ key. key) c) (decided_same c name e)
 
--- the symbol that defines the name of a key
-pub symbol_under : (p : Project) (cases : List Case) (symbols : List (Option Symbol)) (k : ℕ) (c : Case)
-    → symbols ≡ map (defining_symbol p) cases → slice_get cases k ≡ Some c
-    → get_or symbols k None ≡ defining_symbol p c
-symbol_under p cases symbols k c e f =
-    get_or_from_slice_get symbols k (defining_symbol p c) None
+  -- a name, by its key
+  resolved_named : (k : ℕ) (x : code_rows.ResolvedName) → IsCaseUnder l k x.case → IsRowUnder l k x.row
+      → (name : List ℕ) → l.name k ≡ Some name → shown_resolved x ≡ resolved l.project l.layout name
+  resolved_named k x case row name named =
+      ap (λ (d : Decision). let y : Resolved = record { decision = d; row = shown_row x.row } in y)
+      (decided_same x.case name (case name named))
+      ∙ ap (λ (r : NameRow). let y : Resolved = record { decision = decision l.project name; row = r } in y)
+      (row name named)
+
+-- what is read under the key of a name is the symbol that defines it
+pub symbol_at : (p : Project) (cases : List Case) (symbols : List (Option Symbol)) (k : ℕ) (c : Case)
+    (x : Option Symbol) → symbols ≡ map (defining_symbol p) cases → slice_get cases k ≡ Some c → x ≡ get_or symbols k x
+    → x ≡ defining_symbol p c
+symbol_at p cases symbols k c x e at read =
+    read ∙ get_or_from_slice_get symbols k (defining_symbol p c) x
     (ap (λ (xs : List (Option Symbol)). slice_get xs k) e
-    ∙ (slice_get-map (defining_symbol p) cases k ∙ ap (option_map (defining_symbol p)) f))
+    ∙ (slice_get-map (defining_symbol p) cases k ∙ ap (option_map (defining_symbol p)) at))
 
 -- what a name is that an entry defines, strongly or weakly
 pub entry_decided : (p : Project) (s : Layout) (name : List ℕ) (k : Case) (e : code_entry.Entry) (y : Option Symbol)
@@ -210,13 +220,21 @@ one_more l f g n old new x long e one all k name below is =
     ∙ pushed f old x k (g name) (λ m. all k name (omega (arith, m, long)) is)
     (λ last. one name (subst (λ i. l.name i ≡ Some name) (last ∙ long) is)) (omega (arith, below, long))
 
-module _ (l : KnownLink) (n : ℕ) (row : code.NameRow) (is : IsRowUnder l n row) where
-  pub rows_more : (old new : List code.NameRow) → length old ≡ n → new ≡ old ++ row ∷ [] → AreRowsBelow l n old
-      → AreRowsBelow l (n + 1) new
-  rows_more old new long e all = one_more l shown_row (row_of l.project l.layout) n old new row long e is all
+module _ (l : KnownLink) (v : LinkView) (h : IsLinkView l v) (n : ℕ) (x : code_rows.ResolvedName)
+    (case : IsCaseUnder l n x.case) (row : IsRowUnder l n x.row) where
+  pub rows_more : (old new : List code_rows.ResolvedName) → length old ≡ n → new ≡ old ++ x ∷ []
+      → AreResolvedBelow l n old → AreResolvedBelow l (n + 1) new
+  rows_more old new long e all =
+      one_more l shown_resolved (resolved l.project l.layout) n old new x long e (resolved_named l v h n x case row) all
 
-  pub values_more : (old new : List code_value.SymbolValue) → length old ≡ n → new ≡ old ++ row.value ∷ []
+  pub values_more : (old new : List code_value.SymbolValue) → length old ≡ n → new ≡ old ++ x.row.value ∷ []
       → AreValuesBelow l n old → AreValuesBelow l (n + 1) new
   values_more old new long e all =
-      one_more l value_of (name_value l.project l.layout) n old new row.value long e
-      (λ name named. ap (λ (r : NameRow). r.value) (is name named)) all
+      one_more l value_of (name_value l.project l.layout) n old new x.row.value long e
+      (λ name named. ap (λ (r : NameRow). r.value) (row name named)) all
+
+-- what the name of a key stands for, where all names below another key have that
+pub case_under : (l : KnownLink) (n : ℕ) (cases : List Case) → AreCasesBelow l n cases → (k : ℕ) (c : Case) → k < n
+    → slice_get cases k ≡ Some c → IsCaseUnder l k c
+case_under l n cases h k c below at name named =
+    same_Some _ _ (sym (ap (option_map (decision_of l.number)) at) ∙ h k name below named)

@@ -20,6 +20,7 @@ use Rattle.emit_relocate.specs.KnownLink.{KnownLink}
 use Rattle.emit_relocate.specs.Values.{value_of}
 use Rattle.emit_relocate.specs.declared.value.SymbolValue as code_value
 use Rattle.emit_values.specs.declared.name_row.NameRow as code
+use Rattle.emit_values.specs.declared.name_rows.ResolvedName as code_rows
 use Rattle.emit_values.specs.declared.name_row.Standing.{Standing}
 use Rattle.emit_values.specs.declared.name_row.SymbolFacts.{SymbolFacts}
 
@@ -97,18 +98,24 @@ defining_symbol project case.Provided = None
 defining_symbol project case.Undefined = None
 defining_symbol project case.Duplicate = None
 
+-- what a name stands for, and what it is
+pub record Resolved : Type 0 where
+  pub decision : Decision
+  pub row : NameRow
+
+abbrev pub shown_resolved : code_rows.ResolvedName → Resolved
+shown_resolved x = record { decision = decision_of (λ key. key) x.case; row = shown_row x.row }
+
+-- a name of a project
+abbrev pub resolved : Project → Layout → List ℕ → Resolved
+resolved project layout name = record { decision = decision project name; row = row_of project layout name }
+
 -- what the name of a key stands for
 abbrev pub IsCaseUnder : KnownLink → ℕ → Case → Type 0
 IsCaseUnder link k x =
     (name : List ℕ) → link.name k ≡ Some name → decision_of link.number x ≡ decision link.project name
 
--- each name has what it stands for under its key
-abbrev pub AreNameCases : KnownLink → List Case → Type 0
-AreNameCases link cases =
-    (k : ℕ) (name : List ℕ) → link.name k ≡ Some name
-    → option_map (decision_of link.number) (slice_get cases k) ≡ Some (decision link.project name)
-
--- the same of the names with keys below a number
+-- the names with keys below a number have what they stand for under their keys
 abbrev pub AreCasesBelow : KnownLink → ℕ → List Case → Type 0
 AreCasesBelow link n cases =
     (k : ℕ) (name : List ℕ) → k < n → link.name k ≡ Some name
@@ -119,17 +126,17 @@ abbrev pub IsRowUnder : KnownLink → ℕ → code.NameRow → Type 0
 IsRowUnder link k x =
     (name : List ℕ) → link.name k ≡ Some name → shown_row x ≡ row_of link.project link.layout name
 
--- each name has its row under its key
-abbrev pub AreNameRows : KnownLink → List code.NameRow → Type 0
-AreNameRows link rows =
+-- each name has what it stands for, and what it is, under its key
+abbrev pub AreResolved : KnownLink → List code_rows.ResolvedName → Type 0
+AreResolved link rows =
     (k : ℕ) (name : List ℕ) → link.name k ≡ Some name
-    → option_map shown_row (slice_get rows k) ≡ Some (row_of link.project link.layout name)
+    → option_map shown_resolved (slice_get rows k) ≡ Some (resolved link.project link.layout name)
 
 -- the same of the names with keys below a number
-abbrev pub AreRowsBelow : KnownLink → ℕ → List code.NameRow → Type 0
-AreRowsBelow link n rows =
+abbrev pub AreResolvedBelow : KnownLink → ℕ → List code_rows.ResolvedName → Type 0
+AreResolvedBelow link n rows =
     (k : ℕ) (name : List ℕ) → k < n → link.name k ≡ Some name
-    → option_map shown_row (slice_get rows k) ≡ Some (row_of link.project link.layout name)
+    → option_map shown_resolved (slice_get rows k) ≡ Some (resolved link.project link.layout name)
 
 -- the values of the names with keys below a number, under their keys
 abbrev pub AreValuesBelow : KnownLink → ℕ → List code_value.SymbolValue → Type 0

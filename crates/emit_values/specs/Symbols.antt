@@ -1,6 +1,8 @@
 -- The symbols of the output, name by name.
 use Rattle.std.specs.Prelude.{◌≡◌, ℕ, ◌-◌, ◌⊎◌, zero, suc, List, [], ◌∷◌, ◌++◌, map, filter, Bool, ◌&&◌, bytes_eq}
 use Rattle.std.specs.Prelude.{All, if◌then◌else◌, nat_lt, slice_index_or}
+use Rattle.std.specs.Prelude.{◌+◌, ◌≤◌, Vec, vec_capacity, vec_len}
+use Rattle.std.specs.Global.{Global}
 use Rattle.std.specs.Borrow.{Bor}
 use Rattle.ldmodel.specs.Layout.{Layout}
 use Rattle.ldmodel.specs.OutputSymbols as model
@@ -9,7 +11,7 @@ use Rattle.ldmodel.specs.Project.{Project}
 use Rattle.ldmodel.specs.declared.names.Case.{Case}
 use Rattle.symres.specs.SymbolTable.{IsSymbolTable}
 use Rattle.emit_values.specs.LinkView.{known_link}
-use Rattle.emit_values.specs.NameRows.{AreNameCases, AreNameRows}
+use Rattle.emit_values.specs.NameRows.{AreResolved}
 use Rattle.emit_values.specs.ScriptValues.{AreScriptValues}
 use Rattle.emit_values.specs.Values.{HasFacts, shown_symbol}
 use Rattle.emit_values.specs.declared.name_row.NameRow.{NameRow}
@@ -34,8 +36,7 @@ defined_symbols project layout names = defined (map (output_symbol project layou
 pub record AreSources (project : Project) (layout : Layout) (x : Sources) : Type 0 where
   pub symbol_table : IsSymbolTable project x.symbol_table.now
   pub script : project.script ≡ x.script.now
-  pub cases : AreNameCases (known_link project layout x.symbol_table.now) x.cases.now
-  pub rows : AreNameRows (known_link project layout x.symbol_table.now) x.rows.now
+  pub rows : AreResolved (known_link project layout x.symbol_table.now) x.rows.now
   pub given : AreScriptValues layout x.given.now
 
 -- the symbols of these names were added
@@ -48,6 +49,10 @@ KeepsFacts project layout old new = All (HasFacts project layout) old → All (H
 
 abbrev pub names_in : List OutputSymbol → List (List ℕ)
 names_in xs = map (λ (symbol : OutputSymbol). symbol.name.now) xs
+
+-- one symbol was added at most, into room that was there
+abbrev pub IsWithinRoom : (old new : Vec OutputSymbol Global) → Type 0
+IsWithinRoom old new = (vec_len new ≤ vec_len old + 1) × (vec_capacity new ≡ vec_capacity old)
 
 -- nothing was added, or one symbol of this name
 abbrev pub AddsAtMost : List ℕ → (old new : List OutputSymbol) → Type 0

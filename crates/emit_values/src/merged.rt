@@ -23,11 +23,12 @@ fn count_up_to(sorted: &[NamedKey<'_>], name: &[u8]) -> usize
 fn add_keys<'a>(list: &mut Vec<Candidate<'a>>, sorted: &[NamedKey<'a>]) -> Result<(), NoMemory>
     ensures { OnOk result (list.new.items ≡ list.old.items ++ map with_key sorted.now) }
 {
+    list.reserve(sorted.len())?;
     for named in sorted {
-        list.push(Candidate {
+        list.push_reserved(Candidate {
             name: named.name,
             key: Some(named.key),
-        })?;
+        });
     }
     Ok(())
 }

@@ -97,6 +97,7 @@ pub(crate) fn start_at(place: Option<SectionAddress>) -> Option<u64>
 }
 
 /// Where a symbol stands at an offset in an input section.
+#[inline(always)]
 fn standing_in(
     indexed_layout: &IndexedLayout,
     key: SectionKey,
@@ -186,7 +187,8 @@ fn entry_row(
     entry: Entry,
     symbol: Option<Symbol>,
 ) -> Result<NameRow, NoMemory>
-    ensures { IfOk result (λ x. (project : Project) (layout : Layout) → IsIndexedLayout project layout indexed_layout.now
+    ensures { IfOk result (λ x. (project : Project) (layout : Layout)
+        → IsIndexedLayout project layout indexed_layout.now
         → symbol ≡ symbol_of_entry project (entry_of (λ key. key) entry)
         → shown_row x ≡ entry_row project layout (entry_of (λ key. key) entry)) }
 {
@@ -208,7 +210,8 @@ fn entry_row(
 
 /// The row of a name that stands for a common block of this size.
 fn block_row(indexed_layout: &IndexedLayout, owner: Entry, size: u64) -> Result<NameRow, NoMemory>
-    ensures { IfOk result (λ x. (project : Project) (layout : Layout) → IsIndexedLayout project layout indexed_layout.now
+    ensures { IfOk result (λ x. (project : Project) (layout : Layout)
+        → IsIndexedLayout project layout indexed_layout.now
         → shown_row x ≡ block_row project layout (entry_of (λ key. key) owner) size) }
 {
     let object = ObjectPlace(owner.key);

@@ -1,12 +1,12 @@
 //! What all names are in the output, each under its key.
 
-ghost use Rattle.std.specs.Prelude.{◌≡◌, IfOk, None, map, slice_index_or};
+ghost use Rattle.std.specs.Prelude.{◌≡◌, IfOk, length, map};
 ghost use Rattle.emit_relocate.specs.KnownLink.{AreNameValues, KnownLink};
 ghost use Rattle.emit_values.specs.LinkView.{IsLinkView};
-ghost use Rattle.emit_values.specs.NameRows.{AreNameCases, AreNameRows, IsCaseUnder, IsRowUnder, defining_symbol};
+ghost use Rattle.emit_values.specs.NameRows.{AreCasesBelow, AreResolved, IsCaseUnder, IsRowUnder, defining_symbol};
 
 use crate::link_view::LinkView;
-use crate::name_row::{NameRow, bare_row, definition, name_row};
+use crate::name_row::{NameRow, definition, name_row};
 use elfobj::symbol::Symbol;
 use emit_relocate::link_info::LinkInfo;
 use emit_relocate::value::SymbolValue;
@@ -15,13 +15,20 @@ use ldmodel::names::{Case, NameKey};
 use ldmodel_project::view::ProjectView;
 use std::alloc::Global;
 
+/// What a name stands for, and what it is in the output.
+#[derive(Clone, Copy, Debug)]
+pub(crate) struct ResolvedName {
+    /// What it stands for.
+    pub case: Case,
+    /// What it is.
+    pub row: NameRow,
+}
+
 /// What all names are in the output, each under its key. What stands under a key of no name has no meaning.
 #[derive(Drop)]
 pub(crate) struct NameRows {
-    /// What they stand for.
-    pub cases: Vec<Case>,
-    /// What they are.
-    pub rows: Vec<NameRow>,
+    /// What they stand for, and what they are.
+    pub rows: Vec<ResolvedName>,
     /// Their values.
     pub values: Vec<SymbolValue>,
 }
@@ -36,14 +43,14 @@ fn case_under(link: &LinkView<'_, '_>, key: NameKey) -> Case
     }
 }
 
-/// What all names stand for.
-fn name_cases(alloc: Global, link: &LinkView<'_, '_>) -> Result<Vec<Case>, NoMemory>
-    ensures { IfOk result (λ cases. (l : KnownLink) → IsLinkView l link.now → AreNameCases l cases.items) }
+/// What all names stand for, whose keys are below a limit.
+fn name_cases(alloc: Global, link: &LinkView<'_, '_>, limit: usize) -> Result<Vec<Case>, NoMemory>
+    ensures count { IfOk result (λ cases. length cases.items ≡ limit) }
+    ensures cases { IfOk result (λ cases. (l : KnownLink) → IsLinkView l link.now → AreCasesBelow l limit cases.items) }
 {
-    let limit = link.name_limit();
     let mut cases = Vec::with_capacity(alloc, limit)?;
     for key in 0..limit {
-        cases.push(case_under(link, NameKey(key)))?;
+        cases.push_reserved(case_under(link, NameKey(key)));
     }
     Ok(cases)
 }
@@ -58,61 +65,45 @@ fn definitions(
 {
     let mut symbols = Vec::with_capacity(alloc, cases.len())?;
     for case in cases {
-        symbols.push(definition(project, *case))?;
+        symbols.push_reserved(definition(project, *case));
     }
     Ok(symbols)
 }
 
-/// The symbol that defines the name of a key.
-fn symbol_under(symbols: &[Option<Symbol>], key: NameKey) -> Option<Symbol>
-    ensures { result ≡ slice_index_or symbols.now key.0 None }
-{
-    symbols.get(key.0).copied().unwrap_or(None)
-}
-
-/// The row of the name of a key, where names stand for these cases and these symbols define them.
+/// The row of the name of a key, which stands for this case and which this symbol defines.
+#[inline(always)]
 fn row_under(
     link: &LinkView<'_, '_>,
-    cases: &[Case],
-    symbols: &[Option<Symbol>],
+    case: Case,
+    symbol: Option<Symbol>,
     key: NameKey,
 ) -> Result<NameRow, NoMemory>
-    ensures { IfOk result (λ x. (l : KnownLink) → IsLinkView l link.now → AreNameCases l cases.now
-        → symbols.now ≡ map (defining_symbol l.project) cases.now → IsRowUnder l key.0 x) }
+    ensures { IfOk result (λ x. (l : KnownLink) → IsLinkView l link.now → IsCaseUnder l key.0 case
+        → symbol ≡ defining_symbol l.project case → IsRowUnder l key.0 x) }
 {
-    match cases.get(key.0) {
-        None => Ok(bare_row(SymbolValue::NotDefined)),
-        Some(case) => {
-            let symbol = symbol_under(symbols, key);
-            name_row(link.indexed_layout, *case, symbol, link.script_value(key))
-        }
-    }
+    name_row(link.indexed_layout, case, symbol, link.script_value(key))
 }
 
-/// What all names are. Keys are nearly in the order of objects: so each pass over them reads memory nearly in its order,
-/// and what each looks up waits for nothing that another does.
+/// What all names are. Keys are nearly in the order of objects: so each pass over them reads memory nearly in its
+/// order, and what each looks up waits for nothing that another does.
 ///
 /// # Errors
 ///
 /// Where memory runs out.
 pub(crate) fn name_rows(alloc: Global, link: &LinkView<'_, '_>) -> Result<NameRows, NoMemory>
-    ensures cases { IfOk result (λ x. (l : KnownLink) → IsLinkView l link.now → AreNameCases l x.cases.items) }
-    ensures rows { IfOk result (λ x. (l : KnownLink) → IsLinkView l link.now → AreNameRows l x.rows.items) }
+    ensures rows { IfOk result (λ x. (l : KnownLink) → IsLinkView l link.now → AreResolved l x.rows.items) }
     ensures values { IfOk result (λ x. (l : KnownLink) → IsLinkView l link.now → AreNameValues l x.values.items) }
 {
     let limit = link.name_limit();
     let mut values = Vec::with_capacity(alloc, limit)?;
-    let cases = name_cases(alloc, link)?;
+    let cases = name_cases(alloc, link, limit)?;
     let symbols = definitions(alloc, link.project, &cases)?;
     let mut rows = Vec::with_capacity(alloc, limit)?;
     for key in 0..limit {
-        let row = row_under(link, &cases, &symbols, NameKey(key))?;
-        values.push(row.value)?;
-        rows.push(row)?;
+        let case = cases[key];
+        let row = row_under(link, case, symbols[key], NameKey(key))?;
+        values.push_reserved(row.value);
+        rows.push_reserved(ResolvedName { case, row });
     }
-    Ok(NameRows {
-        cases,
-        rows,
-        values,
-    })
+    Ok(NameRows { rows, values })
 }

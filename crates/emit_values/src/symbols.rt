@@ -1,8 +1,7 @@
 //! The symbols of the output: names that stand for something, in byte order.
 
-ghost use Rattle.std.specs.Prelude.{◌≡◌, ◌<◌, ◌++◌, ◌∷◌, [], ℕ, All, List, IfSome, OnOk, bytes_eq};
-ghost use Rattle.std.specs.Prelude.{length};
-ghost use Rattle.std.specs.Prelude.{slice_index_or};
+ghost use Rattle.std.specs.Prelude.{◌≡◌, ◌<◌, ◌≤◌, ◌++◌, ◌∷◌, [], ℕ, All, List, IfSome, OnOk, bytes_eq, length};
+ghost use Rattle.std.specs.Prelude.{slice_index_or, vec_capacity, vec_len};
 ghost use Rattle.ldmodel.specs.HandedOver.{decision_of};
 ghost use Rattle.ldmodel.specs.Layout.{Layout, script_value};
 ghost use Rattle.ldmodel.specs.OutputSymbols.{is_defined, output_symbols};
@@ -12,11 +11,12 @@ ghost use Rattle.emit_values.specs.AssertedSymbols.{AreInOrder};
 ghost use Rattle.emit_values.specs.Candidates.{names_of, AreCandidates, HasKeyOr};
 ghost use Rattle.emit_values.specs.NameRows.{decided_row, shown_row};
 ghost use Rattle.emit_values.specs.Symbols.{defined, fresh, is_repeat, shown, AddsAtMost, AddsSymbols, KeepsFacts};
-ghost use Rattle.emit_values.specs.Symbols.{AreSources, symbol_with};
+ghost use Rattle.emit_values.specs.Symbols.{AreSources, IsWithinRoom, symbol_with};
 ghost use Rattle.emit_values.specs.Values.{HasFacts, shown_symbol};
 
 use crate::candidate::Candidate;
 use crate::name_row::{NameRow, bare_row, given_value};
+use crate::name_rows::ResolvedName;
 use crate::script_values::ScriptValues;
 use crate::values::OutputSymbol;
 use emit_relocate::value::SymbolValue;
@@ -33,10 +33,8 @@ pub(crate) struct Sources<'a> {
     pub script: &'a Script,
     /// What names stand for.
     pub symbol_table: &'a SymbolTable,
-    /// What names stand for, under their keys.
-    pub cases: &'a [Case],
-    /// What names are in the output, under their keys.
-    pub rows: &'a [NameRow],
+    /// What names stand for, and what they are in the output, under their keys.
+    pub rows: &'a [ResolvedName],
     /// The values that the script gives names.
     pub given: &'a ScriptValues<'a>,
 }
@@ -66,67 +64,66 @@ fn row_by_script(case: Case, given: Option<u64>) -> Option<NameRow>
     }
 }
 
-/// Adds the symbol of a name with a row, if the name stands for something.
-fn add_if_defined<'a>(
-    list: &mut Vec<OutputSymbol<'a>>,
-    name: &'a [u8],
-    case: &Case,
-    row: &NameRow,
-) -> Result<(), NoMemory>
-    ensures shown { OnOk result (shown list.new.items
-        ≡ shown list.old.items ++ defined (shown_symbol (symbol_with name.entry case.now row.now) ∷ [])) }
-    ensures facts { OnOk result ((project : Project) (layout : Layout)
-        → HasFacts project layout (symbol_with name.entry case.now row.now)
-        → KeepsFacts project layout list.old.items list.new.items) }
-    ensures name { OnOk result (AddsAtMost name.now list.old.items list.new.items) }
+/// Adds the symbol of a name with a row, if the name stands for something. There is room for it.
+#[inline(always)]
+fn add_if_defined<'a>(list: &mut Vec<OutputSymbol<'a>>, name: &'a [u8], case: Case, row: &NameRow)
+    requires { vec_len list.old < vec_capacity list.old }
+    ensures shown { shown list.new.items
+        ≡ shown list.old.items ++ defined (shown_symbol (symbol_with name.entry case row.now) ∷ []) }
+    ensures facts { (project : Project) (layout : Layout)
+        → HasFacts project layout (symbol_with name.entry case row.now)
+        → KeepsFacts project layout list.old.items list.new.items }
+    ensures name { AddsAtMost name.now list.old.items list.new.items }
+    ensures room { IsWithinRoom list.old list.new }
 {
-    if !is_defined(*case) {
-        return Ok(());
+    if !is_defined(case) {
+        return;
     }
-    list.push(OutputSymbol {
+    list.push_reserved(OutputSymbol {
         name,
-        case: *case,
+        case,
         value: row.value,
         facts: row.facts,
-    })?;
-    Ok(())
+    });
 }
 
-/// Adds the symbol of a name with a key.
+/// Adds the symbol of a name with a key. There is room for it.
+#[inline(always)]
 fn add_named<'a>(
     sources: &Sources<'_>,
     name: &'a [u8],
     key: NameKey,
     list: &mut Vec<OutputSymbol<'a>>,
-) -> Result<(), NoMemory>
-    requires { IsNamed sources.now.symbol_table.now.names key.0 name.now }
-    ensures symbol { OnOk result ((project : Project) (layout : Layout) → AreSources project layout sources.now
-        → AddsSymbols project layout (name.now ∷ []) list.old.items list.new.items) }
-    ensures facts { OnOk result ((project : Project) (layout : Layout) → AreSources project layout sources.now
-        → KeepsFacts project layout list.old.items list.new.items) }
-    ensures name { OnOk result (AddsAtMost name.now list.old.items list.new.items) }
+)
+    requires named { IsNamed sources.now.symbol_table.now.names key.0 name.now }
+    requires room { vec_len list.old < vec_capacity list.old }
+    ensures symbol { (project : Project) (layout : Layout) → AreSources project layout sources.now
+        → AddsSymbols project layout (name.now ∷ []) list.old.items list.new.items }
+    ensures facts { (project : Project) (layout : Layout) → AreSources project layout sources.now
+        → KeepsFacts project layout list.old.items list.new.items }
+    ensures name { AddsAtMost name.now list.old.items list.new.items }
+    ensures room { IsWithinRoom list.old list.new }
 {
-    // in the tables of a link each key of a name has a case and a row
-    let Some(case) = sources.cases.get(key.0) else {
-        return Ok(());
+    // in the tables of a link each key of a name has a row
+    let Some(resolved) = sources.rows.get(key.0) else {
+        return;
     };
-    let Some(row) = sources.rows.get(key.0) else {
-        return Ok(());
-    };
-    add_if_defined(list, name, case, row)
+    add_if_defined(list, name, resolved.case, &resolved.row);
 }
 
-/// Adds the symbol of a name without a key. It is looked up.
+/// Adds the symbol of a name without a key, for which there is room. The name is looked up.
 fn add_unnamed<'a>(
     sources: &Sources<'_>,
     name: &'a [u8],
     list: &mut Vec<OutputSymbol<'a>>,
 ) -> Result<(), NoMemory>
+    requires { vec_len list.old < vec_capacity list.old }
     ensures symbol { OnOk result ((project : Project) (layout : Layout) → AreSources project layout sources.now
         → AddsSymbols project layout (name.now ∷ []) list.old.items list.new.items) }
     ensures facts { OnOk result ((project : Project) (layout : Layout) → AreSources project layout sources.now
         → KeepsFacts project layout list.old.items list.new.items) }
     ensures name { OnOk result (AddsAtMost name.now list.old.items list.new.items) }
+    ensures room { IsWithinRoom list.old list.new }
 {
     let symbol_table = sources.symbol_table;
     let given = sources.given;
@@ -135,24 +132,31 @@ fn add_unnamed<'a>(
         // A name that an object defines has a key; that the names with keys are all such names is known of a link alone
         return Err(impossible());
     };
-    add_if_defined(list, name, &case, &row)
+    add_if_defined(list, name, case, &row);
+    Ok(())
 }
 
-/// Adds the symbol of a candidate.
+/// Adds the symbol of a candidate, for which there is room.
+#[inline(always)]
 fn add_symbol<'a>(
     sources: &Sources<'_>,
     candidate: &Candidate<'a>,
     list: &mut Vec<OutputSymbol<'a>>,
 ) -> Result<(), NoMemory>
-    requires { HasKeyOr sources.now.symbol_table.now candidate.now.name.now candidate.now.key }
+    requires keyed { HasKeyOr sources.now.symbol_table.now candidate.now.name.now candidate.now.key }
+    requires room { vec_len list.old < vec_capacity list.old }
     ensures symbol { OnOk result ((project : Project) (layout : Layout) → AreSources project layout sources.now
         → AddsSymbols project layout (candidate.now.name.now ∷ []) list.old.items list.new.items) }
     ensures facts { OnOk result ((project : Project) (layout : Layout) → AreSources project layout sources.now
         → KeepsFacts project layout list.old.items list.new.items) }
     ensures name { OnOk result (AddsAtMost candidate.now.name.now list.old.items list.new.items) }
+    ensures room { IsWithinRoom list.old list.new }
 {
     match candidate.key {
-        Some(key) => add_named(sources, candidate.name, key, list),
+        Some(key) => {
+            add_named(sources, candidate.name, key, list);
+            Ok(())
+        }
         None => add_unnamed(sources, candidate.name, list),
     }
 }
@@ -185,7 +189,8 @@ fn is_repeat(sources: &Sources<'_>, candidates: &[Candidate<'_>], place: usize) 
     have_one_name(sources, &candidates[place - 1], &candidates[place])
 }
 
-/// Adds the symbol of the candidate at a place, unless its name is that before it.
+/// Adds the symbol of the candidate at a place, unless its name is that before it. There is room for it.
+#[inline(always)]
 fn add_unless_repeat<'a>(
     sources: &Sources<'_>,
     candidates: &[Candidate<'a>],
@@ -194,12 +199,14 @@ fn add_unless_repeat<'a>(
 ) -> Result<(), NoMemory>
     requires place { place < length candidates.now }
     requires candidates { AreCandidates sources.now.symbol_table.now sources.now.script.now candidates.now }
+    requires room { vec_len list.old < vec_capacity list.old }
     ensures symbol { OnOk result ((project : Project) (layout : Layout) → AreSources project layout sources.now
         → AddsSymbols project layout (fresh (names_of candidates.now) place) list.old.items list.new.items) }
     ensures facts { OnOk result ((project : Project) (layout : Layout) → AreSources project layout sources.now
         → KeepsFacts project layout list.old.items list.new.items) }
     ensures name { OnOk result
         (AddsAtMost (slice_index_or (names_of candidates.now) place []) list.old.items list.new.items) }
+    ensures room { IsWithinRoom list.old list.new }
 {
     if is_repeat(sources, candidates, place) {
         return Ok(());
@@ -207,7 +214,7 @@ fn add_unless_repeat<'a>(
     add_symbol(sources, &candidates[place], list)
 }
 
-/// Adds the symbols of the output to an empty list, in byte order of their names.
+/// Adds the symbols of the output to an empty list with room for all candidates, in byte order of their names.
 ///
 /// # Errors
 ///
@@ -219,6 +226,7 @@ pub(crate) fn add_symbols<'a>(
 ) -> Result<(), NoMemory>
     requires candidates { AreCandidates sources.now.symbol_table.now sources.now.script.now candidates.now }
     requires empty { list.old.items ≡ [] }
+    requires room { length candidates.now ≤ vec_capacity list.old }
     ensures symbols { OnOk result ((project : Project) (layout : Layout) → AreSources project layout sources.now
         → shown list.new.items ≡ output_symbols project layout) }
     ensures facts { OnOk result ((project : Project) (layout : Layout) → AreSources project layout sources.now

@@ -95,16 +95,11 @@ impl<'a> Values<'a> {
         let candidates = candidates(alloc, symbol_table, script, &given.sorted)?;
         // before the rows, so that what is kept stands in memory before what is freed
         let mut symbols = Vec::with_capacity(alloc, candidates.len())?;
-        let NameRows {
-            cases,
-            rows,
-            values,
-        } = name_rows(alloc, link)?;
+        let NameRows { rows, values } = name_rows(alloc, link)?;
         let entry = entry_value(project, symbol_table, &given.values, link);
         let sources = Sources {
             script,
             symbol_table,
-            cases: &cases,
             rows: &rows,
             given: &given.values,
         };

@@ -17,6 +17,8 @@ loop-place-init c = record {
   facts = λ p s h.
       subst (λ (xs : List OutputSymbol). All (HasFacts p s) xs) (sym c.requires.empty)
       (λ k d l. absurd (omega (arith, l)));
+  len = omega (arith, ap length c.requires.empty);
+  room = c.requires.room;
   order = none_yet (names_of c.args.candidates.now) 0 c.args.list.now.items c.requires.empty;
 }
 
@@ -31,6 +33,8 @@ loop-place-preserved c =
           symbols_more p s names c.loop-place.place c.loop-place.list.items c.add_unless_repeat.new.list.items
           (c.in_ok-add_unless_repeat.ensures.symbol p s h) (c.loop-place.invariant.symbols p s h);
       facts = λ p s h. c.in_ok-add_unless_repeat.ensures.facts p s h (c.loop-place.invariant.facts p s h);
+      len = omega (arith, c.add_unless_repeat.ensures.room.0, c.loop-place.invariant.len);
+      room = omega (arith, c.add_unless_repeat.ensures.room.1, c.loop-place.invariant.room);
       order = next names (names_up c.args.candidates.now c.requires.candidates.order) c.loop-place.place within
           c.loop-place.list.items c.add_unless_repeat.new.list.items c.in_ok-add_unless_repeat.ensures.name
           c.loop-place.invariant.order;

@@ -1,4 +1,4 @@
-use Rattle.std.proofs.Common.{◌≡◌}
+use Rattle.std.proofs.Common.{◌≡◌, ◌≤◌, length, vec_capacity, vec_len}
 use Rattle.std.specs.List.{All}
 use Rattle.ldmodel.specs.Layout.{Layout}
 use Rattle.ldmodel.specs.Project.{Project}
@@ -14,5 +14,7 @@ invariant-loop-place l = record {
   symbols : (p : Project) (s : Layout) → AreSources p s l.sources → shown l.list.items
       ≡ defined_symbols p s (distinct_first (names_of l.candidates) l.place);
   facts : (p : Project) (s : Layout) → AreSources p s l.sources → All (HasFacts p s) l.list.items;
+  len : vec_len l.list ≤ l.place;
+  room : length l.candidates ≤ vec_capacity l.list;
   order : AreUpTo (names_of l.candidates) l.place (names_in l.list.items);
 }

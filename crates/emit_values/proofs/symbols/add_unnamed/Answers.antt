@@ -1,23 +1,18 @@
-use Rattle.std.proofs.lemmas.Result.{on_ok_weaker}
 use Rattle.emit_values.specs.Symbols.{symbol_with}
 use Rattle.emit_values.proofs.Added.{adds_one, unnamed_facts, unnamed_symbol}
 use Rattle.emit_values.proofs.symbols.add_unnamed.Goals as goal
 
 pub returns-clause-symbol : goal.returns-clause-symbol
-returns-clause-symbol c =
+returns-clause-symbol c p s h =
     let case = c.case_named-case.result in
-    on_ok_weaker c.add_if_defined.result
-    (λ added p s h.
     adds_one p s (symbol_with c.args.name case c.in-Some.row) c.args.list.now.items c.add_if_defined.new.list.items
     (unnamed_symbol p s c.args.sources.now h c.args.name case c.in-Some.row c.value.result c.value.ensures
-    (c.in-Some.ensures p s c.args.name.now) (c.case_named-case.ensures.case p h.symbol_table h.script)) added)
+    (c.in-Some.ensures p s c.args.name.now) (c.case_named-case.ensures.case p h.symbol_table h.script))
     c.add_if_defined.ensures.shown
 
 pub returns-clause-facts : goal.returns-clause-facts
-returns-clause-facts c =
+returns-clause-facts c p s h =
     let case = c.case_named-case.result in
-    on_ok_weaker c.add_if_defined.result
-    (λ keeps p s h.
-    keeps p s (unnamed_facts p s c.args.sources.now h c.args.name case c.in-Some.row c.value.result c.value.ensures
-    (c.in-Some.ensures p s c.args.name.now)))
-    c.add_if_defined.ensures.facts
+    c.add_if_defined.ensures.facts p s
+    (unnamed_facts p s c.args.sources.now h c.args.name case c.in-Some.row c.value.result c.value.ensures
+    (c.in-Some.ensures p s c.args.name.now))

@@ -1,9 +1,8 @@
 use Rattle.std.proofs.Common.{List, subst, sym}
-use Rattle.ldmodel.specs.declared.names.Case.{Case}
 use Rattle.emit_relocate.specs.KnownLink.{KnownLink}
 use Rattle.emit_values.specs.LinkView.{known_link}
-use Rattle.emit_values.specs.NameRows.{AreNameCases, AreNameRows}
-use Rattle.emit_values.specs.declared.name_row.NameRow.{NameRow}
+use Rattle.emit_values.specs.NameRows.{AreResolved}
+use Rattle.emit_values.specs.declared.name_rows.ResolvedName.{ResolvedName}
 use Rattle.emit_values.proofs.values.Values.of.Goals as goal
 
 pub returns : goal.returns
@@ -11,24 +10,20 @@ returns c =
     λ s given link.
     let l : KnownLink = known_link c.args.project.now s c.args.symbol_table.now in
     record {
-      names = c.in_ok-cases.ensures.values l link;
+      names = c.in_ok-rows.ensures.values l link;
       entry = c.entry_value-entry.ensures s c.requires.symbol_table given link;
       symbols = c.in_ok-add_symbols.ensures.symbols c.args.project.now s (record {
         symbol_table = c.requires.symbol_table;
         script = sym c.script-script.ensures;
-        cases = subst (λ (xs : List Case). AreNameCases l xs) (sym c.deref-2.ensures.value)
-            (c.in_ok-cases.ensures.cases l link);
-        rows = subst (λ (xs : List NameRow). AreNameRows l xs) (sym c.deref-3.ensures.value)
-            (c.in_ok-cases.ensures.rows l link);
+        rows = subst (λ (xs : List ResolvedName). AreResolved l xs) (sym c.deref-2.ensures.value)
+            (c.in_ok-rows.ensures.rows l link);
         given = given;
       });
       facts = c.in_ok-add_symbols.ensures.facts c.args.project.now s (record {
         symbol_table = c.requires.symbol_table;
         script = sym c.script-script.ensures;
-        cases = subst (λ (xs : List Case). AreNameCases l xs) (sym c.deref-2.ensures.value)
-            (c.in_ok-cases.ensures.cases l link);
-        rows = subst (λ (xs : List NameRow). AreNameRows l xs) (sym c.deref-3.ensures.value)
-            (c.in_ok-cases.ensures.rows l link);
+        rows = subst (λ (xs : List ResolvedName). AreResolved l xs) (sym c.deref-2.ensures.value)
+            (c.in_ok-rows.ensures.rows l link);
         given = given;
       });
     }
