@@ -23,7 +23,7 @@ enum {
     LEAST = 32,            /* a free block has its four words */
     BEFORE_USED = 1,       /* marks in a size: the block before is in use, */
     MAPPED = 2,            /* and the block is a mapping of its own */
-    SLOW = 1000000,        /* nanoseconds: 2 MB of small pages take longer */
+    SLOW = 2000000,        /* nanoseconds: 2 MB of small pages cost less, with the slower ways through them */
     POPULATE_WRITE = 23,   /* MADV_POPULATE_WRITE, from Linux 5.14 on */
 };
 
@@ -117,8 +117,8 @@ static uint64_t processor_time(void)
     return (uint64_t)time.tv_sec * 1000000000 + (uint64_t)time.tv_nsec;
 }
 
-/* Asks for large pages, and touches the first. Where none is free, the system moves other pages to make one, which
- * takes it longer than to give as much in small pages: then these come next. */
+/* Asks for large pages, and touches the first. Where none is free, the system moves other pages to make one, which may
+ * take it longer than to give as much in small pages: then these come next. */
 static void ask_for_large(uintptr_t first, size_t size)
 {
     uint64_t start = processor_time();

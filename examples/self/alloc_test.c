@@ -36,7 +36,7 @@ static unsigned random_of(unsigned count)
 static long fake_clock(struct timespec *time)
 {
     static long now;
-    now += random_of(8) ? 100000 : 2000000;
+    now += random_of(8) ? 100000 : 3000000;
     time->tv_sec = now / 1000000000;
     time->tv_nsec = now % 1000000000;
     return 0;

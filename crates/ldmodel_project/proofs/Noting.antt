@@ -24,7 +24,8 @@ HasFirst keys n places = (k : ℕ) → IsPlaceOf keys n k (get_or places k None)
 
 -- a table of no places
 pub first_empty : (keys : List ℕ) (places : List (Option ℕ)) → places ≡ [] → HasFirst keys 0 places
-first_empty keys places empty k = subst (λ (table : List (Option ℕ)). IsPlaceOf keys 0 k (get_or table k None)) (sym empty) refl
+first_empty keys places empty k =
+    subst (λ (table : List (Option ℕ)). IsPlaceOf keys 0 k (get_or table k None)) (sym empty) refl
 
 pub first_more : (keys : List ℕ) (n key : ℕ) (old new : List (Option ℕ)) → n < length keys → get_or keys n 0 ≡ key
     → HasFirst keys n old → IsNoted old new key n → HasFirst keys (n + 1) new
