@@ -16,3 +16,4 @@ mod AllNumbered
 mod Collecting
 mod Column
 mod Placing
+mod ObjectAddresses

@@ -6,7 +6,10 @@ use Rattle.ldmodel.specs.Layout.{Layout, PlacedPiece, PlacedOutput}
 use Rattle.ldmodel.specs.NameFaults.{object_name}
 use Rattle.ldmodel.specs.Project.{Project}
 use Rattle.ldmodel.specs.SymbolValues.{is_part, placed_part}
+use Rattle.elfobj.specs.declared.section.SectionIndex.{SectionIndex}
+use Rattle.ldmodel.specs.declared.names.ObjectPlace.{ObjectPlace}
 use Rattle.ldmodel.specs.declared.sections.Part.{Part}
+use Rattle.ldmodel.specs.declared.sections.Part.TheVariants.{InTable}
 use Rattle.ldmodel.specs.declared.sections.SectionKey.{SectionKey}
 use Rattle.place.specs.InPlace.{AreInPlace}
 use Rattle.place.specs.LinkLayout.{IsLinkLayout}
@@ -41,6 +44,10 @@ part_in x n part = option_and_then (place_under x) (number_of x.table n part)
 -- where an input section stands
 abbrev pub place_in : IndexedLayout → SectionKey → Option SectionAddress
 place_in x k = part_in x k.object.0 k.part
+
+-- the key of a section of an object by its header number
+abbrev pub table_key : ObjectPlace → SectionIndex → SectionKey
+table_key object number = record { object = object; part = InTable number }
 
 -- the numbers, the rows and the layout are those of the project, input sections are found where they stand, and each
 -- stands once

@@ -1,6 +1,7 @@
 //! Where everything of a link stands.
 
-ghost use Rattle.std.specs.Prelude.{◌≡◌, IfOk, IfSome, take};
+ghost use Rattle.std.specs.Prelude.{◌≡◌, IfOk, IfSome, None, slice_index_or, take};
+ghost use Rattle.elfobj.specs.declared.section.SectionIndex.{SectionIndex};
 ghost use Rattle.ldmodel.specs.Layout.{Layout};
 ghost use Rattle.ldmodel.specs.Project.{Project};
 ghost use Rattle.place.specs.LinkLayout.{IsLinkLayout};
@@ -51,6 +52,7 @@ impl IndexedLayout {
     ghost use Rattle.place.specs.IndexedLayout.{IsIndexedLayout, IsSectionAddress, linked_in, linked_of, part_in};
     ghost use Rattle.place.specs.IndexedLayout.{place_in};
     ghost use Rattle.place.specs.IndexedLayout.{place_under};
+    ghost use Rattle.place.specs.IndexedLayout.{table_key};
 
     /// Where the input sections of these rows stand, by their numbers and their layout.
     ///
@@ -96,7 +98,25 @@ impl IndexedLayout {
         self.table.linked_before(object)
     }
 
+    /// Where the sections of an object stand, by their header numbers, as `find` says of each of them: that of a number
+    /// without an address, or past the end of the list, is not in the output. The time is constant.
+    pub fn addresses_of(&self, object: ObjectPlace) -> &[Option<SectionAddress>]
+        ensures are { (number : SectionIndex) → slice_index_or result.now number.0 None
+            ≡ place_in self.now (table_key object number) }
+        ensures places { (project : Project) (layout : Layout) (number : SectionIndex)
+            → IsIndexedLayout project layout self.now → IsSectionAddress project layout (table_key object number)
+            (slice_index_or result.now number.0 None) }
+    {
+        let numbers = self.table.numbers_of(object);
+        let end = numbers.end.min(self.addresses.len());
+        match self.addresses.get(numbers.start..end) {
+            Some(addresses) => addresses,
+            None => &[],
+        }
+    }
+
     /// Where the input section of a number stands, if it is in the output. The time is constant.
+    #[inline]
     pub fn at(&self, id: SectionNumber) -> Option<SectionAddress>
         ensures { result ≡ place_under self.now id.0 }
     {
@@ -104,6 +124,7 @@ impl IndexedLayout {
     }
 
     /// Where a part of the object of a number stands, if it is in the output.
+    #[inline]
     fn part(&self, object: usize, part: Part) -> Option<SectionAddress>
         ensures { result ≡ part_in self.now object part }
     {
@@ -113,6 +134,7 @@ impl IndexedLayout {
 
     /// Where an input section stands, if it is in the output. For a section the time is constant, for a common block it
     /// is logarithmic in the number of common blocks.
+    #[inline]
     pub fn find(&self, section: SectionKey) -> Option<SectionAddress>
         ensures is { result ≡ place_in self.now section }
         ensures place { (project : Project) (layout : Layout) → IsIndexedLayout project layout self.now
