@@ -4,7 +4,7 @@ use Rattle.std.proofs.Common.{ap, refl, sym, ◌∙◌, arith, add-one, append_a
 use Rattle.std.proofs.Math.Seq.{take-length}
 use Rattle.std.specs.List.{All, cons_option, filter_map}
 use Rattle.std.specs.List.Sorted.{IsNonDecreasingBy}
-use Rattle.std.specs.Prelude.{Err, Ok, Some, true}
+use Rattle.std.specs.Prelude.{Err, Ok, Some, slice_get, true}
 use Rattle.std.proofs.lemmas.List.{append_cancel_left, map-append}
 use Rattle.std.proofs.lemmas.List.Elements.{filter-append, filter_map-append}
 use Rattle.std.proofs.lemmas.List.Sorted.{IsPermutation-refl}
@@ -26,9 +26,17 @@ use Rattle.emit_relocate.specs.Fields.{AreAdded, AreFieldsOf, IsAdded, IsCounted
 use Rattle.emit_relocate.specs.Fields.{faults_of}
 use Rattle.emit_relocate.specs.Fields.{field_at, sites_among, work_of}
 use Rattle.emit_relocate.specs.KnownLink.{KnownLink}
-use Rattle.emit_relocate.specs.Sites.{IsPlaced}
+use Rattle.emit_relocate.specs.Sites.{IsPlaced, IsSiteAt}
 use Rattle.emit_relocate.specs.declared.site.PlacedInput.{PlacedInput}
 use Rattle.emit_relocate.proofs.Runs.{within}
+
+-- a relocation of a section, as a site
+abbrev site_of : NamedObject → LinkedSection → ℕ → Relocation → Site
+site_of o x start a = record { object = o; section = x; start = start; relocation = a }
+
+pub at_entry : (l : KnownLink) (m : PlacedInput) (o : NamedObject) (x : LinkedSection) (a : Relocation) (i : ℕ)
+    → IsPlaced l m o x → slice_get m.relocations.now i ≡ Some a → IsSiteAt l m i (site_of o x m.start a)
+at_entry l m o x a i h is = record { site = record { placed = h; start_is = refl }; entry_is = is }
 
 pub raise_none : (m : Counts) → m.fields < 2 ^ 64 → m ≡ raised m count.Fields 0
 raise_none m h =

@@ -1,5 +1,5 @@
 -- What a linker knows of its link: a project and a layout, and what the keys of objects and of names stand for.
-use Rattle.std.specs.Prelude.{◌≡◌, ℕ, ◌<◌, List, Option, Some, slice_get, false, unwrap_or}
+use Rattle.std.specs.Prelude.{◌≡◌, ℕ, List, Option, Some, slice_get, false, unwrap_or}
 use Rattle.std.specs.Option.{option_map}
 use Rattle.elfobj.specs.Object.{ObjectData}
 use Rattle.elfobj.specs.Symbols.{NamedSymbol}

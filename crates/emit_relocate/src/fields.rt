@@ -58,15 +58,19 @@ fn add_site(
     }
 }
 
-/// Whether the number of each relocation of a section fits 32 bits.
-fn is_numbered(relocations: &[Relocation]) -> bool
-    ensures { result ≡ true → length relocations.now < 2 ^ 32 }
+/// Tests that the number of each relocation of a section fits 32 bits.
+#[inline(always)]
+pub(crate) fn check_numbers(relocations: &[Relocation]) -> Result<(), NoMemory>
+    ensures { OnOk result (length relocations.now < 2 ^ 32) }
 {
-    relocations.len() <= u32::MAX as usize
+    if relocations.len() > u32::MAX as usize {
+        // No section has 2^32 relocations
+        return Err(impossible());
+    }
+    Ok(())
 }
 
-/// Evaluates relocations of a section, of which the first has the number `first`, in the order of their table. It is
-/// the only caller of `evaluate`, which is so compiled into its loop.
+/// Evaluates relocations of a section, of which the first has the number `first`, in the order of their table.
 #[inline(never)]
 pub(crate) fn add_sites(
     section: &PlacedInput<'_>,
@@ -87,10 +91,7 @@ pub(crate) fn add_sites(
 {
     // for the prover: brings in that the count of fields fits a u64
     let _fields = meter.fields();
-    if !is_numbered(section.relocations) {
-        // No section has 2^32 relocations
-        return Err(impossible());
-    }
+    check_numbers(section.relocations)?;
     fields.reserve(relocations.len())?;
     for entry in 0..relocations.len() {
         let number = (first + entry) as u32;

@@ -2,9 +2,10 @@
 //! another value than in the previous link.
 
 ghost use Rattle.std.specs.Prelude.{◌≡◌, ◌++◌, ◌+◌, ◌<◌, ◌^◌, All, OnOk, Some, [], ◌∷◌, nat_le, option_to_list};
-ghost use Rattle.std.specs.Prelude.{slice_get};
+ghost use Rattle.std.specs.Prelude.{slice_get, true};
 ghost use Rattle.elfobj.specs.declared.relocation.Relocation.{Relocation as RelocationOf};
 ghost use Rattle.emit_fields.specs.Patches.{patch_end};
+ghost use Rattle.ldmodel.specs.Relocations.{is_evaluated};
 ghost use Rattle.ldmodel.specs.Stayed.{GoodLink};
 ghost use Rattle.emit_relocate.specs.Changes.{IsFiled, IsMoved, in_file};
 ghost use Rattle.emit_relocate.specs.PreviousLinkInfo.{has_moved, is_same_value};
@@ -14,9 +15,9 @@ ghost use Rattle.emit_relocate.specs.Links.{IsStayedAt, site_at_hand, sites_at_h
 ghost use Rattle.emit_relocate.specs.Sites.{IsPlaced};
 ghost use Rattle.emit_relocate.specs.Values.{value_of};
 
-use crate::fields::add_sites;
+use crate::fields::check_numbers;
 use crate::previous_link_info::{FileRange, PreviousLinkInfo};
-use crate::site::{PlacedInput, is_evaluated, site_value};
+use crate::site::{PlacedInput, evaluate, is_evaluated, site_value};
 use crate::value::SymbolValue;
 use elfobj::relocation::{Relocation, SymbolIndex};
 use emit_fields::patch::Patch;
@@ -24,7 +25,6 @@ use ldmodel::fault::Fault;
 use ldmodel::impossible::impossible;
 use ldmodel::memory::NoMemory;
 use ldmodel::meter::Meter;
-use std::slice::from_ref;
 
 /// Whether two values are the same. A number is never the same as a missing value.
 fn is_same_value(one: SymbolValue, other: SymbolValue) -> bool
@@ -104,21 +104,24 @@ impl<'a, E: PreviousLinkInfo> StayedSection<'a, E> {
         meter: &mut Meter,
     ) -> Result<(), NoMemory>
         requires entry_is { slice_get self.now.section.relocations.now entry ≡ Some relocation.now }
+        requires evaluated { is_evaluated relocation.now.kind ≡ true }
         requires below { self.now.section.start + relocation.now.offset < 2 ^ 64 }
         ensures { OnOk result ((link : KnownLink) (s : ObjectSection)
             → IsPlaced link self.now.section s.object s.section
             → IsFiled link self.now.range (sites_at_hand self.now.section s (relocation.now ∷ []))
             patches.old.items patches.new.items faults.old.items faults.new.items meter.old meter.new) }
     {
-        let before = patches.len();
-        let relocations = from_ref(relocation);
-        add_sites(&self.section, entry, relocations, patches, faults, meter)?;
-        if patches.len() == before {
-            return Ok(());
+        check_numbers(self.section.relocations)?;
+        match evaluate(&self.section, entry as u32, relocation, meter) {
+            Ok(field) => {
+                add_in_file(self.range, field, patches)?;
+                Ok(())
+            }
+            Err(fault) => {
+                faults.push(fault)?;
+                Ok(())
+            }
         }
-        let field = patches.pop().unwrap();
-        add_in_file(self.range, field, patches)?;
-        Ok(())
     }
 
     /// Evaluates the relocation of number `entry`, if its symbol has another value: adds its field in its place in the

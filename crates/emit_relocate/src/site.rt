@@ -140,6 +140,7 @@ fn field_with(
 
 /// The field of a relocation of number `entry`, in its place; or its fault. The call counts one relocation, where the
 /// symbol has a value.
+#[inline(always)]
 pub fn evaluate(
     section: &PlacedInput<'_>,
     entry: u32,

@@ -1,22 +1,6 @@
-use Rattle.std.proofs.Common.{◌≡◌, ℕ, Some, arith, refl, sym, ◌∙◌}
-use Rattle.std.specs.Prelude.{slice_get}
-use Rattle.elfobj.specs.Sections.{LinkedSection}
-use Rattle.elfobj.specs.declared.relocation.Relocation.{Relocation}
-use Rattle.ldmodel.specs.Project.{NamedObject}
-use Rattle.ldmodel.specs.Relocations.{Site}
-use Rattle.emit_relocate.specs.KnownLink.{KnownLink}
-use Rattle.emit_relocate.specs.Sites.{IsPlaced, IsSiteAt}
-use Rattle.emit_relocate.specs.declared.site.PlacedInput.{PlacedInput}
-use Rattle.emit_relocate.proofs.Added.{tried_fault, tried_field, tried_none}
+use Rattle.std.proofs.Common.{arith, refl, sym, ◌∙◌}
+use Rattle.emit_relocate.proofs.Added.{at_entry, tried_fault, tried_field, tried_none}
 use Rattle.emit_relocate.proofs.fields.add_site.Goals as goal
-
--- a relocation of a section, as a site
-abbrev site_of : NamedObject → LinkedSection → ℕ → Relocation → Site
-site_of o x start a = record { object = o; section = x; start = start; relocation = a }
-
-at_entry : (l : KnownLink) (m : PlacedInput) (o : NamedObject) (x : LinkedSection) (a : Relocation) (i : ℕ)
-    → IsPlaced l m o x → slice_get m.relocations.now i ≡ Some a → IsSiteAt l m i (site_of o x m.start a)
-at_entry l m o x a i h is = record { site = record { placed = h; start_is = refl }; entry_is = is }
 
 pub returns-then-not-is_evaluated-clause-tried : goal.returns-then-not-is_evaluated-clause-tried
 returns-then-not-is_evaluated-clause-tried c =

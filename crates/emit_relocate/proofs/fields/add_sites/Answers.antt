@@ -17,7 +17,7 @@ overflow_add-number c =
     c.requires.entries c.loop-entry.entry r
     (slice_get-get_or c.args.relocations.now c.loop-entry.entry no_relocation c.loop-entry-test.true) in
     let low = slice_get_within c.args.section.now.relocations.now (c.args.first + c.loop-entry.entry) r at in
-    let few = c.is_numbered.ensures c.if-not-is_numbered.false in
+    let few = c.in_ok-check_numbers.ensures in
     omega (arith, low, few)
 
 pub overflow_cast-number : goal.overflow_cast-number
@@ -27,7 +27,7 @@ overflow_cast-number c =
     c.requires.entries c.loop-entry.entry r
     (slice_get-get_or c.args.relocations.now c.loop-entry.entry no_relocation c.loop-entry-test.true) in
     let low = slice_get_within c.args.section.now.relocations.now (c.args.first + c.loop-entry.entry) r at in
-    let few = c.is_numbered.ensures c.if-not-is_numbered.false in
+    let few = c.in_ok-check_numbers.ensures in
     omega (arith, low, few)
 
 pub add_site-requires-clause-entry_is : goal.add_site-requires-clause-entry_is

@@ -1,32 +1,40 @@
-use Rattle.std.proofs.Common.{◌≡◌, ◌∙◌, ◌++◌, ap, length, arith, subst}
-use Rattle.std.specs.Prelude.{option_to_list}
-use Rattle.emit_relocate.specs.Fields.{IsTried}
-use Rattle.emit_relocate.specs.Links.{sites_at_hand}
+use Rattle.std.proofs.Common.{◌≡◌, ◌++◌, ◌∷◌, [], length, refl, arith}
+use Rattle.std.proofs.lemmas.List.{length_push}
+use Rattle.std.proofs.lemmas.Option.{slice_get_within}
+use Rattle.emit_fields.specs.declared.patch.Patch.{Patch}
+use Rattle.emit_relocate.proofs.Added.{at_entry, tried_fault, tried_field}
 use Rattle.emit_relocate.proofs.Filed.{filed_none, filed_one}
 use Rattle.emit_relocate.proofs.retargeted.StayedSection.add_site_in_file.Goals as goal
 
-pub returns-then-len-before : goal.returns-then-len-before
-returns-then-len-before g c =
-    λ l s h.
-    let tried = subst (λ rs. IsTried l (sites_at_hand c.args.self.now.section s rs) c.args.patches.now.items
-    c.add_sites.new.fields.items c.args.faults.now.items c.add_sites.new.faults.items c.args.meter.now
-    c.add_sites.new.meter) c.from_ref-relocations.ensures.value
-    (c.in_ok-add_sites.ensures.tried l s.object s.section h) in
-    filed_none l c.args.self.now.range s.object s.section c.args.self.now.section.start c.args.relocation.now
-    _ _ _ _ _ _ tried
-    (omega (arith, c.if-len-before.true, c.len.ensures, c.len-before.ensures))
+pub overflow_cast-entry : goal.overflow_cast-entry
+overflow_cast-entry g c =
+    let low = slice_get_within c.args.self.now.section.relocations.now c.args.entry c.args.relocation.now
+    c.requires.entry_is in
+    omega (arith, low, c.in_ok-check_numbers.ensures)
 
-pub returns : goal.returns
-returns g c =
+pub returns-in_ok-add_in_file-in-Ok : goal.returns-in_ok-add_in_file-in-Ok
+returns-in_ok-add_in_file-in-Ok g c =
     λ l s h.
-    let tried = subst (λ rs. IsTried l (sites_at_hand c.args.self.now.section s rs) c.args.patches.now.items
-    c.add_sites.new.fields.items c.args.faults.now.items c.add_sites.new.faults.items c.args.meter.now
-    c.add_sites.new.meter) c.from_ref-relocations.ensures.value
-    (c.in_ok-add_sites.ensures.tried l s.object s.section h) in
-    let differs : length c.add_sites.new.fields.items ≡ length c.args.patches.now.items → ⊥ =
-    λ e. omega (arith, e, c.if-len-before.false, c.len.ensures, c.len-before.ensures) in
-    filed_one l c.args.self.now.range s.object s.section c.args.self.now.section.start c.args.relocation.now
-    _ _ _ _ _ _ tried
-    c.pop.new.self.items _ c.unwrap-field.result
-    (c.pop.ensures.items ∙ ap (λ r. c.pop.new.self.items ++ option_to_list r) c.unwrap-field.ensures)
-    c.in_ok-add_in_file.ensures differs
+    let m = c.args.self.now.section in
+    let r = c.args.relocation.now in
+    let ps = c.args.patches.now.items in
+    let q : Patch = c.in-Ok.field in
+    let at = at_entry l m s.object s.section r c.args.entry h c.requires.entry_is in
+    let field = c.in-Ok.ensures.evaluated l _ at refl in
+    let tried = tried_field l s.object s.section m.start r c.requires.evaluated ps (ps ++ q ∷ []) q _ _ _ field.0 field.1
+    refl (c.in-Ok.ensures.counted l _ at refl) in
+    let differs : length (ps ++ q ∷ []) ≡ length ps → ⊥ = λ e. omega (arith, e, length_push ps q) in
+    filed_one l c.args.self.now.range s.object s.section m.start r _ _ _ _ _ _ tried ps _ q refl
+    c.in_ok-add_in_file-in-Ok.ensures differs
+
+pub returns-in_ok-push-in-Err : goal.returns-in_ok-push-in-Err
+returns-in_ok-push-in-Err g c =
+    λ l s h.
+    let m = c.args.self.now.section in
+    let r = c.args.relocation.now in
+    let at = at_entry l m s.object s.section r c.args.entry h c.requires.entry_is in
+    let tried = tried_fault l s.object s.section m.start r c.requires.evaluated c.args.patches.now.items
+    c.in-Err.fault _ _ _ _ (c.in-Err.ensures.evaluated l _ at refl)
+    c.in_ok-push-in-Err.ensures.items
+    (c.in-Err.ensures.counted l _ at refl) in
+    filed_none l c.args.self.now.range s.object s.section m.start r _ _ _ _ _ _ tried refl
