@@ -4,12 +4,12 @@ use Rattle.std.proofs.Common.{append_assoc, append-nil, length-append, refl, sym
 use Rattle.std.proofs.Math.Nat.{zero-add}
 use Rattle.std.specs.List.{enumerate_from, sum_by}
 use Rattle.std.proofs.lemmas.Grind.{flat_map-append}
-use Rattle.std.proofs.lemmas.List.{take_more, get_or-map, length-map, take_all}
+use Rattle.std.proofs.lemmas.List.{take_more, get_or-map, length-map, map-append, take_all, take-append-le}
 use Rattle.std.proofs.lemmas.List.Sums.{sum_by-cons}
 use Rattle.std.proofs.lemmas.List.Concat.{flat_map-cons, length-flat_map}
 use Rattle.std.proofs.lemmas.List.FromFn.{length-enumerate_from, get_or-enumerate_from}
 use Rattle.std.specs.Prelude.{replicate}
-use Rattle.ldmodel.specs.Tail.{string_table, name_offset, symbol_bytes, kind_number}
+use Rattle.ldmodel.specs.Tail.{SymbolEntry, string_table, name_offset, symbol_bytes, kind_number}
 use Rattle.emit_image.specs.Tables.{entry_of, names_of, binding_number, symbol_table_of}
 use Rattle.emit_image.specs.declared.symbols.TableSymbol.{TableSymbol}
 
@@ -57,44 +57,6 @@ table_more f xs i d l =
     more f (enumerate_from 0 xs) i (0, d) (rw length-enumerate_from l)
     ∙ ap (λ x. flat_map f (take i (enumerate_from 0 xs)) ++ f x) at
 
--- an entry that is written after those before it
-pub entry_next : (symbols : List TableSymbol) (i at : ℕ) (d : TableSymbol) (before after names : List ℕ)
-    → i < length symbols → at ≡ length names → names ≡ string_table (take i (names_of symbols))
-    → before ≡ replicate 24 0
-    ++ flat_map (λ y. symbol_bytes (entry_of (names_of symbols) y)) (take i (enumerate_from 0 symbols))
-    → after ≡ before ++ symbol_bytes
-    (record {
-      name = at;
-      binding = binding_number (get_or symbols i d).weak;
-      type =
-          kind_number (get_or symbols i d).kind;
-      section = (get_or symbols i d).section;
-      value =
-          (get_or symbols i d).value;
-      size = (get_or symbols i d).size;
-    })
-    → after ≡ replicate 24 0
-    ++ flat_map (λ y. symbol_bytes (entry_of (names_of symbols) y)) (take (i + 1) (enumerate_from 0 symbols))
-entry_next symbols i at d before after names l a n b e =
-    let f : ℕ × TableSymbol → List ℕ = λ y. symbol_bytes (entry_of (names_of symbols) y) in
-    let begins : at ≡ name_offset (names_of symbols) i = a ∙ ap (λ (ns : List ℕ). length ns) n
-    ∙ sym (name_at (names_of symbols) i) in
-    let own : after ≡ before ++ f (i, get_or symbols i d) =
-    e ∙ ap (λ (n : ℕ). before
-    ++ symbol_bytes (record {
-      name = n;
-      binding = binding_number (get_or symbols i d).weak;
-      type =
-          kind_number (get_or symbols i d).kind;
-      section = (get_or symbols i d).section;
-      value =
-          (get_or symbols i d).value;
-      size = (get_or symbols i d).size;
-    })) begins in
-    own ∙ ap (λ (bs : List ℕ). bs ++ f (i, get_or symbols i d)) b
-    ∙ append_assoc (replicate 24 0) (flat_map f (take i (enumerate_from 0 symbols))) (f (i, get_or symbols i d))
-    ∙ ap (λ (bs : List ℕ). replicate 24 0 ++ bs) (sym (table_more f symbols i d l))
-
 -- a name that is added after those before it
 pub name_next : {X : Type 0} (of : X → List ℕ) (xs : List X) (i : ℕ) (d : X) (before after : List ℕ) → i < length xs
     → before ≡ string_table (take i (map of xs))
@@ -109,12 +71,86 @@ name_next of xs i d before after l b e =
     ∙ ap (λ (name : List ℕ). string_table (take i (map of xs)) ++ (name ++ 0 ∷ [])) (sym here) in
     e ∙ at ∙ sym grown
 
--- all entries
-pub all_entries : (symbols : List TableSymbol) (i : ℕ) (out : List ℕ) → length symbols ≤ i
-    → out ≡ replicate 24 0
-    ++ flat_map (λ y. symbol_bytes (entry_of (names_of symbols) y)) (take i (enumerate_from 0 symbols)) → out
-    ≡ symbol_table_of symbols
+-- the entry of a symbol whose name begins at an offset
+abbrev entry_at : ℕ → TableSymbol → SymbolEntry
+entry_at at x = record {
+  name = at;
+  binding = binding_number x.weak;
+  type = kind_number x.kind;
+  section = x.section;
+  value = x.value;
+  size = x.size;
+}
+
+abbrev entry_bytes : List (List ℕ) → ℕ × TableSymbol → List ℕ
+entry_bytes names y = symbol_bytes (entry_of names y)
+
+-- where a name begins does not depend on those after it
+begins_same : (names more : List (List ℕ)) (i : ℕ) → i ≤ length names → name_offset (names ++ more) i
+    ≡ name_offset names i
+begins_same names more i l =
+    ap (λ (ns : List (List ℕ)). 1 + sum_by (λ (name : List ℕ). length name + 1) ns) (take-append-le i names more l)
+
+-- nor do the entries
+entries_same : (names more : List (List ℕ)) (n : ℕ) (xs : List TableSymbol) → n + length xs ≤ length names
+    → flat_map (entry_bytes (names ++ more)) (enumerate_from n xs)
+    ≡ flat_map (entry_bytes names) (enumerate_from n xs)
+entries_same names more n [] l = refl
+entries_same names more n (x ∷ xs) l =
+    flat_map-cons (entry_bytes (names ++ more)) (n, x) (enumerate_from (n + 1) xs)
+    ∙ ap (λ (k : ℕ). symbol_bytes (entry_at k x)
+    ++ flat_map (entry_bytes (names ++ more)) (enumerate_from (n + 1) xs))
+    (begins_same names more n (omega (arith, l)))
+    ∙ ap (λ (bs : List ℕ). entry_bytes names (n, x) ++ bs) (entries_same names more (n + 1) xs (omega (arith, l)))
+    ∙ sym (flat_map-cons (entry_bytes names) (n, x) (enumerate_from (n + 1) xs))
+
+enumerate_more : (n : ℕ) (xs : List TableSymbol) (x : TableSymbol) → enumerate_from n (xs ++ x ∷ [])
+    ≡ enumerate_from n xs ++ (n + length xs, x) ∷ []
+enumerate_more n [] x = let zero : n ≡ n + 0 = omega arith in ap (λ (m : ℕ). (m, x) ∷ []) zero
+enumerate_more n (y ∷ ys) x =
+    let same : n + 1 + length ys ≡ n + length (y ∷ ys) = omega arith in
+    ap (λ zs. (n, y) ∷ zs) (enumerate_more (n + 1) ys x
+    ∙ ap (λ (m : ℕ). enumerate_from (n + 1) ys ++ (m, x) ∷ []) same)
+
+-- the tables of no symbols
+pub no_entries : (out : List ℕ) → out ≡ replicate 24 0 → out ≡ symbol_table_of []
 unfolding symbol_table_of
-all_entries symbols i out l e =
-    e ∙ ap (λ ys. replicate 24 0 ++ flat_map (λ y. symbol_bytes (entry_of (names_of symbols) y)) ys)
-    (take_all i (enumerate_from 0 symbols) (rw length-enumerate_from l))
+no_entries out h = h ∙ sym (append-nil (replicate 24 0))
+
+-- a symbol more, whose name begins where those before it end
+pub entry_more : (xs : List TableSymbol) (x : TableSymbol) (at : ℕ) → at ≡ length (string_table (names_of xs))
+    → symbol_table_of (xs ++ x ∷ []) ≡ symbol_table_of xs ++ symbol_bytes (entry_at at x)
+unfolding symbol_table_of
+entry_more xs x at e =
+    let ns : List (List ℕ) = names_of xs in
+    let own : List (List ℕ) = x.name.now ∷ [] in
+    let long : length ns ≡ length xs = length-map xs _ in
+    let all : names_of (xs ++ x ∷ []) ≡ ns ++ own = map-append (λ (y : TableSymbol). y.name.now) xs (x ∷ []) in
+    let before : name_offset (ns ++ own) (0 + length xs) ≡ name_offset ns (0 + length xs) =
+    begins_same ns own (0 + length xs) (omega (arith, long)) in
+    let here : name_offset ns (0 + length xs) ≡ at =
+    name_at ns (0 + length xs)
+    ∙ ap (λ (ms : List (List ℕ)). length (string_table ms)) (take_all (0 + length xs) ns (omega (arith, long)))
+    ∙ sym e in
+    ap (λ (ms : List (List ℕ)). replicate 24 0 ++ flat_map (entry_bytes ms) (enumerate_from 0 (xs ++ x ∷ []))) all
+    ∙ ap (λ ys. replicate 24 0 ++ flat_map (entry_bytes (ns ++ own)) ys) (enumerate_more 0 xs x)
+    ∙ ap (λ (bs : List ℕ). replicate 24 0 ++ bs)
+    (flat_map-append (entry_bytes (ns ++ own)) (enumerate_from 0 xs) ((0 + length xs, x) ∷ [])
+    ∙ ap (λ (bs : List ℕ). bs ++ flat_map (entry_bytes (ns ++ own)) ((0 + length xs, x) ∷ []))
+    (entries_same ns own 0 xs (omega (arith, long)))
+    ∙ ap (λ (bs : List ℕ). flat_map (entry_bytes ns) (enumerate_from 0 xs) ++ bs)
+    (one (entry_bytes (ns ++ own)) (0 + length xs, x) ∙ ap (λ (k : ℕ). symbol_bytes (entry_at k x)) (before ∙ here)))
+    ∙ sym (append_assoc (replicate 24 0) (flat_map (entry_bytes ns) (enumerate_from 0 xs))
+    (symbol_bytes (entry_at at x)))
+
+pub names_more : (xs : List TableSymbol) (x : TableSymbol) (before after : List ℕ)
+    → before ≡ string_table (names_of xs) → after ≡ before ++ x.name.now ++ 0 ∷ []
+    → after ≡ string_table (names_of (xs ++ x ∷ []))
+names_more xs x before after b e =
+    let ns : List (List ℕ) = names_of xs in
+    let f : List ℕ → List ℕ = λ name. name ++ 0 ∷ [] in
+    e ∙ ap (λ (bs : List ℕ). bs ++ x.name.now ++ 0 ∷ []) b
+    ∙ append_assoc (string_table ns) x.name.now (0 ∷ [])
+    ∙ ap (λ (bs : List ℕ). 0 ∷ bs)
+    (ap (λ (bs : List ℕ). flat_map f ns ++ bs) (sym (one f x.name.now)) ∙ sym (flat_map-append f ns (x.name.now ∷ [])))
+    ∙ ap string_table (sym (map-append (λ (y : TableSymbol). y.name.now) xs (x ∷ [])))

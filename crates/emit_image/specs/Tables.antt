@@ -16,6 +16,7 @@ use Rattle.ldmodel.specs.Tail.{SymbolEntry, ValuedSymbol, name_offset, kind_numb
 use Rattle.ldmodel.specs.Tail.{st_binding, st_type_of, st_shndx, st_size, string_table}
 use Rattle.ldmodel.specs.declared.placed.Placed.{Placed}
 use Rattle.emit_image.specs.declared.sections.TableSection.{TableSection}
+use Rattle.emit_image.specs.declared.symbols.SymbolTables.{SymbolTables}
 use Rattle.emit_image.specs.declared.symbols.TableSymbol.{TableSymbol}
 
 -- STB_WEAK or STB_GLOBAL
@@ -62,6 +63,11 @@ names_of symbols = map (λ (y : TableSymbol). y.name.now) symbols
 unfoldable pub symbol_table_of : List TableSymbol → List ℕ
 symbol_table_of symbols =
     replicate 24 0 ++ flat_map (λ x. symbol_bytes (entry_of (names_of symbols) x)) (enumerate_from 0 symbols)
+
+-- the symbol table of these symbols, and their names
+pub record AreTablesOf (symbols : List TableSymbol) (tables : SymbolTables) : Type 0 where
+  pub entries : tables.entries ≡ symbol_table_of symbols
+  pub names : tables.names.items ≡ string_table (names_of symbols)
 
 -- the flags of an output section
 abbrev pub flags_of : Placed → ℕ

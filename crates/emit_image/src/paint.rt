@@ -80,6 +80,7 @@ fn write_fill(canvas: &mut Canvas, at: usize, n: usize, pattern: &[u8], meter: &
 }
 
 /// Writes the bytes of a content from `from` up to `end`. An input section may be put together on `desk` before.
+#[inline(always)]
 fn write_content(
     canvas: &mut Canvas,
     desk: &mut [u8; BUFFER_SIZE],
@@ -130,6 +131,7 @@ pub(crate) fn grow_to(canvas: &mut Canvas, least: usize, most: usize)
 }
 
 /// Writes what stands from `from` up to `end`, unless it stays. The canvas grows with it, up to `limit`.
+#[inline(always)]
 pub(crate) fn paint(
     canvas: &mut Canvas,
     desk: &mut [u8; BUFFER_SIZE],

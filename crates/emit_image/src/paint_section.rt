@@ -37,6 +37,7 @@ fn place(x: &ImageSection<'_>, at: u64) -> usize
 
 /// Writes the next data command, which starts below `below`, and the gap before it. The input sections to come start at
 /// `below` or later.
+#[inline(never)]
 fn paint_next_data(
     canvas: &mut Canvas,
     desk: &mut [u8; BUFFER_SIZE],
@@ -83,6 +84,7 @@ fn paint_next_data(
 
 /// Writes the data commands to come that start below `below`, where the input sections to come start at `below` or
 /// later.
+#[inline(always)]
 fn paint_data_before(
     canvas: &mut Canvas,
     desk: &mut [u8; BUFFER_SIZE],

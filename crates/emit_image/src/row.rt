@@ -37,6 +37,19 @@ fn joined_size(last: &ImagePiece<'_>, size: u64, start: u64) -> Option<u64>
     last.size.checked_add(size)
 }
 
+/// Adds an input section. `push` makes a call even where there is room.
+#[inline(always)]
+fn add<'a>(row: &mut Vec<ImagePiece<'a>>, piece: ImagePiece<'a>) -> Result<(), NoMemory>
+    ensures { OnOk result (row.new.items ≡ row.old.items ++ piece.entry ∷ []) }
+{
+    if row.len() < row.capacity() {
+        row.push_reserved(piece);
+    } else {
+        row.push(piece)?;
+    }
+    Ok(())
+}
+
 /// Adds an input section of this number of bytes at an address, which stays: to the last one, where it can be joined to
 /// it.
 ///
@@ -55,7 +68,7 @@ pub fn add_kept<'a>(row: &mut Vec<ImagePiece<'a>>, size: u64, start: u64) -> Res
             return Ok(());
         }
     }
-    row.push(kept(size, start))?;
+    add(row, kept(size, start))?;
     Ok(())
 }
 
@@ -68,6 +81,6 @@ pub fn add_drawn<'a>(row: &mut Vec<ImagePiece<'a>>, piece: ImagePiece<'a>) -> Re
     ensures { OnOk result ((whole : List PieceOf) → StandFor whole row.old.items → piece.entry.stays ≡ false
         → StandFor (whole ++ piece.entry ∷ []) row.new.items) }
 {
-    row.push(piece)?;
+    add(row, piece)?;
     Ok(())
 }

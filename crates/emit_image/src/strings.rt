@@ -21,6 +21,11 @@ pub(crate) fn add_name(names: &mut Vec<u8>, name: &[u8]) -> Result<usize, NoMemo
 {
     let at = names.len();
     names.extend_from_slice(name)?;
-    names.push(0)?;
+    // `push` makes a call even where there is room
+    if names.len() < names.capacity() {
+        names.push_reserved(0);
+    } else {
+        names.push(0)?;
+    }
     Ok(at)
 }

@@ -1,10 +1,11 @@
 //! The symbol table and the names in it (gABI, "Symbol Table").
 
-ghost use Rattle.std.specs.Prelude.{◌≡◌, ◌+◌, ◌*◌, ◌++◌, ◌≤◌, IfOk, OnOk, if◌then◌else◌};
-ghost use Rattle.ldmodel.specs.Tail.{SymbolEntry, kind_number, string_table, symbol_bytes};
-ghost use Rattle.emit_image.specs.Tables.{binding_number, names_of, symbol_table_of};
+ghost use Rattle.std.specs.Prelude.{◌≡◌, ◌+◌, ◌*◌, ◌≤◌, IfOk, OnOk, if◌then◌else◌};
+ghost use Rattle.ldmodel.specs.Tail.{SymbolEntry, kind_number, symbol_bytes};
+ghost use Rattle.emit_image.specs.Tables.{AreTablesOf, binding_number};
 
 use crate::strings::{add_name, no_names};
+use crate::table_entries::{ENTRY_SIZE, Entries};
 use elfobj::file::constants::{
     STB_GLOBAL, STB_WEAK, STT_FILE, STT_FUNC, STT_NOTYPE, STT_OBJECT, STT_SECTION,
 };
@@ -29,11 +30,11 @@ pub struct TableSymbol<'a> {
     pub size: u64,
 }
 
-/// The symbol table and its names, `.symtab` and `.strtab`.
+/// The symbol table and its names, `.symtab` and `.strtab`, to which symbols are added.
 #[derive(Drop)]
-pub(crate) struct SymbolTables {
-    pub(crate) entries: Vec<u8>,
-    pub(crate) names: Vec<u8>,
+pub struct SymbolTables {
+    entries: Entries,
+    names: Vec<u8>,
 }
 
 /// The type of a symbol; a common one is data in the output.
@@ -58,36 +59,82 @@ fn info_of(x: &TableSymbol<'_>) -> u8
     16 * binding + type_of(x.kind)
 }
 
-/// Writes the entry of a symbol whose name begins at `name`.
-fn put_symbol(out: &mut Vec<u8>, name: u64, x: &TableSymbol<'_>) -> Result<(), NoMemory>
-    ensures { OnOk result (out.new.items ≡ out.old.items
-        ++ symbol_bytes (record {
-          name = name;
-          binding = binding_number x.now.weak;
-          type = kind_number x.now.kind;
-          section = x.now.section;
-          value = x.now.value;
-          size = x.now.size;
-        })) }
+/// The entry of a symbol whose name begins at `name`.
+fn symbol_entry(name: u64, x: &TableSymbol<'_>) -> [u8; ENTRY_SIZE]
+    ensures { result ≡ symbol_bytes (record {
+      name = name;
+      binding = binding_number x.now.weak;
+      type = kind_number x.now.kind;
+      section = x.now.section;
+      value = x.now.value;
+      size = x.now.size;
+    }) }
 {
     let name = name.to_le_bytes();
     let info = info_of(x);
     let section = u64::from(x.section).to_le_bytes();
     let value = x.value.to_le_bytes();
     let size = x.size.to_le_bytes();
-    let entry = [
+    [
         name[0], name[1], name[2], name[3], info, 0, section[0], section[1], value[0], value[1],
         value[2], value[3], value[4], value[5], value[6], value[7], size[0], size[1], size[2],
         size[3], size[4], size[5], size[6], size[7],
-    ];
-    out.extend_from_slice(&entry)
+    ]
 }
 
-/// How many bytes the names of symbols have in their table.
+impl SymbolTables {
+    ghost use Rattle.std.specs.Prelude.{◌++◌, ◌∷◌, [], List};
+    ghost use Rattle.emit_image.specs.declared.symbols.TableSymbol.{TableSymbol as SymbolOf};
+
+    /// The tables of no symbols, with room for this number of them, whose names have this number of bytes in all.
+    ///
+    /// # Errors
+    ///
+    /// Where memory runs out.
+    pub fn with_capacity(
+        alloc: Global,
+        symbols: usize,
+        names: usize,
+    ) -> Result<SymbolTables, NoMemory>
+        ensures { IfOk result (AreTablesOf []) }
+    {
+        let room = symbols.saturating_add(1).saturating_mul(ENTRY_SIZE);
+        let mut entries = Entries::with_capacity(alloc, room)?;
+        entries.push(&[0; ENTRY_SIZE])?;
+        let room = names.saturating_add(symbols).saturating_add(1);
+        let names = no_names(alloc, room)?;
+        Ok(SymbolTables { entries, names })
+    }
+
+    /// Adds a symbol, and its name. Symbols come in byte order of their names.
+    ///
+    /// # Errors
+    ///
+    /// Where memory runs out.
+    #[inline(always)]
+    pub fn push(&mut self, x: &TableSymbol<'_>) -> Result<(), NoMemory>
+        ensures { OnOk result ((symbols : List SymbolOf) → AreTablesOf symbols self.old
+            → AreTablesOf (symbols ++ x.now ∷ []) self.new) }
+    {
+        let at = add_name(&mut self.names, x.name)?;
+        self.entries.push(&symbol_entry(at as u64, x))?;
+        Ok(())
+    }
+
+    /// The entries, and the names.
+    pub(crate) fn into_bytes(self) -> Result<(Vec<u8>, Vec<u8>), NoMemory>
+        ensures { IfOk result (λ bytes. (bytes.0.items ≡ self.entries) × (bytes.1.items ≡ self.names.items)) }
+    {
+        let SymbolTables { entries, names } = self;
+        Ok((entries.into_bytes()?, names))
+    }
+}
+
+/// How many bytes the names of symbols have.
 fn names_length(symbols: &[TableSymbol<'_>]) -> usize {
-    let mut total: usize = 1;
+    let mut total: usize = 0;
     for x in symbols {
-        total = total.saturating_add(x.name.len()).saturating_add(1);
+        total = total.saturating_add(x.name.len());
     }
     total
 }
@@ -97,16 +144,11 @@ pub(crate) fn symbol_tables(
     alloc: Global,
     symbols: &[TableSymbol<'_>],
 ) -> Result<SymbolTables, NoMemory>
-    ensures entries { IfOk result (λ t. t.entries.items ≡ symbol_table_of symbols.now) }
-    ensures names { IfOk result (λ t. t.names.items ≡ string_table (names_of symbols.now)) }
+    ensures { IfOk result (AreTablesOf symbols.now) }
 {
-    let room = symbols.len().saturating_add(1).saturating_mul(24);
-    let mut entries = Vec::with_capacity(alloc, room)?;
-    let mut names = no_names(alloc, names_length(symbols))?;
-    entries.extend_from_slice(&[0; 24])?;
+    let mut tables = SymbolTables::with_capacity(alloc, symbols.len(), names_length(symbols))?;
     for x in symbols {
-        let at = add_name(&mut names, x.name)?;
-        put_symbol(&mut entries, at as u64, x)?;
+        tables.push(x)?;
     }
-    Ok(SymbolTables { entries, names })
+    Ok(tables)
 }

@@ -8,7 +8,8 @@ ghost use Rattle.ldmodel.specs.SectionHeaders.{end_of_part, header_bytes, part_a
 ghost use Rattle.ldmodel.specs.SectionHeaders as definition;
 ghost use Rattle.ldmodel.specs.Tail.{name_offset};
 ghost use Rattle.emit_image.specs.HeaderRecord.{header_of};
-ghost use Rattle.emit_image.specs.Tables.{IsTailOf, tables_of, tail_of};
+ghost use Rattle.emit_image.specs.Tables.{AreTablesOf, IsTailOf, tables_of, tail_of};
+ghost use Rattle.emit_image.specs.declared.symbols.TableSymbol.{TableSymbol as SymbolOf};
 
 use crate::sections::{
     Header, OutputHeaders, TableNames, TableSection, output_headers, put_header,
@@ -177,17 +178,53 @@ fn put_tables(
 
 /// The three tables past the end of the loaded part of the file.
 fn place_tables(end: u64, symbols: SymbolTables, header_names: Vec<u8>) -> Result<Tables, NoMemory>
-    ensures symbols { IfOk result (λ t. t.symbols ≡ part_at (next_multiple_of end 8) symbols.entries.items) }
+    ensures symbols { IfOk result (λ t. t.symbols ≡ part_at (next_multiple_of end 8) symbols.entries) }
     ensures symbol_names { IfOk result (λ t. t.symbol_names ≡ part_at (end_of_part t.symbols) symbols.names.items) }
     ensures header_names { IfOk result (λ t. t.header_names ≡ part_at (end_of_part t.symbol_names) header_names.items) }
 {
-    let entries = TailPart::new(aligned(end)?, symbols.entries);
-    let names = after(&entries, symbols.names)?;
+    let (entries, names) = symbols.into_bytes()?;
+    let entries = TailPart::new(aligned(end)?, entries);
+    let names = after(&entries, names)?;
     let header_names = after(&names, header_names)?;
     Ok(Tables {
         symbols: entries,
         symbol_names: names,
         header_names,
+    })
+}
+
+/// The tail of an image whose loaded part ends at `loaded_end`: the symbol table, and the headers of these output
+/// sections, which come in the order of the script.
+///
+/// # Errors
+///
+/// Where memory runs out.
+pub fn tail_of_tables(
+    alloc: Global,
+    loaded_end: u64,
+    symbol_tables: SymbolTables,
+    sections: &[TableSection<'_>],
+) -> Result<TailParts, NoMemory>
+    ensures parts { IfOk result (λ t. (symbols : List SymbolOf) → AreTablesOf symbols symbol_tables
+        → t.symbols ∷ t.symbol_names ∷ t.header_names ∷ t.headers ∷ [] ≡ tail_of loaded_end symbols sections.now) }
+    ensures of_link { IfOk result (λ t. (project : Project) (layout : Layout) (symbols : List SymbolOf)
+        → AreTablesOf symbols symbol_tables → IsTailOf project layout loaded_end symbols sections.now
+        → t.symbols ∷ t.symbol_names ∷ t.header_names ∷ t.headers ∷ [] ≡ definition.tail project layout) }
+{
+    let output = output_headers(alloc, sections)?;
+    let OutputHeaders {
+        headers: mut headers,
+        names,
+        tables: at,
+    } = output;
+    let tables = place_tables(loaded_end, symbol_tables, names)?;
+    put_tables(&mut headers, sections.len(), &at, &tables)?;
+    let offset = aligned(end_of(&tables.header_names)?)?;
+    Ok(TailParts {
+        symbols: tables.symbols,
+        symbol_names: tables.symbol_names,
+        header_names: tables.header_names,
+        headers: TailPart::new(offset, headers),
     })
 }
 
@@ -210,19 +247,6 @@ pub fn tail(
         → t.symbols ∷ t.symbol_names ∷ t.header_names ∷ t.headers ∷ [] ≡ definition.tail project layout) }
 {
     let symbol_tables = symbol_tables(alloc, symbols)?;
-    let output = output_headers(alloc, sections)?;
-    let OutputHeaders {
-        headers: mut headers,
-        names,
-        tables: at,
-    } = output;
-    let tables = place_tables(loaded_end, symbol_tables, names)?;
-    put_tables(&mut headers, sections.len(), &at, &tables)?;
-    let offset = aligned(end_of(&tables.header_names)?)?;
-    Ok(TailParts {
-        symbols: tables.symbols,
-        symbol_names: tables.symbol_names,
-        header_names: tables.header_names,
-        headers: TailPart::new(offset, headers),
-    })
+    let tail = tail_of_tables(alloc, loaded_end, symbol_tables, sections)?;
+    Ok(tail)
 }

@@ -7,5 +7,5 @@ use Rattle.emit_image.proofs.row.add_drawn.Goals as goal
 
 pub returns : goal.returns
 returns c = λ whole h drawn.
-    subst (StandFor (whole ++ c.args.piece ∷ [])) (sym c.in_ok-push.ensures.items)
+    subst (StandFor (whole ++ c.args.piece ∷ [])) (sym c.in_ok-add.ensures)
     (stand_more whole c.args.row.now.items c.args.piece h (λ stays. absurd (true≢false (sym stays ∙ drawn))))

@@ -29,6 +29,6 @@ pub returns : goal.returns
 returns c = λ whole h. (
   c.kept.result,
   c.kept.ensures,
-  subst (StandFor (whole ++ c.kept.result ∷ [])) (sym c.in_ok-push.ensures.items)
+  subst (StandFor (whole ++ c.kept.result ∷ [])) (sym c.in_ok-add.ensures)
       (stand_more whole c.args.row.now.items c.kept.result h (λ _. (c.kept.ensures.bytes, c.kept.ensures.fields))),
 )
