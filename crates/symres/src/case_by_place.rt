@@ -6,6 +6,7 @@ ghost use Rattle.symres.specs.Placed.{place_case, place_entry};
 use ldmodel::names::{Case, Entry, ObjectKey};
 use ldmodel_project::order::Order;
 
+#[inline(always)]
 fn place_entry(order: &Order, entry: Entry) -> Entry
     ensures { result ≡ place_entry order.now entry }
 {
@@ -16,6 +17,7 @@ fn place_entry(order: &Order, entry: Entry) -> Entry
 }
 
 /// A case, with the places of objects for their keys. The time is constant.
+#[inline(always)]
 pub fn place_case(order: &Order, case: Case) -> Case
     ensures { result ≡ place_case order.now case }
 {

@@ -1,6 +1,6 @@
 //! The names of a link in byte order.
 
-ghost use Rattle.std.specs.Prelude.{◌≡◌, IfOk, map};
+ghost use Rattle.std.specs.Prelude.{◌≡◌, ◌<◌, ℕ, IfOk, List, length, map, slice_index_or};
 ghost use Rattle.symres.specs.Sorted.{compared_number, named_number, AreInOrder, AreSorted};
 ghost use Rattle.symres_table.specs.State.{IsListing};
 
@@ -10,6 +10,7 @@ use ldmodel::names::NameKey;
 use std::alloc::Global;
 use symres_decisions::decisions::Decisions;
 use symres_decisions::law::names_of_objects;
+use symres_decisions::name_text::NameText;
 use symres_table::prefix_key::KeyedName;
 
 /// A name and its key.
@@ -28,10 +29,32 @@ struct ComparedKey<'a> {
     key: NameKey,
 }
 
-/// All known names, each with its key, in no promised order.
-fn listed(alloc: Global, decisions: &Decisions) -> Result<Vec<NamedKey<'_>>, NoMemory>
+/// The name at a place in a text, with its key.
+fn named_at(text: &NameText, place: usize) -> NamedKey<'_>
+    requires { place < length text.now }
+    ensures { (e : List ℕ × ℕ) → named_number result ≡ slice_index_or text.now place e }
+{
+    NamedKey {
+        name: text.name_at(place),
+        key: text.key_at(place),
+    }
+}
+
+/// The names of a text, each with its key.
+fn written(alloc: Global, text: &NameText) -> Result<Vec<NamedKey<'_>>, NoMemory>
+    ensures { IfOk result (λ list. map named_number list.items ≡ text.now) }
+{
+    let count = text.len();
+    let mut list = Vec::with_capacity(alloc, count)?;
+    for place in 0..count {
+        list.push_reserved(named_at(text, place));
+    }
+    Ok(list)
+}
+
+/// All known names, each with its key, in no promised order, where no text of them is kept.
+fn scattered(alloc: Global, decisions: &Decisions) -> Result<Vec<NamedKey<'_>>, NoMemory>
     ensures list { IfOk result (λ list. map named_number list.items ≡ decisions.now.names.order) }
-    ensures listing { IsListing decisions.now.names.names decisions.now.names.order }
 {
     let mut list = Vec::with_capacity(alloc, decisions.known())?;
     for (name, key) in decisions.listed() {
@@ -41,6 +64,19 @@ fn listed(alloc: Global, decisions: &Decisions) -> Result<Vec<NamedKey<'_>>, NoM
         })?;
     }
     Ok(list)
+}
+
+/// All known names, each with its key, in no promised order.
+fn listed(alloc: Global, decisions: &Decisions) -> Result<Vec<NamedKey<'_>>, NoMemory>
+    ensures list { IfOk result (λ list. map named_number list.items ≡ decisions.now.names.order) }
+    ensures listing { IsListing decisions.now.names.names decisions.now.names.order }
+{
+    // for the prover: brings in the invariant of `decisions`
+    let _count = decisions.known();
+    match decisions.text() {
+        Some(text) => written(alloc, text),
+        None => scattered(alloc, decisions),
+    }
 }
 
 /// The same, for a sort.
@@ -82,6 +118,17 @@ fn sorted_list(alloc: Global, decisions: &Decisions) -> Result<Vec<NamedKey<'_>>
     named(alloc, &list)
 }
 
+/// All known names in byte order, each with its key. They are sorted only if they are not known to stand so.
+fn in_byte_order(alloc: Global, decisions: &Decisions) -> Result<Vec<NamedKey<'_>>, NoMemory>
+    ensures list { IfOk result (λ list. AreInOrder decisions.now.names.order list.items) }
+    ensures listing { IsListing decisions.now.names.names decisions.now.names.order }
+{
+    if decisions.is_in_order() {
+        return listed(alloc, decisions);
+    }
+    sorted_list(alloc, decisions)
+}
+
 impl SymbolTable {
     /// All known names in byte order, each with its key: all that objects declare are among them. They are
     /// sorted only where a name became known since they were put in order.
@@ -95,9 +142,6 @@ impl SymbolTable {
         names_of_objects();
         // for the prover: brings in the invariant of `self.decisions`
         let _count = self.decisions.known();
-        if self.decisions.is_in_order() {
-            return listed(alloc, &self.decisions);
-        }
-        sorted_list(alloc, &self.decisions)
+        in_byte_order(alloc, &self.decisions)
     }
 }

@@ -131,6 +131,7 @@ impl SymbolTable {
     }
 
     /// What the name of a key stands for, if the key has one. The time is constant.
+    #[inline(always)]
     pub fn case_of(&self, key: NameKey) -> Option<Case>
         ensures { result ≡ case_at self.now.cases key.0 }
     {

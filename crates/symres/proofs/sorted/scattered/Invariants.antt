@@ -1,7 +1,7 @@
 use Rattle.std.proofs.Common.{◌≡◌, ◌++◌, map}
 use Rattle.symres.specs.Sorted.{named_number}
 use Rattle.symres_table.specs.Known.{entry_spelled}
-use Rattle.symres.proofs.sorted.listed.Given as goal
+use Rattle.symres.proofs.sorted.scattered.Given as goal
 
 -- the names so far, and those that are left
 abbrev pub invariant-loop-name : goal.invariant-loop-name
