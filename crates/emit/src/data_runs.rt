@@ -1,4 +1,4 @@
-//! Data commands by the output sections that they stand in.
+//! Data commands by their output sections.
 
 ghost use Rattle.std.specs.Prelude.{◌≡◌, ◌≤◌, IfOk, List, length, map};
 ghost use Rattle.std.specs.List.{AllZip};
@@ -9,7 +9,7 @@ use ldmodel::memory::NoMemory;
 use ldmodel::placed::PlacedData;
 use std::alloc::Global;
 
-/// How many of these data commands, from the first on, stand in the output section of a number.
+/// The number of these data commands, from the first on, that are in the output section with this number.
 fn run_length(commands: &[PlacedData], section: usize) -> usize
     ensures exact { result ≡ run_length section commands.now }
     ensures within { result ≤ length commands.now }
@@ -26,7 +26,7 @@ fn run_length(commands: &[PlacedData], section: usize) -> usize
 ///
 /// # Errors
 ///
-/// Where memory runs out.
+/// If memory runs out.
 pub(crate) fn data_runs<'a>(
     alloc: Global,
     commands: &'a [PlacedData],

@@ -66,7 +66,7 @@ fn image_parts(tail: &TailParts) -> [ImagePart<'_>; 4]
 }
 
 /// Draws these output sections, and what else the image of a link has, onto a canvas: all but what stays, in which the
-/// patches are written. Fails where memory runs out; then the canvas is as it was.
+/// patches are written. Fails if memory runs out; then the canvas is as it was.
 fn draw_outputs(
     alloc: Global,
     canvas: &mut Canvas,
@@ -127,7 +127,7 @@ fn draw_outputs(
 ///
 /// # Errors
 ///
-/// Where memory runs out. Then the canvas is as it was.
+/// If memory runs out. Then the canvas is as it was.
 pub fn draw_image<'a, E: PreviousLinkInfo>(
     alloc: Global,
     canvas: &mut Canvas,

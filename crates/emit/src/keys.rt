@@ -29,7 +29,7 @@ fn as_read(object: &Object)
 ///
 /// # Errors
 ///
-/// Where memory runs out.
+/// If memory runs out.
 pub(crate) fn keys_of(
     alloc: Global,
     project: &ProjectView<'_>,

@@ -83,7 +83,7 @@ fn section_names(sections: &[OutputSectionAt<'_>]) -> Result<u64, NoMemory>
     Ok(bytes)
 }
 
-/// What stands in the tail of an image. Fails where memory runs out, as it would for 2^64 bytes.
+/// The contents of the tail of an image. Fails if memory runs out, as it would for 2^64 bytes.
 fn tail_sizes(
     alloc: Global,
     project: &ProjectView<'_>,
@@ -112,7 +112,7 @@ fn tail_sizes(
 ///
 /// # Errors
 ///
-/// Where memory runs out.
+/// If memory runs out.
 pub fn image_length(
     alloc: Global,
     project: &ProjectView<'_>,

@@ -46,7 +46,7 @@ fn map_symbols<'a>(
 ///
 /// # Errors
 ///
-/// Where memory runs out.
+/// If memory runs out.
 pub fn map_text(
     alloc: Global,
     members: &MapMembers<'_, '_>,

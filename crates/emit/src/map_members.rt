@@ -16,7 +16,7 @@ use ldmodel::rows::Piece;
 use ldmodel::sections::SectionKey;
 use ldmodel_project::view::ProjectView;
 
-/// How many places of a row are looked at for an input section.
+/// The number of entries of a row that are tried for an input section.
 const NEAR: usize = 64;
 
 /// The names of input sections in the map of a previous link.

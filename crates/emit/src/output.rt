@@ -33,7 +33,7 @@ pub(crate) struct OutputDrawing<'a> {
     pub(crate) fill: &'a [u8],
     /// The place in memory.
     pub(crate) placed: Placed,
-    /// Where it begins in the file; 0 where its size is 0.
+    /// Where it begins in the file; 0 if its size is 0.
     pub(crate) offset: u128,
     /// The input sections, in their order, of which those that stay are joined where no gap lies between.
     pub(crate) pieces: &'a [ImagePiece<'a>],
@@ -89,8 +89,7 @@ fn output_at<'a>(
     })
 }
 
-/// The output sections made of the entries of these lists, as many as the shortest list has. Fails where memory runs
-/// out.
+/// The output sections made of the entries of these lists, as many as the shortest list has. Fails if memory runs out.
 fn join<'a>(
     alloc: Global,
     placed: &[Placed],
@@ -117,7 +116,7 @@ fn join<'a>(
 ///
 /// # Errors
 ///
-/// Where memory runs out.
+/// If memory runs out.
 pub(crate) fn outputs<'a>(
     alloc: Global,
     project: &'a ProjectView<'_>,

@@ -40,7 +40,7 @@ fn table_section<'a>(output: &OutputDrawing<'a>) -> TableSection<'a>
     }
 }
 
-/// The output sections, with what their headers are made of. Fails where memory runs out.
+/// The output sections, with what their headers are made of. Fails if memory runs out.
 fn table_sections<'a>(
     alloc: Global,
     outputs: &[OutputDrawing<'a>],
@@ -93,7 +93,7 @@ fn add_section<'a>(
     Ok(())
 }
 
-/// The output sections with bytes in the file, as they are drawn. Fails where memory runs out.
+/// The output sections with bytes in the file, as they are drawn. Fails if memory runs out.
 fn image_sections<'a>(
     alloc: Global,
     outputs: &[OutputDrawing<'a>],
@@ -125,7 +125,7 @@ pub(crate) struct ImageParts<'a> {
 ///
 /// # Errors
 ///
-/// Where memory runs out.
+/// If memory runs out.
 pub(crate) fn drawing_parts<'a>(
     alloc: Global,
     project: &ProjectView<'_>,

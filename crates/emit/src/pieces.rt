@@ -40,7 +40,7 @@ use place::indexed_layout::IndexedLayout;
 use place::numbered::are_numbered;
 use std::alloc::Global;
 
-/// An input section of this number of bytes at an address, all of which are 0.
+/// An input section of `size` zeros at an address.
 fn zeros<'a>(size: u64, start: u64) -> ImagePiece<'a>
     ensures { (result.start ≡ start) × (result.size ≡ size) × (result.bytes.now ≡ []) × (result.fields.now ≡ [])
         × (result.stays ≡ false) }
@@ -172,7 +172,7 @@ fn add_entry<'a, E: PreviousLinkInfo>(
     }
 }
 
-/// The address of this number among some; 0 where there are fewer.
+/// The address of this number among some; 0 if there are fewer.
 fn start_at(starts: &[u64], number: usize) -> u64
     ensures { (start : ℕ) → slice_get starts.now number ≡ Some start → result ≡ start }
 {
@@ -182,7 +182,7 @@ fn start_at(starts: &[u64], number: usize) -> u64
     }
 }
 
-/// The entries of a row at these addresses, of which those that stay are joined where no gap lies between. Fails where
+/// The entries of a row at these addresses, of which those that stay are joined where no gap lies between. Fails if
 /// memory runs out.
 fn image_row<'a, E: PreviousLinkInfo>(
     alloc: Global,
@@ -221,7 +221,7 @@ fn taken(count: usize, left: usize) -> usize
     if count <= left { count } else { left }
 }
 
-/// The entries of all rows, row by row. Fails where memory runs out.
+/// The entries of all rows, row by row. Fails if memory runs out.
 fn image_rows<'a, E: PreviousLinkInfo>(
     alloc: Global,
     project: &'a ProjectView<'_>,
@@ -255,12 +255,12 @@ fn image_rows<'a, E: PreviousLinkInfo>(
     Ok(pieces)
 }
 
-/// The input sections of each output section, in their order; those that a previous link says have stayed stay, and
-/// are joined where no gap lies between.
+/// The input sections of each output section, in their order; those that a previous link says have stayed stay, and are
+/// joined where no gap lies between.
 ///
 /// # Errors
 ///
-/// Where memory runs out.
+/// If memory runs out.
 pub(crate) fn image_pieces<'a, E: PreviousLinkInfo>(
     alloc: Global,
     project: &'a ProjectView<'_>,

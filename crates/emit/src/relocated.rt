@@ -72,7 +72,7 @@ impl Relocated {
     ///
     /// # Errors
     ///
-    /// Where memory runs out.
+    /// If memory runs out.
     pub fn of<E: PreviousLinkInfo>(
         alloc: Global,
         project: &ProjectView<'_>,

@@ -14,7 +14,7 @@ use emit_fields::patch::Patch;
 use ldmodel::names::ObjectPlace;
 use place::indexed_layout::IndexedLayout;
 
-/// Where the first `count` of some runs end, of which these are the ends; none where there are fewer.
+/// Where the first `count` of some runs end, of which these are the ends; none if there are fewer.
 fn end_of(ends: &[usize], count: usize) -> Option<usize>
     ensures { result ≡ slice_get (0 ∷ ends.now) count }
 {
@@ -27,7 +27,7 @@ fn end_of(ends: &[usize], count: usize) -> Option<usize>
     }
 }
 
-/// The fields of a section of the object at a place, unless it stays; none where there is no such place or section.
+/// The fields of a section of the object at a place, unless it stays; none if there is no such place or section.
 pub(crate) fn fields_of<'a>(
     relocated: &'a Relocated,
     indexed_layout: &IndexedLayout,

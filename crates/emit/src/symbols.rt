@@ -18,7 +18,7 @@ use ldmodel::memory::NoMemory;
 use ldmodel::names::Case;
 use std::alloc::Global;
 
-/// Whether what a name stands for is a weak definition.
+/// Whether a name is resolved to a weak definition.
 fn is_weak(case: Case) -> bool
     ensures { binding_number result ≡ st_binding (decision_of (λ key. key) case) }
 {
@@ -62,7 +62,7 @@ fn add_symbol<'a>(
 ///
 /// # Errors
 ///
-/// Where memory runs out.
+/// If memory runs out.
 pub(crate) fn table_symbols<'a>(
     alloc: Global,
     values: &'a Values<'_>,

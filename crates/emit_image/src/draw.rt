@@ -20,7 +20,7 @@ use ldmodel::memory::NoMemory;
 ///
 /// # Errors
 ///
-/// Where memory runs out. Then the canvas is as it was.
+/// If memory runs out. Then the canvas is as it was.
 pub fn draw(canvas: &mut Canvas, drawing: &Drawing<'_>, meter: &mut Meter) -> Result<(), NoMemory>
     requires drawing { IsDrawing drawing.now }
     requires unstayed { AreUnstayed drawing.now }

@@ -43,7 +43,7 @@ const PF_X: u64 = 1;
 /// The size of a page, in `p_align`.
 const PAGE: u64 = 4096;
 
-/// Where the table of this number of program headers begins; 0 where there is none.
+/// The file offset of the program headers; 0 if there is none.
 fn phoff_of(count: u64) -> u64
     ensures { result ≡ (if count == 0 then 0 else 64) }
 {
@@ -124,7 +124,7 @@ fn put_segments(out: &mut Vec<u8>, segments: &[Segment]) -> Result<(), NoMemory>
     Ok(())
 }
 
-/// How many bytes the headers of this number of segments have.
+/// The size of the headers with this many segments.
 fn length_of(segments: usize) -> usize {
     segments.saturating_mul(56).saturating_add(64)
 }
@@ -135,7 +135,7 @@ fn length_of(segments: usize) -> usize {
 ///
 /// # Errors
 ///
-/// Where memory runs out.
+/// If memory runs out.
 pub fn headers(
     alloc: Global,
     entry: u64,

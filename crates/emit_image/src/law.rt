@@ -55,7 +55,7 @@ pub fn drawing_stands()
     segments_by_neighbours();
 }
 
-/// The parts of each output section of a placement that isn't empty stand in order in memory.
+/// The parts of each nonempty output section of a placement are in order in memory.
 pub fn placement_is_in_memory()
     ensures { (script : List Statement) (rows : List (List Piece)) (provided : List (List ℕ)) (layout : Layout)
         → placement script rows provided ≡ Ok layout → All IsInMemory (nonempty layout.sections) }

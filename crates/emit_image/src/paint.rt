@@ -1,5 +1,5 @@
-//! What stands in the image, written span by span, each from where the one before it ends: a run, an input section, a
-//! data command. A span that stays is passed over.
+//! The image, written span by span, each from the end of the one before: a run, an input section, a data command. A
+//! span that stays is skipped.
 
 ghost use Rattle.std.specs.Prelude.{◌≡◌, ◌≤◌, ◌<◌, ◌+◌, ◌-◌, ◌%◌, ℕ, length, slice_index, false};
 ghost use Rattle.elfobj.specs.Raised.{raised};
@@ -130,7 +130,7 @@ pub(crate) fn grow_to(canvas: &mut Canvas, least: usize, most: usize)
     }
 }
 
-/// Writes what stands from `from` up to `end`, unless it stays. The canvas grows with it, up to `limit`.
+/// Writes the bytes from `from` up to `end`, unless they stay. The canvas grows with them, up to `limit`.
 #[inline(always)]
 pub(crate) fn paint(
     canvas: &mut Canvas,
@@ -157,7 +157,7 @@ pub(crate) fn paint(
     write_content(canvas, desk, from, end, content, meter);
 }
 
-/// Writes a run of a pattern up to `end`; nothing where it is empty.
+/// Writes a run of a pattern up to `end`; nothing if it is empty.
 pub(crate) fn paint_fill(
     canvas: &mut Canvas,
     desk: &mut [u8; BUFFER_SIZE],

@@ -1,4 +1,4 @@
-//! What stands in an image: the headers, the output sections, the tail, and zeros between them.
+//! The parts of an image: the headers, the output sections, the tail, and zeros between them.
 
 ghost use Rattle.std.specs.Prelude.{◌≡◌, ◌≤◌, ◌<◌, ◌+◌, ◌^◌, length};
 ghost use Rattle.emit_image.specs.Drawing.{IsDrawing, IsOrderly, drawing_end, drawing_spot, end_of_sections, part_end};

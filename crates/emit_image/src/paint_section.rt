@@ -1,5 +1,5 @@
-//! What stands in an output section: its input sections and data commands, in the order of their addresses, and the
-//! gaps between them.
+//! The parts of an output section: its input sections and data commands, in the order of their addresses, and the gaps
+//! between them.
 
 ghost use Rattle.std.specs.Prelude.{◌≡◌, ◌≤◌, ◌<◌, ◌+◌, length, slice_index_or};
 ghost use Rattle.ldmodel.specs.declared.placed.PlacedData.{PlacedData};
@@ -152,7 +152,7 @@ fn paint_full_piece(
     }
 }
 
-/// Writes the next input section; nothing where it is empty.
+/// Writes the next input section; nothing if it is empty.
 fn paint_next_piece(
     canvas: &mut Canvas,
     desk: &mut [u8; BUFFER_SIZE],

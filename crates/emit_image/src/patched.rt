@@ -10,7 +10,7 @@ use elfobj::Meter;
 use emit_fields::canvas::Canvas;
 use emit_fields::patch::{Patch, write_patched};
 
-/// How long an input section is at most that is put together beside the canvas.
+/// The greatest size of an input section that is assembled beside the canvas.
 pub(crate) const BUFFER_SIZE: usize = 4096;
 
 /// Copies bytes over as many others. Four of them, as most fields have, are copied as one word.
@@ -53,7 +53,7 @@ fn put_together(whole: &mut [u8; BUFFER_SIZE], bytes: &[u8], patches: &[Patch])
 }
 
 /// Writes an input section from `at` on: the bytes of the fields that lie in it, and its own between them, each byte
-/// once. `desk` is where it may be put together; what stands there before and after has no meaning.
+/// once. It may be assembled in `desk`, whose contents have no meaning before and after.
 pub(crate) fn write_piece(
     canvas: &mut Canvas,
     desk: &mut [u8; BUFFER_SIZE],

@@ -41,7 +41,7 @@ use ldmodel::memory::NoMemory;
 ///
 /// # Errors
 ///
-/// Where memory runs out. Then the canvas is as it was.
+/// If memory runs out. Then the canvas is as it was.
 pub fn redraw(
     canvas: &mut Canvas,
     drawing: &Drawing<'_>,

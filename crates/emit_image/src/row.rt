@@ -8,7 +8,7 @@ ghost use Rattle.emit_image.specs.declared.section.ImagePiece.{ImagePiece as Pie
 use crate::section::ImagePiece;
 use ldmodel::memory::NoMemory;
 
-/// An input section of this number of bytes at an address that stays.
+/// An input section that stays, of `size` bytes at `start`.
 fn kept<'a>(size: u64, start: u64) -> ImagePiece<'a>
     ensures { IsKeptAt start size result }
 {
@@ -21,8 +21,7 @@ fn kept<'a>(size: u64, start: u64) -> ImagePiece<'a>
     }
 }
 
-/// How many bytes an input section has together with one of this number of bytes at an address, where it stays and ends
-/// there.
+/// The size of `last` joined with an input section of `size` bytes at `start`, if `last` stays and ends at `start`.
 fn joined_size(last: &ImagePiece<'_>, size: u64, start: u64) -> Option<u64>
     ensures { IfSome result (λ long. (last.now.stays ≡ true) × (last.now.start + last.now.size ≡ start)
         × (long ≡ last.now.size + size)) }
@@ -50,12 +49,11 @@ fn add<'a>(row: &mut Vec<ImagePiece<'a>>, piece: ImagePiece<'a>) -> Result<(), N
     Ok(())
 }
 
-/// Adds an input section of this number of bytes at an address, which stays: to the last one, where it can be joined to
-/// it.
+/// Adds an input section that stays, of `size` bytes at `start`, joined to the last one if that stays and ends there.
 ///
 /// # Errors
 ///
-/// Where memory runs out.
+/// If memory runs out.
 pub fn add_kept<'a>(row: &mut Vec<ImagePiece<'a>>, size: u64, start: u64) -> Result<(), NoMemory>
     ensures { OnOk result ((whole : List PieceOf) → StandFor whole row.old.items
         → (x : PieceOf) × IsKeptAt start size x × StandFor (whole ++ x ∷ []) row.new.items) }
@@ -76,7 +74,7 @@ pub fn add_kept<'a>(row: &mut Vec<ImagePiece<'a>>, size: u64, start: u64) -> Res
 ///
 /// # Errors
 ///
-/// Where memory runs out.
+/// If memory runs out.
 pub fn add_drawn<'a>(row: &mut Vec<ImagePiece<'a>>, piece: ImagePiece<'a>) -> Result<(), NoMemory>
     ensures { OnOk result ((whole : List PieceOf) → StandFor whole row.old.items → piece.entry.stays ≡ false
         → StandFor (whole ++ piece.entry ∷ []) row.new.items) }

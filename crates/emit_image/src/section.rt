@@ -1,4 +1,4 @@
-//! What the image is made of: headers, output sections with what stands in them, and the tail.
+//! What the image is made of: headers, output sections with their contents, and the tail.
 
 use emit_fields::patch::Patch;
 use ldmodel::placed::PlacedData;
@@ -10,11 +10,11 @@ pub struct ImagePiece<'a> {
     pub start: u64,
     /// How many bytes it has in memory.
     pub size: u64,
-    /// The bytes; none where they are all 0, as in NOBITS and in a common block.
+    /// The bytes; none if they are all 0, as in NOBITS and in a common block.
     pub bytes: &'a [u8],
-    /// The fields over these bytes, in the order of their offsets; none where the input section stays.
+    /// The fields over these bytes, in the order of their offsets; none if the input section stays.
     pub fields: &'a [Patch],
-    /// Whether its bytes stand in the canvas already, but for the patches of the plan.
+    /// Whether its bytes are on the canvas already, but for the patches of the plan.
     pub stays: bool,
 }
 
@@ -49,7 +49,7 @@ pub struct ImagePart<'a> {
 pub struct Drawing<'a> {
     /// The ELF header and the program headers.
     pub headers: &'a [u8],
-    /// The output sections that have bytes in the file, in the order in which they stand there.
+    /// The output sections that have bytes in the file, in their order there.
     pub sections: &'a [ImageSection<'a>],
     /// The parts of the tail, in their order; the image ends where the last of them does.
     pub tail: &'a [ImagePart<'a>],

@@ -22,7 +22,7 @@ pub struct TableSection<'a> {
     pub name: &'a [u8],
     /// The place in memory.
     pub placed: Placed,
-    /// Where it begins in the file, modulo 2^64; 0 where its size is 0.
+    /// Where it begins in the file, modulo 2^64; 0 if its size is 0.
     pub offset: u64,
 }
 

@@ -5,7 +5,7 @@ ghost use Rattle.std.specs.Prelude.{◌≡◌, ◌++◌, ◌∷◌, [], IfOk, On
 use ldmodel::memory::NoMemory;
 use std::alloc::Global;
 
-/// A string table of no names, with room for this number of bytes.
+/// An empty string table, with room for this many bytes.
 pub(crate) fn no_names(alloc: Global, room: usize) -> Result<Vec<u8>, NoMemory>
     ensures { IfOk result (λ v. v.items ≡ 0 ∷ []) }
 {

@@ -90,7 +90,7 @@ impl SymbolTables {
     ///
     /// # Errors
     ///
-    /// Where memory runs out.
+    /// If memory runs out.
     pub fn with_capacity(
         alloc: Global,
         symbols: usize,
@@ -110,7 +110,7 @@ impl SymbolTables {
     ///
     /// # Errors
     ///
-    /// Where memory runs out.
+    /// If memory runs out.
     #[inline(always)]
     pub fn push(&mut self, x: &TableSymbol<'_>) -> Result<(), NoMemory>
         ensures { OnOk result ((symbols : List SymbolOf) → AreTablesOf symbols self.old

@@ -20,7 +20,7 @@ use ldmodel::memory::NoMemory;
 use std::alloc::{AllocError, Global};
 use std::marker::Model;
 
-/// A part of the image, and where it stands.
+/// A part of the image, and its file offset.
 #[derive(Drop)]
 pub struct TailPart {
     offset: u64,
@@ -46,7 +46,7 @@ impl TailPart {
         TailPart { offset, bytes }
     }
 
-    /// Where the first byte of the part stands in the file.
+    /// The file offset of its first byte.
     pub fn offset(&self) -> u64
         ensures { result ≡ self.now.offset }
     {
@@ -142,7 +142,7 @@ fn strings_header(name: u64, part: &TailPart) -> Header
     }
 }
 
-/// Writes the headers of the tables, which stand after those of this number of output sections.
+/// Writes the headers of the tables, which come after those of this many output sections.
 fn put_tables(
     out: &mut Vec<u8>,
     count: usize,
@@ -198,7 +198,7 @@ fn place_tables(end: u64, symbols: SymbolTables, header_names: Vec<u8>) -> Resul
 ///
 /// # Errors
 ///
-/// Where memory runs out.
+/// If memory runs out.
 pub fn tail_of_tables(
     alloc: Global,
     loaded_end: u64,
@@ -233,7 +233,7 @@ pub fn tail_of_tables(
 ///
 /// # Errors
 ///
-/// Where memory runs out.
+/// If memory runs out.
 pub fn tail(
     alloc: Global,
     loaded_end: u64,

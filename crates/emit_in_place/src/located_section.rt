@@ -1,4 +1,4 @@
-//! Where an input section of an object stands in a link.
+//! The location of an input section of an object in a link.
 
 ghost use Rattle.std.specs.Prelude.{◌≡◌, ◌==◌, ℕ, All, Some, find, slice_get};
 ghost use Rattle.elfobj.specs.Sections.{LinkedSection};
@@ -8,7 +8,7 @@ use elfobj::Object;
 use elfobj::section::LinkedIndex;
 use emit_relocate::previous_link_info::FileRange;
 
-/// An input section of an object, and where it stands.
+/// An input section of an object, and its location.
 #[derive(Clone, Copy, Debug)]
 pub struct LocatedSection {
     /// The place of the section among the linked sections of its object.

@@ -209,7 +209,7 @@ fn plan_section<'a>(
 ///
 /// # Errors
 ///
-/// Where memory runs out.
+/// If memory runs out.
 pub(crate) fn plan<'a>(
     alloc: Global,
     limit: usize,

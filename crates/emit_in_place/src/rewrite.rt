@@ -40,8 +40,8 @@ pub enum Rewrite {
 ///
 /// # Errors
 ///
-/// Where memory runs out; so does a location that no link has, as one past the end of the image. Then the canvas is as
-/// it was.
+/// If memory runs out; so does a location that no link has, as one past the end of the image. Then the canvas is as it
+/// was.
 pub fn rewrite_in_place(
     alloc: Global,
     canvas: &mut Canvas,

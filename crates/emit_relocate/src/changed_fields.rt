@@ -262,7 +262,7 @@ fn count_sections<L: LinkInfo>(link: &L, objects: &[ObjectPlace]) -> usize {
 ///
 /// # Errors
 ///
-/// Where memory runs out; a table of 2^32 relocations or more, which no object has whose length is within the limit,
+/// If memory runs out; a table of 2^32 relocations or more, which no object has whose length is within the limit,
 /// counts as that.
 pub fn changed_fields<L: LinkInfo, E: PreviousLinkInfo>(
     alloc: Global,

@@ -144,7 +144,7 @@ fn add_unordered(
 ///
 /// # Errors
 ///
-/// Where memory runs out; a table of 2^32 relocations or more, which no object has whose length is within the limit,
+/// If memory runs out; a table of 2^32 relocations or more, which no object has whose length is within the limit,
 /// counts as that.
 pub fn add_fields(
     alloc: Global,

@@ -34,7 +34,7 @@ pub struct TargetSite {
     pub entry: u32,
 }
 
-/// Where a site stands in the index.
+/// The place of a site in the index.
 #[derive(Clone, Copy, Debug, PartialEq, Eq)]
 pub struct IndexSlot {
     target: usize,
@@ -221,7 +221,7 @@ impl Index {
     ///
     /// # Errors
     ///
-    /// Where memory runs out. All sites are then as they were.
+    /// If memory runs out. All sites are then as they were.
     pub fn reserve(&mut self, object: ObjectPlace, sites: &[TargetSite]) -> Result<(), NoMemory>
         ensures same { (target : ℕ) → sites_at self.new target ≡ sites_at self.old target }
         ensures room { OnOk result (HasRoomFor self.new object sites.now) }

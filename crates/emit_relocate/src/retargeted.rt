@@ -47,7 +47,7 @@ fn is_within(range: FileRange, field: &Patch) -> bool
     offset <= range.length && length <= range.length - offset
 }
 
-/// Adds a field of a section in its place in the file, if it lies within the section's bytes there. Fails where memory
+/// Adds a field of a section in its place in the file, if it lies within the section's bytes there. Fails if memory
 /// runs out; a place past 2^64 counts as that.
 fn add_in_file(range: FileRange, field: Patch, patches: &mut Vec<Patch>) -> Result<(), NoMemory>
     ensures { OnOk result (patches.new.items ≡ patches.old.items ++ option_to_list (in_file range field)) }
@@ -73,7 +73,7 @@ pub struct StayedSection<'a, E> {
     pub previous: &'a E,
     /// The section in its place.
     pub section: PlacedInput<'a>,
-    /// Where its bytes stand in the file.
+    /// Its file range.
     pub range: FileRange,
 }
 
@@ -160,8 +160,8 @@ impl<'a, E: PreviousLinkInfo> StayedSection<'a, E> {
     ///
     /// # Errors
     ///
-    /// Where memory runs out; a table of 2^32 relocations or more, which no object has whose length is within the
-    /// limit, counts as that.
+    /// If memory runs out; a table of 2^32 relocations or more, which no object has whose length is within the limit,
+    /// counts as that.
     pub fn add_moved(
         &self,
         patches: &mut Vec<Patch>,

@@ -1,4 +1,4 @@
-//! Values of symbols: of a local one by its own entry, of another by what its name stands for.
+//! Values of symbols: of a local one by its own entry, of another by the resolution of its name.
 
 ghost use Rattle.std.specs.Prelude.{◌≡◌, ℕ, List, option_to_list};
 ghost use Rattle.std.specs.Option.{option_map};
@@ -69,7 +69,7 @@ fn given_value(given: Option<u64>) -> SymbolValue
     }
 }
 
-/// The value of a name, by what it stands for and the value that the script gives it.
+/// The value of a name, by its resolution and the value that the script gives it.
 fn decided_value<L: LinkInfo>(link: &L, case: Case, given: Option<u64>) -> SymbolValue
     ensures { (l : KnownLink) → L.knows link.now l → (name : List ℕ) → given ≡ script_value l.layout name
         → value_of result ≡ decided_value l.project l.layout name (decision_of l.number case) }
@@ -82,7 +82,7 @@ fn decided_value<L: LinkInfo>(link: &L, case: Case, given: Option<u64>) -> Symbo
     }
 }
 
-/// The value of the entry symbol, `e_entry`: 0 where there is none. It stands for `case`, and the script gives it the
+/// The value of the entry symbol, `e_entry`: 0 if there is none. It stands for `case`, and the script gives it the
 /// value `given`, if any.
 pub fn entry_point<L: LinkInfo>(link: &L, case: Option<Case>, given: Option<u64>) -> SymbolValue
     ensures { (known : KnownLink) → L.knows link.now known → IsEntryCase known case given → value_of result

@@ -18,7 +18,7 @@ pub enum SymbolValue {
 }
 
 impl SymbolValue {
-    /// The number, or 0 where there is none.
+    /// The number, or 0 if there is none.
     pub fn number_or_0(self) -> u64
         ensures { result ≡ number_or_0 (value_of self) }
     {

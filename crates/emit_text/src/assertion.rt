@@ -18,6 +18,7 @@ pub struct AssertionAt<'a> {
     pub assertion: &'a Assertion,
 }
 
+/// Adds a directive's ASSERT to a list, if it is one.
 fn add_assertion<'a>(
     list: &mut Vec<AssertionAt<'a>>,
     command: &DirectiveAt<'a>,
@@ -40,7 +41,7 @@ fn add_assertion<'a>(
 ///
 /// # Errors
 ///
-/// Where there is no memory for the list.
+/// If there is no memory for the list.
 pub fn assertions<'a>(
     alloc: Global,
     commands: &[DirectiveAt<'a>],

@@ -9,7 +9,7 @@ use ldmodel::memory::NoMemory;
 use std::alloc::Global;
 use std::marker::Model;
 
-/// Where a byte string stands among others.
+/// The range of a byte string among others.
 #[derive(Clone, Copy)]
 pub struct Span {
     /// Where it begins.
@@ -18,7 +18,7 @@ pub struct Span {
     end: usize,
 }
 
-/// Byte strings in an order, in two blocks of memory however many they are: their bytes, and where each of them stands.
+/// A list of byte strings in two blocks of memory: their bytes, and their ranges.
 #[derive(Drop)]
 pub struct ByteStrings {
     bytes: Vec<u8>,
@@ -71,7 +71,7 @@ impl GrowingStrings {
     ///
     /// # Errors
     ///
-    /// Where memory runs out.
+    /// If memory runs out.
     pub(crate) fn with_capacity(alloc: Global, count: usize) -> Result<GrowingStrings, NoMemory>
         ensures { IfOk result (λ t. t ≡ []) }
     {
@@ -98,7 +98,7 @@ impl GrowingStrings {
     ///
     /// # Errors
     ///
-    /// Where memory runs out.
+    /// If memory runs out.
     #[inline(always)]
     pub(crate) fn push(&mut self, text: &[u8]) -> Result<(), NoMemory>
         ensures { OnOk result (self.new ≡ self.old ++ text.now ∷ []) }
@@ -117,7 +117,7 @@ impl GrowingStrings {
     ///
     /// # Errors
     ///
-    /// Where memory runs out.
+    /// If memory runs out.
     pub(crate) fn push_names(&mut self, object: &[u8], section: &[u8]) -> Result<(), NoMemory>
         ensures { OnOk result (self.new ≡ self.old ++ (object.now ++ 32 ∷ [] ++ section.now ++ 10 ∷ []) ∷ []) }
     {
@@ -132,7 +132,7 @@ impl GrowingStrings {
     ///
     /// # Errors
     ///
-    /// Where memory runs out.
+    /// If memory runs out.
     pub(crate) fn finish(self) -> Result<ByteStrings, NoMemory>
         ensures { IfOk result (λ strings. strings ≡ self) }
     {

@@ -70,7 +70,7 @@ fn type_number(kind: RelocationKind) -> u32
     kind.number()
 }
 
-/// The relocation of a site; one that does nothing where there is none.
+/// The relocation of a site; one that does nothing if there is none.
 fn relocation_or_none<M: Members>(members: &M, site: SiteKey) -> Relocation
     ensures offset { result.offset ≡ offset_of (M.project members.now) (place_of (M.number members.now) site) }
     ensures symbol { result.symbol.0 ≡ symbol_of (M.project members.now) (place_of (M.number members.now) site) }

@@ -36,7 +36,7 @@ const FAULT_ROOM: usize = 64;
 ///
 /// # Errors
 ///
-/// Where there is no memory for the text, the only memory that it takes.
+/// If there is no memory for the text, the only memory that it takes.
 pub fn render_faults<M: Members>(
     alloc: Global,
     faults: &[Fault],

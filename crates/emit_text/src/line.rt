@@ -19,6 +19,7 @@ pub enum Word<'a> {
     Hex(u64),
 }
 
+/// Adds a word of a line.
 fn put_word(text: &mut Vec<u8>, word: Word<'_>) -> Result<(), AllocError>
     ensures { OnOk result (text.new.items ≡ text.old.items ++ shown word.entry) }
 {

@@ -58,7 +58,7 @@ impl LineBuffer {
         self.used = end;
     }
 
-    /// Adds the bytes to a text, and begins anew. Fails where memory runs out.
+    /// Adds the bytes to a text, and begins anew. Fails if memory runs out.
     pub(crate) fn move_to(&mut self, text: &mut Vec<u8>) -> Result<(), AllocError>
         ensures text { OnOk result (text.new.items ≡ text.old.items ++ self.old) }
         ensures empty { OnOk result (self.new ≡ []) }
@@ -70,7 +70,7 @@ impl LineBuffer {
     }
 
     /// Whether there is room for this many bytes more; where there is less, the bytes are first added to a text. Fails
-    /// where memory runs out.
+    /// if memory runs out.
     #[inline(always)]
     pub(crate) fn make_room(&mut self, text: &mut Vec<u8>, count: usize) -> Result<bool, AllocError>
         ensures same { OnOk result (text.new.items ++ self.new ≡ text.old.items ++ self.old) }
@@ -85,7 +85,7 @@ impl LineBuffer {
     }
 
     /// Adds a part: where there is no room for it, the bytes before it are added to a text, and so is a part that is
-    /// longer than any room. Fails where memory runs out.
+    /// longer than any room. Fails if memory runs out.
     pub(crate) fn append(&mut self, text: &mut Vec<u8>, part: &[u8]) -> Result<(), AllocError>
         ensures same { OnOk result (text.new.items ++ self.new ≡ (text.old.items ++ self.old) ++ part.now) }
         ensures kept { length (text.old.items ++ self.old) ≤ length (text.new.items ++ self.new) }

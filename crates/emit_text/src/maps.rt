@@ -29,11 +29,11 @@ pub struct MapParts<'a> {
     pub entry: u64,
     /// The output sections of the script, in their order.
     pub sections: &'a [OutputSectionAt<'a>],
-    /// Where they stand.
+    /// Their addresses.
     pub placement: PlacementView<'a>,
     /// The input sections in each.
     pub rows: &'a [Vec<Piece>],
-    /// Names in byte order, among them all that stand for something.
+    /// Names in byte order, among them all that are defined.
     pub symbols: &'a [MapSymbol<'a>],
 }
 
@@ -220,7 +220,7 @@ fn likely_size(parts: &MapParts<'_>) -> usize {
     pieces.saturating_add(symbols).saturating_add(sections)
 }
 
-/// A map, and what stands in it of the names of input sections.
+/// A map, and the names of input sections in it.
 #[derive(Drop)]
 pub struct LinkMap {
     /// The map.
@@ -235,7 +235,7 @@ pub struct LinkMap {
 ///
 /// # Errors
 ///
-/// Where there is no memory for the text, the only memory that it takes.
+/// If there is no memory for the text, the only memory that it takes.
 pub fn render_map<M: Members>(
     alloc: Global,
     parts: &MapParts<'_>,

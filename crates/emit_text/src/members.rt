@@ -4,7 +4,7 @@ use elfobj::Object;
 use ldmodel::names::ObjectPlace;
 use ldmodel::sections::SectionKey;
 
-/// What stands in a map from the names of an input section on, as a previous map has it.
+/// The part of an input section's map line from its names on, as a previous map has it.
 #[derive(Clone, Copy)]
 pub struct KnownNames<'a> {
     /// `OBJECT SECTION` and the end of the line.
@@ -37,8 +37,8 @@ pub trait Members {
             ≡ option_map (λ (object : NamedObject). object.object)
             (slice_get (project self.now).objects (number self.now key.0)) };
 
-    /// What stands in the map from the names of an input section of a row on, where a previous map has it: it is looked
-    /// for at a place of that row, and at some after it.
+    /// The part of an input section's map line from its names on, if a previous map has it. It is searched in the
+    /// previous row of the output section `row`, from the index `likely` on.
     fn known_names(&self, row: usize, likely: usize, section: SectionKey) -> Option<KnownNames<'_>>
         ensures { IfSome result (λ known. known.names.now ≡ names_of (project self.now) (number self.now) section) };
 }

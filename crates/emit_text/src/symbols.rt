@@ -11,18 +11,18 @@ use crate::members::Members;
 use ldmodel::names::{Case, Entry, ObjectPlace};
 use std::alloc::AllocError;
 
-/// A name, what it stands for, and its value.
+/// A name, its resolution, and its value.
 #[derive(Clone, Copy, Debug)]
 pub struct MapSymbol<'a> {
     /// The name.
     pub name: &'a [u8],
-    /// What it stands for. A name that stands for nothing, and one that is defined twice, has no line.
+    /// Its resolution. An undefined name, and one that is defined twice, has no line.
     pub case: Case,
-    /// Its value; `None` where its section is not in the output.
+    /// Its value; `None` if its section is not in the output.
     pub value: Option<u64>,
 }
 
-/// The name of the object that a name's definition stands in, or `script`.
+/// The name of the object that defines a name, or `script`.
 fn owner_name<M: Members>(members: &M, case: Case) -> &[u8]
     ensures { result.now ≡ owner (M.project members.now) (decision_of (M.number members.now) case) }
 {
@@ -35,7 +35,7 @@ fn owner_name<M: Members>(members: &M, case: Case) -> &[u8]
     }
 }
 
-/// The line of a name that stands for something, and none of another.
+/// The line of a defined name, and none of another.
 #[tactic(auto, using(crate::proofs::MapLines::symbol_spelled))]
 #[inline(always)]
 fn put_symbol<M: Members>(

@@ -68,7 +68,7 @@ fn add_unless_holds(
 ///
 /// # Errors
 ///
-/// Where memory runs out.
+/// If memory runs out.
 pub fn assertion_faults(
     alloc: Global,
     project: &ProjectView<'_>,

@@ -63,7 +63,7 @@ fn add_all_given<'a>(
 ///
 /// # Errors
 ///
-/// Where memory runs out.
+/// If memory runs out.
 pub(crate) fn candidates<'a>(
     alloc: Global,
     symbol_table: &SymbolTable,

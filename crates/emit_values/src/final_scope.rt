@@ -9,7 +9,7 @@ use ldmodel::placed::{Placed, PlacedRegion, PlacementView};
 use ldscript::Script;
 use place::terms::scope::Scope;
 
-/// What stands in the output at the end of a link: its symbols, output sections and memory regions.
+/// The scope of ASSERTs: the symbols, output sections and memory regions of a link.
 #[derive(Clone, Copy)]
 pub struct FinalScope<'a, 'b> {
     /// The script.

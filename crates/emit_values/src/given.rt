@@ -25,7 +25,7 @@ impl<'a> GivenValues<'a> {
     ///
     /// # Errors
     ///
-    /// Where memory runs out.
+    /// If memory runs out.
     pub fn of(
         alloc: Global,
         project: &'a ProjectView<'_>,

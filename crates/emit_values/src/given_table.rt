@@ -38,7 +38,7 @@ fn put_given(
 ///
 /// # Errors
 ///
-/// Where memory runs out.
+/// If memory runs out.
 pub(crate) fn given_table(
     alloc: Global,
     symbol_table: &SymbolTable,

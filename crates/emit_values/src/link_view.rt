@@ -33,7 +33,7 @@ impl<'a, 'p> LinkView<'a, 'p> {
     ///
     /// # Errors
     ///
-    /// Where memory runs out.
+    /// If memory runs out.
     pub fn new(
         alloc: Global,
         project: &'a ProjectView<'p>,

@@ -38,7 +38,7 @@ fn add_keys<'a>(list: &mut Vec<Candidate<'a>>, sorted: &[NamedKey<'a>]) -> Resul
 ///
 /// # Errors
 ///
-/// Where memory runs out.
+/// If memory runs out.
 pub(crate) fn merge_names<'a>(
     alloc: Global,
     sorted: &[NamedKey<'a>],

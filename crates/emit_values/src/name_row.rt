@@ -47,14 +47,14 @@ pub(crate) struct NameRow {
     pub facts: SymbolFacts,
 }
 
-/// Where a symbol stands: its value, and the number of the header of its output section, or `SHN_ABS`.
+/// The place of a symbol: its value, and the number of the header of its output section, or `SHN_ABS`.
 #[derive(Clone, Copy)]
 struct Standing {
     value: SymbolValue,
     section: u32,
 }
 
-/// The number that stands for no section header.
+/// The number for no section header.
 const NO_HEADER: u32 = SHN_ABS as u32;
 
 /// The facts of a name that the script gives a number.
@@ -64,14 +64,14 @@ pub(crate) const OF_SCRIPT: SymbolFacts = SymbolFacts {
     size: 0,
 };
 
-/// The number of the header of an output section: the null header comes first. Fails where there is none.
+/// The number of the header of an output section: the null header comes first. Fails if there is none.
 fn header_of(section: OutputIndex) -> Result<u32, NoMemory>
     ensures { IfOk result (λ n. n ≡ section.0 + 1) }
 {
     section.0.checked_add(1).ok_or(AllocError)
 }
 
-/// The number of the header of the output section that holds this place of an input section. Fails where there are 2^32
+/// The number of the header of the output section that holds this place of an input section. Fails if there are 2^32
 /// output sections.
 fn header_at(place: Option<SectionAddress>) -> Result<u32, NoMemory>
     ensures { IfOk result (λ n. (project : Project) (layout : Layout) (key : SectionKeyOf)
@@ -96,7 +96,7 @@ pub(crate) fn start_at(place: Option<SectionAddress>) -> Option<u64>
     }
 }
 
-/// Where a symbol stands at an offset in an input section.
+/// The place of a symbol at an offset in an input section.
 #[inline(always)]
 fn standing_in(
     indexed_layout: &IndexedLayout,
@@ -115,7 +115,7 @@ fn standing_in(
     })
 }
 
-/// Where a symbol stands that is in no section.
+/// The place of a symbol that is in no section.
 fn standing_nowhere(value: SymbolValue) -> Standing
     ensures value { result.value ≡ value }
     ensures section { result.section ≡ SHN_ABS }
@@ -126,7 +126,7 @@ fn standing_nowhere(value: SymbolValue) -> Standing
     }
 }
 
-/// Where a symbol of an object stands.
+/// The place of a symbol of an object.
 fn standing_of(
     indexed_layout: &IndexedLayout,
     object: ObjectPlace,
@@ -208,7 +208,7 @@ fn entry_row(
     }
 }
 
-/// The row of a name that stands for a common block of this size.
+/// The row of a name that is a common block of this size.
 fn block_row(indexed_layout: &IndexedLayout, owner: Entry, size: u64) -> Result<NameRow, NoMemory>
     ensures { IfOk result (λ x. (project : Project) (layout : Layout)
         → IsIndexedLayout project layout indexed_layout.now
@@ -237,7 +237,7 @@ pub(crate) fn given_value(given: Option<u64>) -> SymbolValue
     }
 }
 
-/// The row of a name, by what it stands for, the symbol that defines it, and the value that the script gives it.
+/// The row of a name, by its resolution, the symbol that defines it, and the value that the script gives it.
 pub(crate) fn name_row(
     indexed_layout: &IndexedLayout,
     case: Case,

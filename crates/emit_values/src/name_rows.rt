@@ -24,7 +24,7 @@ pub(crate) struct ResolvedName {
     pub row: NameRow,
 }
 
-/// What all names are in the output, each under its key. What stands under a key of no name has no meaning.
+/// All names of the output, each under its key. A row under a key without a name has no meaning.
 #[derive(Drop)]
 pub(crate) struct NameRows {
     /// What they stand for, and what they are.
@@ -33,7 +33,7 @@ pub(crate) struct NameRows {
     pub values: Vec<SymbolValue>,
 }
 
-/// What the name of a key stands for. That of no name has no meaning.
+/// The resolution of the name of a key. Without a name it has no meaning.
 fn case_under(link: &LinkView<'_, '_>, key: NameKey) -> Case
     ensures { (l : KnownLink) → IsLinkView l link.now → IsCaseUnder l key.0 result }
 {
@@ -55,7 +55,7 @@ fn name_cases(alloc: Global, link: &LinkView<'_, '_>, limit: usize) -> Result<Ve
     Ok(cases)
 }
 
-/// The symbols that define names that stand for these.
+/// The symbols that define the names with these resolutions.
 fn definitions(
     alloc: Global,
     project: &ProjectView<'_>,
@@ -89,7 +89,7 @@ fn row_under(
 ///
 /// # Errors
 ///
-/// Where memory runs out.
+/// If memory runs out.
 pub(crate) fn name_rows(alloc: Global, link: &LinkView<'_, '_>) -> Result<NameRows, NoMemory>
     ensures rows { IfOk result (λ x. (l : KnownLink) → IsLinkView l link.now → AreResolved l x.rows.items) }
     ensures values { IfOk result (λ x. (l : KnownLink) → IsLinkView l link.now → AreNameValues l x.values.items) }

@@ -54,7 +54,7 @@ impl<'a> ScriptValues<'a> {
     ///
     /// # Errors
     ///
-    /// Where memory runs out.
+    /// If memory runs out.
     pub fn of(
         alloc: Global,
         script: &'a Script,

@@ -1,4 +1,4 @@
-//! The symbols of the output: names that stand for something, in byte order.
+//! The symbols of the output: the defined names, in byte order.
 
 ghost use Rattle.std.specs.Prelude.{◌≡◌, ◌<◌, ◌≤◌, ◌++◌, ◌∷◌, [], ℕ, All, List, IfSome, OnOk, bytes_eq, length};
 ghost use Rattle.std.specs.Prelude.{slice_index_or, vec_capacity, vec_len};
@@ -31,7 +31,7 @@ use symres::SymbolTable;
 pub(crate) struct Sources<'a> {
     /// The script.
     pub script: &'a Script,
-    /// What names stand for.
+    /// The resolutions of names.
     pub symbol_table: &'a SymbolTable,
     /// What names stand for, and what they are in the output, under their keys.
     pub rows: &'a [ResolvedName],
@@ -39,7 +39,7 @@ pub(crate) struct Sources<'a> {
     pub given: &'a ScriptValues<'a>,
 }
 
-/// Whether a name stands for something.
+/// Whether a name is defined.
 fn is_defined(case: Case) -> bool
     ensures { result ≡ is_defined (decision_of (λ key. key) case) }
 {
@@ -64,7 +64,7 @@ fn row_by_script(case: Case, given: Option<u64>) -> Option<NameRow>
     }
 }
 
-/// Adds the symbol of a name with a row, if the name stands for something. There is room for it.
+/// Adds the symbol of a name with a row, if the name is defined. There is room for it.
 #[inline(always)]
 fn add_if_defined<'a>(list: &mut Vec<OutputSymbol<'a>>, name: &'a [u8], case: Case, row: &NameRow)
     requires { vec_len list.old < vec_capacity list.old }
@@ -218,7 +218,7 @@ fn add_unless_repeat<'a>(
 ///
 /// # Errors
 ///
-/// Where memory runs out.
+/// If memory runs out.
 pub(crate) fn add_symbols<'a>(
     sources: &Sources<'_>,
     candidates: &[Candidate<'a>],

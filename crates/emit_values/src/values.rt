@@ -25,12 +25,12 @@ use ldmodel_project::view::ProjectView;
 use std::alloc::Global;
 use symres::SymbolTable;
 
-/// A symbol of the output: a name that stands for something.
+/// A symbol of the output: a defined name.
 #[derive(Clone, Copy, Debug)]
 pub struct OutputSymbol<'a> {
     /// The name.
     pub name: &'a [u8],
-    /// What it stands for.
+    /// Its resolution.
     pub case: Case,
     /// Its value, if it has one.
     pub value: SymbolValue,
@@ -43,7 +43,7 @@ pub struct OutputSymbol<'a> {
 pub struct Values<'a> {
     /// The values of all names under their keys.
     pub names: Vec<SymbolValue>,
-    /// The value of the entry symbol: 0 where there is none.
+    /// The value of the entry symbol: 0 if there is none.
     pub entry: SymbolValue,
     /// The symbols of the output, in byte order of their names.
     pub symbols: Vec<OutputSymbol<'a>>,
@@ -77,7 +77,7 @@ impl<'a> Values<'a> {
     ///
     /// # Errors
     ///
-    /// Where memory runs out.
+    /// If memory runs out.
     pub fn of(
         alloc: Global,
         project: &'a ProjectView<'_>,

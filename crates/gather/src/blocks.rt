@@ -38,7 +38,7 @@ fn no_blocks(alloc: Global, count: usize) -> Result<Vec<Vec<CommonBlock>>, NoMem
     Ok(all)
 }
 
-/// Adds the common block that a name stands for, if it stands for one, to those of the object that owns it.
+/// Adds the common block of a name, if it has one, to those of the object that owns it.
 fn add_block(all: &mut Vec<Vec<CommonBlock>>, case: Case) -> Result<(), NoMemory>
     ensures len { length all.new.items ≡ length all.old.items }
     ensures added { OnOk result ((i : ℕ) → i < length all.old.items → blocks_at all.new.items i
@@ -60,7 +60,7 @@ fn add_block(all: &mut Vec<Vec<CommonBlock>>, case: Case) -> Result<(), NoMemory
     }
 }
 
-/// Adds the common block that a case stands for, if there is a case and it is common.
+/// Adds the common block of a case, if there is a case and it is common.
 fn add_if_named(all: &mut Vec<Vec<CommonBlock>>, case: Option<Case>) -> Result<(), NoMemory>
     ensures len { length all.new.items ≡ length all.old.items }
     ensures added { OnOk result ((i : ℕ) → i < length all.old.items → blocks_at all.new.items i
@@ -72,7 +72,7 @@ fn add_if_named(all: &mut Vec<Vec<CommonBlock>>, case: Option<Case>) -> Result<(
     }
 }
 
-/// The common blocks that names stand for, each with the object that owns it, of this many objects.
+/// The common blocks of names, each with the object that owns it, of this many objects.
 fn collected(
     alloc: Global,
     symbol_table: &SymbolTable,
@@ -107,11 +107,12 @@ fn sort_all(all: &mut Vec<Vec<CommonBlock>>)
     }
 }
 
-/// The common blocks of each object of a project, by what its names stand for. The time grows with the number of names.
+/// The common blocks of each object of a project, by the resolutions of its names. The time grows with the number of
+/// names.
 ///
 /// # Errors
 ///
-/// Where memory runs out.
+/// If memory runs out.
 pub(crate) fn common_blocks(
     alloc: Global,
     project: &ProjectView<'_>,
@@ -140,7 +141,7 @@ fn add_ranks(ranks: &mut Vec<Rank>, place: usize, blocks: &[CommonBlock]) -> Res
 ///
 /// # Errors
 ///
-/// Where memory runs out.
+/// If memory runs out.
 pub(crate) fn block_ranks(alloc: Global, all: &[Vec<CommonBlock>]) -> Result<Vec<Rank>, NoMemory>
     ensures { IfOk result (λ ranks. (project : Project) → AreBlocks project all.now
         → AreBlockRanks project ranks.items) }

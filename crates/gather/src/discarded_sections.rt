@@ -59,7 +59,7 @@ fn each_discarded(
 ///
 /// # Errors
 ///
-/// Where memory runs out.
+/// If memory runs out.
 pub fn discarded_sections(
     alloc: Global,
     script: &Script,

@@ -28,7 +28,7 @@ impl<'t, 'a> FileSearch<'t, 'a> {
     ///
     /// # Errors
     ///
-    /// Where memory runs out.
+    /// If memory runs out.
     fn new(
         alloc: Global,
         words: &'t FileTables<'a>,
@@ -79,7 +79,7 @@ impl<'t, 'a> FileSearch<'t, 'a> {
 ///
 /// # Errors
 ///
-/// Where memory runs out.
+/// If memory runs out.
 pub fn matches_by(
     alloc: Global,
     words: &FileTables<'_>,

@@ -78,7 +78,7 @@ impl<'a> FileTables<'a> {
     ///
     /// # Errors
     ///
-    /// Where memory runs out.
+    /// If memory runs out.
     pub fn nothing_known(&self, alloc: Global) -> Result<Vec<Option<bool>>, NoMemory>
         ensures { IfOk result (λ known. (file : List ℕ) → AreKnown file self.now.others.wild.items known.items) }
     {

@@ -175,7 +175,7 @@ fn count_sections(inputs: &[InputObject<'_>], blocks: &[Vec<CommonBlock>]) -> us
 ///
 /// # Errors
 ///
-/// Where memory runs out.
+/// If memory runs out.
 pub(crate) fn input_sections(
     alloc: Global,
     project: &ProjectView<'_>,

@@ -98,7 +98,7 @@ impl Gathering {
     ///
     /// # Errors
     ///
-    /// Where memory runs out.
+    /// If memory runs out.
     pub fn of(
         alloc: Global,
         project: &ProjectView<'_>,

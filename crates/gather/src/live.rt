@@ -26,7 +26,7 @@ use symres::SymbolTable;
 ///
 /// # Errors
 ///
-/// Where memory runs out.
+/// If memory runs out.
 pub(crate) fn mark_live(
     alloc: Global,
     project: &ProjectView<'_>,

@@ -45,7 +45,7 @@ fn add_untaken(
 ///
 /// # Errors
 ///
-/// Where memory runs out.
+/// If memory runs out.
 pub fn orphans(
     alloc: Global,
     sections: &[GatheredSection],

@@ -24,7 +24,7 @@ pub struct Matches {
 ///
 /// # Errors
 ///
-/// Where memory runs out.
+/// If memory runs out.
 pub fn match_object(
     alloc: Global,
     matcher: &Matcher<'_>,
@@ -42,7 +42,7 @@ pub fn match_object(
 ///
 /// # Errors
 ///
-/// Where memory runs out.
+/// If memory runs out.
 pub fn match_all(alloc: Global, project: &ProjectView<'_>) -> Result<Vec<Matches>, NoMemory>
     ensures { IfOk result (λ all. AreMatched project.now all.items) }
 {
@@ -59,7 +59,7 @@ pub fn match_all(alloc: Global, project: &ProjectView<'_>) -> Result<Vec<Matches
 ///
 /// # Errors
 ///
-/// Where memory runs out.
+/// If memory runs out.
 pub fn lend_all(alloc: Global, all: &[Matches]) -> Result<Vec<&Matches>, NoMemory>
     ensures { IfOk result (λ lent. map (λ x. x.now) lent.items ≡ all.now) }
 {

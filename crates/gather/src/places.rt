@@ -36,7 +36,7 @@ fn put(places: &mut Vec<Option<usize>>, id: Option<SectionNumber>, place: usize)
 ///
 /// # Errors
 ///
-/// Where memory runs out.
+/// If memory runs out.
 pub(crate) fn places_of(
     alloc: Global,
     project: &ProjectView<'_>,

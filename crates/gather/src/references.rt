@@ -20,7 +20,7 @@ pub trait References {
     ///
     /// # Errors
     ///
-    /// Where memory runs out.
+    /// If memory runs out.
     fn find_targets(&self, section: usize, targets: &mut Vec<usize>) -> Result<(), NoMemory>
         requires can { can_find self.now }
         requires within { section < count self.now }

@@ -34,7 +34,7 @@ fn add_number(targets: &mut Vec<usize>, number: Option<usize>) -> Result<(), NoM
     }
 }
 
-/// The relocations of the section of this header number; none where it is no linked one.
+/// The relocations of the section of this header number; none if it is no linked one.
 fn relocations_at(object: &Object, number: SectionIndex) -> &[Relocation]
     ensures { result.now ≡ option_map_or (λ (section : LinkedSection). section.relocations)
         (find (λ (section : LinkedSection). section.number.0 == number.0) object.now.sections) [] }

@@ -84,7 +84,7 @@ fn room(lengths: &mut Vec<usize>, place: InputPlace, count: usize) -> usize {
 ///
 /// # Errors
 ///
-/// Where memory runs out.
+/// If memory runs out.
 pub(crate) fn empty_buckets(
     alloc: Global,
     statements: &[InputStatementAt<'_>],
@@ -108,7 +108,7 @@ pub(crate) fn empty_buckets(
 ///
 /// # Errors
 ///
-/// Where memory runs out.
+/// If memory runs out.
 pub(crate) fn buckets_for(
     alloc: Global,
     matches: &[&Matches],

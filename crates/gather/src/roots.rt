@@ -19,7 +19,7 @@ use ldscript::Script;
 use ldscript::tree::InputStatementAt;
 use std::alloc::Global;
 
-/// Whether the statement of this number stands under KEEP.
+/// Whether the statement with this number is under KEEP.
 fn is_kept(statements: &[InputStatementAt<'_>], number: Option<InputIndex>) -> bool
     ensures { result ≡ is_kept_by (shown_inputs statements.now) (number_of number) }
 {
@@ -76,7 +76,7 @@ fn add_entry(found: &mut Vec<usize>, entry: Option<usize>) -> Result<(), NoMemor
 ///
 /// # Errors
 ///
-/// Where memory runs out.
+/// If memory runs out.
 pub fn roots(
     alloc: Global,
     script: &Script,

@@ -152,7 +152,7 @@ fn add_statement(
 ///
 /// # Errors
 ///
-/// Where memory runs out.
+/// If memory runs out.
 pub(crate) fn join_buckets(
     alloc: Global,
     project: &ProjectView<'_>,
@@ -190,7 +190,7 @@ pub(crate) fn join_buckets(
 ///
 /// # Errors
 ///
-/// Where memory runs out.
+/// If memory runs out.
 pub fn rows(
     alloc: Global,
     project: &ProjectView<'_>,

@@ -136,7 +136,7 @@ fn take_object(
 ///
 /// # Errors
 ///
-/// Where memory runs out.
+/// If memory runs out.
 pub(crate) fn take_all(
     alloc: Global,
     project: &ProjectView<'_>,

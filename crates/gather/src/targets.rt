@@ -50,7 +50,7 @@ fn section_of_entry(project: &ProjectView<'_>, entry: Entry) -> Option<SectionKe
     section_at(entry.key, at)
 }
 
-/// The section that a name is defined in, by what it stands for; none for a number.
+/// The section that a name is defined in, by its resolution; `None` for a number.
 fn section_of_case(project: &ProjectView<'_>, case: Case) -> Option<SectionKey>
     ensures { option_map (section_id (λ key. key)) result
         ≡ section_of_decision project.now (decision_of (λ key. key) case) }

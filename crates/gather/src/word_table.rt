@@ -134,7 +134,7 @@ impl<'a> WordTable<'a> {
     ///
     /// # Errors
     ///
-    /// Where memory runs out.
+    /// If memory runs out.
     pub fn nothing_known(&self, alloc: Global) -> Result<Vec<Option<bool>>, NoMemory>
         ensures { IfOk result (λ known. (file : List ℕ) → AreKnown file self.now.wild.items known.items) }
     {

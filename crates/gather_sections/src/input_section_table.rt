@@ -47,7 +47,7 @@ impl InputSectionTable {
     ///
     /// # Errors
     ///
-    /// Where memory runs out; 2^32 numbers count as that.
+    /// If memory runs out; 2^32 numbers count as that.
     pub fn of(
         alloc: Global,
         project: &ProjectView<'_>,

@@ -71,7 +71,7 @@ pub(crate) fn sum(numbers: u32, more: usize) -> Result<u32, NoMemory>
 ///
 /// # Errors
 ///
-/// Where memory runs out.
+/// If memory runs out.
 pub(crate) fn lay_slots(alloc: Global, project: &ProjectView<'_>) -> Result<AllSlots, NoMemory>
     ensures laid { IfOk result (λ x. AreLaid x.objects.items x.slots) }
     ensures counted { IfOk result (λ x. AreLinkedCounted project.now x.objects.items) }

@@ -25,12 +25,12 @@ const AT_ONCE: usize = 131_072;
 ///
 /// # Errors
 ///
-/// Where memory runs out.
+/// If memory runs out.
 fn read_buffer(rt: &HostRuntime) -> io::Result<Vec<u8>> {
     Ok(vec![in rt.alloc(); 0; AT_ONCE]?)
 }
 
-/// Reads the first bytes of a file, as many as one read gives. Gives how many, or nothing where a signal interrupts it.
+/// Reads the first bytes of a file, as many as one read gives. Gives how many, or nothing if a signal interrupts it.
 fn read_once(file: &mut File, buffer: &mut [u8]) -> io::Result<Option<usize>> {
     match file.read(buffer) {
         Ok(count) => Ok(Some(count)),
@@ -61,7 +61,7 @@ fn read_by_buffer(rt: &HostRuntime, name: &str, buffer: &mut [u8]) -> io::Result
 ///
 /// # Errors
 ///
-/// Where the file can't be read; of kind `OutOfMemory` where memory runs out.
+/// Where the file can't be read; of kind `OutOfMemory` if memory runs out.
 pub fn read_file(rt: &HostRuntime, name: &str) -> io::Result<Vec<u8>> {
     let mut buffer = read_buffer(rt)?;
     read_by_buffer(rt, name, &mut buffer)

@@ -73,8 +73,8 @@ fn link_named(rt: &HostRuntime, names: &FileNames, options: Options) -> io::Resu
     end_with(rt, names, &outcome)
 }
 
-/// Links files, and gives the status to end with: 0 where the image and the map are written, 1 after fault lines, 2
-/// where an edit is refused, 3 where a file can't be read or written, 4 where memory ran out.
+/// Links files, and gives the status to end with: 0 if the image and the map are written, 1 after fault lines, 2 if an
+/// edit is refused, 3 if a file can't be read or written, 4 if memory ran out.
 pub fn link_files(rt: &HostRuntime, names: &FileNames, options: Options) -> u8 {
     match link_named(rt, names, options) {
         Ok(status) => status,

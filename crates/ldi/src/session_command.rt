@@ -32,7 +32,7 @@ pub struct SessionEnd<R: Read + Drop, W: Write + Drop> {
 ///
 /// # Errors
 ///
-/// Where there is no memory to begin. Nothing is read or written then.
+/// If there is no memory to begin. Nothing is read or written then.
 fn answer<R: Read + Drop, W: Write + Drop, L: Linker>(
     alloc: Global,
     linker: &mut L,
@@ -60,7 +60,7 @@ fn answer<R: Read + Drop, W: Write + Drop, L: Linker>(
 ///
 /// # Errors
 ///
-/// Where there is no memory to begin. Nothing is read or written then.
+/// If there is no memory to begin. Nothing is read or written then.
 pub fn session<R: Read + Drop, W: Write + Drop>(
     alloc: Global,
     seed: RandomState,

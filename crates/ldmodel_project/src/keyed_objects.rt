@@ -136,7 +136,7 @@ impl KeyedObjects {
     ///
     /// # Errors
     ///
-    /// Where memory runs out.
+    /// If memory runs out.
     pub(crate) fn inputs(&self, alloc: Global) -> Result<Vec<InputObject<'_>>, NoMemory>
         ensures { IfOk result (λ v. shown_inputs v.items ≡ objects_of self.now.entries) }
     {

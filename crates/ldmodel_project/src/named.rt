@@ -32,7 +32,7 @@ impl NamedObject {
     ///
     /// # Errors
     ///
-    /// Where memory runs out.
+    /// If memory runs out.
     pub fn new(alloc: Global, name: &[u8], object: Object) -> Result<NamedObject, NoMemory>
         requires { 0 < length name.now }
         ensures { IfOk result (λ named. named ≡ record { name = name.now; object = object }) }

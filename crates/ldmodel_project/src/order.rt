@@ -11,7 +11,7 @@ use ldmodel::names::ObjectKey;
 use std::alloc::Global;
 use std::marker::Model;
 
-/// The keys of objects in an order, each once, and where each stands: both are found in constant time.
+/// The keys of objects in an order, each once, with the place of each: both are found in constant time.
 #[derive(Drop)]
 pub struct Order {
     keys: Vec<usize>,
@@ -44,11 +44,11 @@ fn note_place(places: &mut Vec<Option<usize>>, key: usize, place: usize) -> Resu
     Ok(())
 }
 
-/// Where each of these keys stands among them, under its number.
+/// The place of each of these keys among them, under its number.
 ///
 /// # Errors
 ///
-/// Where memory runs out: it takes some for each number up to the greatest key.
+/// If memory runs out: it takes some for each number up to the greatest key.
 pub fn places_of(alloc: Global, keys: &[usize]) -> Result<Vec<Option<usize>>, NoMemory>
     requires { AreKeysDistinct keys.now }
     ensures { IfOk result (λ places. HasPlaces keys.now places.items) }
@@ -66,7 +66,7 @@ impl Order {
     ///
     /// # Errors
     ///
-    /// Where memory runs out: it takes some for each key and for each number up to the greatest key.
+    /// If memory runs out: it takes some for each key and for each number up to the greatest key.
     pub fn of(alloc: Global, keys: &[usize]) -> Result<Order, NoMemory>
         requires { AreKeysDistinct keys.now }
         ensures { IfOk result (λ order. order ≡ keys.now) }
@@ -110,7 +110,7 @@ impl Order {
         }
     }
 
-    /// Where a key stands, if it does.
+    /// The place of a key, if it has one.
     pub fn place_of(&self, key: ObjectKey) -> Option<usize>
         ensures { result ≡ position (nat_eq key.0) self.now }
     {

@@ -168,7 +168,7 @@ impl<'a> Next<'a> {
     ///
     /// # Errors
     ///
-    /// Where memory runs out.
+    /// If memory runs out.
     pub fn inputs(&self, alloc: Global) -> Result<Vec<InputObject<'a>>, NoMemory>
         ensures { IfOk result (λ found. shown_inputs found.items ≡ objects_of self.now.entries) }
     {

@@ -34,7 +34,7 @@ pub(crate) enum Step {
     Stay,
 }
 
-/// Where the object that an edit puts, removes or moves stands among all: before the edit, and after it.
+/// The place of the object that an edit adds, replaces, removes or moves: before the edit, and after it.
 #[derive(Clone, Copy)]
 pub(crate) struct Places {
     pub(crate) before: Option<usize>,
@@ -115,14 +115,14 @@ impl Staged {
         }
     }
 
-    /// Where that object stands before the edit; none for a new one.
+    /// The place of that object before the edit; `None` for a new one.
     pub fn place_before(&self) -> Option<usize>
         ensures { result ≡ self.now.objects.places.before }
     {
         self.objects.places.before
     }
 
-    /// Where that object stands after the edit; none for one that is removed.
+    /// The place of that object after the edit; `None` for one that is removed.
     pub fn place_after(&self) -> Option<usize>
         ensures { result ≡ self.now.objects.places.after }
     {

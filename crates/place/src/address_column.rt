@@ -15,7 +15,7 @@ use ldmodel::rows::Piece;
 use place_terms::output_number::output_index;
 use std::alloc::Global;
 
-/// Puts the address of an input section under its number, where none stands there.
+/// Stores the address of an input section under its number, if there is none.
 fn add_entry(
     column: &mut Vec<Option<SectionAddress>>,
     table: &InputSectionTable,
@@ -29,7 +29,7 @@ fn add_entry(
         return;
     };
     let at = number.0 as usize;
-    // each section stands in one row, once, but the contract does not say so
+    // each section is in one row, once, but the contract does not say so
     if column[at].is_none() {
         column[at] = Some(entry.place);
     }
@@ -74,7 +74,7 @@ fn after(starts: &[u64], count: usize) -> &[u64]
 ///
 /// # Errors
 ///
-/// Where memory runs out.
+/// If memory runs out.
 pub(crate) fn address_column(
     alloc: Global,
     table: &InputSectionTable,

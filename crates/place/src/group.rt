@@ -1,4 +1,4 @@
-//! Output sections that share a segment, before it is known where they stand in the file.
+//! Output sections that share a segment, before their file offsets are known.
 
 ghost use Rattle.std.specs.Prelude.{◌≡◌, ℕ, ◌+◌, ◌-◌, ◌<◌, ◌^◌, List, IfOk, OnOk, cond, ◌==◌};
 ghost use Rattle.std.specs.List.{All};
@@ -34,7 +34,7 @@ pub(crate) struct Group {
     pub(crate) last: OutputIndex,
 }
 
-/// Whether an output section stands in the segment of the one before it.
+/// Whether an output section joins the segment of the one before it.
 fn is_shared(before: &Placed, section: &Placed) -> bool
     ensures { result ≡ shares_segment (bare before.now) (bare section.now) }
 {

@@ -1,4 +1,4 @@
-//! Where everything of a link stands.
+//! The layout of a link, with an index of its input sections.
 
 ghost use Rattle.std.specs.Prelude.{◌≡◌, IfOk, IfSome, None, slice_index_or, take};
 ghost use Rattle.elfobj.specs.declared.section.SectionIndex.{SectionIndex};
@@ -24,27 +24,27 @@ use ldmodel_laws::layout::{nothing_meets, placed_are_rows};
 use ldmodel_project::view::ProjectView;
 use std::alloc::Global;
 
-/// Where an input section stands.
+/// The address of an input section.
 #[derive(Clone, Copy, Debug, PartialEq, Eq)]
 pub struct SectionAddress {
     /// The address that it starts at.
     pub start: u64,
     /// How many bytes it takes in memory. For a common block other objects decide it too.
     pub size: u64,
-    /// The output section that it stands in.
+    /// Its output section.
     pub section: OutputIndex,
 }
 
-/// Where everything of a link stands: its rows, its layout, and the places of its input sections by their numbers.
+/// The rows and the layout of a link, and the addresses of its input sections by their numbers.
 #[derive(Drop)]
 pub struct IndexedLayout {
     /// The numbers of the input sections.
     table: InputSectionTable,
     /// The row of each output section.
     pub rows: Vec<Vec<Piece>>,
-    /// Where they stand, in memory and in the file.
+    /// Their addresses, segments and file offsets.
     pub link_layout: LinkLayout,
-    /// For each number of the table where its input section stands, if it is in the output.
+    /// Under each number of the table the address of its input section, if it is in the output.
     addresses: Vec<Option<SectionAddress>>,
 }
 
@@ -54,11 +54,11 @@ impl IndexedLayout {
     ghost use Rattle.place.specs.IndexedLayout.{place_under};
     ghost use Rattle.place.specs.IndexedLayout.{table_key};
 
-    /// Where the input sections of these rows stand, by their numbers and their layout.
+    /// The addresses of the input sections of these rows, under their numbers.
     ///
     /// # Errors
     ///
-    /// Where memory runs out.
+    /// If memory runs out.
     pub fn of(
         alloc: Global,
         project: &ProjectView<'_>,
@@ -115,7 +115,7 @@ impl IndexedLayout {
         }
     }
 
-    /// Where the input section of a number stands, if it is in the output. The time is constant.
+    /// The address of the input section with this number, if it is in the output. The time is constant.
     #[inline]
     pub fn at(&self, id: SectionNumber) -> Option<SectionAddress>
         ensures { result ≡ place_under self.now id.0 }
@@ -123,7 +123,7 @@ impl IndexedLayout {
         self.addresses.get(id.0 as usize).copied().unwrap_or(None)
     }
 
-    /// Where a part of the object of a number stands, if it is in the output.
+    /// The address of a part of the object with this number, if it is in the output.
     #[inline]
     fn part(&self, object: usize, part: Part) -> Option<SectionAddress>
         ensures { result ≡ part_in self.now object part }
@@ -132,8 +132,8 @@ impl IndexedLayout {
         self.at(id)
     }
 
-    /// Where an input section stands, if it is in the output. For a section the time is constant, for a common block it
-    /// is logarithmic in the number of common blocks.
+    /// The address of an input section, if it is in the output. For a section the time is constant, for a common block
+    /// it is logarithmic in the number of common blocks.
     #[inline]
     pub fn find(&self, section: SectionKey) -> Option<SectionAddress>
         ensures is { result ≡ place_in self.now section }

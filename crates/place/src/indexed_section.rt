@@ -10,6 +10,6 @@ pub(crate) struct IndexedSection {
     pub(crate) object: usize,
     /// Which part of the object it is.
     pub(crate) part: Part,
-    /// Where it stands.
+    /// Its address.
     pub(crate) place: SectionAddress,
 }

@@ -16,7 +16,7 @@ use ldmodel::segment::Segment;
 /// The longest image, in bytes.
 pub const MAX_IMAGE_LENGTH: u128 = 1 << 28;
 
-/// What stands in the tail of an image.
+/// The contents of the tail of an image.
 #[derive(Clone, Copy, Debug, PartialEq, Eq)]
 pub struct TailSizes {
     /// The number of symbols of `.symtab`, its null entry not among them.

@@ -1,6 +1,6 @@
-//! Layout, a phase of a link: where everything stands in memory and in the file. Takes a project, its rows and names,
-//! the numbers of its input sections, and perhaps a previous layout; gives the layout or its faults, and where an
-//! input section stands, by its key.
+//! Layout, a phase of a link: addresses and file offsets. Takes a project, its rows and names, the numbers of its input
+//! sections, and perhaps a previous layout; gives the layout or its faults, and where an input section stands, by its
+//! key.
 //!
 //! - `link_layout`: the phase, over `place_sections`;
 //! - `segments` over `group`: what is loaded as one, and its offset in the file; `offsets`: where output sections begin

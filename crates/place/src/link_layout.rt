@@ -28,14 +28,14 @@ use place_sections::placement::Placement;
 use place_sections::resume_point::ResumePoint;
 use std::alloc::{AllocError, Global};
 
-/// Where everything of a project stands.
+/// The layout of a project.
 #[derive(Drop)]
 pub struct LinkLayout {
     /// The places in memory.
     pub placement: Placement,
     /// The places in the file: the segments.
     pub segments: Vec<Segment>,
-    /// Where each output section begins in the file; 0 where its size is 0.
+    /// Where each output section begins in the file; 0 if its size is 0.
     pub offsets: Vec<u128>,
 }
 
@@ -82,7 +82,7 @@ fn reported(alloc: Global, fault: PlaceFault) -> LayoutFault
     }
 }
 
-/// Where everything of a project stands in memory. The ghost `lent` is the project that the keys in the rows are of.
+/// The placement of a project. The ghost `lent` is the project whose keys are in the rows.
 fn place_rows(
     alloc: Global,
     project: &ProjectView<'_>,
@@ -119,7 +119,7 @@ impl LinkLayout {
     ///
     /// # Errors
     ///
-    /// `Faulty` has the first fault of the layout, or else all output sections that meet; `NoMemory` where memory runs
+    /// `Faulty` has the first fault of the layout, or else all output sections that meet; `NoMemory` if memory runs
     /// out.
     pub fn of(
         alloc: Global,

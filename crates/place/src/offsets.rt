@@ -72,7 +72,7 @@ fn step(segments: &[Segment], number: usize, section: &Placed) -> FilePlace
 ///
 /// # Errors
 ///
-/// Where memory runs out.
+/// If memory runs out.
 pub(crate) fn offsets(
     alloc: Global,
     sections: &[Placed],

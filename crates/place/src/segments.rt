@@ -1,4 +1,4 @@
-//! Segments: where groups of output sections stand in the file.
+//! Segments: groups of output sections, with their file offsets.
 
 ghost use Rattle.std.specs.Prelude.{◌≡◌, ℕ, ◌+◌, ◌*◌, ◌≤◌, ◌<◌, ◌^◌, List, IfOk, length};
 ghost use Rattle.ldmodel.specs.Segments.{congruent, headers_end};
@@ -63,7 +63,7 @@ pub(crate) fn end_after(end: u128, segment: Segment) -> u128
 ///
 /// # Errors
 ///
-/// Where memory runs out.
+/// If memory runs out.
 pub fn segments(alloc: Global, placement: PlacementView<'_>) -> Result<Vec<Segment>, NoMemory>
     requires ends { Ends placement.sections.now }
     ensures are { IfOk result (λ v. AreAllSegments placement.entry.sections.now v.items) }

@@ -34,7 +34,7 @@ pub(crate) struct Head {
     pub load: u64,
 }
 
-/// The alignment that a head gives, 1 where it gives none.
+/// The alignment that a head gives, 1 if it gives none.
 fn alignment_of<'a>(line: u32, number: Option<u64>) -> Result<u64, LayoutStop<'a>>
     ensures value { outcome result ≡ given_alignment line number }
     ensures positive { IfOk result (λ a. 0 < a) }

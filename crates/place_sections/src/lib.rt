@@ -1,6 +1,6 @@
-//! Layout: where the output sections of a script, their input sections and its symbols stand. Takes the script, the
-//! rows, the PROVIDEs in force and perhaps a previous placement; gives a `Placement`, or its first fault, or all that
-//! meet.
+//! Layout: the addresses of a script's output sections and their input sections, and the values of its symbols. Takes
+//! the script, the rows, the PROVIDEs in force and perhaps a previous placement; gives a `Placement`, or its first
+//! fault, or all that meet.
 //!
 //! - `place`, `placement`; `script` over `parts`: the statements before SECTIONS, in it and after it;
 //! - `items`, `assign`, `memory`, `section`, `head` (address, load address), `body` (`.`), `end` (size, regions);

@@ -17,7 +17,7 @@ use std::alloc::Global;
 /// Where output sections may share addresses.
 #[derive(Clone, Copy, Debug)]
 pub(crate) enum Space {
-    /// Where they stand in memory.
+    /// Their addresses.
     Memory,
     /// Where they are loaded from.
     Load,

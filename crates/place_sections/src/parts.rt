@@ -8,7 +8,7 @@ use ldscript::tree::{Command, Item, Statement};
 /// A script before its SECTIONS, in it and after it.
 #[derive(Clone, Copy)]
 pub(crate) struct ScriptParts<'a> {
-    /// The statements before SECTIONS: all, where there is none.
+    /// The statements before SECTIONS: all, if there is none.
     pub before: &'a [Statement],
     /// The statements of SECTIONS.
     pub items: &'a [Item],

@@ -1,4 +1,4 @@
-//! Where everything of a script stands.
+//! Placements.
 
 ghost use Rattle.std.specs.Prelude.{◌≡◌, List, slice_get};
 ghost use Rattle.ldscript.specs.statements.declared.statement.Statement.{Statement};
@@ -14,8 +14,8 @@ use ldmodel::script_symbol::{DirectiveIndex, ScriptSymbol};
 use place_terms::previous_layout::PreviousLayout;
 use std::marker::Model;
 
-/// Where everything of a script stands: its output sections, their input sections and data commands, `.` before its
-/// statements, its symbols and memory regions. Only `place` makes one.
+/// The placement of a script: its output sections, their input sections and data commands with their addresses, `.`
+/// before its statements, its symbols and memory regions. Only `place` makes one.
 #[derive(Drop)]
 pub struct Placement {
     pub(crate) sections: Vec<Placed>,

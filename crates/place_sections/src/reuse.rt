@@ -37,7 +37,7 @@ pub(crate) struct Resumed {
 }
 
 impl<'a> LayoutCursor<'a> {
-    /// Takes over the state at a boundary of a previous layout. Fails where memory runs out.
+    /// Takes over the state at a boundary of a previous layout. Fails if memory runs out.
     fn go_on(&mut self, kept: ReusablePlacement<'_>, to: Boundary) -> Result<(), LayoutStop<'a>>
         requires found { AreFound self.now.symbols.script kept.symbols.now }
         requires rises { Rises kept.symbols.now }
@@ -118,7 +118,7 @@ impl<'i, 'a> Input<'i, 'a> {
     ///
     /// # Errors
     ///
-    /// Where memory runs out.
+    /// If memory runs out.
     pub fn resume(
         &self,
         here: &mut LayoutCursor<'a>,

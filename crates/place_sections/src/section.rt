@@ -22,7 +22,7 @@ use place_terms::provided::Provided;
 use std::alloc::Global;
 
 impl<'a> LayoutCursor<'a> {
-    /// Begins to place an output section, of which this many input sections are expected. Fails where memory runs out.
+    /// Begins to place an output section, of which this many input sections are expected. Fails if memory runs out.
     fn open(&mut self, alloc: Global, start: u64, count: usize) -> Result<(), LayoutStop<'a>>
         ensures dot { OnOk result (self.new.dot ≡ start) }
         ensures dots { OnOk result (self.new.dots.items ≡ self.old.dots.items) }

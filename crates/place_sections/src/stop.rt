@@ -5,7 +5,7 @@ use std::alloc::{AllocError, AllocFailed};
 /// Why a layout stops, with names in place of their numbers.
 #[derive(Clone, Copy)]
 pub(crate) enum LayoutStop<'a> {
-    /// An expression names what is not complete where it stands.
+    /// An expression names something that is not complete there.
     NotReady {
         /// The line of the statement.
         line: u32,

@@ -174,7 +174,7 @@ pub fn mentioned_names(alloc: Global, statements: &[Statement]) -> Result<Vec<&[
     Ok(names)
 }
 
-/// The number of the first mention of a name; `None` where none of the first 2^32 mentions is of it.
+/// The number of the first mention of a name; `None` if none of the first 2^32 mentions is of it.
 pub fn mention_of(names: &[&[u8]], name: &[u8]) -> Option<MentionIndex>
     ensures found { IfSome result (λ m. slice_get (shown_names names.now) m.0 ≡ Some name.now) }
     ensures missing { IfNone result ((k : ℕ) → slice_get (shown_names names.now) k ≡ Some name.now → 2 ^ 32 ≤ k) }

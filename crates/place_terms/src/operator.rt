@@ -29,7 +29,7 @@ pub(crate) fn is_decided(operator: BinaryOperator, x: u64) -> bool
     }
 }
 
-/// The value of an operator at its operands; `None` where there is none.
+/// The value of an operator at its operands; `None` if there is none.
 pub(crate) fn apply_binary(operator: BinaryOperator, x: u64, y: u64) -> Option<u64>
     ensures { value_if_any result ≡ binary_value operator x y }
 {

@@ -83,8 +83,8 @@ impl<'a> PreviousLayout<'a> {
     }
 
     /// The output section of a number, where none was placed anew so far: its data commands are those from a number to
-    /// another, and its input sections those from this one on, the first entries of its row. `None` where the layout
-    /// has no such output section.
+    /// another, and its input sections those from this one on, the first entries of its row. `None` if the layout has
+    /// no such output section.
     pub(crate) fn next_section(
         &self,
         placed: &[Closed<'_>],

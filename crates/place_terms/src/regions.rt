@@ -115,7 +115,7 @@ impl<'a> Regions<'a> {
     ///
     /// # Errors
     ///
-    /// Where memory runs out.
+    /// If memory runs out.
     pub fn push(&mut self, name: &'a [u8], origin: u64, extent: u64) -> Result<(), AllocError>
         ensures pushed { OnOk result (self.new ≡ self.old
             ++ record { name = name.now; origin = origin; extent = extent; next = origin } ∷ []) }

@@ -1,4 +1,4 @@
-//! What an expression may name where it stands.
+//! The scope of an expression.
 
 ghost use Rattle.std.specs.Prelude.{◌≡◌, ℕ, List};
 ghost use Rattle.std.specs.Option.{option_map};
@@ -7,13 +7,13 @@ ghost use Rattle.place_terms.specs.Scopes.{section_numbers, region_numbers};
 
 use ldmodel::placed::{Placed, PlacedRegion};
 
-/// What an expression may name where it stands: symbols, output sections and memory regions, each by its name. A
-/// look-up answers `None` for a name that stands for nothing there.
+/// The scope of an expression: symbols, output sections and memory regions, each by its name. A look-up returns `None`
+/// for a name that is not in scope.
 pub trait Scope {
     /// When names can be looked up: what the tables of an implementation must agree on.
     ghost can_look_up: { Self → Type 0 };
 
-    /// What the names stand for.
+    /// The meanings of the names.
     ghost meaning: { Self → definition.Scope };
 
     /// The value of a symbol.

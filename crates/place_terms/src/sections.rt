@@ -332,7 +332,7 @@ impl<'a> Sections<'a> {
     ///
     /// # Errors
     ///
-    /// Where memory runs out.
+    /// If memory runs out.
     pub fn push(&mut self, section: Closed<'a>) -> Result<(), AllocError>
         requires fits { Fits (keyed section) }
         requires next { IsOutput self.now.script (length self.now.list) section.output.now }
@@ -365,7 +365,7 @@ impl<'a> Sections<'a> {
     ///
     /// # Errors
     ///
-    /// Where memory runs out.
+    /// If memory runs out.
     pub fn take(
         &mut self,
         output: &'a OutputSection,

@@ -138,7 +138,7 @@ impl<'a> AssignedSymbols<'a> {
         }
     }
 
-    /// Adds a symbol. Fails where memory runs out.
+    /// Adds a symbol. Fails if memory runs out.
     fn push(&mut self, symbol: ScriptSymbol) -> Result<(), AllocError>
         requires found { IsFound self.now.script symbol }
         requires after { ComesAfter self.now.list symbol.command.0 }
@@ -154,7 +154,7 @@ impl<'a> AssignedSymbols<'a> {
     ///
     /// # Errors
     ///
-    /// Where memory runs out.
+    /// If memory runs out.
     pub fn take_over(&mut self, symbols: &[ScriptSymbol], count: usize) -> Result<(), AllocError>
         requires found { AreFound self.now.script symbols.now }
         requires rises { Rises symbols.now }
@@ -173,7 +173,7 @@ impl<'a> AssignedSymbols<'a> {
     ///
     /// # Errors
     ///
-    /// Where memory runs out.
+    /// If memory runs out.
     pub fn assign(&mut self, name: &[u8], value: u64) -> Result<(), AllocError>
         ensures script { self.new.script ≡ self.old.script }
         ensures given { OnOk result (named self.new ≡ named self.old

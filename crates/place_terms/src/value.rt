@@ -15,7 +15,7 @@ use ldscript::tree::{Expr, RegionQuery, SectionQuery};
 /// Why an expression has no value.
 #[derive(Clone, Copy, Debug)]
 pub enum ValueFault<'e> {
-    /// A name that the expression asks for, and that stands for nothing where the expression stands.
+    /// A name in the expression that is not in scope.
     NotReady(&'e [u8]),
     /// A division by 0, or an `ALIGN` to what is no power of two.
     NoValue,
@@ -42,7 +42,7 @@ fn ask_region(query: RegionQuery, region: &PlacedRegion) -> u64
     }
 }
 
-/// The number that a name stands for.
+/// The number of a name.
 fn found<'e>(name: &'e [u8], number: Option<u64>) -> Result<u64, ValueFault<'e>>
     ensures { outcome_of result ≡ named name.now number }
 {

@@ -31,7 +31,7 @@ pub(crate) fn match_under(
     Ok(Some(matches))
 }
 
-/// Takes out what stands at a place, if there is a place.
+/// Removes the entry at a place, if there is a place.
 fn take_out(list: &mut Vec<Matches>, out: Option<usize>) -> Option<Matches>
     requires { IfSome out (λ p. p < vec_len list.old) }
     ensures items { list.new.items ≡ taken_at list.old.items out }
@@ -64,7 +64,7 @@ fn put_in(list: &mut Vec<Matches>, into: Option<usize>, coming: Option<Matches>)
     }
 }
 
-/// Takes out what stands at one place, and puts in what comes at another. It takes no memory.
+/// Removes the entry at one place, and inserts the new one at another. It takes no memory.
 pub(crate) fn swap_matches(
     list: &mut Vec<Matches>,
     out: Option<usize>,

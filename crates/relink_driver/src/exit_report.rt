@@ -1,4 +1,4 @@
-//! How a link of files ends: the status of the program, and what stands on standard error.
+//! How a link of files ends: the exit status, and the text on standard error.
 
 ghost use Rattle.std.specs.Prelude.{◌≡◌, ◌++◌, IfOk, codes, map, string_bytes};
 ghost use Rattle.ldmodel.specs.Answers.{refused_line};
@@ -55,8 +55,8 @@ fn refused_message(alloc: Global, word: &[u8], why: EditRefusal) -> Result<Vec<u
     Ok(text)
 }
 
-/// What stands on standard error after a link of objects with these words: the fault lines of the link, a line for
-/// the refused edit, or `memory`.
+/// The text on standard error after a link of objects with these words: the fault lines of the link, a line for the
+/// refused edit, or `memory`.
 ///
 /// # Errors
 ///

@@ -1,4 +1,4 @@
-//! Where the sections of an object stand in a link.
+//! The locations of an object's sections in a link.
 
 ghost use Rattle.std.specs.Prelude.{◌≡◌, IfOk, length, map};
 ghost use Rattle.elfobj.specs.Sections.{section_of};
@@ -14,8 +14,7 @@ use ldmodel::sections::{Part, SectionKey};
 use place::indexed_layout::IndexedLayout;
 use std::alloc::Global;
 
-/// Where the sections of the object of a place stand that are in the output, in their order. Fails where memory runs
-/// out.
+/// The locations of those sections of an object that are in the output, in their order. Fails if memory runs out.
 pub(crate) fn locate_sections(
     alloc: Global,
     indexed_layout: &IndexedLayout,

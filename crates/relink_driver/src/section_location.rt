@@ -10,7 +10,7 @@ use ldmodel::sections::SectionKey;
 use place::LinkLayout;
 use place::indexed_layout::{IndexedLayout, SectionAddress};
 
-/// Where an input section stands.
+/// The location of an input section.
 #[derive(Clone, Copy, Debug, PartialEq, Eq)]
 pub(crate) struct SectionLocation {
     /// The address that it starts at.

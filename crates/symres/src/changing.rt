@@ -24,8 +24,8 @@ impl SymbolTable {
     ///
     /// # Errors
     ///
-    /// Where memory runs out. The objects and the resolution of their names are then as before; names without entries
-    /// may be forgotten.
+    /// If memory runs out. The objects and the resolution of their names are then as before; names without entries may
+    /// be forgotten.
     pub fn room_for(&mut self, script: &Script, change: &ObjectChange<'_>) -> Result<(), NoMemory>
         requires fits { Fits self.old.kept.names.objects change.now }
         requires kept { AreKept script.now self.old.kept }
@@ -38,8 +38,8 @@ impl SymbolTable {
         self.decisions.room_for(script, change)
     }
 
-    /// Makes a change that there is room for. Each name that the object declared or declares is resolved anew, once.
-    /// The call takes the order of the objects after the change, gives back the order before it, and takes no memory.
+    /// Makes a change that there is room for. Each name that the object declared or declares is resolved anew, once. It
+    /// is given the order of the objects after the change, returns the order before it, and takes no memory.
     pub fn change(
         &mut self,
         script: &Script,
@@ -100,8 +100,8 @@ impl SymbolTable {
         self.decisions.redecide(script, meter);
     }
 
-    /// Puts the names into byte order, so that they need not be sorted after this. Where memory runs out, they stand as
-    /// before. Where they are in byte order already, the time is constant.
+    /// Puts the names into byte order, so that they need not be sorted after this. If memory runs out, their order
+    /// stays. If they are in byte order already, the time is constant.
     pub fn put_in_order(&mut self)
         ensures objects { self.new.kept.names.objects ≡ self.old.kept.names.objects }
         ensures names { self.new.kept.names ≡ record self.old.kept.names { order = self.new.kept.names.order } }

@@ -115,7 +115,7 @@ impl SymbolTable {
         let _count = self.decisions.known();
     }
 
-    /// Whether a name is defined twice. No symbol is looked at.
+    /// Whether a name is defined twice. No symbol is read.
     pub(crate) fn has_doubled(&self) -> bool
         ensures { result ≡ false → (project : Project) → IsSymbolTable project self.now → duplicates project ≡ [] }
     {

@@ -16,7 +16,7 @@ use symres_decisions::keyed_object::KeyedObject;
 ///
 /// # Errors
 ///
-/// Where memory runs out.
+/// If memory runs out.
 pub fn by_place<'a>(
     alloc: Global,
     inputs: &[InputObject<'a>],

@@ -16,7 +16,7 @@ use ldmodel::names::Case;
 use ldmodel_project::view::ProjectView;
 use std::alloc::Global;
 
-/// Whether a name stands for nothing, as nothing defines it.
+/// Whether nothing defines a name.
 fn is_undefined(case: Case) -> bool
     ensures { result ≡ is_undefined case }
 {
@@ -81,7 +81,7 @@ impl SymbolTable {
     ///
     /// # Errors
     ///
-    /// Where memory runs out.
+    /// If memory runs out.
     pub fn faults(&self, alloc: Global, project: &ProjectView<'_>) -> Result<Vec<Fault>, NoMemory>
         requires { IsSymbolTable project.now self.now }
         ensures { IfOk result (λ fs. faults_in project.now fs.items ≡ name_faults project.now) }

@@ -5,8 +5,8 @@
 //!   scratch;
 //! - `case_by_place`, `keyed`, `sorted`, `provided`: cases by place, symbols' keys, names in order, PROVIDEs;
 //! - `faults` over `duplicates`: names defined twice, and the entry symbol; `declaring`: which symbols have names;
-//! - the parts `table` (which definition each name stands for) and `decisions` (kept while objects change). Other
-//!   families name this crate alone.
+//! - the parts `table` (the definition of each name) and `decisions` (kept while objects change). Other families name
+//!   this crate alone.
 #![tactic(auto)]
 
 mod case_by_place;

@@ -130,12 +130,12 @@ fn in_byte_order(alloc: Global, decisions: &Decisions) -> Result<Vec<NamedKey<'_
 }
 
 impl SymbolTable {
-    /// All known names in byte order, each with its key: all that objects declare are among them. They are
-    /// sorted only where a name became known since they were put in order.
+    /// All known names in byte order, each with its key: all that objects declare are among them. They are sorted only
+    /// where a name became known since they were put in order.
     ///
     /// # Errors
     ///
-    /// Where memory runs out.
+    /// If memory runs out.
     pub fn sorted(&self, alloc: Global) -> Result<Vec<NamedKey<'_>>, NoMemory>
         ensures { IfOk result (λ list. AreSorted self.now list.items) }
     {

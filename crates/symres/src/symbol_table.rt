@@ -56,7 +56,7 @@ impl SymbolTable {
     ///
     /// # Errors
     ///
-    /// Where memory runs out.
+    /// If memory runs out.
     pub fn of(
         alloc: Global,
         seed: RandomState,
@@ -130,7 +130,7 @@ impl SymbolTable {
         self.decisions.limit()
     }
 
-    /// What the name of a key stands for, if the key has one. The time is constant.
+    /// How the name of a key is resolved, if the key has one. The time is constant.
     #[inline(always)]
     pub fn case_of(&self, key: NameKey) -> Option<Case>
         ensures { result ≡ case_at self.now.cases key.0 }
@@ -151,7 +151,7 @@ impl SymbolTable {
         self.decisions.key_at(place, symbol)
     }
 
-    /// What any name stands for, such as the entry symbol: the name is hashed and looked up.
+    /// How any name, such as the entry symbol, is resolved: the name is hashed and looked up.
     pub fn case_named(&self, script: &Script, name: &[u8]) -> Case
         ensures case { (project : Project) → IsSymbolTable project self.now → project.script ≡ script.now
             → decision_of (λ key. key) result

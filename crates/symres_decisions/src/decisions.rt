@@ -1,4 +1,4 @@
-//! What the names of entered objects stand for.
+//! How the names of entered objects are resolved.
 
 ghost use Rattle.std.specs.Prelude.{◌≡◌, ◌<◌, ℕ, List, [], Contains, IfOk, IfSome, IfNone, MatchOption, map};
 ghost use Rattle.std.specs.Prelude.{length, count_by};
@@ -33,13 +33,13 @@ use std::marker::Model;
 use symres_table::names::Names;
 use symres_table::symbol::Declared;
 
-/// What the names of entered objects stand for, kept while objects change. Each known name has a case, those without
-/// entries too.
+/// How the names of entered objects are resolved, kept while objects change. Each known name has a case, also without
+/// entries.
 #[derive(Drop)]
 pub struct Decisions {
     pub(crate) names: Names,
     pub(crate) cases: Cases,
-    // whether the names are known to stand in byte order
+    // whether the names are known to be in byte order
     pub(crate) in_order: bool,
     // whether each known name is known to have an entry
     pub(crate) all_used: bool,
@@ -65,7 +65,7 @@ impl Decisions {
     ///
     /// # Errors
     ///
-    /// Where memory runs out.
+    /// If memory runs out.
     pub fn of(
         alloc: Global,
         seed: RandomState,
@@ -92,8 +92,8 @@ impl Decisions {
         })
     }
 
-    /// Gives each known name the case that it has under another script. Those that have entries are decided and
-    /// counted, each once; what the others stand for the script alone says. It takes no memory.
+    /// Gives each known name the case that it has under another script. Those that have entries are resolved and
+    /// counted, each once; the others follow from the script alone. It takes no memory.
     pub fn redecide(&mut self, script: &Script, meter: &mut Meter)
         ensures names { self.new.names ≡ self.old.names }
         ensures kept { AreKept script.now self.new }
@@ -138,7 +138,7 @@ impl Decisions {
         self.names.known()
     }
 
-    /// What the name of a key stands for, if the key has one.
+    /// How the name of a key is resolved, if the key has one.
     #[inline(always)]
     pub fn case_of(&self, name: NameKey) -> Option<Case>
         ensures case { result ≡ case_at self.now.cases name.0 }
@@ -148,7 +148,7 @@ impl Decisions {
         self.cases.get(name.0)
     }
 
-    /// What any name stands for: it is hashed and looked up.
+    /// How any name is resolved: it is hashed and looked up.
     pub fn case_named(&self, script: &Script, name: &[u8]) -> Case
         ensures case { AreKept script.now self.now → decision_of (λ key. key) result
             ≡ decision_in script.now self.now.names name.now }
@@ -210,7 +210,7 @@ impl Decisions {
         self.names.listed()
     }
 
-    /// Whether the names are known to stand in byte order. The time is constant.
+    /// Whether the names are known to be in byte order. The time is constant.
     pub fn is_in_order(&self) -> bool
         ensures { result ≡ true → IsInByteOrder self.now.names.order }
     {
@@ -224,7 +224,7 @@ impl Decisions {
         self.text.as_ref()
     }
 
-    /// Puts the names into byte order. Where memory is refused, they stand as before.
+    /// Puts the names into byte order. If memory is refused, they stand as before.
     fn sort(&mut self)
         ensures names { self.new.names ≡ record self.old.names { order = self.new.names.order } }
         ensures cases { self.new.cases ≡ self.old.cases }
@@ -252,8 +252,8 @@ impl Decisions {
     }
 
     /// Puts the names into byte order, and writes them one after the other in memory, so that listings after this need
-    /// not be sorted and are quick to read. Where memory is refused they stand as before. Where they stand so, the time
-    /// is constant.
+    /// not be sorted and are quick to read. If memory is refused they stand as before. Where they stand so, the time is
+    /// constant.
     pub fn put_in_order(&mut self)
         ensures names { self.new.names ≡ record self.old.names { order = self.new.names.order } }
         ensures cases { self.new.cases ≡ self.old.cases }

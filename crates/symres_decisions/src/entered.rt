@@ -36,7 +36,7 @@ fn definition_count(objects: &[KeyedObject<'_>]) -> usize {
 ///
 /// # Errors
 ///
-/// Where memory runs out.
+/// If memory runs out.
 pub fn enter_all(
     alloc: Global,
     seed: RandomState,

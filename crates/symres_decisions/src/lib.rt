@@ -1,10 +1,10 @@
-//! What names stand for, kept while objects change. Takes a change of one object, or another script; gives a case for
-//! each known name, and decides only the names that the change touches.
+//! How names are resolved, kept while objects change. Takes a change of one object, or another script; gives a case for
+//! each known name, and resolves only the names that the change touches.
 //!
 //! - `decisions` with `changing` and `room`: what is kept, and how it follows a change; `keyed_object`, `change`: what
 //!   is taken;
-//! - `cases`: cases by the keys of names; `entered`, `all`, `single`: all names at first; `name_text`: names one after the
-//!   other in memory;
+//! - `cases`: cases by the keys of names; `entered`, `all`, `single`: all names at first; `name_text`: names one after
+//!   the other in memory;
 //! - `exchange`, `texts`, `noted`: the names of one object; `law`.
 #![tactic(auto)]
 

@@ -63,7 +63,7 @@ impl NameText {
     ///
     /// # Errors
     ///
-    /// Where memory runs out.
+    /// If memory runs out.
     pub fn of(alloc: Global, names: &Names) -> Result<NameText, NoMemory>
         ensures { IfOk result (λ text. text ≡ names.now.order) }
     {

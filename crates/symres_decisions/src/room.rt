@@ -93,7 +93,7 @@ fn clear_if_unnamed(names: &Names, key: usize, cases: &mut Cases)
     }
 }
 
-/// Takes the case from each key without a name.
+/// Clears the case of each key that has no name.
 fn clear_unnamed(names: &Names, cases: &mut Cases)
     ensures { AreKeptWhere names.now.names cases.old cases.new }
 {
@@ -121,7 +121,7 @@ fn drop_unused(names: &mut Names, cases: &mut Cases)
 ///
 /// # Errors
 ///
-/// Where memory runs out.
+/// If memory runs out.
 fn make_room(
     names: &mut Names,
     script: &Script,
@@ -164,8 +164,8 @@ fn make_room(
 }
 
 impl Decisions {
-    /// Takes all memory that a change needs. Where memory is refused, the objects and what their names stand for are as
-    /// before; names without entries may be forgotten.
+    /// Takes all memory that a change needs. If memory is refused, the objects and the resolutions of their names are
+    /// as before; names without entries may be forgotten.
     pub fn room_for(&mut self, script: &Script, change: &ObjectChange<'_>) -> Result<(), NoMemory>
         requires fits { Fits self.old.names.objects change.now }
         requires kept { AreKept script.now self.old }

@@ -1,4 +1,4 @@
-//! What one name stands for.
+//! How one name is resolved.
 
 ghost use Rattle.std.specs.Prelude.{◌≡◌, ℕ, List, []};
 ghost use Rattle.elfobj.specs.Raised.{raised};
@@ -28,7 +28,8 @@ pub fn given_case(script: &Script, name: &[u8]) -> Case
     }
 }
 
-/// What the name of a key stands for. It is decided and counted if it has entries; else the script alone says it.
+/// How the name of a key is resolved. It is resolved and counted if it has entries; else it follows from the script
+/// alone.
 pub fn case_for(names: &Names, script: &Script, key: NameKey, meter: &mut Meter) -> Case
     requires { HasName names.now.names key.0 }
     ensures case { IsCase script.now names.now key.0 result }

@@ -1,4 +1,4 @@
-//! Where names are likely to stand in the list of names. Whoever asks compares the name: nothing here is relied on.
+//! Guesses of the indices of names in the list of names. Whoever asks compares the name: no answer depends on a guess.
 
 ghost use Rattle.std.specs.Prelude.{◌+◌, ◌≤◌, length};
 
@@ -7,7 +7,7 @@ use elfobj::Object;
 use elfobj::relocation::SymbolIndex;
 use std::alloc::{AllocError, Global};
 
-/// The hash of a name, and one more than its place in the list of names; 0 where no place is known.
+/// The hash of a name, and one more than its place in the list of names; 0 if no place is known.
 #[derive(Clone, Copy)]
 struct Hint {
     hash: u32,
@@ -118,7 +118,7 @@ fn line_of(count: usize, hash: u32) -> usize {
     hash as usize & count.saturating_sub(1)
 }
 
-/// How many lines are half full with this number of hints, or less than that.
+/// The number of lines that are at most half full with `count` hints.
 fn lines_for(hints: usize) -> usize {
     (hints / 4 + 1)
         .checked_next_power_of_two()
@@ -126,7 +126,7 @@ fn lines_for(hints: usize) -> usize {
         .max(FIRST_LINES)
 }
 
-/// The line is read to its end, so that a processor need not guess where the hash stands.
+/// the line is read to its end, so that a processor need not predict where the hash is
 fn place_on(line: &Line, hash: u32) -> u32 {
     let mut place = 0;
     for hint in line.iter() {
@@ -176,7 +176,7 @@ impl Hints {
         }
     }
 
-    /// Makes room for the places of this number of names, if there is memory for it.
+    /// Makes room for this many hints, if there is memory for it.
     pub fn expect(&mut self, names: usize) {
         let count = lines_for(names);
         if count > self.lines.len() {
@@ -210,7 +210,7 @@ impl Hints {
         count
     }
 
-    /// The likely place of the name of a symbol, by how many symbols of its object that others see stand before it.
+    /// The guess for the name of a symbol, by the number of non-local symbols of its object before it.
     pub fn place(&self, symbol: usize) -> Option<usize> {
         match self.found.get(symbol) {
             Some(hint) if hint.place > 0 => Some(hint.place as usize - 1),
@@ -261,7 +261,7 @@ impl Hints {
         self.widen(count);
     }
 
-    /// Makes this number of lines, if there is memory for them.
+    /// Makes this many lines, if there is memory for them.
     fn widen(&mut self, count: usize) {
         match spread(*self.lines.allocator(), &self.lines, count) {
             Ok(more) => self.lines = more,

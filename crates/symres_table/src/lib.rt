@@ -1,11 +1,11 @@
-//! Names: which definition each name stands for, over all entered objects and the script. Takes objects under keys;
+//! Symbol resolution: the definition of each name, over all entered objects and the script. Takes objects under keys;
 //! gives decisions, each counted.
 //!
 //! - `names`: the table, and what it is asked; `tally`: a decision, in one pass over the entries of a name;
 //! - `name_table` with `hashing`, `name_order` over `prefix_key`: names and their numbers; `objects`, `rows`, `places`:
 //!   entries by object, by name and by place;
-//! - `lists` with `hints`, `repeats`, `symbol`: the symbols of an object that is entered, and where their names are
-//!   likely to stand; `law`: what can be entered again.
+//! - `lists` with `hints`, `repeats`, `symbol`: the symbols of an object that is entered, and guesses of the indices of
+//!   their names; `law`: what can be entered again.
 #![tactic(auto)]
 
 mod hashing;

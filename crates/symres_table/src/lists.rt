@@ -35,7 +35,7 @@ fn find(spare: &[Vec<Numbered>], count: usize) -> usize
     unreachable!()
 }
 
-/// Takes out a list with memory for this number of symbols.
+/// Removes a spare list with memory for this many symbols, if there is one.
 pub fn take_list(spare: &mut Vec<Vec<Numbered>>, count: usize) -> Vec<Numbered>
     requires { HasList (rooms spare.old.items) count }
     ensures empty { result.items ≡ [] }
@@ -50,8 +50,8 @@ pub fn take_list(spare: &mut Vec<Vec<Numbered>>, count: usize) -> Vec<Numbered>
     list
 }
 
-/// Sets a list aside unless there is one with memory for this number of symbols. `entered` objects are entered: when
-/// all are withdrawn, their lists are set aside too.
+/// Keeps a list as a spare one, unless there is one with memory for this many symbols. `entered` objects are entered:
+/// when all are withdrawn, their lists become spare ones too.
 pub fn park(spare: &mut Vec<Vec<Numbered>>, count: usize, entered: usize) -> Result<(), AllocError>
     requires { vec_len spare.old + entered ≤ vec_capacity spare.old }
     ensures lists { vec_len spare.new + entered ≤ vec_capacity spare.new }
@@ -95,7 +95,7 @@ fn guess_at(guesses: &[Numbered], at: usize, number: u32) -> Option<usize> {
     }
 }
 
-/// Where the next guess stands, after this one or none at a place.
+/// The index of the next guess, after this one or none at an index.
 fn place_after(at: usize, guess: Option<usize>) -> usize {
     match guess {
         Some(_) => at.saturating_add(1),
@@ -109,8 +109,8 @@ fn is_same_place(one: Span, other: Span) -> bool
     one.start == other.start && one.end == other.end
 }
 
-/// The number of the name of a symbol, if the one at this place in the list has its name at the same bytes. They are
-/// not looked at.
+/// The number of the name of a symbol, if the one at this index of the list has its name at the same bytes, which are
+/// not read.
 fn number_at(object: &Object, number: u32, list: &[Numbered], at: usize) -> Option<usize>
     requires within { number < length object.now.symbols }
     requires list { All (λ (s : Numbered). s.number < length object.now.symbols) list.now }
@@ -166,7 +166,7 @@ fn number_guessed(
     }
 }
 
-/// A symbol of an object, by the number of its name, which may be told or guessed.
+/// A symbol of an object, by the number of its name, which may be known or guessed.
 fn numbered(
     known: &NameTable,
     object: &Object,
@@ -280,7 +280,7 @@ fn place_past(symbol: &Symbol, at: usize) -> usize
 }
 
 /// Writes the symbols of an object by the numbers of their names. `seen` are those that other objects see, with their
-/// numbers, in the order of the table. No name is looked at.
+/// numbers, in the order of the table. No name is read.
 pub fn number_seen(object: &Object, seen: &[Numbered], list: &mut Vec<Numbered>)
     requires seen { length seen.now ≡ length (filter is_seen object.now.symbols) }
     requires empty { list.old.items ≡ [] }
@@ -324,8 +324,8 @@ fn add_hinted(
     }
 }
 
-/// The number of the name of a symbol that comes after those of the list, which may be told. It becomes known if it isn't.
-/// A long name, which other symbols of the object may share, is hashed once for all of them.
+/// The number of the name of a symbol that comes after those of the list. The name becomes known if it isn't. A long
+/// name, which other symbols of the object may share, is hashed once for all of them.
 #[inline(always)]
 fn add_name(
     known: &mut NameTable,
@@ -431,8 +431,8 @@ fn add_hinted_symbol(
     }
 }
 
-/// Those symbols of an object that aren't local whose names stand where the hints say, by the numbers of these names. All
-/// are looked at before any name is added, so that a processor waits for the memory of many at once.
+/// The non-local symbols of an object whose names are where the hints say, by the numbers of these names. All are read
+/// before any name is added, so that a processor waits for the memory of many at once.
 fn number_hinted(
     known: &NameTable,
     object: &Object,
@@ -451,7 +451,7 @@ fn number_hinted(
     Ok(list)
 }
 
-/// The number of the name of a symbol, if it stands at this place in a list.
+/// The number of the name of a symbol, if it is at this index of a list.
 #[inline(always)]
 fn name_told(list: &[Numbered], at: usize, number: u32) -> Option<usize>
     ensures { (names : List (Option (List ℕ))) (symbols : List NamedSymbol) → AreOf names symbols list.now

@@ -138,7 +138,7 @@ fn arrange(
     }
 }
 
-/// Puts the names into byte order. Where memory is refused, they stand as before.
+/// Puts the names into byte order. If memory is refused, their order stays.
 pub fn put_in_order(names: &mut IndexMap<Vec<u8>, usize, WordState>) -> Result<(), AllocError>
     ensures sorted { OnOk result (IsInByteOrder (map entry_spelled names.new.entries)) }
     ensures refused { OnErr result (names.new.entries ≡ names.old.entries) }

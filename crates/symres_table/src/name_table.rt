@@ -55,7 +55,7 @@ fn drop_unused(places: &mut Slab<usize>, objects: &Objects)
     places.retain(|number, _place| objects.is_used(number));
 }
 
-/// Drops the numbers of the names that stand at a place or after it.
+/// Drops the numbers of the names from an index of the list on.
 fn drop_from(places: &mut Slab<usize>, count: usize)
     ensures { (n : ℕ) → get places.new n ≡ kept_if (λ p. nat_lt p count) (get places.old n) }
 {
@@ -81,7 +81,7 @@ fn number_at(numbers: &IndexMap<Vec<u8>, usize, WordState>, place: usize) -> usi
     }
 }
 
-/// Puts a name with this number behind the others, or gives the number that it has.
+/// Appends a name with this number, or returns the number that it has.
 fn put_new(
     numbers: &mut IndexMap<Vec<u8>, usize, WordState>,
     key: Vec<u8>,
@@ -124,7 +124,7 @@ impl NameTable {
         }
     }
 
-    /// Makes room for this number of names more, as far as there is memory for it.
+    /// Makes room for this many more names, as far as there is memory for it.
     pub fn expect(&mut self, names: usize)
         ensures { self.new ≡ self.old }
     {
@@ -204,7 +204,7 @@ impl NameTable {
         }
     }
 
-    /// The number of a name, if it is the one that stands at a place in the list of names.
+    /// The number of a name, if it is the one at an index of the list of names.
     #[inline(always)]
     pub fn number_if(&self, place: usize, name: &[u8]) -> Option<usize>
         ensures { IfSome result (λ n. IsNamed self.now.slots n name.now) }
@@ -221,8 +221,8 @@ impl NameTable {
         }
     }
 
-    /// The number of a name, which is new where the name was not known. It is not hashed where it stands at this place
-    /// in the list of names.
+    /// The number of a name, which is new if the name was not known. It is not hashed if it is at this index of the
+    /// list of names.
     #[inline(always)]
     pub fn add_at(&mut self, place: Option<usize>, name: &[u8]) -> Result<usize, AllocError>
         ensures ok { IfOk result (λ n. IsNamed self.new.slots n name.now) }
@@ -237,7 +237,7 @@ impl NameTable {
         self.add(name)
     }
 
-    /// The number of the name that stands at a place in the list of names.
+    /// The number of the name at an index of the list of names.
     pub fn number_listed(&self, place: usize) -> usize
         requires { place < length self.now.order }
         ensures { (e : List ℕ × ℕ) → (slice_index_or self.now.order place e).1 ≡ result }
@@ -245,7 +245,7 @@ impl NameTable {
         number_at(&self.numbers, place)
     }
 
-    /// Puts the names into byte order. Those that become known later stand after them.
+    /// Puts the names into byte order. Those that become known later are appended.
     pub fn sort(&mut self) -> Result<(), AllocError>
         ensures sorted { OnOk result (IsInByteOrder self.new.order) }
         ensures refused { OnErr result (self.new ≡ self.old) }

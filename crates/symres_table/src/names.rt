@@ -1,4 +1,4 @@
-//! The names of entered objects: which definition each stands for.
+//! The names of entered objects, and how each is resolved.
 
 ghost use Rattle.std.specs.Prelude.{◌≡◌, ◌≤◌, ◌<◌, ◌+◌, ◌==◌, ℕ, List, [], length, insert, map, true, false, not};
 ghost use Rattle.std.specs.Prelude.{vec_len, vec_capacity, OnOk, OnErr, MatchOption, IfSome, IfNone, slice_get, drop};
@@ -41,7 +41,7 @@ use std::alloc::Global;
 use std::hash::RandomState;
 use std::marker::Model;
 
-/// What a name stands for. Only `Names` makes one, and counts it.
+/// The resolution of a name. Only `Names` makes one, and counts it.
 #[derive(Drop)]
 pub struct Decision {
     case: Case,
@@ -64,8 +64,8 @@ impl Decision {
     }
 }
 
-/// The names of entered objects. Each has a key while it is known, and its entries stand in object order, so that a
-/// decision is one pass over them.
+/// The names of entered objects. Each has a key while it is known, and its entries are in object order, so that it is
+/// resolved in one pass over them.
 #[derive(Drop)]
 pub struct Names {
     known: NameTable,
@@ -281,7 +281,7 @@ impl Names {
         }
     }
 
-    /// The key of the known name that stands at a place in the list of names, from 0.
+    /// The key of the known name at an index of the list of names.
     pub fn key_listed(&self, place: usize) -> NameKey
         requires { place < length self.now.order }
         ensures { (e : List ℕ × ℕ) → (slice_index_or self.now.order place e).1 ≡ result.0 }
@@ -311,7 +311,7 @@ impl Names {
     ///
     /// # Errors
     ///
-    /// Where there is no memory for it; then the names stand as before.
+    /// If there is no memory for it. The order of the names stays then.
     pub fn sort_names(&mut self) -> Result<(), NoMemory>
         ensures sorted { OnOk result (IsInByteOrder self.new.order) }
         ensures same { self.new ≡ record self.old { order = self.new.order } }
@@ -321,7 +321,7 @@ impl Names {
         self.known.sort()
     }
 
-    /// Every known name once, with the number of its key, as they stand in the list of names. It takes no memory.
+    /// Every known name once, with the number of its key, in the order of the list of names. It takes no memory.
     pub fn listed(&self) -> Iter<'_, Vec<u8>, usize>
         ensures names { map entry_spelled result ≡ self.now.order }
         ensures listing { IsListing self.now.names self.now.order }
@@ -369,7 +369,7 @@ impl Names {
         }
     }
 
-    /// Makes room for this number of names more, as far as there is memory for it, so that entering objects is quicker.
+    /// Makes room for this many more names, as far as there is memory for it, so that entering objects is quicker.
     pub fn expect(&mut self, names: usize)
         ensures { self.new ≡ self.old }
     {
@@ -386,7 +386,7 @@ impl Names {
     }
 
     /// Takes all memory that entering an object needs: its names are known from then on, and there is room for its
-    /// entries. Where memory is refused, the names that it made known are dropped again.
+    /// entries. If memory is refused, the names that it made known are dropped again.
     pub fn reserve(&mut self, object: &Object) -> Result<(), NoMemory>
         ensures objects { self.new.objects ≡ self.old.objects }
         ensures ok { OnOk result (MayEnter self.new object.now.symbols) }
@@ -431,11 +431,11 @@ impl Names {
     }
 
     /// Enters an object at a place among the entered ones, from 0. It does what `reserve` and `enter` do one after the
-    /// other, in about half the time: each name is looked at once.
+    /// other, in about half the time, as each name is read once.
     ///
     /// # Errors
     ///
-    /// Where memory runs out. Then the objects are as before, and names that it made known are dropped again.
+    /// If memory runs out. Then the objects are as before, and names that it made known are dropped again.
     pub fn add(&mut self, key: ObjectKey, at: usize, object: &Object) -> Result<(), NoMemory>
         requires at { at ≤ length self.old.objects }
         requires fresh { IsFresh key.0 self.old.objects }

@@ -153,7 +153,7 @@ impl Objects {
         }
     }
 
-    /// Makes room for the rows of this number of names more, if there is memory for it.
+    /// Makes room for the rows of this many more names, if there is memory for it.
     pub fn expect(&mut self, names: usize)
         ensures { self.new ≡ self.old }
     {
@@ -202,7 +202,7 @@ impl Objects {
             .unwrap();
     }
 
-    /// Takes an object out, and gives back its list. It takes no memory.
+    /// Removes an object, and returns its list. It takes no memory.
     pub fn withdraw(&mut self, key: usize) -> Vec<Numbered>
         requires { HasKey key self.old.objects }
         ensures objects { self.new.objects ≡ without key self.old.objects }

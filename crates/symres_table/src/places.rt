@@ -1,4 +1,4 @@
-//! Where the object of a key stands among the entered ones.
+//! The index of the object of a key among the entered ones.
 
 ghost use Rattle.std.specs.Prelude.{◌≡◌, ◌<◌, ◌≤◌, ◌^◌, ◌-◌, length};
 ghost use Rattle.std.specs.List.{All};
@@ -49,7 +49,7 @@ pub fn find(places: &[PlacedKey], key: usize) -> Option<usize>
     }
 }
 
-/// Whether the object of a key stands in front of `at`.
+/// Whether the object of a key is before `at`.
 pub fn is_in_front(places: &[PlacedKey], at: usize, key: usize) -> bool
     requires { AreSorted places.now }
     ensures { result ≡ is_below at (place_of places.now key) }

@@ -1,5 +1,5 @@
-//! The byte order of names by numbers that stand for their first bytes: these lie side by side and are compared at
-//! once, while names lie all over memory.
+//! The byte order of names by numbers made of their first bytes: the numbers lie side by side and are compared at once,
+//! while names lie all over memory.
 
 ghost use Rattle.std.specs.Prelude.{◌≡◌, ◌∷◌, ◌<◌, ℕ, slice_index};
 ghost use Rattle.std.specs.Ordering.{nat_cmp};
@@ -9,7 +9,7 @@ ghost use Rattle.symres_table.specs.PrefixKeys.{IsPrefixKey};
 use std::cmp::Ordering;
 use std::marker::Model;
 
-/// For how many bytes of a name its key stands.
+/// The number of a name's bytes of which its key is made.
 const LEN: usize = 16;
 
 /// The first bytes of a name as a number, the first one worth most, with zeros after the end of a short name.
@@ -40,7 +40,7 @@ impl PrefixKey {
     }
 }
 
-/// A name with its key. It stands for the bytes of the name, whose order is found by the keys alone where these differ.
+/// A name with its key. Names are ordered by their bytes, which is found by the keys alone if these differ.
 #[derive(Drop)]
 pub struct KeyedName<'a> {
     key: PrefixKey,

@@ -105,6 +105,7 @@ fn settle(row: &mut [Declared], places: &[PlacedKey], at: usize, key: usize)
     move_tail_to(row, tail, number);
 }
 
+/// Whether a row ends with the declaration of this symbol by the object under `key`.
 fn ends_with(row: &[Declared], key: usize, symbol: Numbered) -> bool
     ensures { result ≡ ends_with key symbol.number row.now }
 {
@@ -372,8 +373,8 @@ fn release_all(table: &mut Vec<Vec<Declared>>, symbols: &[Numbered])
     }
 }
 
-/// Makes room in each row for those of the symbols that have its name. None of the symbols is local. Nothing is
-/// counted: an entry for each symbol is put into its row, and then they are taken out again.
+/// Makes room in each row for those of the symbols that have its name. None of the symbols is local. No table of counts
+/// is needed: an entry for each symbol is inserted into its row, and then they are removed again.
 pub fn reserve_all(table: &mut Vec<Vec<Declared>>, symbols: &[Numbered]) -> Result<(), AllocError>
     requires visible { All (λ (s : Numbered). not (is_local s.symbol.binding) ≡ true) symbols.now }
     requires known { All (HasRow (length table.old.items)) symbols.now }

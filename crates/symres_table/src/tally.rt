@@ -1,4 +1,4 @@
-//! What a name stands for, by one pass over its entries.
+//! How a name is resolved, by one pass over its entries.
 
 ghost use Rattle.std.specs.Prelude.{◌≡◌, ℕ, List, [], ◌∷◌, ◌++◌, map, true};
 ghost use Rattle.ldmodel.specs.HandedOver.{decision_of};
@@ -42,7 +42,7 @@ impl Tally {
         }
     }
 
-    /// Adds an entry that stands after those seen so far.
+    /// Adds an entry that comes after those seen so far.
     fn add(&mut self, declared: &Declared)
         ensures { (name : List ℕ) (seen : List Declaration) → self.old ≡ tally_of seen → self.new
             ≡ tally_of (seen ++ declaration_of name declared.now ∷ []) }
@@ -118,7 +118,7 @@ impl Tally {
 
 ghost use Rattle.symres_table.specs.Tally.{declaration_of};
 
-/// What a name stands for by its entries, in object order and then symbol order, and by what the script gives.
+/// How a name is resolved by its entries, in object order and then symbol order, and by the script.
 pub fn decide(given: Option<Given>, declared: &[Declared]) -> Case
     ensures { (name : List ℕ) → decision_of (λ key. key) result
         ≡ decided (is_assignment given) (is_provision given) (map (declaration_of name) declared.now) }

@@ -37,7 +37,7 @@ fn without_key(alloc: Global, order: &[usize], at: usize) -> Result<Vec<usize>, 
     Ok(copy)
 }
 
-/// An order in which one key stands elsewhere.
+/// An order with one key at another place.
 fn with_key_moved(
     alloc: Global,
     order: &[usize],

@@ -130,7 +130,7 @@ impl TaggedObjects {
         self.slab.vacant_key()
     }
 
-    /// Makes room for more objects, and marks for their names. Where memory runs out for marks, there are as many as
+    /// Makes room for more objects, and marks for their names. If memory runs out for marks, there are as many as
     /// before.
     pub(crate) fn reserve(&mut self, additional: usize) -> Result<(), AllocError>
         ensures room { OnOk result (HasRoomFor self.new additional) }

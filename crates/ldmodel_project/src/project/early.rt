@@ -34,7 +34,7 @@ impl KeyedObjects {
 }
 
 impl Project {
-    /// Where a new object is to stand.
+    /// The place of a new object.
     #[tactic(auto, unfolding(ldmodel::specs::Edits::early_refusal))]
     pub(crate) fn place_to_add(
         &self,
@@ -61,7 +61,7 @@ impl Project {
         Ok(at as usize)
     }
 
-    /// Where the object stands that is to become another.
+    /// The place of the object that is to be replaced.
     #[tactic(auto, unfolding(ldmodel::specs::Edits::early_refusal))]
     pub(crate) fn place_to_replace(&self, name: &[u8], bytes: &[u8]) -> Result<usize, EditRefusal>
         ensures ok { IfOk result (λ place. early_refusal (held self.now) (Replace name.now bytes.now) ≡ None) }
@@ -79,7 +79,7 @@ impl Project {
         Ok(place)
     }
 
-    /// Where the object stands that is to be moved.
+    /// The place of the object that is to be moved.
     #[tactic(auto, unfolding(ldmodel::specs::Edits::early_refusal))]
     pub(crate) fn place_to_move(&self, name: &[u8], to: u64) -> Result<usize, EditRefusal>
         ensures ok { IfOk result (λ place. early_refusal (held self.now) (Move name.now to) ≡ None) }
@@ -96,7 +96,7 @@ impl Project {
         Ok(place)
     }
 
-    /// Where the object stands that is to be removed.
+    /// The place of the object that is to be removed.
     #[tactic(auto, unfolding(ldmodel::specs::Edits::early_refusal))]
     pub(crate) fn place_to_remove(&self, name: &[u8]) -> Result<usize, EditRefusal>
         ensures ok { IfOk result (λ place. early_refusal (held self.now) (Remove name.now) ≡ None) }

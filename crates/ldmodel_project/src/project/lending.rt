@@ -28,7 +28,7 @@ impl Project {
     ///
     /// # Errors
     ///
-    /// Where memory runs out.
+    /// If memory runs out.
     pub fn inputs(&self, alloc: Global) -> Result<Vec<InputObject<'_>>, NoMemory>
         ensures { IfOk result (λ v. shown_inputs v.items ≡ objects_of self.now.contents.entries) }
     {

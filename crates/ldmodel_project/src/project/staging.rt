@@ -38,6 +38,7 @@ fn staged(grown: Result<StagedObjects, NoMemory>) -> Result<Staged, EditRefusal>
 }
 
 impl Project {
+    /// Stages the addition of an object.
     fn stage_add(
         &mut self,
         name: &[u8],
@@ -61,6 +62,7 @@ impl Project {
         }
     }
 
+    /// Stages the replacement of an object.
     fn stage_replace(
         &self,
         name: &[u8],
@@ -82,6 +84,7 @@ impl Project {
         }
     }
 
+    /// Stages the move of an object.
     fn stage_move(&self, name: &[u8], to: u64) -> Result<Staged, EditRefusal>
         ensures staged { Stages self.now (Move name.now to) result }
         ensures named { IfOk result (StandsAsNamed (Move name.now to) self.now.contents) }
@@ -92,6 +95,7 @@ impl Project {
         }
     }
 
+    /// Stages the removal of an object.
     fn stage_remove(&self, name: &[u8]) -> Result<Staged, EditRefusal>
         ensures staged { Stages self.now (Remove name.now) result }
         ensures named { IfOk result (StandsAsNamed (Remove name.now) self.now.contents) }
@@ -116,6 +120,7 @@ impl Project {
         }
     }
 
+    /// Stages another script.
     fn stage_script(&self, text: &[u8]) -> Result<Staged, EditRefusal>
         ensures staged { Stages self.now (SetScript text.now) result }
         ensures named { IfOk result (StandsAsNamed (SetScript text.now) self.now.contents) }
