@@ -39,14 +39,14 @@ fn entry_arg<'a>(alloc: Global) -> Arg<'a>
 }
 
 /// `--orphan-handling HANDLING`.
-fn orphans_arg<'a>(alloc: Global, choices: &'a [&'a str]) -> Arg<'a>
-    ensures rule { rule_of result ≡ orphans_rule choices.entry }
+fn orphans_arg<'a>(alloc: Global, orphan_values: &'a [&'a str]) -> Arg<'a>
+    ensures rule { rule_of result ≡ orphans_rule orphan_values.entry }
     ensures local { result.global ≡ false }
 {
     Arg::new(alloc, "orphan-handling")
         .long("orphan-handling")
         .value_name("HANDLING")
-        .value_parser(choices)
+        .value_parser(orphan_values)
         .default_value("error")
         .help("Handling of sections that no statement takes")
 }
@@ -100,30 +100,33 @@ fn objects_arg<'a>(alloc: Global) -> Arg<'a>
 fn add_options<'a>(
     alloc: Global,
     command: Command<'a>,
-    choices: &'a [&'a str],
+    orphan_values: &'a [&'a str],
 ) -> Result<Command<'a>, AllocError>
     ensures { IfOk result (λ c. (a : App) → IsApp a command.entry
-        → IsApp (with_options choices.entry a) c) }
+        → IsApp (with_options orphan_values.entry a) c) }
 {
     command
         .arg(gc_arg(alloc))?
         .arg(entry_arg(alloc))?
-        .arg(orphans_arg(alloc, choices))
+        .arg(orphans_arg(alloc, orphan_values))
 }
 
 /// `ldi session`.
-fn session_command<'a>(alloc: Global, choices: &'a [&'a str]) -> Result<Command<'a>, AllocError>
-    ensures { IfOk result (IsApp (session_app choices.entry)) }
+fn session_command<'a>(
+    alloc: Global,
+    orphan_values: &'a [&'a str],
+) -> Result<Command<'a>, AllocError>
+    ensures { IfOk result (IsApp (session_app orphan_values.entry)) }
 {
     let session = Command::new(alloc, "session")
         .about("Reads edits and queries from standard input and links again after each edit")
         .after_help("Example: ldi session --gc-sections -e _start < commands > answers");
-    add_options(alloc, session, choices)
+    add_options(alloc, session, orphan_values)
 }
 
 /// `ldi link`.
-fn link_command<'a>(alloc: Global, choices: &'a [&'a str]) -> Result<Command<'a>, AllocError>
-    ensures { IfOk result (IsApp (link_app choices.entry)) }
+fn link_command<'a>(alloc: Global, orphan_values: &'a [&'a str]) -> Result<Command<'a>, AllocError>
+    ensures { IfOk result (IsApp (link_app orphan_values.entry)) }
 {
     let link = Command::new(alloc, "link")
         .about("Links objects once, from files to files")
@@ -131,19 +134,19 @@ fn link_command<'a>(alloc: Global, choices: &'a [&'a str]) -> Result<Command<'a>
         .arg(script_arg(alloc))?
         .arg(image_arg(alloc))?
         .arg(map_arg(alloc))?;
-    add_options(alloc, link, choices)?.arg(objects_arg(alloc))
+    add_options(alloc, link, orphan_values)?.arg(objects_arg(alloc))
 }
 
 /// `ldi`, which is given one of its two subcommands.
 pub(crate) fn ldi_command<'a>(alloc: Global) -> Result<Command<'a>, AllocError>
     ensures { IfOk result (λ c. (choices : Choices) × ListsOrphans choices × IsApp (ldi choices) c) }
 {
-    let choices = ORPHANS.as_slice();
+    let orphan_values = ORPHANS.as_slice();
     Command::new(alloc, "ldi")
         .about("A static linker for ELF-64 objects of x86-64 that links again after every edit")
         .version(VERSION)
         .subcommand_required(true)
         .disable_help_subcommand(true)
-        .subcommand(session_command(alloc, choices)?)?
-        .subcommand(link_command(alloc, choices)?)
+        .subcommand(session_command(alloc, orphan_values)?)?
+        .subcommand(link_command(alloc, orphan_values)?)
 }
