@@ -2,7 +2,7 @@
 use Rattle.std.proofs.Common.{◌≡◌, ◌≢◌, ℕ, ◌+◌, ◌%◌, ◌^◌, Bool, true, false, not, ◌&&◌, ◌==◌, ◌<◌, ◌≤◌, List, [], ◌∷◌}
 use Rattle.std.proofs.Common.{◌++◌, length, decimal, refl, arith}
 use Rattle.std.proofs.lemmas.Fmt.{decimal_by_steps}
-use Rattle.std.proofs.lemmas.Bool.{false≢true, eq-eqb}
+use Rattle.std.proofs.lemmas.Bool.{and_parts, false≢true, eq-eqb}
 use Rattle.ldmodel.specs.Commands.{HasNo}
 
 no-append : (b : ℕ) (xs ys : List ℕ) → HasNo b xs → HasNo b ys → HasNo b (xs ++ ys)
@@ -44,13 +44,9 @@ abbrev pub has_no : ℕ → List ℕ → Bool
 has_no b [] = true
 has_no b (x ∷ xs) = not (x == b) && has_no b xs
 
-both : (p q : Bool) → p && q ≡ true → (p ≡ true) × (q ≡ true)
-both true q e = (refl, e)
-both false q e = absurd (false≢true e)
-
 differs : (x b : ℕ) → not (x == b) ≡ true → x ≢ b
 differs x b e same = false≢true (rw (eq-eqb x b same) at e)
 
 pub no_by_test : (b : ℕ) (xs : List ℕ) → has_no b xs ≡ true → HasNo b xs
 no_by_test b [] e = tt
-no_by_test b (x ∷ xs) e = let two = both (not (x == b)) (has_no b xs) e in (differs x b two.0, no_by_test b xs two.1)
+no_by_test b (x ∷ xs) e = let two = and_parts (not (x == b)) (has_no b xs) e in (differs x b two.0, no_by_test b xs two.1)

@@ -104,22 +104,6 @@ fn serve_payload<R: Source, W: Sink, L: Linker>(
     }
 }
 
-/// Makes an edit without a payload, and answers it.
-fn serve_bare<W: Sink, L: Linker>(
-    sink: &mut W,
-    linker: &mut L,
-    edit: Edit<'_>,
-) -> Result<ServeStep, RunFault>
-    ensures stepped { (rest : Option (List ℕ)) → EditStepped (λ _. change_of edit.entry) 0
-        (world rest (W.written sink.old) (L.project linker.old))
-        (world rest (W.written sink.new) (L.project linker.new)) result }
-    ensures flushed { Flushed (W.held sink.old) (W.held sink.new) result }
-    ensures counted { (r : ℕ) → FaultsCounted r r (W.failed sink.old) (W.failed sink.new) result }
-{
-    make_edit(sink, linker, edit)?;
-    Ok(ServeStep::Next)
-}
-
 /// Reads the payload of a line, if it has one, makes the edit and answers it.
 fn serve_edit<R: Source, W: Sink, L: Linker>(
     alloc: Global,
@@ -139,8 +123,14 @@ fn serve_edit<R: Source, W: Sink, L: Linker>(
         EditHead::WithPayload { aim, count } => {
             serve_payload(alloc, source, sink, linker, aim, count)
         }
-        EditHead::Move { name, to } => serve_bare(sink, linker, Edit::Move { name, to }),
-        EditHead::Remove { name } => serve_bare(sink, linker, Edit::Remove { name }),
+        EditHead::Move { name, to } => {
+            make_edit(sink, linker, Edit::Move { name, to })?;
+            Ok(ServeStep::Next)
+        }
+        EditHead::Remove { name } => {
+            make_edit(sink, linker, Edit::Remove { name })?;
+            Ok(ServeStep::Next)
+        }
     }
 }
 
