@@ -50,10 +50,8 @@ fn add<'a, V: Drop>(
     name: &'a [u8],
     value: V,
 ) -> Result<(), AllocError> {
-    match names.insert(name, value) {
-        Ok(_) => Ok(()),
-        Err(_) => Err(AllocError),
-    }
+    names.insert(name, value)?;
+    Ok(())
 }
 
 /// Whether an expression has `.`, or an `ALIGN` of one argument, which means one with `.`.

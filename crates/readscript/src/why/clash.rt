@@ -19,10 +19,8 @@ fn takes<'a>(names: &mut BTreeMap<&'a [u8], u32>, note: &Note<'a>) -> Result<boo
     if names.contains_key(note.name) {
         return Ok(false);
     }
-    match names.insert(note.name, note.line) {
-        Ok(_) => Ok(true),
-        Err(_) => Err(AllocError),
-    }
+    names.insert(note.name, note.line)?;
+    Ok(true)
 }
 
 /// What is wrong with a note after those before it.

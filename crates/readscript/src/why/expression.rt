@@ -27,10 +27,8 @@ enum Open {
 
 /// Adds an open construct.
 fn push(open: &mut Vec<Open>, what: Open) -> Result<(), Stop> {
-    match open.push(what) {
-        Ok(()) => Ok(()),
-        Err(_) => Err(Stop::NoMemory),
-    }
+    open.push(what)?;
+    Ok(())
 }
 
 impl<'a> Walk<'a> {

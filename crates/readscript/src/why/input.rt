@@ -21,14 +21,11 @@ impl<'a> Walk<'a> {
                 "this word is not taken here, and it is reserved, so that it is no pattern",
             ));
         }
-        match Pattern::read(self.alloc, word) {
-            Err(_) => Err(Stop::NoMemory),
-            Ok(None) => Err(self.wrong(pattern_reason(word))),
-            Ok(Some(_)) => {
-                self.pass_token();
-                Ok(())
-            }
+        if Pattern::read(self.alloc, word)?.is_none() {
+            return Err(self.wrong(pattern_reason(word)));
         }
+        self.pass_token();
+        Ok(())
     }
 
     /// Patterns up to `)`, one at least; with `may_exclude`, `EXCLUDE_FILE` may be before each.

@@ -1,5 +1,6 @@
 //! Messages on refused texts.
 
+use std::alloc::{AllocError, AllocFailed};
 use std::fmt;
 
 /// Where a text is refused, and why.
@@ -63,4 +64,16 @@ pub enum Stop {
     Wrong(Explanation),
     /// Out of memory.
     NoMemory,
+}
+
+impl From<AllocError> for Stop {
+    fn from(_error: AllocError) -> Stop {
+        Stop::NoMemory
+    }
+}
+
+impl<T: Drop> From<AllocFailed<T>> for Stop {
+    fn from(_failed: AllocFailed<T>) -> Stop {
+        Stop::NoMemory
+    }
 }

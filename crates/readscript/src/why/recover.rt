@@ -63,10 +63,10 @@ impl<'a> Walk<'a> {
     pub fn note_stop(&mut self, from: u32, stop: Stop) -> Result<(), Stop> {
         match stop {
             Stop::NoMemory => Err(Stop::NoMemory),
-            Stop::Wrong(explanation) => match self.stops.push(Stopped { from, explanation }) {
-                Ok(()) => Ok(()),
-                Err(_) => Err(Stop::NoMemory),
-            },
+            Stop::Wrong(explanation) => {
+                self.stops.push(Stopped { from, explanation })?;
+                Ok(())
+            }
         }
     }
 

@@ -95,18 +95,14 @@ impl<'a> Walk<'a> {
 
     /// Notes the use of a name on a line.
     pub fn note(&mut self, what: Use, name: &'a [u8], line: u32) -> Result<(), Stop> {
-        match self.notes.push(Note { what, name, line }) {
-            Ok(()) => Ok(()),
-            Err(_) => Err(Stop::NoMemory),
-        }
+        self.notes.push(Note { what, name, line })?;
+        Ok(())
     }
 
     /// Notes a misplaced `.` on a line.
     pub fn note_dot(&mut self, line: u32, reason: &'static str) -> Result<(), Stop> {
-        match self.misplaced.push(Explanation::on_line(line, reason)) {
-            Ok(()) => Ok(()),
-            Err(_) => Err(Stop::NoMemory),
-        }
+        self.misplaced.push(Explanation::on_line(line, reason))?;
+        Ok(())
     }
 
     /// Passes a mark if it comes next, and returns whether it did.
@@ -207,16 +203,13 @@ impl<'a> Walk<'a> {
     /// Passes an expression.
     pub fn pass_expression(&mut self) -> Result<Expr, Stop> {
         let start = self.tokens.copy();
-        match expr(self.alloc, self.tokens.copy()) {
-            Ok(Some((value, rest))) => {
-                let count = start.len().saturating_sub(rest.len());
-                self.tokens = rest;
-                self.note_regions(start, count)?;
-                Ok(value)
-            }
-            Ok(None) => Err(expression_stop(self.alloc, start, self.last_line)),
-            Err(_) => Err(Stop::NoMemory),
-        }
+        let Some((value, rest)) = expr(self.alloc, self.tokens.copy())? else {
+            return Err(expression_stop(self.alloc, start, self.last_line));
+        };
+        let count = start.len().saturating_sub(rest.len());
+        self.tokens = rest;
+        self.note_regions(start, count)?;
+        Ok(value)
     }
 
     /// Passes an expression and the mark after it.
