@@ -1,8 +1,8 @@
 /* Tries alloc.c: random traces of calls beside a model that knows which bytes are in use, over a system that refuses
  * now and then, and whose large pages come quickly or slowly. Blocks are aligned, do not meet, and keep their bytes.
  * Every so many calls the heap is walked: sizes and marks fit together, no two free blocks meet, and each stands in one
- * list, that of its size. Then single calls: sizes at their edges, and a system that refuses everything. Prints how many
- * calls were made, and ends with status 1 at what is wrong.
+ * list, that of its size. Then single calls: sizes at their edges, and a system that refuses everything. Prints how
+ * many calls were made, and ends with status 1 at what is wrong.
  *
  *     alloc_test [CALLS [SEED]]
  */
