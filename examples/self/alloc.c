@@ -1,20 +1,17 @@
 /* An allocator for one thread in the place of musl's, which maps and copies more. The heap is a row of blocks; two free
  * ones that meet become one; free ones stand in lists by their size, and the first that is large enough is taken. All
- * memory comes in pages of 2 MB while the system has such pages free, and else in small ones. Where the heap cannot
- * grow, a block is a mapping of its own. alloc_test.c tries it. */
+ * memory comes in pages of 2 MB where the system has them. Where the heap cannot grow, a block is a mapping of its own.
+ * alloc_test.c tries it. */
 #define _GNU_SOURCE
 #include <stddef.h>
 #include <stdint.h>
 #include <string.h>
 #include <sys/mman.h>
 #include <sys/syscall.h>
-#include <time.h>
 #include <unistd.h>
 
 #define HUGE ((size_t)1 << 21) /* the size of a large page, and by how much the heap grows */
 #define PAGE ((size_t)1 << 12)
-#define STEP ((size_t)1 << 17)  /* by how much it grows in small pages, */
-#define SPELL ((size_t)1 << 25) /* and for how many bytes it does */
 
 enum {
     UNIT = 16,             /* sizes and places of blocks are multiples of it */
@@ -23,8 +20,6 @@ enum {
     LEAST = 32,            /* a free block has its four words */
     BEFORE_USED = 1,       /* marks in a size: the block before is in use, */
     MAPPED = 2,            /* and the block is a mapping of its own */
-    SLOW = 2000000,        /* nanoseconds: 2 MB of small pages cost less, with the slower ways through them */
-    POPULATE_WRITE = 23,   /* MADV_POPULATE_WRITE, from Linux 5.14 on */
 };
 
 /* A block: its bytes begin at `next`, and while it is in use they go on to the end of `before` of the one after it. */
@@ -38,7 +33,6 @@ static struct block *lists[LISTS];
 static uint64_t filled[LISTS / 64]; /* which lists have a block */
 static struct block *top;           /* the last block, which is free and in no list */
 static char *end;
-static size_t small;                /* how many bytes are to come in small pages */
 
 static size_t size_of(const struct block *block)
 {
@@ -109,52 +103,20 @@ static void set_top(struct block *block)
     top->marked = (size_t)(end - (char *)top - UNIT) | BEFORE_USED;
 }
 
-/* For how many nanoseconds the processor has worked for the program. */
-static uint64_t processor_time(void)
-{
-    struct timespec time = {0, 0};
-    syscall(SYS_clock_gettime, CLOCK_THREAD_CPUTIME_ID, &time);
-    return (uint64_t)time.tv_sec * 1000000000 + (uint64_t)time.tv_nsec;
-}
-
-/* Asks for large pages, and touches the first. Where none is free, the system moves other pages to make one, which may
- * take it longer than to give as much in small pages: then these come next. */
-static void ask_for_large(uintptr_t first, size_t size)
-{
-    uint64_t start = processor_time();
-    madvise((void *)first, size, MADV_HUGEPAGE);
-    *(volatile char *)first = 0;
-    if (processor_time() - start > SLOW)
-        small = SPELL;
-}
-
-/* Asks for small pages, up to 2 MB of them at once in place of one by one as they are touched. */
-static void ask_for_small(uintptr_t first, size_t size)
-{
-    small -= size < small ? size : small;
-    madvise((void *)first, size < HUGE ? size : HUGE, POPULATE_WRITE);
-}
-
-/* An address that is a multiple of this power of two, the first that is no lower. */
-static uintptr_t up_to(uintptr_t address, size_t power)
-{
-    return (address + power - 1) & -(uintptr_t)power;
-}
-
 /* Makes the heap longer, so that its last block has more than this size. Gives whether the system did. */
 static int grow(size_t size)
 {
     struct block *last = top;
     if (!last) {
         end = (char *)syscall(SYS_brk, 0);
-        last = (struct block *)up_to((uintptr_t)end, UNIT);
+        last = (struct block *)(end + (-(uintptr_t)end & (UNIT - 1)));
     }
-    uintptr_t wanted = up_to((uintptr_t)last + size + 2 * sizeof(struct block), small ? STEP : HUGE);
+    uintptr_t wanted = ((uintptr_t)last + size + 2 * sizeof(struct block) + HUGE - 1) & -(uintptr_t)HUGE;
     if ((uintptr_t)syscall(SYS_brk, wanted) != wanted)
         return 0;
-    uintptr_t first = up_to((uintptr_t)end, small ? PAGE : HUGE);
+    uintptr_t first = ((uintptr_t)end + HUGE - 1) & -(uintptr_t)HUGE;
     if (first < wanted)
-        (small ? ask_for_small : ask_for_large)(first, wanted - first);
+        madvise((void *)first, wanted - first, MADV_HUGEPAGE);
     end = (char *)wanted;
     set_top(last);
     return 1;

@@ -1,13 +1,12 @@
 /* Tries alloc.c: random traces of calls beside a model that knows which bytes are in use, over a system that refuses
- * now and then, and whose large pages come quickly or slowly. Blocks are aligned, do not meet, and keep their bytes.
- * Every so many calls the heap is walked: sizes and marks fit together, no two free blocks meet, and each stands in one
- * list, that of its size. Then single calls: sizes at their edges, and a system that refuses everything. Prints how
- * many calls were made, and ends with status 1 at what is wrong.
+ * now and then. Blocks are aligned, do not meet, and keep their bytes. Every so many calls the heap is walked: sizes and
+ * marks fit together, no two free blocks meet, and each stands in one list, that of its size. Then single calls: sizes
+ * at their edges, and a system that refuses everything. Prints how many calls were made, and ends with status 1 at what
+ * is wrong.
  *
  *     alloc_test [CALLS [SEED]]
  */
 #define _GNU_SOURCE
-#include <stdarg.h>
 #include <stddef.h>
 #include <stdint.h>
 #include <stdio.h>
@@ -15,7 +14,6 @@
 #include <string.h>
 #include <sys/mman.h>
 #include <sys/syscall.h>
-#include <time.h>
 #include <unistd.h>
 
 /* What stands in for the system: a range of addresses whose end moves, and mappings that are counted. */
@@ -23,7 +21,7 @@
 
 static char *room_start, *room_end;
 static int refuses_growth, refuses_mappings; /* of 100 */
-static size_t mappings, asked_large, asked_small;
+static size_t mappings;
 
 static unsigned random_of(unsigned count)
 {
@@ -32,18 +30,9 @@ static unsigned random_of(unsigned count)
     return (unsigned)((state >> 33) % count);
 }
 
-/* A clock by which one of eight large pages takes too long. */
-static long fake_clock(struct timespec *time)
+static long fake_brk(long number, uintptr_t wanted)
 {
-    static long now;
-    now += random_of(8) ? 100000 : 3000000;
-    time->tv_sec = now / 1000000000;
-    time->tv_nsec = now % 1000000000;
-    return 0;
-}
-
-static long fake_brk(uintptr_t wanted)
-{
+    (void)number;
     if (!room_start) {
         char *found = mmap(NULL, ROOM, PROT_READ | PROT_WRITE, MAP_PRIVATE | MAP_ANONYMOUS | MAP_NORESERVE, -1, 0);
         if (found == MAP_FAILED)
@@ -54,33 +43,6 @@ static long fake_brk(uintptr_t wanted)
     if (wanted > (uintptr_t)room_end && wanted <= (uintptr_t)room_start + ROOM / 2 && !refused)
         room_end = (char *)wanted;
     return (long)room_end;
-}
-
-static long fake_call(long number, ...)
-{
-    va_list rest;
-    va_start(rest, number);
-    if (number == SYS_brk) {
-        uintptr_t wanted = va_arg(rest, uintptr_t);
-        va_end(rest);
-        return fake_brk(wanted);
-    }
-    (void)va_arg(rest, int);
-    struct timespec *time = va_arg(rest, struct timespec *);
-    va_end(rest);
-    return fake_clock(time);
-}
-
-/* Advice is for whole pages of the heap or of a mapping; counts what it is for. */
-static int fake_madvise(void *where, size_t size, int advice)
-{
-    char *first = where;
-    int in_heap = first >= room_start && first + size <= room_end;
-    if ((uintptr_t)where % 4096 || !size || (!in_heap && first >= room_start && first < room_start + ROOM))
-        exit(3);
-    asked_large += in_heap && advice == MADV_HUGEPAGE;
-    asked_small += in_heap && advice != MADV_HUGEPAGE;
-    return madvise(where, size, advice);
 }
 
 static void *fake_mmap(void *where, size_t size, int access, int kind, int file, off_t offset)
@@ -105,8 +67,7 @@ static int fake_munmap(void *where, size_t size)
     return munmap(where, size);
 }
 
-#define syscall fake_call
-#define madvise fake_madvise
+#define syscall fake_brk
 #define mmap fake_mmap
 #define mremap fake_mremap
 #define munmap fake_munmap
@@ -115,7 +76,6 @@ static int fake_munmap(void *where, size_t size)
 #define free tried_free
 #include "alloc.c"
 #undef syscall
-#undef madvise
 #undef mmap
 #undef mremap
 #undef munmap
@@ -370,7 +330,6 @@ int main(int count, char **words)
     CHECK(size_of(top) + UNIT == (size_t)(end - (char *)top) && mappings == 0);
     edges();
     refused();
-    CHECK(asked_large && asked_small);
     printf("%zu calls\n", calls);
     return 0;
 }
