@@ -12,10 +12,10 @@ use Rattle.symres_table.specs.State.{HasName, IsInByteOrder, IsNamed, State, ent
 use Rattle.symres_decisions.specs.Change.{AreThere, Fits, IsReadyFor, PutsIn, Table, TakesOut, changed_tables}
 use Rattle.symres_decisions.specs.Change.{declared_by}
 use Rattle.symres_decisions.specs.Change.{reversed}
-use Rattle.symres_decisions.specs.Change.{put_in, symbols_at, symbols_or}
+use Rattle.symres_decisions.specs.Change.{put_in, symbols_at, symbols_or, taken_out}
 use Rattle.symres_decisions.specs.Counted.{CountsNames}
 use Rattle.symres_decisions.specs.Decided.{AreCases, HasCase, case_at}
-use Rattle.symres_decisions.specs.Decisions.{AreUsedIf, IsNoted, IsTextOf, IsWhole}
+use Rattle.symres_decisions.specs.Decisions.{AreUsedBelow, IsNoted, IsTextOf, IsWhole}
 use Rattle.symres_decisions.specs.Texts.{AreDone, AreFound, AreOpen, DecidedFor, HasPlaces, IsCleared, declares}
 use Rattle.symres_decisions.specs.Texts.{touches}
 use Rattle.symres_decisions.specs.declared.change.ObjectAt.{ObjectAt}
@@ -29,7 +29,7 @@ use Rattle.symres_decisions.proofs.MakingRoom.{text_same}
 use Rattle.symres_decisions.proofs.OneName.{raised_twice}
 use Rattle.symres_decisions.proofs.Tables.{fits_back}
 use Rattle.symres_decisions.specs.Room.{HaveEntries}
-use Rattle.symres_decisions.proofs.Used.{used_changed}
+use Rattle.symres_decisions.proofs.Used.{come_used, used_changed}
 use Rattle.symres_decisions.proofs.Touched.{case_within, complete_after, entries_same, sound_after}
 
 -- ---- of an object, if there is one
@@ -59,6 +59,24 @@ pub places_after : (s0 s2 : State) (old new : List (Option Case)) → s2.names �
     → ((k : ℕ) → HasName s0.names k → HasCase old k) → length new ≡ length old → HasPlaces s2.names new
 places_after s0 s2 old new same complete long k h =
     omega (arith, case_within old k (complete k (subst (λ (ns : List (Option (List ℕ))). HasName ns k) same h)), long)
+
+-- ---- names with entries
+
+-- those before a place of the list still have some, if the names of what went have
+pub used_put : (s0 s1 s2 : State) (c : ObjectChange) (n : ℕ) → Fits s0.objects c → TakesOut s0 s1 c.key.0 c.out
+    → PutsIn s1 s2 c.key.0 c.into → AreUsedBelow s0 n → HaveEntries s2.objects (symbols_or c.out)
+    → AreUsedBelow s2 n
+used_put s0 s1 s2 c n fits out into h gone =
+    let objects : s2.objects ≡ changed_tables s0.objects c =
+    in_objects s1 s2 c.key.0 c.into into
+    ∙ ap (λ (ts : List Table). put_in ts c.key.0 c.into) (out_objects s0 s1 c.key.0 c.out out) in
+    used_changed s0 s2 (symbols_or c.out) (symbols_or c.into) n
+    (in_order s1 s2 c.key.0 c.into into ∙ out_order s0 s1 c.key.0 c.out out)
+    (λ name a b.
+    ap (entries_of name) objects ∙ entries_same name c.key.0 c.out c.into s0.objects fits.out a b)
+    (subst (λ (ts : List Table). HaveEntries ts (symbols_or c.into)) (sym objects)
+    (come_used (taken_out s0.objects c.key.0 c.out) c.key.0 c.into fits.into))
+    gone h
 
 -- ---- the whole change
 
@@ -154,15 +172,6 @@ module _ (script : List Statement) (c : ObjectChange) (s0 s1 s2 : State)
       ∙ (ap (λ (t : Bool). cond t None (case_at cases1 k)) into
       ∙ (h.cleared.at k ∙ (ap (λ (t : Bool). cond t None (case_at cases0 k)) out ∙ was.1))) in
       new_decided.kept k was.0 (old_decided.kept k was.0 left) ∙ sym was.1
-
-  -- each known name has an entry, if those of both objects have
-  pub used_after : (old used : Bool) → AreUsedIf s0 old → (used ≡ true → old ≡ true)
-      → (used ≡ true → HaveEntries s2.objects (symbols_or c.out))
-      → (used ≡ true → HaveEntries s2.objects (symbols_or c.into)) → AreUsedIf s2 used
-  used_after old used =
-      used_changed s0 s2 (symbols_or c.out) (symbols_or c.into) old used names_after
-      (λ name a b.
-      ap (entries_of name) objects_after ∙ entries_same name c.key.0 c.out c.into s0.objects h.ready.fits.out a b)
 
   pub noted_after : (noted : Bool) → IsNoted s0 noted → IsNoted s2 noted
   noted_after noted is sure =

@@ -1,8 +1,9 @@
 -- Names that entered objects declare are known.
 use Rattle.std.proofs.Common.{◌≡◌, ◌∙◌, ◌<◌, ℕ, zero, suc, Bool, true, false, cond, not, List, [], ◌∷◌}
 use Rattle.std.proofs.Common.{length, map, filter, get_or, refl, ap, sym, subst, arith, ◌⊎◌, inl, inr, ⊎_elim}
-use Rattle.std.specs.Prelude.{Contains, None, Option, Some, bytes_eq}
+use Rattle.std.specs.Prelude.{Contains, None, Option, Some, bytes_eq, nat_lt}
 use Rattle.std.specs.Map.{lookup}
+use Rattle.std.proofs.lemmas.Bool.{lt-ltb}
 use Rattle.std.proofs.lemmas.List.{get_or_default}
 use Rattle.std.proofs.lemmas.List.Elements.{Contains-append_left, Contains-append_right}
 use Rattle.std.proofs.lemmas.Map.Views.{Contains-from_lookup}
@@ -10,7 +11,7 @@ use Rattle.std.proofs.lemmas.Slice.Eq.{bytes_eq-Decides}
 use Rattle.elfobj.specs.Symbols.{NamedSymbol, null_symbol}
 use Rattle.ldmodel.specs.Names.{Declaration, declarations_of, is_local, is_of_name}
 use Rattle.symres_table.specs.State.{IsListing, IsNameAt, IsNamed, IsSeenAt, entries_of}
-use Rattle.symres_decisions.specs.Counted.{declared_in, declared_names}
+use Rattle.symres_decisions.specs.Counted.{declared_in, declared_names, is_used}
 use Rattle.symres_decisions.proofs.Declared.{Table, names_declared}
 use Rattle.symres_decisions.proofs.Listed.{Listed}
 
@@ -61,6 +62,18 @@ declared_known names order tables name l unknown c =
     (subst (λ (ns : List (List ℕ)). Contains ns name) (sym (names_declared tables)) c) (unknown name no)))
     (known_or_not names order name l)
 
+some_left : (ds : List Declaration) → (ds ≡ [] → ⊥) → nat_lt 0 (length ds) ≡ true
+some_left [] h = absurd (h refl)
+some_left (d ∷ ds) h = lt-ltb 0 (length (d ∷ ds)) (omega arith)
+
+-- a declared name has an entry
+pub declared_used : (tables : List Table) (name : List ℕ) → Contains (declared_names tables) name
+    → is_used tables name ≡ true
+declared_used tables name c =
+    some_left (entries_of name tables)
+    (among name (declarations_of tables)
+    (subst (λ (ns : List (List ℕ)). Contains ns name) (sym (names_declared tables)) c))
+
 -- ---- a symbol that other objects see
 
 contains_later : (x q : List ℕ) (xs : List (List ℕ)) → Contains xs q → Contains (x ∷ xs) q
@@ -85,7 +98,7 @@ in_symbols (s ∷ ss) (suc n) d l seen =
     go true c = c
     go false c = contains_later s.name (get_or ss n d).name (declared_in ss) c
 
-in_tables : (ts : List Table) (place : ℕ) (t : Table) (name : List ℕ) → place < length ts
+pub in_tables : (ts : List Table) (place : ℕ) (t : Table) (name : List ℕ) → place < length ts
     → Contains (declared_in (get_or ts place t).1) name → Contains (declared_names ts) name
 in_tables [] place t name l c = absurd (omega (arith, l))
 in_tables (x ∷ ts) zero t name l c = Contains-append_left (declared_in x.1) (declared_names ts) name c

@@ -1,25 +1,30 @@
 -- Names that have entries, and what a change leaves of that.
-use Rattle.std.proofs.Common.{◌≡◌, ◌∙◌, ◌<◌, ◌≤◌, ◌⊎◌, inl, inr, ℕ, zero, suc, Bool, true, false, cond, List, [], ◌∷◌}
-use Rattle.std.proofs.Common.{◌++◌}
-use Rattle.std.proofs.Common.{Option, Some, None, get_or, length, filter, map, ap, arith, refl, sym}
-use Rattle.std.specs.Prelude.{◌==◌, bytes_eq, nat_lt, not, ◌||◌}
-use Rattle.std.specs.List.{All}
+use Rattle.std.proofs.Common.{◌≡◌, ◌∙◌, ◌+◌, ◌<◌, ⊎_elim, ℕ, zero, suc, Bool, true, false, cond}
+use Rattle.std.proofs.Common.{List, [], ◌∷◌, ◌++◌}
+use Rattle.std.proofs.Common.{Option, Some, None, get_or, length, length-append, filter, map, ap, arith, refl, subst, sym}
+use Rattle.std.specs.Prelude.{◌==◌, bytes_eq, Contains, nat_lt, not, ◌||◌}
+use Rattle.std.specs.List.{All, insert}
 use Rattle.std.specs.Set.{is_member}
-use Rattle.std.proofs.lemmas.Bool.{lt-ltb, true≢false}
-use Rattle.std.proofs.lemmas.List.{length-map}
+use Rattle.std.proofs.lemmas.Bool.{cases_lt, lt-ltb, true≢false}
+use Rattle.std.proofs.lemmas.List.{get_or_append_left, length-map}
+use Rattle.std.proofs.lemmas.List.Edits.{get_or-insert_at, length-insert}
 use Rattle.std.proofs.lemmas.List.Elements.{All-head, All-tail}
+use Rattle.std.proofs.lemmas.Map.Made.{is_member-Decides}
 use Rattle.std.proofs.lemmas.Slice.Eq.{bytes_eq-Decides}
 use Rattle.elfobj.specs.Symbols.{NamedSymbol}
 use Rattle.ldmodel.specs.Names.{Declaration, is_local}
 use Rattle.symres_table.specs.State.{Forgets, IsListing, IsNamed, State, entries_of, slot}
-use Rattle.symres_decisions.specs.Change.{Table}
-use Rattle.symres_decisions.specs.Counted.{is_used}
-use Rattle.symres_decisions.specs.Decisions.{AreUsedIf}
-use Rattle.symres_decisions.specs.Room.{AreOldOrNew, HaveEntries, StandsFrom}
+use Rattle.symres_decisions.specs.Change.{CanCome, Table, put_in, symbols_at, symbols_or}
+use Rattle.symres_decisions.specs.Counted.{declared_in, is_used}
+use Rattle.symres_decisions.specs.Decisions.{AreUsed, AreUsedBelow}
+use Rattle.symres_decisions.specs.Room.{HaveEntries}
 use Rattle.symres_decisions.specs.Texts.{declares}
+use Rattle.symres_decisions.specs.declared.change.ObjectAt.{ObjectAt}
 use Rattle.symres_decisions.proofs.Clearing.{declared_local, declares_seen}
-use Rattle.symres_decisions.proofs.Listed.{Listed}
+use Rattle.symres_decisions.proofs.KnownNames.{declared_used, in_tables}
+use Rattle.symres_decisions.proofs.Listed.{Listed, StandsIn, stands_in}
 use Rattle.symres_decisions.proofs.MakingRoom.{remained}
+use Rattle.symres_decisions.proofs.OneName.{one_name}
 
 -- ---- the names of one object
 
@@ -53,45 +58,96 @@ pub used_row : {X : Type 0} (tables : List Table) (name : List ℕ) (row : List 
 used_row tables name row f is some =
     lt-ltb 0 (length (entries_of name tables)) (omega (arith, some, ap length is, length-map row f))
 
--- ---- all names
+-- ---- the names of the list
 
-pub used_none_more : (a b : State) (used : Bool) → AreOldOrNew a b → b.objects ≡ a.objects
-    → length b.order ≤ length a.order → AreUsedIf a used → AreUsedIf b used
-used_none_more a b used fresh objects none h sure k name named = go (fresh k name named)
-  where
-    go : IsNamed a.names k name ⊎ StandsFrom b.order (length a.order) k → is_used b.objects name ≡ true
-    go (inl was) = ap (λ (ts : List Table). is_used ts name) objects ∙ h sure k name was
-    go (inr s) = absurd (omega (arith, s.1, s.2, none))
+pub used_zero : (s : State) → AreUsedBelow s 0
+used_zero s = record {
+  within = omega arith;
+  used = λ i e lt. absurd (omega (arith, lt));
+}
 
-pub used_same : (a b : State) (used : Bool) → b.names ≡ a.names → b.objects ≡ a.objects → AreUsedIf a used
-    → AreUsedIf b used
-used_same a b used names objects h sure k name named =
-    ap (λ (ts : List Table). is_used ts name) objects
-    ∙ h sure k name (ap (λ (ns : List (Option (List ℕ))). slot ns k) (sym names) ∙ named)
+-- one more
+pub used_next : (s : State) (n : ℕ) → n < length s.order
+    → ((e : Listed) → is_used s.objects (get_or s.order n e).0 ≡ true) → AreUsedBelow s n → AreUsedBelow s (n + 1)
+used_next s n within here h = record {
+  within = omega (arith, within);
+  used = λ i e lt.
+      ⊎_elim (λ below. h.used i e below)
+      (λ least.
+      let at : n ≡ i = omega (arith, lt, least) in
+      subst (λ (m : ℕ). is_used s.objects (get_or s.order m e).0 ≡ true) at (here e))
+      (cases_lt i n);
+}
 
-pub used_ordered : (a b : State) (used : Bool) → b ≡ record a { order = b.order } → AreUsedIf a used
-    → AreUsedIf b used
-used_ordered a b used is =
-    used_same a b used (ap (λ (s : State). s.names) is) (ap (λ (s : State). s.objects) is)
+-- names are only added after those that were there
+pub used_more : (a b : State) (more : List Listed) (n : ℕ) → b.order ≡ a.order ++ more → b.objects ≡ a.objects
+    → AreUsedBelow a n → AreUsedBelow b n
+used_more a b more n order objects h = record {
+  within = omega (arith, h.within, ap length order, length-append a.order more);
+  used = λ i e lt.
+      let same : get_or b.order i e ≡ get_or a.order i e =
+      ap (λ (xs : List Listed). get_or xs i e) order
+      ∙ get_or_append_left a.order more e i (omega (arith, lt, h.within)) in
+      ap (λ (x : Listed). is_used b.objects x.0) same
+      ∙ ap (λ (ts : List Table). is_used ts (get_or a.order i e).0) objects ∙ h.used i e lt;
+}
 
-pub used_not : (s : State) → AreUsedIf s false
-used_not s sure = absurd (cc)
+-- all known names stand in the list
+pub used_named : (s : State) (n : ℕ) → IsListing s.names s.order → n ≡ length s.order → AreUsedBelow s n → AreUsed s
+used_named s n listing all h k name named =
+    let at : StandsIn s.order k = stands_in s.names s.order k listing (name, named) in
+    let e : Listed = ([], 0) in
+    let there : IsNamed s.names k (get_or s.order at.at e).0 =
+    subst (λ (m : ℕ). IsNamed s.names m (get_or s.order at.at e).0) (at.is e) (listing.sound at.at e at.within) in
+    subst (λ (x : List ℕ). is_used s.objects x ≡ true)
+    (one_name s.names k (get_or s.order at.at e).0 name there named)
+    (h.used at.at e (omega (arith, at.within, all)))
+
+pub used_listed : (s : State) (n : ℕ) → IsListing s.names s.order → n ≡ length s.order → AreUsed s
+    → AreUsedBelow s n
+used_listed s n listing all h = record {
+  within = omega (arith, all);
+  used = λ i e lt.
+      h (get_or s.order i e).1 (get_or s.order i e).0 (listing.sound i e (omega (arith, lt, all)));
+}
+
+-- names that only stand in another order
+pub used_ordered : (a b : State) → b ≡ record a { order = b.order } → AreUsed a → AreUsed b
+used_ordered a b is h k name named =
+    ap (λ (ts : List Table). is_used ts name) (ap (λ (s : State). s.objects) is)
+    ∙ h k name (ap (λ (s : State). slot s.names k) (sym is) ∙ named)
 
 -- after a change
-pub used_changed : (a b : State) (out into : List NamedSymbol) (old used : Bool) → b.names ≡ a.names
+pub used_changed : (a b : State) (out into : List NamedSymbol) (n : ℕ) → b.order ≡ a.order
     → ((name : List ℕ) → declares out name ≡ false → declares into name ≡ false
     → entries_of name b.objects ≡ entries_of name a.objects)
-    → AreUsedIf a old → (used ≡ true → old ≡ true) → (used ≡ true → HaveEntries b.objects out)
-    → (used ≡ true → HaveEntries b.objects into) → AreUsedIf b used
-used_changed a b out into old used names same h was gone come sure k name named =
-    go (declares out name) refl (declares into name) refl
+    → HaveEntries b.objects into → HaveEntries b.objects out → AreUsedBelow a n → AreUsedBelow b n
+used_changed a b out into n order same come gone h = record {
+  within = omega (arith, h.within, ap length order);
+  used = λ i e lt.
+      go i e lt (declares out (get_or b.order i e).0) refl (declares into (get_or b.order i e).0) refl;
+}
   where
-    go : (p : Bool) → declares out name ≡ p → (q : Bool) → declares into name ≡ q → is_used b.objects name ≡ true
-    go true e q f = gone sure name e
-    go false e true f = come sure name f
-    go false e false f =
-        ap (λ (ds : List Declaration). nat_lt 0 (length ds)) (same name e f)
-        ∙ h (was sure) k name (ap (λ (ns : List (Option (List ℕ))). slot ns k) (sym names) ∙ named)
+    go : (i : ℕ) (e : Listed) → i < n → (p : Bool) → declares out (get_or b.order i e).0 ≡ p
+        → (q : Bool) → declares into (get_or b.order i e).0 ≡ q → is_used b.objects (get_or b.order i e).0 ≡ true
+    go i e lt true f q g = gone (get_or b.order i e).0 f
+    go i e lt false f true g = come (get_or b.order i e).0 g
+    go i e lt false f false g =
+        ap (λ (ds : List Declaration). nat_lt 0 (length ds)) (same (get_or b.order i e).0 f g)
+        ∙ ap (λ (xs : List Listed). is_used a.objects (get_or xs i e).0) order ∙ h.used i e lt
+
+-- what comes has entries
+pub come_used : (ts : List Table) (key : ℕ) (into : Option ObjectAt) → CanCome ts into
+    → HaveEntries (put_in ts key into) (symbols_or into)
+come_used ts key None c = none_lost ts
+come_used ts key (Some x) c = λ name d.
+    let t : Table = (key, symbols_at x) in
+    let all : List Table = insert ts x.place t in
+    let here : Contains (declared_in (symbols_at x)) name =
+    (is_member-Decides bytes_eq-Decides (declared_in (symbols_at x)) name).0 d in
+    declared_used all name
+    (in_tables all x.place t name (omega (arith, c, length-insert ts x.place t c))
+    (subst (λ (u : Table). Contains (declared_in u.1) name) (sym (get_or-insert_at ts x.place t t c)) here))
 
 -- ---- what is forgotten
 
@@ -102,17 +158,17 @@ kept_all p (x ∷ xs) h =
     ∙ sym (ap (λ (b : Bool). cond b (x ∷ filter p xs) (filter p xs)) (All-head (λ x. p x ≡ true) x xs h))
 
 -- where each name has an entry, none is
-pub none_forgotten : (s : State) → IsListing s.names s.order → AreUsedIf s true → Forgets s s
+pub none_forgotten : (s : State) → IsListing s.names s.order → AreUsed s → Forgets s s
 none_forgotten s listing h = record {
   names = λ n name named.
-      named ∙ sym (ap (λ (b : Bool). cond b (Some name) None) (h refl n name named));
+      named ∙ sym (ap (λ (b : Bool). cond b (Some name) None) (h n name named));
   others = λ n none. none;
   order = kept_all (λ (e : Listed). is_used s.objects e.0) s.order
-      (λ k d l. h refl (get_or s.order k d).1 (get_or s.order k d).0 (listing.sound k d l));
+      (λ k d l. h (get_or s.order k d).1 (get_or s.order k d).0 (listing.sound k d l));
   rest = refl;
 }
 
 -- what is left has entries
-pub left_used : (a b : State) → Forgets a b → (used : Bool) → AreUsedIf b used
-left_used a b f used sure k name named =
+pub left_used : (a b : State) → Forgets a b → AreUsed b
+left_used a b f k name named =
     ap (λ (s : State). is_used s.objects name) f.rest ∙ (remained a b k name f named).used

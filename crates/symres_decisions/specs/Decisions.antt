@@ -1,5 +1,5 @@
 -- What names stand for, as callers see it.
-use Rattle.std.specs.Prelude.{ℕ, ◌≡◌, ◌⊎◌, Bool, true, List, [], Option, Some, IfSome}
+use Rattle.std.specs.Prelude.{ℕ, ◌≡◌, ◌<◌, ◌≤◌, ◌⊎◌, Bool, true, List, [], Option, Some, IfSome, length, slice_index_or}
 use Rattle.ldscript.specs.statements.declared.statement.Statement.{Statement}
 use Rattle.ldmodel.specs.HandedOver.{decision_of}
 use Rattle.ldmodel.specs.Names.{decided}
@@ -27,9 +27,14 @@ IsNoted names in_order = in_order ≡ true → IsInByteOrder names.order
 abbrev pub IsTextOf : State → Option (List (List ℕ × ℕ)) → Type 0
 IsTextOf names text = IfSome text (λ t. t ≡ names.order)
 
--- where this is noted, each known name has an entry
-abbrev pub AreUsedIf : State → Bool → Type 0
-AreUsedIf s used = used ≡ true → (k : ℕ) (name : List ℕ) → IsNamed s.names k name → is_used s.objects name ≡ true
+-- each known name has an entry
+abbrev pub AreUsed : State → Type 0
+AreUsed s = (k : ℕ) (name : List ℕ) → IsNamed s.names k name → is_used s.objects name ≡ true
+
+-- the names before this place of the list have entries
+pub record AreUsedBelow (s : State) (count : ℕ) : Type 0 where
+  pub within : count ≤ length s.order
+  pub used : (i : ℕ) (e : List ℕ × ℕ) → i < count → is_used s.objects (slice_index_or s.order i e).0 ≡ true
 
 -- each case is what its name stands for over the entered objects and this script
 abbrev pub AreKept : List Statement → DecisionsState → Type 0

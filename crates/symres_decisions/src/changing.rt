@@ -5,7 +5,7 @@ ghost use Rattle.symres_decisions.specs.Change.{AreThere, changed_tables, declar
 ghost use Rattle.symres_decisions.specs.Change.{symbols_or};
 ghost use Rattle.symres_decisions.specs.Counted.{CountsNames};
 ghost use Rattle.symres_decisions.specs.Decided.{AreCases, case_at};
-ghost use Rattle.symres_decisions.specs.Decisions.{AreKept};
+ghost use Rattle.symres_decisions.specs.Decisions.{AreKept, AreUsedBelow};
 ghost use Rattle.symres_decisions.specs.Room.{HaveEntries};
 ghost use Rattle.symres_decisions.specs.Texts.{AreDone, AreKnown, AreNoted, AreOpen, DecidedFor, HasPlaces, IsCleared};
 ghost use Rattle.symres_decisions.specs.Texts.{declares};
@@ -17,6 +17,7 @@ use crate::decisions::Decisions;
 use crate::exchange::{put_in, take_out};
 use crate::noted::note_keys;
 use crate::texts::{KeySource, clear_names, decide_names, have_entries};
+use crate::used_names::count_used;
 use elfobj::Meter;
 use ldmodel::names::NameKey;
 use ldscript::Script;
@@ -48,39 +49,23 @@ fn are_gone_used(names: &Names, out: Option<ObjectAt<'_>>, noted: &[NameKey]) ->
     }
 }
 
-/// Whether each name that the object which came declares has an entry, if one came.
-fn are_come_used(names: &Names, into: Option<ObjectAt<'_>>) -> bool
-    requires { AreThere names.now into }
-    ensures { result ≡ true → HaveEntries names.now.objects (symbols_or into.entry) }
-{
-    match into {
-        Some(at) => have_entries(names, KeySource::Entered(at.place), at.object),
-        None => true,
-    }
-}
-
-/// Whether each known name has an entry after a change, if each had one before it. `noted` are keys of the names of
-/// what went.
-fn are_still_used(
-    all_used: bool,
+/// How many of the first listed names have entries after a change, where `used` of them had entries before it: names
+/// that became known for the object which came are counted too. `noted` are keys of the names of what went.
+fn used_after_change(
+    used: usize,
     names: &Names,
-    change: &ObjectChange<'_>,
+    out: Option<ObjectAt<'_>>,
     noted: &[NameKey],
-) -> bool
-    requires known { AreKnown names.now.names (symbols_or change.now.out) }
-    requires noted { AreNoted names.now.names (symbols_or change.now.out) noted.now }
-    requires place { AreThere names.now change.now.into }
-    ensures before { result ≡ true → all_used ≡ true }
-    ensures gone { result ≡ true → HaveEntries names.now.objects (symbols_or change.now.out) }
-    ensures come { result ≡ true → HaveEntries names.now.objects (symbols_or change.now.into) }
+) -> usize
+    requires known { AreKnown names.now.names (symbols_or out) }
+    requires noted { AreNoted names.now.names (symbols_or out) noted.now }
+    requires still { HaveEntries names.now.objects (symbols_or out) → AreUsedBelow names.now used }
+    ensures { AreUsedBelow names.now result }
 {
-    if !all_used {
-        return false;
+    if are_gone_used(names, out, noted) {
+        return count_used(names, used);
     }
-    if !are_gone_used(names, change.out, noted) {
-        return false;
-    }
-    are_come_used(names, change.into)
+    0
 }
 
 /// Decides the names that the object which went declared, if one went. `noted` are keys of these names.
@@ -181,7 +166,7 @@ impl Decisions {
             meter,
         );
         decide_come(&self.names, script, change.into, &mut self.cases, meter);
-        self.all_used = are_still_used(self.all_used, &self.names, change, &self.noted);
+        self.used = used_after_change(self.used, &self.names, change.out, &self.noted);
     }
 
     /// Makes the change back, after a change was made: the objects are as they were before it. It takes no memory.

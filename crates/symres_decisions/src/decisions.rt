@@ -21,6 +21,7 @@ use crate::entered::enter_all;
 use crate::keyed_object::KeyedObject;
 use crate::name_text::NameText;
 use crate::single::given_case;
+use crate::used_names::{all_or_none, are_all_used};
 use elfobj::Meter;
 use elfobj::memory::NoMemory;
 use elfobj::relocation::SymbolIndex;
@@ -41,8 +42,8 @@ pub struct Decisions {
     pub(crate) cases: Cases,
     // whether the names are known to be in byte order
     pub(crate) in_order: bool,
-    // whether each known name is known to have an entry
-    pub(crate) all_used: bool,
+    // how many of the first names of the list are known to have entries
+    pub(crate) used: usize,
     // room for the keys of the names of the object that goes at a change
     pub(crate) noted: Vec<NameKey>,
     // the names as they are listed, one after the other in memory
@@ -50,13 +51,13 @@ pub struct Decisions {
 }
 
 impl Model for Decisions {
-    ghost use Rattle.symres_decisions.specs.Decisions.{AreUsedIf, DecisionsState, IsNoted, IsTextOf, IsWhole};
+    ghost use Rattle.symres_decisions.specs.Decisions.{AreUsedBelow, DecisionsState, IsNoted, IsTextOf, IsWhole};
 
     ghost Value = { DecisionsState };
 
     ghost view = { λ a. record { names = a.names; cases = a.cases } };
 
-    ghost invariant = { λ a. IsWhole a.names a.cases × IsNoted a.names a.in_order × AreUsedIf a.names a.all_used
+    ghost invariant = { λ a. IsWhole a.names a.cases × IsNoted a.names a.in_order × AreUsedBelow a.names a.used
         × IsTextOf a.names a.text };
 }
 
@@ -86,7 +87,7 @@ impl Decisions {
             names,
             cases,
             in_order: false,
-            all_used: false,
+            used: 0,
             noted: Vec::new(alloc),
             text: None,
         })
@@ -235,8 +236,12 @@ impl Decisions {
             return;
         }
         self.text = None;
+        let are_used = are_all_used(&self.names, self.used);
         match self.names.sort_names() {
-            Ok(()) => self.in_order = true,
+            Ok(()) => {
+                self.in_order = true;
+                self.used = all_or_none(&self.names, are_used);
+            }
             Err(_refused) => {}
         }
     }

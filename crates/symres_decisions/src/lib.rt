@@ -5,7 +5,7 @@
 //!   is taken;
 //! - `cases`: cases by the keys of names; `entered`, `all`, `single`: all names at first; `name_text`: names one after
 //!   the other in memory;
-//! - `exchange`, `texts`, `noted`: the names of one object; `law`.
+//! - `exchange`, `texts`, `noted`: the names of one object; `used_names`: which names have entries; `law`.
 #![tactic(auto)]
 
 mod all;
@@ -22,3 +22,4 @@ mod noted;
 mod room;
 mod single;
 mod texts;
+mod used_names;

@@ -5,7 +5,7 @@ ghost use Rattle.ldscript.specs.statements.declared.statement.Statement.{Stateme
 ghost use Rattle.symres_decisions.specs.Change.{CanGo, Fits, IsReadyFor};
 ghost use Rattle.symres_decisions.specs.Counted.{is_used};
 ghost use Rattle.symres_decisions.specs.Decided.{AreCases, case_at, HasCase};
-ghost use Rattle.symres_decisions.specs.Decisions.{AreKept, AreUsedIf, IsNoted, IsTextOf, IsWhole};
+ghost use Rattle.symres_decisions.specs.Decisions.{AreKept, AreUsedBelow, IsNoted, IsTextOf, IsWhole};
 ghost use Rattle.symres_decisions.specs.Room.{AreKeptWhere, AreUnused, HaveCasesBelow, HaveCasesFrom, kept_where};
 ghost use Rattle.symres_decisions.specs.Room.{KeepsUsed};
 ghost use Rattle.symres_decisions.specs.Room.{AreOldOrNew, OnlyDrops};
@@ -17,6 +17,7 @@ use crate::decisions::Decisions;
 use crate::name_text::NameText;
 use crate::noted::reserve_keys;
 use crate::single::given_case;
+use crate::used_names::{all_or_none, are_all_used};
 use elfobj::Object;
 use elfobj::memory::NoMemory;
 use ldmodel::names::NameKey;
@@ -128,18 +129,18 @@ fn make_room(
     object: &Object,
     cases: &mut Cases,
     in_order: &mut bool,
-    all_used: &mut bool,
+    used: &mut usize,
     text: &mut Option<NameText>,
 ) -> Result<(), NoMemory>
     requires whole { IsWhole names.old cases.old }
     requires order { IsNoted names.old in_order.old }
-    requires all { AreUsedIf names.old all_used.old }
+    requires all { AreUsedBelow names.old used.old }
     requires text { IsTextOf names.old text.old }
     requires sound { AreCases script.now names.old cases.old }
     ensures objects { names.new.objects ≡ names.old.objects }
     ensures whole { IsWhole names.new cases.new }
     ensures order { IsNoted names.new in_order.new }
-    ensures all { AreUsedIf names.new all_used.new }
+    ensures all { AreUsedBelow names.new used.new }
     ensures text { IsTextOf names.new text.new }
     ensures sound { AreCases script.now names.new cases.new }
     ensures used { KeepsUsed names.old names.new }
@@ -152,12 +153,12 @@ fn make_room(
         return Ok(());
     }
     *in_order = false;
-    *all_used = false;
     *text = None;
     match settle_new(names, script, from, cases) {
         Ok(()) => Ok(()),
         Err(refused) => {
             drop_unused(names, cases);
+            *used = 0;
             Err(refused)
         }
     }
@@ -183,7 +184,7 @@ impl Decisions {
                 at.object,
                 &mut self.cases,
                 &mut self.in_order,
-                &mut self.all_used,
+                &mut self.used,
                 &mut self.text,
             ),
             None => Ok(()),
@@ -201,11 +202,11 @@ impl Decisions {
     {
         // for the prover: brings in the invariant of `self.names`
         let _known = self.names.known();
-        if self.all_used {
+        if are_all_used(&self.names, self.used) {
             return;
         }
         self.text = None;
         drop_unused(&mut self.names, &mut self.cases);
-        self.all_used = true;
+        self.used = all_or_none(&self.names, true);
     }
 }

@@ -1,7 +1,7 @@
 use Rattle.std.proofs.Common.{length, arith, refl}
 use Rattle.symres_decisions.proofs.MakingRoom.{below_after, complete_refused, noted_none_more, old_again, old_or_new}
 use Rattle.symres_decisions.proofs.MakingRoom.{text_none_more, unused_after, used_twice, whole_same}
-use Rattle.symres_decisions.proofs.Used.{used_none_more}
+use Rattle.symres_decisions.proofs.Used.{used_more}
 use Rattle.symres_decisions.proofs.room.make_room.Goals as goal
 
 pub returns-then-known-from-clause-whole : goal.returns-then-known-from-clause-whole
@@ -81,8 +81,5 @@ returns-in-Err-clause-fresh c =
 pub returns-then-known-from-clause-all : goal.returns-then-known-from-clause-all
 returns-then-known-from-clause-all c =
     let more = c.reserve.ensures.more in
-    used_none_more c.args.names.now c.reserve.new.self c.args.all_used.now
-    (old_or_new c.args.names.now c.reserve.new.self more.listed.0 c.known-from.ensures.listing c.known.ensures.listing
-    more.names more.listed.1)
-    c.reserve.ensures.objects
-    (omega (arith, c.known.ensures.len, c.known-from.ensures.len, c.if-known-from.true)) c.requires.all
+    used_more c.args.names.now c.reserve.new.self more.listed.0 c.args.used.now more.listed.1 c.reserve.ensures.objects
+    c.requires.all

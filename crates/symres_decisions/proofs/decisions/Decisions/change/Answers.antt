@@ -4,7 +4,7 @@ use Rattle.symres_decisions.specs.Decisions.{DecisionsState}
 use Rattle.symres_table.specs.State.{AreDistinct, IsFresh, slot}
 use Rattle.symres_decisions.proofs.Changed.{Steps, back_after, counted_after, frame_after, kept_after, noted_after}
 use Rattle.symres_decisions.proofs.Changed.{places_after}
-use Rattle.symres_decisions.proofs.Changed.{text_after, used_after, whole_after}
+use Rattle.symres_decisions.proofs.Changed.{text_after, used_put, whole_after}
 use Rattle.symres_decisions.proofs.Clearing.{listed_apart}
 use Rattle.symres_decisions.proofs.Exchanging.{in_names, out_known, out_names, out_objects}
 use Rattle.symres_decisions.proofs.Tables.{out_fresh}
@@ -90,13 +90,19 @@ decide_come-requires-clause-room c =
     c.self.invariant.0.complete
     (c.decide_gone.ensures.long ∙ c.clear_names_of-2.ensures.long ∙ c.clear_names_of.ensures.long)
 
-pub are_still_used-self-inside-requires-clause-known : goal.are_still_used-self-inside-requires-clause-known
-are_still_used-self-inside-requires-clause-known c =
+pub used_after_change-self-inside-requires-clause-known : goal.used_after_change-self-inside-requires-clause-known
+used_after_change-self-inside-requires-clause-known c =
     let ch = c.args.change.now in
     let ready = rw (← c.self.view_is) at c.requires.ready in
     out_known c.self.inside.names c.take_out.new.names c.put_in.new.names ch.key.0 ch.out
     (in_names c.take_out.new.names c.put_in.new.names ch.key.0 ch.into c.put_in.ensures) ready.fits.out
     c.take_out.ensures
+
+pub used_after_change-self-inside-requires-clause-still : goal.used_after_change-self-inside-requires-clause-still
+used_after_change-self-inside-requires-clause-still c =
+    let ready = rw (← c.self.view_is) at c.requires.ready in
+    used_put c.self.inside.names c.take_out.new.names c.put_in.new.names c.args.change.now c.self.inside.used ready.fits
+    c.take_out.ensures c.put_in.ensures c.self.invariant.2
 
 steps : (c : goal.After-self-1)
     → Steps c.args.script.now c.args.change.now c.self.inside.names c.take_out.new.names c.put_in.new.names
@@ -118,8 +124,7 @@ pub invariant_of-self : goal.invariant_of-self
 invariant_of-self c = (
   whole_after _ _ _ _ _ _ _ _ _ _ _ _ _ (steps c),
   noted_after _ _ _ _ _ _ _ _ _ _ _ _ _ (steps c) c.self.inside.in_order c.self.invariant.1,
-  used_after _ _ _ _ _ _ _ _ _ _ _ _ _ (steps c) c.self.inside.all_used c.are_still_used-self-inside.result c.self.invariant.2
-      c.are_still_used-self-inside.ensures.before c.are_still_used-self-inside.ensures.gone c.are_still_used-self-inside.ensures.come,
+  c.used_after_change-self-inside.ensures,
   text_after _ _ _ _ _ _ _ _ _ _ _ _ _ (steps c) _ c.self.invariant.3,
 )
 

@@ -7,10 +7,14 @@ invariant_of-self c = (
   whole_ordered c.self.inside.names c.sort_names.new.self c.self.inside.cases c.sort_names.ensures.same
       c.self.invariant.0,
   λ sure. c.in-Ok.ensures.sorted,
-  used_ordered c.self.inside.names c.sort_names.new.self c.self.inside.all_used c.sort_names.ensures.same
-      c.self.invariant.2,
+  c.all_or_none-self-inside.ensures,
   tt,
 )
+
+pub all_or_none-self-inside-requires : goal.all_or_none-self-inside-requires
+all_or_none-self-inside-requires c = λ sure.
+    used_ordered c.self.inside.names c.sort_names.new.self c.sort_names.ensures.same
+    (c.are_all_used-are_used.ensures sure)
 
 pub returns-in-Ok-clause-kept : goal.returns-in-Ok-clause-kept
 returns-in-Ok-clause-kept c = λ script kept.
