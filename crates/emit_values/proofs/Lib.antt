@@ -15,4 +15,5 @@ pub mod Failing
 pub mod Searching
 pub mod Merging
 pub mod Ordered
+pub mod Counted
 pub mod MergedNames

@@ -4,6 +4,7 @@ use Rattle.std.proofs.Common.{map, Option, Some, None, Bool, true, false, cond, 
 use Rattle.std.proofs.Common.{refl, sym, ap, subst, ◌⊎◌, inl, inr}
 use Rattle.std.specs.List.{list_any}
 use Rattle.std.specs.Option.{option_map, option_map_or}
+use Rattle.std.proofs.lemmas.List.{length-append}
 use Rattle.std.proofs.lemmas.List.Quantifiers.{position-Some}
 use Rattle.std.proofs.lemmas.Option.{get_or_from_slice_get, same_Some, slice_get-map}
 use Rattle.elfobj.specs.file.declared.constants.TheConstants.{SHN_ABS, STT_NOTYPE}
@@ -31,7 +32,7 @@ use Rattle.emit_relocate.specs.Values.{address_from, value_of}
 use Rattle.emit_relocate.specs.declared.value.SymbolValue as code_value
 use Rattle.emit_values.specs.LinkView.{IsLinkView}
 use Rattle.emit_values.specs.NameRows.{IsPlaceIn, IsPlaceOf, NameRow, decided_row, defining_symbol, entry_row, facts}
-use Rattle.emit_values.specs.NameRows.{AreCasesBelow, AreResolvedBelow, AreValuesBelow, IsCaseUnder, IsRowUnder}
+use Rattle.emit_values.specs.NameRows.{AreCasesFrom, AreResolvedBelow, AreValuesBelow, IsCaseUnder, IsRowUnder}
 use Rattle.emit_values.specs.NameRows.{Resolved, resolved, row_of, shown_resolved, shown_row}
 use Rattle.emit_values.specs.declared.link_view.LinkView.{LinkView}
 use Rattle.emit_values.specs.declared.name_row.NameRow as code
@@ -233,8 +234,20 @@ module _ (l : KnownLink) (v : LinkView) (h : IsLinkView l v) (n : ℕ) (x : code
       one_more l value_of (name_value l.project l.layout) n old new x.row.value long e
       (λ name named. ap (λ (r : NameRow). r.value) (row name named)) all
 
--- what the name of a key stands for, where all names below another key have that
-pub case_under : (l : KnownLink) (n : ℕ) (cases : List Case) → AreCasesBelow l n cases → (k : ℕ) (c : Case) → k < n
-    → slice_get cases k ≡ Some c → IsCaseUnder l k c
-case_under l n cases h k c below at name named =
-    same_Some _ _ (sym (ap (option_map (decision_of l.number)) at) ∙ h k name below named)
+-- what one name more stands for
+pub cases_more : (l : KnownLink) (first : ℕ) (old new : List Case) (x : Case) (k : ℕ) → first + length old ≡ k
+    → new ≡ old ++ x ∷ [] → IsCaseUnder l k x → AreCasesFrom l first old → AreCasesFrom l first new
+cases_more l first old new x k at e one all j name below is =
+    let long : length new ≡ length old + 1 = ap length e ∙ length-append old (x ∷ []) in
+    ap (λ xs. option_map (decision_of l.number) (slice_get xs j)) e
+    ∙ pushed (decision_of l.number) old x j (decision l.project name) (λ m. all j name m is)
+    (λ last. one name (subst (λ i. l.name i ≡ Some name) (ap (λ i. first + i) last ∙ at) is))
+    (omega (arith, below, long))
+
+-- what the name of a key stands for, by its place
+pub case_from : (l : KnownLink) (first : ℕ) (cases : List Case) → AreCasesFrom l first cases → (j k : ℕ) (c : Case)
+    → first + j ≡ k → j < length cases → slice_get cases j ≡ Some c → IsCaseUnder l k c
+case_from l first cases h j k c is below at name named =
+    same_Some _ _
+    (sym (ap (option_map (decision_of l.number)) at)
+    ∙ h j name below (subst (λ i. l.name i ≡ Some name) (sym is) named))

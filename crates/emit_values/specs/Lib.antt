@@ -7,6 +7,7 @@ pub mod Values
 pub mod NameRows
 pub mod Candidates
 pub mod Symbols
+pub mod Sizes
 pub mod AssertedSymbols
 pub mod FinalScope
 pub mod Merged

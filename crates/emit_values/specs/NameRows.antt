@@ -1,5 +1,7 @@
 -- What names are in the output: their values, and what the symbol table says of them beside names, bindings and values.
-use Rattle.std.specs.Prelude.{◌≡◌, ◌<◌, ℕ, List, Option, None, Some, slice_get}
+use Rattle.std.specs.Prelude.{◌≡◌, ◌+◌, ◌<◌, ◌≤◌, ℕ, List, Option, None, Some, Vec, length, slice_get, vec_capacity}
+use Rattle.std.specs.Prelude.{vec_len}
+use Rattle.std.specs.Global.{Global}
 use Rattle.std.specs.Option.{option_map}
 use Rattle.elfobj.specs.file.declared.constants.TheConstants.{SHN_ABS, STT_NOTYPE, STT_OBJECT}
 use Rattle.elfobj.specs.declared.symbol.Symbol.{Symbol}
@@ -115,11 +117,11 @@ abbrev pub IsCaseUnder : KnownLink → ℕ → Case → Type 0
 IsCaseUnder link k x =
     (name : List ℕ) → link.name k ≡ Some name → decision_of link.number x ≡ decision link.project name
 
--- the names with keys below a number have what they stand for under their keys
-abbrev pub AreCasesBelow : KnownLink → ℕ → List Case → Type 0
-AreCasesBelow link n cases =
-    (k : ℕ) (name : List ℕ) → k < n → link.name k ≡ Some name
-    → option_map (decision_of link.number) (slice_get cases k) ≡ Some (decision link.project name)
+-- the names with keys from `first` on have what they stand for one after the other
+abbrev pub AreCasesFrom : KnownLink → ℕ → List Case → Type 0
+AreCasesFrom link first cases =
+    (j : ℕ) (name : List ℕ) → j < length cases → link.name (first + j) ≡ Some name
+    → option_map (decision_of link.number) (slice_get cases j) ≡ Some (decision link.project name)
 
 -- the row of the name of a key
 abbrev pub IsRowUnder : KnownLink → ℕ → code.NameRow → Type 0
@@ -143,3 +145,11 @@ abbrev pub AreValuesBelow : KnownLink → ℕ → List code_value.SymbolValue �
 AreValuesBelow link n values =
     (k : ℕ) (name : List ℕ) → k < n → link.name k ≡ Some name
     → option_map value_of (slice_get values k) ≡ Some (name_value link.project link.layout name)
+
+-- as many rows and values as this
+abbrev pub AreLong : ℕ → Vec code_rows.ResolvedName Global → Vec code_value.SymbolValue Global → Type 0
+AreLong n rows values = (vec_len rows ≡ n) × (vec_len values ≡ n)
+
+-- room for as many as this
+abbrev pub HaveRoom : ℕ → Vec code_rows.ResolvedName Global → Vec code_value.SymbolValue Global → Type 0
+HaveRoom n rows values = (n ≤ vec_capacity rows) × (n ≤ vec_capacity values)

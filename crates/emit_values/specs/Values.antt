@@ -11,6 +11,7 @@ use Rattle.emit_relocate.specs.KnownLink.{AreNameValues}
 use Rattle.emit_relocate.specs.Values.{value_of}
 use Rattle.emit_values.specs.LinkView.{known_link}
 use Rattle.emit_values.specs.NameRows.{facts, shown_facts}
+use Rattle.emit_values.specs.Sizes.{plus_symbols}
 use Rattle.emit_values.specs.declared.values.OutputSymbol.{OutputSymbol}
 use Rattle.emit_values.specs.declared.values.Values.{Values}
 
@@ -29,3 +30,4 @@ pub record AreValues (project : Project) (layout : Layout) (table : SymbolTableS
   pub entry : value_of v.entry ≡ entry_point project layout
   pub symbols : map shown_symbol v.symbols.items ≡ output_symbols project layout
   pub facts : All (HasFacts project layout) v.symbols.items
+  pub sizes : v.sizes ≡ plus_symbols (record { count = 0; names = 0 }) v.symbols.items

@@ -2,8 +2,8 @@
 //! the assertions that fail. Takes the names of a project, its layout and its script; gives values, symbols and faults.
 //!
 //! - `link_view` over `known`, `given` and `given_table`: what the evaluation of relocations asks of a link;
-//! - `values` over `name_rows`, `name_row`, `candidate`, `merged`, `symbols` and `script_values`: the values of all
-//!   names, and the symbols of the output;
+//! - `values` over `name_rows`, `name_row`, `candidate`, `merged`, `symbols`, `sizes` and `script_values`: the values
+//!   of all names, and the symbols of the output;
 //! - `asserting` over `final_scope` and `symbols_by_name`: the faults of ASSERTs.
 #![tactic(auto)]
 
@@ -18,6 +18,7 @@ mod merged;
 pub mod name_row;
 mod name_rows;
 mod script_values;
+pub mod sizes;
 mod symbols;
 mod symbols_by_name;
 pub mod values;

@@ -1,9 +1,10 @@
 //! What all names are in the output, each under its key.
 
-ghost use Rattle.std.specs.Prelude.{◌≡◌, IfOk, length, map};
+ghost use Rattle.std.specs.Prelude.{◌≡◌, ◌+◌, ◌<◌, ◌≤◌, IfOk, OnOk, length, map, vec_capacity};
 ghost use Rattle.emit_relocate.specs.KnownLink.{AreNameValues, KnownLink};
 ghost use Rattle.emit_values.specs.LinkView.{IsLinkView};
-ghost use Rattle.emit_values.specs.NameRows.{AreCasesBelow, AreResolved, IsCaseUnder, IsRowUnder, defining_symbol};
+ghost use Rattle.emit_values.specs.NameRows.{AreCasesFrom, AreLong, AreResolved, AreResolvedBelow, AreValuesBelow};
+ghost use Rattle.emit_values.specs.NameRows.{HaveRoom, IsCaseUnder, IsRowUnder, defining_symbol};
 
 use crate::link_view::LinkView;
 use crate::name_row::{NameRow, definition, name_row};
@@ -14,6 +15,9 @@ use ldmodel::memory::NoMemory;
 use ldmodel::names::{Case, NameKey};
 use ldmodel_project::view::ProjectView;
 use std::alloc::Global;
+
+/// How many names a block has.
+const BLOCK: usize = 128;
 
 /// What a name stands for, and what it is in the output.
 #[derive(Clone, Copy, Debug)]
@@ -43,13 +47,19 @@ fn case_under(link: &LinkView<'_, '_>, key: NameKey) -> Case
     }
 }
 
-/// What all names stand for, whose keys are below a limit.
-fn name_cases(alloc: Global, link: &LinkView<'_, '_>, limit: usize) -> Result<Vec<Case>, NoMemory>
-    ensures count { IfOk result (λ cases. length cases.items ≡ limit) }
-    ensures cases { IfOk result (λ cases. (l : KnownLink) → IsLinkView l link.now → AreCasesBelow l limit cases.items) }
+/// What the names stand for whose keys are not below `first`, but below `end`.
+fn name_cases(
+    alloc: Global,
+    link: &LinkView<'_, '_>,
+    first: usize,
+    end: usize,
+) -> Result<Vec<Case>, NoMemory>
+    requires { first ≤ end }
+    ensures count { IfOk result (λ cases. first + length cases.items ≡ end) }
+    ensures cases { IfOk result (λ cases. (l : KnownLink) → IsLinkView l link.now → AreCasesFrom l first cases.items) }
 {
-    let mut cases = Vec::with_capacity(alloc, limit)?;
-    for key in 0..limit {
+    let mut cases = Vec::with_capacity(alloc, end - first)?;
+    for key in first..end {
         cases.push_reserved(case_under(link, NameKey(key)));
     }
     Ok(cases)
@@ -84,8 +94,54 @@ fn row_under(
     name_row(link.indexed_layout, case, symbol, link.script_value(key))
 }
 
-/// What all names are. Keys are nearly in the order of objects: so each pass over them reads memory nearly in its
-/// order, and what each looks up waits for nothing that another does.
+/// The end of the block of keys that begins with `first`, where all keys are below a limit.
+fn block_end(first: usize, limit: usize) -> usize
+    requires { first < limit }
+    ensures more { first < result }
+    ensures within { result ≤ limit }
+{
+    if limit - first <= BLOCK {
+        return limit;
+    }
+    first + BLOCK
+}
+
+/// Adds the rows and the values of the names whose keys are not below `first`, but below `end`, to those of the names
+/// whose keys are below `first`. There is room for them.
+fn add_block(
+    alloc: Global,
+    link: &LinkView<'_, '_>,
+    first: usize,
+    end: usize,
+    rows: &mut Vec<ResolvedName>,
+    values: &mut Vec<SymbolValue>,
+) -> Result<(), NoMemory>
+    requires block { first ≤ end }
+    requires room { HaveRoom end rows.old values.old }
+    requires long { AreLong first rows.old values.old }
+    ensures long { OnOk result (AreLong end rows.new values.new) }
+    ensures rows_room { vec_capacity rows.new ≡ vec_capacity rows.old }
+    ensures values_room { vec_capacity values.new ≡ vec_capacity values.old }
+    ensures rows { OnOk result ((l : KnownLink) → IsLinkView l link.now → AreResolvedBelow l first rows.old.items
+        → AreResolvedBelow l end rows.new.items) }
+    ensures values { OnOk result ((l : KnownLink) → IsLinkView l link.now → AreValuesBelow l first values.old.items
+        → AreValuesBelow l end values.new.items) }
+{
+    let cases = name_cases(alloc, link, first, end)?;
+    let symbols = definitions(alloc, link.project, &cases)?;
+    for key in first..end {
+        let place = key - first;
+        let case = cases[place];
+        let row = row_under(link, case, symbols[place], NameKey(key))?;
+        values.push_reserved(row.value);
+        rows.push_reserved(ResolvedName { case, row });
+    }
+    Ok(())
+}
+
+/// What all names are. Keys are nearly in the order of objects: so a pass over them reads memory nearly in its order.
+/// What the names of a block stand for is looked up first, then what defines them, then their rows: so what is looked up
+/// waits for nothing that is looked up for another name, and what one step finds is in the cache for the next.
 ///
 /// # Errors
 ///
@@ -96,14 +152,12 @@ pub(crate) fn name_rows(alloc: Global, link: &LinkView<'_, '_>) -> Result<NameRo
 {
     let limit = link.name_limit();
     let mut values = Vec::with_capacity(alloc, limit)?;
-    let cases = name_cases(alloc, link, limit)?;
-    let symbols = definitions(alloc, link.project, &cases)?;
     let mut rows = Vec::with_capacity(alloc, limit)?;
-    for key in 0..limit {
-        let case = cases[key];
-        let row = row_under(link, case, symbols[key], NameKey(key))?;
-        values.push_reserved(row.value);
-        rows.push_reserved(ResolvedName { case, row });
+    let mut first = 0;
+    while first < limit {
+        let end = block_end(first, limit);
+        add_block(alloc, link, first, end, &mut rows, &mut values)?;
+        first = end;
     }
     Ok(NameRows { rows, values })
 }

@@ -1,6 +1,6 @@
 //! The symbols of the output: the defined names, in byte order.
 
-ghost use Rattle.std.specs.Prelude.{◌≡◌, ◌<◌, ◌≤◌, ◌++◌, ◌∷◌, [], ℕ, All, List, IfSome, OnOk, bytes_eq, length};
+ghost use Rattle.std.specs.Prelude.{◌≡◌, ◌<◌, ◌≤◌, ◌++◌, ◌∷◌, [], ℕ, All, IfOk, IfSome, List, OnOk, bytes_eq, length};
 ghost use Rattle.std.specs.Prelude.{slice_index_or, vec_capacity, vec_len};
 ghost use Rattle.ldmodel.specs.HandedOver.{decision_of};
 ghost use Rattle.ldmodel.specs.Layout.{Layout, script_value};
@@ -10,6 +10,7 @@ ghost use Rattle.symres.specs.table.State.{AreDistinct, IsNamed};
 ghost use Rattle.emit_values.specs.AssertedSymbols.{AreInOrder};
 ghost use Rattle.emit_values.specs.Candidates.{names_of, AreCandidates, HasKeyOr};
 ghost use Rattle.emit_values.specs.NameRows.{decided_row, shown_row};
+ghost use Rattle.emit_values.specs.Sizes.{plus_symbols};
 ghost use Rattle.emit_values.specs.Symbols.{defined, fresh, is_repeat, shown, AddsAtMost, AddsSymbols, KeepsFacts};
 ghost use Rattle.emit_values.specs.Symbols.{AreSources, IsWithinRoom, symbol_with};
 ghost use Rattle.emit_values.specs.Values.{HasFacts, shown_symbol};
@@ -18,6 +19,7 @@ use crate::candidate::Candidate;
 use crate::name_row::{NameRow, bare_row, given_value};
 use crate::name_rows::ResolvedName;
 use crate::script_values::ScriptValues;
+use crate::sizes::{NO_SYMBOLS, SymbolSizes, plus_last};
 use crate::values::OutputSymbol;
 use emit_relocate::value::SymbolValue;
 use ldmodel::impossible::impossible;
@@ -214,7 +216,8 @@ fn add_unless_repeat<'a>(
     add_symbol(sources, &candidates[place], list)
 }
 
-/// Adds the symbols of the output to an empty list with room for all candidates, in byte order of their names.
+/// Adds the symbols of the output to an empty list with room for all candidates, in byte order of their names. They are
+/// counted while they are in the cache.
 ///
 /// # Errors
 ///
@@ -223,7 +226,7 @@ pub(crate) fn add_symbols<'a>(
     sources: &Sources<'_>,
     candidates: &[Candidate<'a>],
     list: &mut Vec<OutputSymbol<'a>>,
-) -> Result<(), NoMemory>
+) -> Result<SymbolSizes, NoMemory>
     requires candidates { AreCandidates sources.now.symbol_table.now sources.now.script.now candidates.now }
     requires empty { list.old.items ≡ [] }
     requires room { length candidates.now ≤ vec_capacity list.old }
@@ -232,9 +235,14 @@ pub(crate) fn add_symbols<'a>(
     ensures facts { OnOk result ((project : Project) (layout : Layout) → AreSources project layout sources.now
         → All (HasFacts project layout) list.new.items) }
     ensures order { OnOk result (AreInOrder list.new.items) }
+    ensures sizes { IfOk result (λ t. (project : Project) (layout : Layout) → AreSources project layout sources.now
+        → t ≡ plus_symbols (record { count = 0; names = 0 }) list.new.items) }
 {
+    let mut sizes = NO_SYMBOLS;
     for place in 0..candidates.len() {
+        let count = list.len();
         add_unless_repeat(sources, candidates, place, list)?;
+        sizes = plus_last(sizes, list, count)?;
     }
-    Ok(())
+    Ok(sizes)
 }

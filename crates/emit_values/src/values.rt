@@ -16,6 +16,7 @@ use crate::link_view::LinkView;
 use crate::name_row::SymbolFacts;
 use crate::name_rows::{NameRows, name_rows};
 use crate::script_values::ScriptValues;
+use crate::sizes::SymbolSizes;
 use crate::symbols::{Sources, add_symbols};
 use emit_relocate::symbol::entry_point;
 use emit_relocate::value::SymbolValue;
@@ -47,6 +48,8 @@ pub struct Values<'a> {
     pub entry: SymbolValue,
     /// The symbols of the output, in byte order of their names.
     pub symbols: Vec<OutputSymbol<'a>>,
+    /// How many of these have a value, and how many bytes their names have.
+    pub sizes: SymbolSizes,
     ghost ordered: { AreInOrder symbols.items },
 }
 
@@ -103,11 +106,12 @@ impl<'a> Values<'a> {
             rows: &rows,
             given: &given.values,
         };
-        add_symbols(&sources, &candidates, &mut symbols)?;
+        let sizes = add_symbols(&sources, &candidates, &mut symbols)?;
         Ok(Values {
             names: values,
             entry,
             symbols,
+            sizes,
         })
     }
 }

@@ -1,8 +1,6 @@
-use Rattle.std.proofs.Common.{refl}
 use Rattle.std.proofs.lemmas.Result.{IfOk-weaker}
-use Rattle.elfobj.specs.declared.symbol.SymbolPlace.TheVariants as place
 use Rattle.ldmodel.specs.NameFaults.{object_name}
-use Rattle.emit_values.proofs.Rows.{in_none, in_section}
+use Rattle.emit_values.proofs.Rows.{in_section}
 use Rattle.emit_values.proofs.name_row.standing_of.Goals as goal
 
 pub returns-in-Section : goal.returns-in-Section

@@ -1,11 +1,13 @@
-use Rattle.std.proofs.Common.{◌<◌, ◌∙◌, List, ap, arith, length, subst, sym}
+use Rattle.std.proofs.Common.{◌<◌, ◌∙◌, List, ap, arith, drop, length, subst, sym}
 use Rattle.std.specs.List.{All}
 use Rattle.std.proofs.lemmas.List.{length-map}
 use Rattle.emit_values.specs.Candidates.{names_of}
-use Rattle.emit_values.specs.Symbols.{shown}
+use Rattle.emit_values.specs.Sizes.{plus_symbols}
+use Rattle.emit_values.specs.Symbols.{fresh, shown}
 use Rattle.emit_values.specs.declared.candidate.Candidate.{Candidate}
 use Rattle.emit_values.specs.Values.{HasFacts}
 use Rattle.emit_values.specs.declared.values.OutputSymbol.{OutputSymbol}
+use Rattle.emit_values.proofs.Counted.{counts_more}
 use Rattle.emit_values.proofs.Defined.{symbols_are, symbols_more}
 use Rattle.emit_values.proofs.Distinct.{names_up}
 use Rattle.emit_values.proofs.Ordered.{in_order, next, none_yet}
@@ -20,6 +22,7 @@ loop-place-init c = record {
   len = omega (arith, ap length c.requires.empty);
   room = c.requires.room;
   order = none_yet (names_of c.args.candidates.now) 0 c.args.list.now.items c.requires.empty;
+  sizes = λ p s h. sym (ap (plus_symbols (record { count = 0; names = 0 })) c.requires.empty);
 }
 
 pub loop-place-preserved : goal.loop-place-preserved
@@ -38,6 +41,13 @@ loop-place-preserved c =
       order = next names (names_up c.args.candidates.now c.requires.candidates.order) c.loop-place.place within
           c.loop-place.list.items c.add_unless_repeat.new.list.items c.in_ok-add_unless_repeat.ensures.name
           c.loop-place.invariant.order;
+      sizes = λ p s h.
+          counts_more p s (fresh names c.loop-place.place) c.loop-place.list.items c.add_unless_repeat.new.list.items
+          c.len-count.result (record { count = 0; names = 0 }) c.loop-place.sizes _
+          (c.in_ok-add_unless_repeat.ensures.symbol p s h) (omega (arith, c.len-count.ensures, c.loop-place.list.ok.0)) (c.loop-place.invariant.sizes p s h)
+          (c.in_ok-sizes.ensures
+          ∙ ap (λ (xs : List OutputSymbol). plus_symbols c.loop-place.sizes (drop c.len-count.result xs))
+          c.deref.ensures.value);
     }
 
 pub returns-clause-symbols : goal.returns-clause-symbols
@@ -53,3 +63,6 @@ returns-clause-facts c = c.loop-place.invariant.facts
 
 pub returns-clause-order : goal.returns-clause-order
 returns-clause-order c = in_order c.loop-place.list.items c.loop-place.invariant.order.order
+
+pub returns-clause-sizes : goal.returns-clause-sizes
+returns-clause-sizes c = c.loop-place.invariant.sizes

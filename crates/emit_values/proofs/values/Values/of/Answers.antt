@@ -12,14 +12,21 @@ returns c =
     record {
       names = c.in_ok-rows.ensures.values l link;
       entry = c.entry_value-entry.ensures s c.requires.symbol_table given link;
-      symbols = c.in_ok-add_symbols.ensures.symbols c.args.project.now s (record {
+      symbols = c.in_ok-sizes.ensures.symbols c.args.project.now s (record {
         symbol_table = c.requires.symbol_table;
         script = sym c.script-script.ensures;
         rows = subst (λ (xs : List ResolvedName). AreResolved l xs) (sym c.deref-2.ensures.value)
             (c.in_ok-rows.ensures.rows l link);
         given = given;
       });
-      facts = c.in_ok-add_symbols.ensures.facts c.args.project.now s (record {
+      facts = c.in_ok-sizes.ensures.facts c.args.project.now s (record {
+        symbol_table = c.requires.symbol_table;
+        script = sym c.script-script.ensures;
+        rows = subst (λ (xs : List ResolvedName). AreResolved l xs) (sym c.deref-2.ensures.value)
+            (c.in_ok-rows.ensures.rows l link);
+        given = given;
+      });
+      sizes = c.in_ok-sizes.ensures.sizes c.args.project.now s (record {
         symbol_table = c.requires.symbol_table;
         script = sym c.script-script.ensures;
         rows = subst (λ (xs : List ResolvedName). AreResolved l xs) (sym c.deref-2.ensures.value)

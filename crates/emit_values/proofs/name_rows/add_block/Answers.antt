@@ -1,12 +1,12 @@
-use Rattle.std.proofs.Common.{◌∙◌, ◌<◌, ap, arith, length, map, refl, sym}
+use Rattle.std.proofs.Common.{◌≡◌, ◌∙◌, ◌+◌, ◌-◌, ◌<◌, ap, arith, length, map, refl, sym}
 use Rattle.std.proofs.lemmas.Option.{slice_get_read}
 use Rattle.ldmodel.specs.Project.{Project}
 use Rattle.emit_relocate.specs.KnownLink.{KnownLink}
 use Rattle.emit_values.specs.LinkView.{IsLinkView}
 use Rattle.emit_values.specs.NameRows.{IsCaseUnder, IsRowUnder, defining_symbol}
 use Rattle.emit_values.specs.declared.name_rows.ResolvedName.{ResolvedName}
-use Rattle.emit_values.proofs.Rows.{case_under, rows_more, symbol_at, values_more}
-use Rattle.emit_values.proofs.name_rows.name_rows.Goals as goal
+use Rattle.emit_values.proofs.Rows.{case_from, rows_more, symbol_at, values_more}
+use Rattle.emit_values.proofs.name_rows.add_block.Goals as goal
 
 pub loop-key-preserved : goal.loop-key-preserved
 loop-key-preserved c =
@@ -14,28 +14,30 @@ loop-key-preserved c =
     let cases = c.in_ok-cases.cases.items in
     let symbols = c.in_ok-symbols.symbols.items in
     let key = c.loop-key.key in
+    let place = key - c.args.first in
     let case = c.index-case.result.now in
-    let below : key < c.name_limit-limit.result = omega (arith, c.loop-key-test.true, c.loop-key.auto.key-end) in
-    let at = slice_get_read cases (length cases) key case refl (omega (arith, below, c.in_ok-cases.ensures.count))
-    c.index-case.ensures in
+    let at_key : c.args.first + place ≡ key = omega arith in
+    let below : place < length cases =
+    omega (arith, at_key, c.loop-key-test.true, c.loop-key.auto.key-end, c.in_ok-cases.ensures.count) in
+    let at = slice_get_read cases (length cases) place case refl below c.index-case.ensures in
     let stands : (l : KnownLink) → IsLinkView l link → IsCaseUnder l key case =
-    λ l v. case_under l c.name_limit-limit.result cases (c.in_ok-cases.ensures.cases l v) key case below at in
+    λ l v. case_from l c.args.first cases (c.in_ok-cases.ensures.cases l v) place key case at_key below at in
     let row : (l : KnownLink) → IsLinkView l link → IsRowUnder l key c.in_ok-row.row =
     λ l v. c.in_ok-row.ensures l v (stands l v)
-    (symbol_at l.project cases symbols key case c.index.result.now
+    (symbol_at l.project cases symbols place case c.index.result.now
     (c.in_ok-symbols.ensures ∙ ap (map (defining_symbol link.project.now)) c.deref.ensures.value
     ∙ ap (λ (p : Project). map (defining_symbol p) cases) (sym v.project)) at c.index.ensures) in
     let x : ResolvedName = record { case = case; row = c.in_ok-row.row } in
     record {
       rows_long = omega (arith, c.push_reserved-in-loop-key.ensures.len, c.loop-key.invariant.rows_long);
-      rows_room = omega (arith, c.push_reserved-in-loop-key.ensures.capacity, c.loop-key.invariant.rows_room);
+      rows_room = c.push_reserved-in-loop-key.ensures.capacity ∙ c.loop-key.invariant.rows_room;
       values_long = omega (arith, c.push_reserved.ensures.len, c.loop-key.invariant.values_long);
-      values_room = omega (arith, c.push_reserved.ensures.capacity, c.loop-key.invariant.values_room);
-      rows = λ l v. rows_more l link v key x (stands l v) (row l v) c.loop-key.rows.items
+      values_room = c.push_reserved.ensures.capacity ∙ c.loop-key.invariant.values_room;
+      rows = λ l v before. rows_more l link v key x (stands l v) (row l v) c.loop-key.rows.items
           c.push_reserved-in-loop-key.new.self.items
           (omega (arith, c.loop-key.invariant.rows_long, c.loop-key.rows.ok.0))
-          c.push_reserved-in-loop-key.ensures.items (c.loop-key.invariant.rows l v);
-      values = λ l v. values_more l link v key x (stands l v) (row l v) c.loop-key.values.items
+          c.push_reserved-in-loop-key.ensures.items (c.loop-key.invariant.rows l v before);
+      values = λ l v before. values_more l link v key x (stands l v) (row l v) c.loop-key.values.items
           c.push_reserved.new.self.items (omega (arith, c.loop-key.invariant.values_long, c.loop-key.values.ok.0))
-          c.push_reserved.ensures.items (c.loop-key.invariant.values l v);
+          c.push_reserved.ensures.items (c.loop-key.invariant.values l v before);
     }

@@ -1,0 +1,58 @@
+//! How much the symbols of the output have in the symbol table, which is known before the table is written.
+
+ghost use Rattle.std.specs.Prelude.{◌≡◌, ◌+◌, ◌≤◌, IfOk, drop, length};
+ghost use Rattle.emit_values.specs.Sizes.{plus_symbol, plus_symbols};
+
+use crate::values::OutputSymbol;
+use emit_relocate::value::SymbolValue;
+use ldmodel::memory::NoMemory;
+use std::alloc::AllocError;
+
+/// How many symbols have a value, and how many bytes their names have, each with a zero byte after it.
+#[derive(Clone, Copy, Debug)]
+pub struct SymbolSizes {
+    /// How many there are.
+    pub count: u64,
+    /// How many bytes their names have.
+    pub names: u64,
+}
+
+/// The sizes of no symbols.
+pub(crate) const NO_SYMBOLS: SymbolSizes = SymbolSizes { count: 0, names: 0 };
+
+/// The sum of two sizes. No memory holds 2^64 bytes.
+fn plus(size: u64, more: u64) -> Result<u64, NoMemory>
+    ensures { IfOk result (λ n. n ≡ size + more) }
+{
+    size.checked_add(more).ok_or(AllocError)
+}
+
+/// One more symbol.
+fn plus_symbol(sizes: SymbolSizes, symbol: &OutputSymbol<'_>) -> Result<SymbolSizes, NoMemory>
+    ensures { IfOk result (λ t. t ≡ plus_symbol sizes symbol.now) }
+{
+    match symbol.value {
+        SymbolValue::Number(_) => {
+            let names = plus(sizes.names, symbol.name.len() as u64 + 1)?;
+            let count = plus(sizes.count, 1)?;
+            Ok(SymbolSizes { count, names })
+        }
+        SymbolValue::NotDefined | SymbolValue::NotInOutput => Ok(sizes),
+    }
+}
+
+/// One more symbol, if there is one at this place.
+#[inline(always)]
+pub(crate) fn plus_last(
+    sizes: SymbolSizes,
+    symbols: &[OutputSymbol<'_>],
+    place: usize,
+) -> Result<SymbolSizes, NoMemory>
+    requires { length symbols.now ≤ place + 1 }
+    ensures { IfOk result (λ t. t ≡ plus_symbols sizes (drop place symbols.now)) }
+{
+    match symbols.get(place) {
+        None => Ok(sizes),
+        Some(symbol) => plus_symbol(sizes, symbol),
+    }
+}
