@@ -8,7 +8,8 @@ use Rattle.ldmodel.specs.HandedOver.{decision_of}
 use Rattle.ldmodel.specs.Layout.{Layout}
 use Rattle.ldmodel.specs.Project.{Project}
 use Rattle.ldmodel.specs.Tail.{ValuedSymbol, kind_number, st_binding}
-use Rattle.emit_image.specs.Tables.{IsTableSymbol, binding_number}
+use Rattle.emit_image.specs.Tables.{AreTablesOf, IsTableSymbol, binding_number}
+use Rattle.emit_image.specs.declared.symbols.SymbolTables.{SymbolTables}
 use Rattle.emit_image.specs.declared.symbols.TableSymbol.{TableSymbol}
 use Rattle.emit_relocate.specs.declared.value.SymbolValue.TheVariants as value
 use Rattle.emit_values.specs.NameRows.{Facts}
@@ -16,45 +17,52 @@ use Rattle.emit_values.specs.Values.{HasFacts}
 use Rattle.emit_values.specs.declared.values.OutputSymbol.{OutputSymbol}
 use Rattle.emit.proofs.Lists.{zip_more}
 use Rattle.emit.specs.Sizes.{valued, valued_in}
+use Rattle.emit.specs.Tables.{AreTablesFor}
 
 -- one symbol more, if it has a value
 pub one_symbol : (p : Project) (s : Layout) (xs : List ValuedSymbol) (x : OutputSymbol) (v : ℕ)
-    (y : TableSymbol) (old new : List TableSymbol) → x.value ≡ value.Number v
-    → new ≡ old ++ y ∷ [] → HasFacts p s x → y.name.now ≡ x.name.now
+    (y : TableSymbol) (old new : SymbolTables) → x.value ≡ value.Number v
+    → ((ys : List TableSymbol) → AreTablesOf ys old → AreTablesOf (ys ++ y ∷ []) new) → HasFacts p s x
+    → y.name.now ≡ x.name.now
     → binding_number y.weak ≡ st_binding (decision_of (λ key. key) x.case) → y.kind ≡ x.facts.kind
     → y.section ≡ x.facts.section → y.value ≡ v → y.size ≡ x.facts.size
-    → AllZip (IsTableSymbol p s) xs old
-    → AllZip (IsTableSymbol p s) (xs ++ cons_option (valued x) []) new
+    → AreTablesFor p s xs old → AreTablesFor p s (xs ++ cons_option (valued x) []) new
 one_symbol p s xs x v y old new e pushed facts name weak kind section val size h =
     let z : ValuedSymbol =
     record { name = x.name.now; decision = decision_of (λ key. key) x.case; value = v } in
     let is : valued x ≡ Some z = ap (λ w. valued (record x { value = w })) e in
-    subst (λ ys. AllZip (IsTableSymbol p s) (xs ++ cons_option (valued x) []) ys) (sym pushed)
-    (subst (λ o. AllZip (IsTableSymbol p s) (xs ++ cons_option o []) (old ++ y ∷ [])) (sym is)
-    (zip_more (IsTableSymbol p s) xs old z y h (record {
-      name = name;
-      binding = weak;
-      type = ap kind_number kind ∙ ap (λ (f : Facts). f.type) facts;
-      section = section ∙ ap (λ (f : Facts). f.section) facts;
-      value = val;
-      size = size ∙ ap (λ (f : Facts). f.size) facts;
-    })))
+    record {
+      symbols = h.symbols ++ y ∷ [];
+      each = subst (λ o. AllZip (IsTableSymbol p s) (xs ++ cons_option o []) (h.symbols ++ y ∷ [])) (sym is)
+          (zip_more (IsTableSymbol p s) xs h.symbols z y h.each (record {
+            name = name;
+            binding = weak;
+            type = ap kind_number kind ∙ ap (λ (f : Facts). f.type) facts;
+            section = section ∙ ap (λ (f : Facts). f.section) facts;
+            value = val;
+            size = size ∙ ap (λ (f : Facts). f.size) facts;
+          }));
+      tables = pushed h.symbols h.tables;
+    }
 
-pub no_symbol : (p : Project) (s : Layout) (xs : List ValuedSymbol) (x : OutputSymbol) (ys : List TableSymbol)
-    → valued x ≡ None → AllZip (IsTableSymbol p s) xs ys
-    → AllZip (IsTableSymbol p s) (xs ++ cons_option (valued x) []) ys
-no_symbol p s xs x ys e h =
-    subst (λ o. AllZip (IsTableSymbol p s) (xs ++ cons_option o []) ys) (sym e)
-    (subst (λ l. AllZip (IsTableSymbol p s) l ys) (sym (append-nil xs)) h)
+-- none, if it has no value
+pub no_symbol : (p : Project) (s : Layout) (xs : List ValuedSymbol) (x : OutputSymbol) (t : SymbolTables)
+    → valued x ≡ None → AreTablesFor p s xs t → AreTablesFor p s (xs ++ cons_option (valued x) []) t
+no_symbol p s xs x t e h =
+    subst (λ o. AreTablesFor p s (xs ++ cons_option o []) t) (sym e)
+    (subst (λ l. AreTablesFor p s l t) (sym (append-nil xs)) h)
 
-pub symbols_more : (p : Project) (s : Layout) (xs : List OutputSymbol) (k : ℕ) (x : OutputSymbol)
-    (ys : List TableSymbol)
+-- before the first
+pub no_symbols : (p : Project) (s : Layout) (t : SymbolTables) → AreTablesOf [] t → AreTablesFor p s [] t
+no_symbols p s t h = record { symbols = []; each = tt; tables = h }
+
+pub symbols_more : (p : Project) (s : Layout) (xs : List OutputSymbol) (k : ℕ) (x : OutputSymbol) (t : SymbolTables)
     → k < length xs → get_or xs k x ≡ x
-    → AllZip (IsTableSymbol p s) (valued_in (take k xs) ++ cons_option (valued x) []) ys
-    → AllZip (IsTableSymbol p s) (valued_in (take (k + 1) xs)) ys
-symbols_more p s xs k x ys l e h =
+    → AreTablesFor p s (valued_in (take k xs) ++ cons_option (valued x) []) t
+    → AreTablesFor p s (valued_in (take (k + 1) xs)) t
+symbols_more p s xs k x t l e h =
     let suc_is : k + 1 ≡ suc k = omega arith in
     let more : take (k + 1) xs ≡ take k xs ++ x ∷ [] =
     ap (λ n. take n xs) suc_is ∙ take-suc xs k x l ∙ ap (λ y. take k xs ++ y ∷ []) e in
-    subst (λ zs. AllZip (IsTableSymbol p s) zs ys)
+    subst (λ zs. AreTablesFor p s zs t)
     (sym (ap valued_in more ∙ filter_map-append valued (take k xs) (x ∷ []))) h

@@ -20,11 +20,12 @@ use Rattle.emit_relocate.specs.Values.{value_of}
 use Rattle.ldscript.specs.statements.Numbered.{shown_sections}
 use Rattle.ldscript.specs.statements.Numbering.{OutputSectionAt, output_sections}
 use Rattle.ldscript.specs.statements.declared.numbering.OutputSectionAt as code_section
+use Rattle.emit_values.specs.Sizes.{plus_symbol, plus_symbols, plus_value}
 use Rattle.emit_values.specs.Values.{AreValues, shown_symbol}
+use Rattle.emit_values.specs.declared.sizes.SymbolSizes.{SymbolSizes}
 use Rattle.emit_values.specs.declared.values.OutputSymbol.{OutputSymbol}
 use Rattle.emit_values.specs.declared.values.Values.{Values}
-use Rattle.emit.specs.Sizes.{names_size, plus_symbol, plus_symbols, plus_value, valued, valued_in}
-use Rattle.emit.specs.declared.length.SymbolSizes.{SymbolSizes}
+use Rattle.emit.specs.Sizes.{names_size, valued, valued_in}
 
 abbrev pub tree_names : List code_section.OutputSectionAt → List (List ℕ)
 tree_names xs = map (λ (o : OutputSectionAt). o.section.name) (shown_sections xs)
@@ -98,20 +99,20 @@ table_is p s a v values =
     ∙ valued_same v.symbols.items
 
 -- what was counted is the tail of a link
-pub sizes_of_tail : (p : Project) (s : Layout) (a : SymbolTableState) (v : Values) (t : TailSizes) (z : SymbolSizes)
+pub sizes_of_tail : (p : Project) (s : Layout) (a : SymbolTableState) (v : Values) (t : TailSizes)
     (os : List code_section.OutputSectionAt) → AreOutputs p s.sections → AreValues p s a v
     → shown_sections os ≡ output_sections p.script
-    → z ≡ plus_symbols (record { count = 0; names = 0 }) v.symbols.items → t.symbols ≡ z.count
-    → t.symbol_names ≡ z.names + 1 → t.header_names ≡ names_size (tree_names os) + 27 → t.sections ≡ length os
+    → t.symbols ≡ v.sizes.count → t.symbol_names ≡ v.sizes.names + 1 → t.header_names ≡ names_size (tree_names os) + 27 → t.sections ≡ length os
     → AreTailSizes p s t
 unfolding symbol_name_table header_name_table
-sizes_of_tail p s a v t z os outputs values shown sum symbols symbol_names header_names sections =
+sizes_of_tail p s a v t os outputs values shown symbols symbol_names header_names sections =
     let all : table_symbols p s ≡ valued_in v.symbols.items =
     table_is p s a v values in
     let zero_sizes : SymbolSizes = record { count = 0; names = 0 } in
-    let total : z ≡ plus zero_sizes (valued_in v.symbols.items) = sum ∙ sizes_are zero_sizes v.symbols.items in
-    let count : z.count ≡ 0 + length (valued_in v.symbols.items) = ap (λ (y : SymbolSizes). y.count) total in
-    let size : z.names ≡ 0 + names_size (names_of (valued_in v.symbols.items)) =
+    let total : v.sizes ≡ plus zero_sizes (valued_in v.symbols.items) =
+    values.sizes ∙ sizes_are zero_sizes v.symbols.items in
+    let count : v.sizes.count ≡ 0 + length (valued_in v.symbols.items) = ap (λ (y : SymbolSizes). y.count) total in
+    let size : v.sizes.names ≡ 0 + names_size (names_of (valued_in v.symbols.items)) =
     ap (λ (y : SymbolSizes). y.names) total in
     let tree : tree_names os ≡ map (λ (q : PlacedOutput). q.name) s.sections =
     ap (map (λ (o : OutputSectionAt). o.section.name)) shown ∙ sym outputs in

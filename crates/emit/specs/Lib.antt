@@ -17,5 +17,6 @@ pub mod Output
 pub mod Parts
 pub mod Pieces
 pub mod Sizes
+pub mod Tables
 pub mod Listed
 pub mod PreviousNames

@@ -9,10 +9,9 @@ ghost use Rattle.place.specs.Length.{AreTailSizes};
 ghost use Rattle.ldscript.specs.statements.Numbered.{shown_sections};
 ghost use Rattle.ldscript.specs.statements.Numbering.{OutputSectionAt as SectionOfTree};
 ghost use Rattle.emit_values.specs.Values.{AreValues};
-ghost use Rattle.emit.specs.Sizes.{names_size, plus_symbol, plus_symbols};
+ghost use Rattle.emit.specs.Sizes.{names_size};
 
-use emit_relocate::value::SymbolValue;
-use emit_values::values::{OutputSymbol, Values};
+use emit_values::values::Values;
 use ldmodel::memory::NoMemory;
 use ldmodel_project::view::ProjectView;
 use ldscript::tree::OutputSectionAt;
@@ -23,13 +22,6 @@ use std::alloc::{AllocError, Global};
 
 /// How many bytes the names of the tables' own headers have, each with a zero byte after it.
 const TABLE_NAMES: u64 = 26;
-
-/// How many symbols have a value, and how many bytes their names have, each with a zero byte after it.
-#[derive(Clone, Copy)]
-struct SymbolSizes {
-    count: u64,
-    names: u64,
-}
 
 /// The sum of two sizes. No memory holds 2^64 bytes.
 fn plus(size: u64, more: u64) -> Result<u64, NoMemory>
@@ -43,31 +35,6 @@ fn plus_name(bytes: u64, name: &[u8]) -> Result<u64, NoMemory>
     ensures { IfOk result (λ n. n ≡ bytes + (length name.now + 1)) }
 {
     plus(bytes, name.len() as u64 + 1)
-}
-
-/// One more symbol.
-fn plus_symbol(sizes: SymbolSizes, symbol: &OutputSymbol<'_>) -> Result<SymbolSizes, NoMemory>
-    ensures { IfOk result (λ t. t ≡ plus_symbol sizes symbol.now) }
-{
-    match symbol.value {
-        SymbolValue::Number(_) => {
-            let names = plus_name(sizes.names, symbol.name)?;
-            let count = plus(sizes.count, 1)?;
-            Ok(SymbolSizes { count, names })
-        }
-        SymbolValue::NotDefined | SymbolValue::NotInOutput => Ok(sizes),
-    }
-}
-
-/// How many of these symbols have a value, and how many bytes their names have.
-fn symbol_sizes(symbols: &[OutputSymbol<'_>]) -> Result<SymbolSizes, NoMemory>
-    ensures { IfOk result (λ t. t ≡ plus_symbols (record { count = 0; names = 0 }) symbols.now) }
-{
-    let mut sizes = SymbolSizes { count: 0, names: 0 };
-    for symbol in symbols {
-        sizes = plus_symbol(sizes, symbol)?;
-    }
-    Ok(sizes)
 }
 
 /// How many bytes the names of output sections have, each with a zero byte after it.
@@ -94,7 +61,7 @@ fn tail_sizes(
         → AreValues project.now layout table values.now → AreTailSizes project.now layout t) }
 {
     outputs_are_of_script();
-    let symbols = symbol_sizes(&values.symbols)?;
+    let symbols = values.sizes;
     let script = project.script();
     let sections = script.output_sections(alloc)?;
     let names = section_names(&sections)?;

@@ -12,7 +12,7 @@ ghost use Rattle.emit.specs.Output.{AreDrawn, AreDrawnOf, IsDrawn, IsOutput};
 ghost use Rattle.emit.specs.Parts.{ArePartsOf};
 
 use crate::output::OutputDrawing;
-use crate::symbols::table_symbols;
+use crate::symbols::symbol_tables;
 use emit_image::headers::{headers, loaded_end};
 use emit_image::section::ImageSection;
 use emit_image::sections::TableSection;
@@ -138,10 +138,10 @@ pub(crate) fn drawing_parts<'a>(
         → ArePartsOf project.now layout stays x) }
 {
     let segments = indexed_layout.link_layout.segments.as_slice();
-    let symbols = table_symbols(alloc, values)?;
+    let symbols = symbol_tables(alloc, values)?;
     let headings = table_sections(alloc, outputs)?;
     let end = loaded_end(segments)?;
-    let tail = tail(alloc, end, &symbols, &headings)?;
+    let tail = tail(alloc, end, symbols, &headings)?;
     let entry = values.entry.number_or_0();
     let table = tail.headers.offset();
     let headers = headers(alloc, entry, segments, table, headings.len())?;

@@ -1,17 +1,18 @@
-//! The symbols of the symbol table.
+//! The symbol table of the symbols of the output.
 
 ghost use Rattle.std.specs.Prelude.{◌≡◌, ◌++◌, [], IfOk, List, OnOk};
-ghost use Rattle.std.specs.List.{AllZip, cons_option};
+ghost use Rattle.std.specs.List.{cons_option};
 ghost use Rattle.ldmodel.specs.HandedOver.{decision_of};
 ghost use Rattle.ldmodel.specs.Layout.{Layout};
 ghost use Rattle.ldmodel.specs.Project.{Project};
 ghost use Rattle.ldmodel.specs.Tail.{ValuedSymbol, st_binding, table_symbols};
 ghost use Rattle.symres.specs.SymbolTable.{SymbolTableState};
-ghost use Rattle.emit_image.specs.Tables.{IsTableSymbol, binding_number};
+ghost use Rattle.emit_image.specs.Tables.{binding_number};
 ghost use Rattle.emit_values.specs.Values.{AreValues, HasFacts};
 ghost use Rattle.emit.specs.Sizes.{valued};
+ghost use Rattle.emit.specs.Tables.{AreTablesFor};
 
-use emit_image::symbols::TableSymbol;
+use emit_image::symbols::{SymbolTables, TableSymbol};
 use emit_relocate::value::SymbolValue;
 use emit_values::values::{OutputSymbol, Values};
 use ldmodel::memory::NoMemory;
@@ -33,19 +34,17 @@ fn is_weak(case: Case) -> bool
     }
 }
 
-/// Adds a symbol of the output, if it has a value.
-fn add_symbol<'a>(
-    symbols: &mut Vec<TableSymbol<'a>>,
-    symbol: &OutputSymbol<'a>,
-) -> Result<(), NoMemory>
+/// Adds a symbol of the output to the tables, if it has a value.
+#[inline(always)]
+fn add_symbol(tables: &mut SymbolTables, symbol: &OutputSymbol<'_>) -> Result<(), NoMemory>
     ensures { OnOk result ((project : Project) (layout : Layout) (xs : List ValuedSymbol)
-        → HasFacts project layout symbol.now → AllZip (IsTableSymbol project layout) xs symbols.old.items
-        → AllZip (IsTableSymbol project layout) (xs ++ cons_option (valued symbol.now) []) symbols.new.items) }
+        → HasFacts project layout symbol.now → AreTablesFor project layout xs tables.old
+        → AreTablesFor project layout (xs ++ cons_option (valued symbol.now) []) tables.new) }
 {
     match symbol.value {
         SymbolValue::NotDefined | SymbolValue::NotInOutput => Ok(()),
         SymbolValue::Number(value) => {
-            symbols.push(TableSymbol {
+            tables.push(&TableSymbol {
                 name: symbol.name,
                 weak: is_weak(symbol.case),
                 kind: symbol.facts.kind,
@@ -58,22 +57,20 @@ fn add_symbol<'a>(
     }
 }
 
-/// The symbols of the output that have a value, as the symbol table is made of them.
+/// The symbol table and its names, of the symbols of the output that have a value.
 ///
 /// # Errors
 ///
 /// If memory runs out.
-pub(crate) fn table_symbols<'a>(
-    alloc: Global,
-    values: &'a Values<'_>,
-) -> Result<Vec<TableSymbol<'a>>, NoMemory>
-    ensures { IfOk result (λ v. (project : Project) (layout : Layout) (table : SymbolTableState)
+pub(crate) fn symbol_tables(alloc: Global, values: &Values<'_>) -> Result<SymbolTables, NoMemory>
+    ensures { IfOk result (λ t. (project : Project) (layout : Layout) (table : SymbolTableState)
         → AreValues project layout table values.now
-        → AllZip (IsTableSymbol project layout) (table_symbols project layout) v.items) }
+        → AreTablesFor project layout (table_symbols project layout) t) }
 {
-    let mut symbols = Vec::with_capacity(alloc, values.symbols.len())?;
+    let sizes = values.sizes;
+    let mut tables = SymbolTables::with_capacity(alloc, sizes.count as usize, sizes.names as usize)?;
     for symbol in &values.symbols {
-        add_symbol(&mut symbols, symbol)?;
+        add_symbol(&mut tables, symbol)?;
     }
-    Ok(symbols)
+    Ok(tables)
 }

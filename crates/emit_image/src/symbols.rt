@@ -129,26 +129,3 @@ impl SymbolTables {
         Ok((entries.into_bytes()?, names))
     }
 }
-
-/// How many bytes the names of symbols have.
-fn names_length(symbols: &[TableSymbol<'_>]) -> usize {
-    let mut total: usize = 0;
-    for x in symbols {
-        total = total.saturating_add(x.name.len());
-    }
-    total
-}
-
-/// The symbol table of these symbols, and their names.
-pub(crate) fn symbol_tables(
-    alloc: Global,
-    symbols: &[TableSymbol<'_>],
-) -> Result<SymbolTables, NoMemory>
-    ensures { IfOk result (AreTablesOf symbols.now) }
-{
-    let mut tables = SymbolTables::with_capacity(alloc, symbols.len(), names_length(symbols))?;
-    for x in symbols {
-        tables.push(x)?;
-    }
-    Ok(tables)
-}

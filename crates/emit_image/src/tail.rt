@@ -14,7 +14,7 @@ ghost use Rattle.emit_image.specs.declared.symbols.TableSymbol.{TableSymbol as S
 use crate::sections::{
     Header, OutputHeaders, TableNames, TableSection, output_headers, put_header,
 };
-use crate::symbols::{SymbolTables, TableSymbol, symbol_tables};
+use crate::symbols::SymbolTables;
 use elfobj::file::constants::{SHT_STRTAB, SHT_SYMTAB};
 use ldmodel::memory::NoMemory;
 use std::alloc::{AllocError, Global};
@@ -199,7 +199,7 @@ fn place_tables(end: u64, symbols: SymbolTables, header_names: Vec<u8>) -> Resul
 /// # Errors
 ///
 /// If memory runs out.
-pub fn tail_of_tables(
+pub fn tail(
     alloc: Global,
     loaded_end: u64,
     symbol_tables: SymbolTables,
@@ -226,27 +226,4 @@ pub fn tail_of_tables(
         header_names: tables.header_names,
         headers: TailPart::new(offset, headers),
     })
-}
-
-/// The tail of an image whose loaded part ends at `loaded_end`: the symbol table of these symbols, which come in byte
-/// order of their names, and the headers of these output sections, which come in the order of the script.
-///
-/// # Errors
-///
-/// If memory runs out.
-pub fn tail(
-    alloc: Global,
-    loaded_end: u64,
-    symbols: &[TableSymbol<'_>],
-    sections: &[TableSection<'_>],
-) -> Result<TailParts, NoMemory>
-    ensures parts { IfOk result (λ t. t.symbols ∷ t.symbol_names ∷ t.header_names ∷ t.headers ∷ []
-        ≡ tail_of loaded_end symbols.now sections.now) }
-    ensures of_link { IfOk result (λ t. (project : Project) (layout : Layout)
-        → IsTailOf project layout loaded_end symbols.now sections.now
-        → t.symbols ∷ t.symbol_names ∷ t.header_names ∷ t.headers ∷ [] ≡ definition.tail project layout) }
-{
-    let symbol_tables = symbol_tables(alloc, symbols)?;
-    let tail = tail_of_tables(alloc, loaded_end, symbol_tables, sections)?;
-    Ok(tail)
 }

@@ -6,8 +6,7 @@ use Rattle.ldmodel.specs.PlacementView.{AreSegments}
 use Rattle.ldmodel.specs.SectionHeaders.{FilePart}
 use Rattle.ldmodel.specs.Segments.{segments}
 use Rattle.ldmodel.specs.SymbolValues.{number_or_0}
-use Rattle.ldmodel.specs.Tail.{table_symbols}
-use Rattle.emit_image.specs.Tables.{IsTableSection, IsTableSymbol}
+use Rattle.emit_image.specs.Tables.{IsTableSection}
 use Rattle.emit.proofs.Whole.{last_part}
 use Rattle.emit.proofs.parts.drawing_parts.Goals as goal
 
@@ -17,12 +16,12 @@ returns c s stays are =
     let x = c.in_ok-tail.tail in
     let gs = subst (λ xs. AreSegments s.sections (segments s.sections) xs) (sym c.as_slice-segments.ensures.value)
     are.indexed_layout.link_layout.segments in
-    let headings = subst (λ ys. AllZip (IsTableSection s) s.sections ys) (sym c.deref-2.ensures.value)
+    let headings = subst (λ ys. AllZip (IsTableSection s) s.sections ys) (sym c.deref.ensures.value)
     (c.in_ok-headings.ensures p s stays are.outputs) in
-    let tail = c.in_ok-tail.ensures.of_link p s (record {
+    let symbols = c.in_ok-symbols.ensures p s are.names are.values in
+    let tail = c.in_ok-tail.ensures.of_link p s symbols.symbols symbols.tables (record {
       begins = c.in_ok-end.ensures s.sections (segments s.sections) gs;
-      symbols = subst (λ xs. AllZip (IsTableSymbol p s) (table_symbols p s) xs) (sym c.deref.ensures.value)
-          (c.in_ok-symbols.ensures p s are.names are.values);
+      symbols = symbols.each;
       sections = headings;
     }) in
     record {
@@ -34,8 +33,8 @@ returns c s stays are =
             c.len.ensures,
             c.in_ok-headings.headings.ok.0,
             c.in_ok-headings.headings.ok.1,
-            ap length c.deref-2.ensures.value,
-            AllZip-long (IsTableSection s) s.sections c.deref-2.result.now headings,
+            ap length c.deref.ensures.value,
+            AllZip-long (IsTableSection s) s.sections c.deref.result.now headings,
           ));
       drawn = c.in_ok-sections.ensures p s stays are.indexed_layout.link_layout.named are.outputs;
       tail = tail;

@@ -1,27 +1,30 @@
 -- One symbol a step.
 use Rattle.std.proofs.Common.{◌∙◌, ◌<◌, sym, ap, subst, take, arith, length}
-use Rattle.std.specs.List.{All, AllZip}
+use Rattle.std.specs.List.{All}
 use Rattle.std.proofs.lemmas.List.{take_all}
-use Rattle.emit_image.specs.Tables.{IsTableSymbol}
 use Rattle.emit_values.specs.Values.{HasFacts}
 use Rattle.emit.proofs.Lists.{own_member}
-use Rattle.emit.proofs.OfSymbols.{symbols_more}
+use Rattle.emit.proofs.OfSymbols.{no_symbols, symbols_more}
 use Rattle.emit.proofs.Sizing.{table_is}
-use Rattle.emit.proofs.symbols.table_symbols.Goals as goal
+use Rattle.emit.proofs.symbols.symbol_tables.Goals as goal
 use Rattle.emit.specs.Sizes.{valued_in}
+use Rattle.emit.specs.Tables.{AreTablesFor}
+
+pub loop-symbol-init : goal.loop-symbol-init
+loop-symbol-init c p s all = no_symbols p s c.in_ok-tables.tables c.in_ok-tables.ensures
 
 pub loop-symbol-preserved : goal.loop-symbol-preserved
 loop-symbol-preserved c p s all =
     let xs = c.deref-symbol-items.result.now in
     let k = c.loop-symbol.symbol-index in
     let within : k < length xs = omega (arith, c.loop-symbol-test.true) in
-    symbols_more p s xs k _ c.add_symbol.new.symbols.items within (own_member xs k _)
+    symbols_more p s xs k _ c.add_symbol.new.tables within (own_member xs k _)
     (c.in_ok-add_symbol.ensures p s (valued_in (take k xs)) (all k _ within) (c.loop-symbol.invariant p s all))
 
 pub returns : goal.returns
 returns c p s a values =
     let xs = c.deref-symbol-items.result.now in
-    subst (λ zs. AllZip (IsTableSymbol p s) zs c.loop-symbol.symbols.items)
+    subst (λ zs. AreTablesFor p s zs c.loop-symbol.tables)
     (ap valued_in (take_all c.loop-symbol.symbol-index xs c.loop-symbol-test.false ∙ c.deref-symbol-items.ensures.value)
     ∙ sym (table_is p s a c.args.values.now values))
     (c.loop-symbol.invariant p s

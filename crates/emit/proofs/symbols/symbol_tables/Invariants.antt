@@ -1,14 +1,14 @@
 -- Those so far that have a value.
 use Rattle.std.proofs.Common.{take}
-use Rattle.std.specs.List.{All, AllZip}
+use Rattle.std.specs.List.{All}
 use Rattle.ldmodel.specs.Layout.{Layout}
 use Rattle.ldmodel.specs.Project.{Project}
-use Rattle.emit_image.specs.Tables.{IsTableSymbol}
 use Rattle.emit_values.specs.Values.{HasFacts}
-use Rattle.emit.proofs.symbols.table_symbols.Given as goal
+use Rattle.emit.proofs.symbols.symbol_tables.Given as goal
 use Rattle.emit.specs.Sizes.{valued_in}
+use Rattle.emit.specs.Tables.{AreTablesFor}
 
 abbrev pub invariant-loop-symbol : goal.invariant-loop-symbol
 invariant-loop-symbol l =
     (p : Project) (s : Layout) → All (HasFacts p s) l.symbol-items
-    → AllZip (IsTableSymbol p s) (valued_in (take l.symbol-index l.symbol-items)) l.symbols.items
+    → AreTablesFor p s (valued_in (take l.symbol-index l.symbol-items)) l.tables
