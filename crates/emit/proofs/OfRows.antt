@@ -6,7 +6,7 @@ use Rattle.std.proofs.Common.{inr, eq-eqb}
 use Rattle.std.specs.List.{All, AllZip, count_by}
 use Rattle.std.specs.Option.{option_map, option_map_or}
 use Rattle.std.proofs.lemmas.Bool.{eqb-true, false_from_ne_true, true≢false}
-use Rattle.std.proofs.lemmas.List.{length-map, take_all}
+use Rattle.std.proofs.lemmas.List.{get_or_default, length-map, take_all}
 use Rattle.std.proofs.lemmas.List.Sums.{sum_by-cons}
 use Rattle.std.proofs.lemmas.Option.{get_or_from_slice_get, same_Some, slice_get-map}
 use Rattle.std.proofs.lemmas.Slice.Eq.{bytes_eq-Decides}
@@ -272,6 +272,19 @@ pub numbered_at : (ob : ObjectData) (number : SectionIndex) (i : ℕ) → IsNumb
     → Numbered ob number i
 numbered_at ob number i h = numbered_in ob number i (slice_get ob.sections i) refl h
 
+-- the section at an index has the number that was read there
+pub numbered_near : (xs : List LinkedSection) (sections : List Section) (number : SectionIndex) (i : ℕ) (s : Section)
+    → sections ≡ map section_of xs → i < length sections → s ≡ get_or sections i s → s.number.0 ≡ number.0
+    → IsNumberedAt (map section_of xs) number i
+numbered_near xs sections number i s e h is n =
+    let whole = ap (λ (ss : List Section). length ss) e in
+    record {
+      within = omega (arith, h, whole);
+      number_is = λ d. ap (λ (ss : List Section). (get_or ss i d).number.0) (sym e)
+          ∙ ap (λ (t : Section). t.number.0) (get_or_default sections i d s h)
+          ∙ ap (λ (t : Section). t.number.0) (sym is) ∙ n;
+    }
+
 pub numbered_is : (o : NamedObject) (number : SectionIndex) (i : ℕ) (x : LinkedSection) → HaveNumbers o.object
     → slice_get o.object.sections i ≡ Some x → x.number.0 ≡ number.0 → section_numbered o number ≡ Some x
 numbered_is o number i x differ at same =
@@ -321,6 +334,25 @@ row_kept p s stays x start w y at stayed h = record {
     object = sym (ap (λ (z : Piece). z.object) at.piece_is);
     part = sym (ap (λ (z : Piece). z.part) at.piece_is);
     is = h.stays ∙ sym stayed;
+  };
+}
+
+-- one that is empty, of which nothing is drawn
+pub row_empty : (p : Project) (s : Layout) (stays : SectionKey → Bool) (x : rows.Piece) (start : ℕ) (w : PlacedPiece)
+    (y : ImagePiece) → IsPlacedAt p s (piece_in p x) start w → x.size ≡ 0 → y.start ≡ start → y.size ≡ 0
+    → y.bytes.now ≡ [] → y.fields.now ≡ [] → y.stays ≡ stays x.section → IsRowPiece p s stays w y
+row_empty p s stays x start w y at empty begun none bytes fields same = record {
+  piece = record {
+    start = begun ∙ sym at.start_is;
+    size = none ∙ sym (ap (λ (z : Piece). z.size) at.piece_is ∙ empty);
+    bytes = λ e i l. absurd (omega (arith, l, none));
+  };
+  filled = filled_zeros y bytes fields;
+  kept = record {
+    section = x.section;
+    object = sym (ap (λ (z : Piece). z.object) at.piece_is);
+    part = sym (ap (λ (z : Piece). z.part) at.piece_is);
+    is = same;
   };
 }
 

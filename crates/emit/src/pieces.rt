@@ -1,11 +1,13 @@
 //! Input sections as they are drawn.
 
-ghost use Rattle.std.specs.Prelude.{◌≡◌, ◌<◌, ◌≤◌, ◌++◌, ◌∷◌, [], ℕ, Bool, IfOk, List, OnOk, Some, false};
+ghost use Rattle.std.specs.Prelude.{◌≡◌, ◌≢◌, ◌<◌, ◌≤◌, ◌++◌, ◌∷◌, [], ℕ, All, Bool, IfNone, IfOk, IfSome, List};
+ghost use Rattle.std.specs.Prelude.{OnOk, Some, false};
 ghost use Rattle.std.specs.Prelude.{is_some, length, map, slice_get};
 ghost use Rattle.std.specs.List.{AllZip};
 ghost use Rattle.std.specs.Vec.{vec_items};
 ghost use Rattle.emit_image.specs.Joined.{StandFor};
 ghost use Rattle.emit_image.specs.declared.section.ImagePiece.{ImagePiece as Drawn};
+ghost use Rattle.elfobj.specs.Numbering.{IsNumberedAt};
 ghost use Rattle.elfobj.specs.Sections.{LinkedSection, section_of};
 ghost use Rattle.place.specs.IndexedLayout.{IsIndexedLayout};
 ghost use Rattle.ldmodel.specs.Layout.{Layout, PlacedPiece, PlacedOutput};
@@ -25,7 +27,7 @@ ghost use Rattle.emit.specs.Runs.{AreRunsUnless};
 use crate::relocated::Relocated;
 use crate::section_fields::fields_of;
 use elfobj::Object;
-use elfobj::section::{LinkedIndex, Section, SectionKind};
+use elfobj::section::{LinkedIndex, Section, SectionIndex, SectionKind};
 use emit_image::row::{add_drawn, add_kept};
 use emit_image::section::ImagePiece;
 use emit_relocate::previous_link_info::PreviousLinkInfo;
@@ -61,6 +63,21 @@ fn section_at(object: &Object, index: LinkedIndex) -> Section
         ≡ section_of section }
 {
     object.sections()[index.0]
+}
+
+/// The index of the section of an object with this number, looked for at one index before all others.
+fn section_near(object: &Object, number: SectionIndex, likely: usize) -> Option<LinkedIndex>
+    ensures found { IfSome result (λ i. IsNumberedAt (map section_of object.now.sections) number i.0) }
+    ensures absent { IfNone result
+        (All (λ section. section.number.0 ≢ number.0) (map section_of object.now.sections)) }
+{
+    let Some(section) = object.sections().get(likely) else {
+        return object.section_at(number);
+    };
+    if section.number.0 == number.0 {
+        return Some(LinkedIndex(likely));
+    }
+    object.section_at(number)
 }
 
 /// A section of the object of a key, as an input section of this number of bytes at an address; all zeros if it is
@@ -104,13 +121,16 @@ fn section_piece<'a>(
     }
 }
 
-/// An entry of a row at an address that is drawn anew; all zeros where it is of no object.
+/// An entry of a row at an address that is drawn anew; all zeros where it is of no object. `likely` is where its section
+/// is looked for first, and then where that of the next entry is likely to be: the sections of an object mostly stand in
+/// a row one after the other, as in the object.
 fn drawn_piece<'a>(
     project: &'a ProjectView<'_>,
     relocated: &'a Relocated,
     indexed_layout: &IndexedLayout,
     piece: &Piece,
     start: u64,
+    likely: &mut usize,
 ) -> ImagePiece<'a>
     ensures { (link : KnownLink) (stays : KeyOf → Bool) (w : PlacedPiece)
         → link.project ≡ project.now → AreSources link stays indexed_layout.now relocated.now → stays piece.now.section
@@ -126,9 +146,10 @@ fn drawn_piece<'a>(
         Part::InCommon(_) => zeros(piece.size, start),
         Part::InTable(number) => match project.object(key) {
             None => zeros(piece.size, start),
-            Some(object) => match object.section_at(number) {
+            Some(object) => match section_near(object, number, *likely) {
                 None => zeros(piece.size, start),
                 Some(index) => {
+                    *likely = index.0.wrapping_add(1);
                     // for the prover: brings in the invariant of `object`, of its sections
                     let _sections = object.sections();
                     section_piece(
@@ -147,7 +168,7 @@ fn drawn_piece<'a>(
 }
 
 /// Adds an entry of a row at an address: one that stays is joined to the one before it, where that stays too and no gap
-/// lies between. Fails where the entry is of no object.
+/// lies between. `likely` is as in `drawn_piece`. Fails where the entry is of no object.
 fn add_entry<'a, E: PreviousLinkInfo>(
     pieces: &mut Vec<ImagePiece<'a>>,
     project: &'a ProjectView<'_>,
@@ -156,6 +177,7 @@ fn add_entry<'a, E: PreviousLinkInfo>(
     previous: &E,
     piece: &Piece,
     start: u64,
+    likely: &mut usize,
 ) -> Result<(), NoMemory>
     ensures { OnOk result ((link : KnownLink) (w : PlacedPiece) (whole : List Drawn) → link.project ≡ project.now
         → AreSources link (λ k. is_some (E.range previous.now k)) indexed_layout.now relocated.now
@@ -166,10 +188,43 @@ fn add_entry<'a, E: PreviousLinkInfo>(
     match previous.stayed(piece.section) {
         Some(_) => add_kept(pieces, piece.size, start),
         None => {
-            let drawn = drawn_piece(project, relocated, indexed_layout, piece, start);
+            let drawn = drawn_piece(project, relocated, indexed_layout, piece, start, likely);
             add_drawn(pieces, drawn)
         }
     }
+}
+
+/// Adds an entry of a row at an address, as `add_entry` does, unless it is empty: nothing of it lies in the image. Objects
+/// have many empty sections, as `.text` beside one section for each function.
+fn add_unless_empty<'a, E: PreviousLinkInfo>(
+    pieces: &mut Vec<ImagePiece<'a>>,
+    project: &'a ProjectView<'_>,
+    relocated: &'a Relocated,
+    indexed_layout: &IndexedLayout,
+    previous: &E,
+    piece: &Piece,
+    start: u64,
+    likely: &mut usize,
+) -> Result<(), NoMemory>
+    ensures { OnOk result ((link : KnownLink) (w : PlacedPiece) (whole : List Drawn) → link.project ≡ project.now
+        → AreSources link (λ k. is_some (E.range previous.now k)) indexed_layout.now relocated.now
+        → IsPlacedAt project.now link.layout (piece_in project.now piece.now) start w → StandFor whole pieces.old.items
+        → (y : Drawn) × IsRowPiece link.project link.layout (λ k. is_some (E.range previous.now k)) w y
+        × StandFor (whole ++ y ∷ []) pieces.new.items) }
+{
+    if piece.size == 0 {
+        return Ok(());
+    }
+    add_entry(
+        pieces,
+        project,
+        relocated,
+        indexed_layout,
+        previous,
+        piece,
+        start,
+        likely,
+    )
 }
 
 /// The address of this number among some; 0 if there are fewer.
@@ -182,8 +237,8 @@ fn start_at(starts: &[u64], number: usize) -> u64
     }
 }
 
-/// The entries of a row at these addresses, of which those that stay are joined where no gap lies between. Fails if
-/// memory runs out.
+/// The entries of a row at these addresses that are not empty, of which those that stay are joined where no gap lies
+/// between. Fails if memory runs out.
 fn image_row<'a, E: PreviousLinkInfo>(
     alloc: Global,
     project: &'a ProjectView<'_>,
@@ -199,8 +254,9 @@ fn image_row<'a, E: PreviousLinkInfo>(
         → IsJoinedRow link.project link.layout (λ k. is_some (E.range previous.now k)) output v.items) }
 {
     let mut pieces = Vec::with_capacity(alloc, row.len())?;
+    let mut likely: usize = 0;
     for (k, piece) in row.iter().enumerate() {
-        add_entry(
+        add_unless_empty(
             &mut pieces,
             project,
             relocated,
@@ -208,6 +264,7 @@ fn image_row<'a, E: PreviousLinkInfo>(
             previous,
             piece,
             start_at(starts, k),
+            &mut likely,
         )?;
     }
     Ok(pieces)

@@ -130,6 +130,47 @@ stand_more whole ys x h bare = record {
       (each_more (Apart ds) ys x (each_apart ys ds (h.apart ds (are_apart whole ds parts.0))) parts.1);
 }
 
+-- ---- one more that is empty, and not in the list
+
+pieces_until : (from middle end : ℕ) (xs : List ImagePiece) → ArePieces from middle xs → middle ≤ end
+    → ArePieces from end xs
+pieces_until from middle end [] h l = omega (arith, h, l)
+pieces_until from middle end (y ∷ ys) h l = (h.0, pieces_until (piece_end y) middle end ys h.1 l)
+
+empty_spot : (x : ImagePiece) (at : ℕ) → x.size ≡ 0 → spot_in (x ∷ []) at ≡ None
+empty_spot x at none =
+    ap (λ b. option_map (piece_spot at) (cond b (Some x) None))
+    (not_covered x.start x.size at (λ some. absurd (omega (arith, some, none))))
+
+empty_end : (x : ImagePiece) (at n : ℕ) → x.size ≡ 0 → last_end at n (piece_ends (x ∷ [])) ≡ n
+empty_end x at n none =
+    ap (λ (size : ℕ). last_end at n (map piece_end (cond (not (size == 0)) (x ∷ []) []))) none
+
+or_none : (a : Option Spot) → option_or a None ≡ a
+or_none None = refl
+or_none (Some z) = refl
+
+pub stand_empty : (whole ys : List ImagePiece) (x : ImagePiece) → StandFor whole ys → x.size ≡ 0
+    → StandFor (whole ++ x ∷ []) ys
+stand_empty whole ys x h none = record {
+  bare = h.bare;
+  spots = λ at.
+      h.spots at
+      ∙ sym (spots_more whole x at ∙ ap (option_or (spot_in whole at)) (empty_spot x at none)
+      ∙ or_none (spot_in whole at));
+  ends = λ at from clear.
+      let before = no_spot (spot_in whole at) (spot_in (x ∷ []) at) (sym (spots_more whole x at) ∙ clear) in
+      h.ends at from before.0
+      ∙ sym (last_more whole x at from ∙ empty_end x at (last_end at from (piece_ends whole)) none);
+  order = λ from end order.
+      let parts = pieces_parts from end whole x order in
+      h.order from end (pieces_until from x.start end whole parts.0 (omega (arith, parts.1)));
+  filled = λ filled.
+      h.filled (all_of IsFilled whole (each_parts IsFilled whole x (each_of IsFilled (whole ++ x ∷ []) filled)).0);
+  apart = λ ds apart.
+      h.apart ds (are_apart whole ds (each_parts (Apart ds) whole x (each_apart (whole ++ x ∷ []) ds apart)).0);
+}
+
 -- ---- one that is joined to the last
 
 abbrev kept_spot : Spot

@@ -10,15 +10,15 @@ use Rattle.emit.proofs.pieces.drawn_piece.Goals as goal
 use Rattle.emit.specs.Numbers.{HaveNumbers}
 use Rattle.emit.specs.Pieces.{IsDrawnPiece}
 
-pub returns-in-None-section_at : goal.returns-in-None-section_at
-returns-in-None-section_at c l stays w same sources new at =
+pub returns-in-None-section_near : goal.returns-in-None-section_near
+returns-in-None-section_near c l stays w same sources new at =
     let p = c.args.project.now in
     let r = c.args.piece.now in
     let there = there_is p r.section.object.0 c.in-Some.object.now c.in-Some.ensures in
-    subst (λ pr. IsDrawnPiece pr l.layout w c.zeros-in-None-section_at.result) (sym same)
+    subst (λ pr. IsDrawnPiece pr l.layout w c.zeros-in-None-section_near.result) (sym same)
     (drawn_none p l.layout (piece_in p r) c.args.start w at r.section.object.0 there.object c.in-InTable.number
-    c.inputs-inputs.ensures.distinct there.at refl c.in-InTable.is _ c.zeros-in-None-section_at.ensures
-    (numbered_none there.object c.in-InTable.number c.in-Some.object.now there.is c.in-None-section_at.ensures.absent))
+    c.inputs-inputs.ensures.distinct there.at refl c.in-InTable.is _ c.zeros-in-None-section_near.ensures
+    (numbered_none there.object c.in-InTable.number c.in-Some.object.now there.is c.in-None-section_near.ensures.absent))
 
 pub returns-in-None : goal.returns-in-None
 returns-in-None c l stays w same sources new at =
@@ -29,17 +29,17 @@ returns-in-None c l stays w same sources new at =
     c.objects_are_named.ensures.named (no_object p r.section.object.0 c.in-None.ensures) refl c.in-InTable.is _
     c.zeros-in-None.ensures)
 
-pub returns-in-Some-section_at : goal.returns-in-Some-section_at
-returns-in-Some-section_at c l stays w same sources new at =
+pub returns-in-Some-section_near : goal.returns-in-Some-section_near
+returns-in-Some-section_near c l stays w same sources new at =
     let p = c.args.project.now in
     let r = c.args.piece.now in
     let key = r.section.object.0 in
     let ob = c.in-Some.object.now in
     let number = c.in-InTable.number in
-    let index = c.in-Some-section_at.index.0 in
+    let index = c.in-Some-section_near.index.0 in
     let there = there_is p key ob c.in-Some.ensures in
     let o = there.object in
-    let one = numbered_at ob number index c.in-Some-section_at.ensures.found in
+    let one = numbered_at ob number index c.in-Some-section_near.ensures.found in
     let x = one.section in
     let here : slice_get o.object.sections index ≡ Some x =
     ap (λ (b : ObjectData). slice_get b.sections index) there.is ∙ one.at in

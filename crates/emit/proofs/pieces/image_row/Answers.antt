@@ -26,7 +26,7 @@ loop-k-preserved g c link q same sources row =
     (omega (arith, c.loop-k-test.true, length-map rs (piece_in p)))
     (mapped_at (piece_in p) rs k _ (omega (arith, c.loop-k-test.true)) (sym (own_member rs k _)))
     c.start_at.ensures
-    (λ w whole at stand. c.in_ok-add_entry.ensures link w whole same sources at stand)
+    (λ w whole at stand. c.in_ok-add_unless_empty.ensures link w whole same sources at stand)
     (c.loop-k.invariant link q same sources row)
 
 pub returns : goal.returns
