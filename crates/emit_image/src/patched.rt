@@ -73,7 +73,11 @@ pub(crate) fn write_piece(
     ensures room { canvas.new.room ≡ canvas.old.room }
     ensures counted { meter.new ≡ raised meter.old Bytes (length bytes.now) }
 {
-    if bytes.len() > BUFFER_SIZE || patches.is_empty() {
+    if patches.is_empty() {
+        canvas.write(at, bytes, meter);
+        return;
+    }
+    if bytes.len() > BUFFER_SIZE {
         write_patched(canvas, at, bytes, patches, meter);
         return;
     }
