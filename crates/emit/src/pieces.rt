@@ -121,9 +121,9 @@ fn section_piece<'a>(
     }
 }
 
-/// An entry of a row at an address that is drawn anew; all zeros where it is of no object. `likely` is where its section
-/// is looked for first, and then where that of the next entry is likely to be: the sections of an object mostly stand in
-/// a row one after the other, as in the object.
+/// An entry of a row at an address that is drawn anew; all zeros where it is of no object. `likely` is where its
+/// section is looked for first, and then where that of the next entry is likely to be: the sections of an object mostly
+/// stand in a row one after the other, as in the object.
 fn drawn_piece<'a>(
     project: &'a ProjectView<'_>,
     relocated: &'a Relocated,
@@ -194,8 +194,8 @@ fn add_entry<'a, E: PreviousLinkInfo>(
     }
 }
 
-/// Adds an entry of a row at an address, as `add_entry` does, unless it is empty: nothing of it lies in the image. Objects
-/// have many empty sections, as `.text` beside one section for each function.
+/// Adds an entry of a row at an address, as `add_entry` does, unless it is empty: nothing of it lies in the image.
+/// Objects have many empty sections, as `.text` beside one section for each function.
 fn add_unless_empty<'a, E: PreviousLinkInfo>(
     pieces: &mut Vec<ImagePiece<'a>>,
     project: &'a ProjectView<'_>,
