@@ -1,6 +1,6 @@
 -- The map that is made of the values of a link.
 use Rattle.std.proofs.Common.{◌≡◌, ◌∙◌, ℕ, ◌<◌, zero, suc, Bool, true, false, cond, List, [], ◌∷◌, length, map}
-use Rattle.std.proofs.Common.{inl, inr, filter, get_or, ap, sym, subst, refl, arith, Vec, Global}
+use Rattle.std.proofs.Common.{inl, inr, filter, get_or, ap, sym, subst, refl, arith}
 use Rattle.std.specs.Prelude.{Contains, Result, Ok, Err, IfOk}
 use Rattle.std.specs.List.{All, AllPairs}
 use Rattle.std.specs.Ordering.{is_lt}
@@ -173,32 +173,34 @@ all_there p s xs name same declared is =
     (sorted_in name (declared_names p) (in_contained name (declared_names p) declared)) is))
 
 -- what the map is made of
-pub record Makes (p : Project) (l : LinkLayout) (v : Values) (m : MapParts) : Type 0 where
+pub record Makes (p : Project) (l : LinkLayout) (v : Values) (m : MapParts) (xs : List MapSymbol) : Type 0 where
   pub entry : m.entry ≡ number_or_0 (value_of v.entry)
   pub sections : shown_sections m.sections.now ≡ output_sections p.script
   pub outputs : (s : Layout) → IsLinkLayout p s l → AreOutputs p s.sections
   pub placement : (s : Layout) → IsLinkLayout p s l → IsPlacementView p.script s m.placement
   pub lent : rows_in p m.rows.now ≡ rows p
   pub placed : (s : Layout) → IsLinkLayout p s l → map entries_in s.sections ≡ rows p
-  pub symbols : m.symbols.now ≡ map map_symbol v.symbols.items
+  pub symbols : xs ≡ map map_symbol v.symbols.items
 
-is_map : (p : Project) (s : Layout) (a : SymbolTableState) (l : LinkLayout) (v : Values) (m : MapParts) → Makes p l v m
-    → IsLinkLayout p s l → AreValues p s a v → IsMapOf p (λ key. key) s m
-is_map p s a l v m h link_layout values = record {
+is_map : (p : Project) (s : Layout) (a : SymbolTableState) (l : LinkLayout) (v : Values) (m : MapParts)
+    (xs : List MapSymbol) → Makes p l v m xs
+    → IsLinkLayout p s l → AreValues p s a v → IsMapOf p (λ key. key) s m xs
+is_map p s a l v m xs h link_layout values = record {
   entry = h.entry ∙ ap number_or_0 values.entry;
   sections = h.sections;
   names = h.outputs s link_layout;
   placement = h.placement s link_layout;
   rows = h.lent ∙ sym (h.placed s link_layout);
-  symbols = subst (AreSymbolsOf p (λ key. key) s) (sym h.symbols) (are_symbols p s v.symbols.items values.symbols);
+  listed = subst (AreSymbolsOf p (λ key. key) s) (sym h.symbols) (are_symbols p s v.symbols.items values.symbols);
   complete = λ name declared is.
-      subst (λ (xs : List MapSymbol). Contains (symbol_names xs) name) (sym h.symbols)
+      subst (λ (ys : List MapSymbol). Contains (symbol_names ys) name) (sym h.symbols)
       (all_there p s v.symbols.items name values.symbols declared is);
 }
 
-pub text_is : {E : Type 0} (p : Project) (l : LinkLayout) (v : Values) (m : MapParts) (r : Result LinkMap E)
-    → Makes p l v m → ((s : Layout) → IsMapOf p (λ key. key) s m → IfOk r (λ made. made.text.items ≡ map_text p s))
+pub text_is : {E : Type 0} (p : Project) (l : LinkLayout) (v : Values) (m : MapParts) (xs : List MapSymbol)
+    (r : Result LinkMap E) → Makes p l v m xs
+    → ((s : Layout) → IsMapOf p (λ key. key) s m xs → IfOk r (λ made. made.text.items ≡ map_text p s))
     → IfOk r (λ made. (s : Layout) (a : SymbolTableState) → IsLinkLayout p s l → AreValues p s a v
     → made.text.items ≡ map_text p s)
-text_is p l v m (Ok text) h is = λ s a link_layout values. is s (is_map p s a l v m h link_layout values)
-text_is p l v m (Err e) h is = tt
+text_is p l v m xs (Ok text) h is = λ s a link_layout values. is s (is_map p s a l v m xs h link_layout values)
+text_is p l v m xs (Err e) h is = tt

@@ -1,7 +1,6 @@
 -- What a previous map has of the names of input sections.
 use Rattle.std.specs.Prelude.{◌≡◌, ℕ, List, None, Some, Option, slice_get, slice_index_or}
 use Rattle.ldmodel.specs.Project.{Project}
-use Rattle.ldmodel.specs.declared.names.ObjectPlace.{ObjectPlace}
 use Rattle.ldmodel.specs.declared.rows.Piece.{Piece}
 use Rattle.ldmodel.specs.declared.sections.SectionKey.{SectionKey}
 use Rattle.emit_text.specs.ShownMap.{names_of}

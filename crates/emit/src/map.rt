@@ -3,7 +3,6 @@
 ghost use Rattle.std.specs.Prelude.{◌≡◌, IfOk, map};
 ghost use Rattle.std.specs.Vec.{vec_items};
 ghost use Rattle.place.specs.LinkLayout.{IsLinkLayout};
-ghost use Rattle.emit.specs.Listed.{map_symbol};
 ghost use Rattle.ldmodel.specs.Layout.{Layout};
 ghost use Rattle.ldmodel.specs.MapText as definition;
 ghost use Rattle.ldmodel.specs.Rows as model;
@@ -15,7 +14,7 @@ ghost use Rattle.emit_values.specs.Values.{AreValues};
 use crate::map_members::MapMembers;
 use emit_text::maps;
 use emit_text::maps::{LinkMap, MapParts};
-use emit_text::symbols::MapSymbol;
+use emit_text::symbols::{MapSymbol, MapSymbols};
 use emit_values::values::{OutputSymbol, Values};
 use ldmodel::memory::NoMemory;
 use ldmodel::rows::Piece;
@@ -25,21 +24,30 @@ use place::sections::law::outputs_are_of_script;
 use std::alloc::Global;
 
 /// The symbols of the output as the map takes them.
-fn map_symbols<'a>(
-    alloc: Global,
-    symbols: &[OutputSymbol<'a>],
-) -> Result<Vec<MapSymbol<'a>>, NoMemory>
-    ensures { IfOk result (λ list. list.items ≡ map map_symbol symbols.now) }
-{
-    let mut list = Vec::with_capacity(alloc, symbols.len())?;
-    for symbol in symbols {
-        list.push(MapSymbol {
+#[derive(Clone, Copy)]
+struct ListedSymbols<'a> {
+    symbols: &'a [OutputSymbol<'a>],
+}
+
+impl<'a> MapSymbols for ListedSymbols<'a> {
+    ghost use Rattle.std.specs.Prelude.{map};
+    ghost use Rattle.emit.specs.Listed.{map_symbol};
+
+    ghost list = { λ t. map map_symbol t.symbols.now };
+
+    fn count(&self) -> usize {
+        self.symbols.len()
+    }
+
+    #[inline(always)]
+    fn symbol(&self, place: usize) -> MapSymbol<'_> {
+        let symbol = &self.symbols[place];
+        MapSymbol {
             name: symbol.name,
             case: symbol.case,
             value: symbol.value.number(),
-        })?;
+        }
     }
-    Ok(list)
 }
 
 /// The map of a link without faults, and the names in the lines of its input sections, row by row.
@@ -66,13 +74,14 @@ pub fn map_text(
     outputs_are_of_script();
     let script = members.project().script();
     let sections = script.output_sections(alloc)?;
-    let symbols = map_symbols(alloc, &values.symbols)?;
+    let symbols = ListedSymbols {
+        symbols: &values.symbols,
+    };
     let parts = MapParts {
         entry: values.entry.number_or_0(),
         sections: &sections,
         placement: link_layout.placement.view(),
         rows,
-        symbols: &symbols,
     };
-    maps::render_map(alloc, &parts, members)
+    maps::render_map(alloc, &parts, &symbols, members)
 }

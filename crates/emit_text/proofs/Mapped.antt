@@ -184,10 +184,10 @@ module _ (p : Project) (number : ℕ → ℕ) (s : Layout) (xs : List MapSymbol)
       ∙ ap (flat_map (named_line p s)) same_names
       ∙ filtered_lines p s every ∙ sym (listed p s every)
 
-pub map_is_shown : (p : Project) (number : ℕ → ℕ) (s : Layout) (m : MapParts) → IsMapOf p number s m
-    → shown_map p number m ≡ map_text p s
+pub map_is_shown : (p : Project) (number : ℕ → ℕ) (s : Layout) (m : MapParts) (xs : List MapSymbol)
+    → IsMapOf p number s m xs → shown_map p number m xs ≡ map_text p s
 unfolding shown_map map_text
-map_is_shown p number s m h =
+map_is_shown p number s m xs h =
     let sections : sections_text p number m.placement.sections.now (shown_sections m.sections.now)
     (map vec_items m.rows.now) m.placement.starts.now ≡ flat_map section_lines s.sections =
     ap (λ qs. sections_text p number qs (shown_sections m.sections.now) (map vec_items m.rows.now)
@@ -198,11 +198,11 @@ map_is_shown p number s m h =
     ∙ ap (λ os. sections_text p number (map placed_of s.sections) os (map vec_items m.rows.now)
     (flat_map starts_of s.sections)) h.sections
     ∙ sections_same p number s.sections (output_sections p.script) (map vec_items m.rows.now) h.names h.rows in
-    let symbols = all_symbols p number s m.symbols.now h.symbols h.complete in
+    let symbols = all_symbols p number s xs h.listed h.complete in
     ap (λ e. line_of (codes "entry" ∷ hex e ∷ [])
     ++ (sections_text p number m.placement.sections.now (shown_sections m.sections.now) (map vec_items m.rows.now)
-    m.placement.starts.now ++ symbols_text p number m.symbols.now)) h.entry
-    ∙ ap (λ t. entry_line p s ++ (t ++ symbols_text p number m.symbols.now)) sections
+    m.placement.starts.now ++ symbols_text p number xs)) h.entry
+    ∙ ap (λ t. entry_line p s ++ (t ++ symbols_text p number xs)) sections
     ∙ ap (λ t. entry_line p s ++ (flat_map section_lines s.sections ++ t)) symbols
     ∙ sym (append_assoc (entry_line p s) (flat_map section_lines s.sections)
     (flat_map (symbol_line p) (output_symbols p s)))

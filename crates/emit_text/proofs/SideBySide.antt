@@ -1,6 +1,9 @@
 -- What is left of a table, entry by entry.
 use Rattle.std.proofs.Common.{◌≡◌, ◌<◌, ◌≤◌, ◌+◌, ℕ, zero, suc, List, [], ◌∷◌, length, map, drop, get_or, refl, ap, sym}
-use Rattle.std.proofs.Common.{◌∙◌, arith}
+use Rattle.std.proofs.Common.{◌∙◌, arith, slice_get}
+use Rattle.std.proofs.lemmas.List.{drop_more}
+use Rattle.std.specs.Prelude.{Some}
+use Rattle.std.proofs.lemmas.Option.{get_or_from_slice_get, slice_get_within}
 
 pub some_left : {X Y : Type 0} (f : X → Y) (xs : List X) (k : ℕ) (x : X) → k < length xs → x ≡ get_or xs k x
     → drop k (map f xs) ≡ f x ∷ drop (k + 1) (map f xs)
@@ -15,3 +18,10 @@ none_left f [] zero h = refl
 none_left f [] (suc k) h = refl
 none_left f (x ∷ xs) zero h = absurd (omega (arith, h))
 none_left f (x ∷ xs) (suc k) h = none_left f xs k (omega (arith, h))
+
+-- the entry at a place, and those after it
+pub entry_left : {X : Type 0} (xs : List X) (k : ℕ) (x : X) → slice_get xs k ≡ Some x
+    → drop k xs ≡ x ∷ drop (k + 1) xs
+entry_left xs k x e =
+    drop_more xs k x (slice_get_within xs k x e)
+    ∙ ap (λ y. y ∷ drop (k + 1) xs) (get_or_from_slice_get xs k x x e)

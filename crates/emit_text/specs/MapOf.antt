@@ -59,13 +59,14 @@ abbrev pub symbol_names : List MapSymbol → List (List ℕ)
 symbol_names xs = map (λ (x : MapSymbol). x.name.now) xs
 
 -- the values are those of a project's link, which stands at a layout
-pub record IsMapOf (project : Project) (number : ℕ → ℕ) (layout : Layout) (m : MapParts) : Type 0 where
+pub record IsMapOf (project : Project) (number : ℕ → ℕ) (layout : Layout) (m : MapParts) (symbols : List MapSymbol)
+    : Type 0 where
   pub entry : m.entry ≡ number_or_0 (entry_point project layout)
   pub sections : shown_sections m.sections.now ≡ output_sections project.script
   pub names : map name_of layout.sections ≡ map name_in (output_sections project.script)
   pub placement : IsPlacementView project.script layout m.placement
   pub rows : map (shown_row project number) (map vec_items m.rows.now) ≡ map row_of layout.sections
-  pub symbols : AreSymbolsOf project number layout m.symbols.now
+  pub listed : AreSymbolsOf project number layout symbols
   -- each name that stands for something is one of theirs
   pub complete : (name : List ℕ) → Contains (declared_names project) name → is_defined (decision project name) ≡ true
-      → Contains (symbol_names m.symbols.now) name
+      → Contains (symbol_names symbols) name

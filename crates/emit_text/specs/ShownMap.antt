@@ -91,9 +91,9 @@ symbol_text project number x =
 abbrev pub symbols_text : Project → (number : ℕ → ℕ) → List MapSymbol → List ℕ
 symbols_text project number xs = flat_map (symbol_text project number) xs
 
-unfoldable pub shown_map : Project → (number : ℕ → ℕ) → MapParts → List ℕ
-shown_map project number m =
+unfoldable pub shown_map : Project → (number : ℕ → ℕ) → MapParts → List MapSymbol → List ℕ
+shown_map project number m symbols =
     line_of (codes "entry" ∷ hex m.entry ∷ [])
     ++ (sections_text project number m.placement.sections.now (shown_sections m.sections.now) (map vec_items m.rows.now)
     m.placement.starts.now
-    ++ symbols_text project number m.symbols.now)
+    ++ symbols_text project number symbols)

@@ -14,7 +14,7 @@ use crate::line_buffer::LineBuffer;
 use crate::map_line::{put_entry_line, put_piece_line, put_piece_names, put_section_line};
 use crate::members::Members;
 use crate::named::next_part_name;
-use crate::symbols::{MapSymbol, put_symbols};
+use crate::symbols::{MapSymbols, put_symbols};
 use ldmodel::memory::NoMemory;
 use ldmodel::placed::{Placed, PlacementView};
 use ldmodel::rows::Piece;
@@ -33,8 +33,6 @@ pub struct MapParts<'a> {
     pub placement: PlacementView<'a>,
     /// The input sections in each.
     pub rows: &'a [Vec<Piece>],
-    /// Names in byte order, among them all that are defined.
-    pub symbols: &'a [MapSymbol<'a>],
 }
 
 /// The FLAGS of an output section: `r`, then `w` or `-`, then `x` or `-`.
@@ -187,20 +185,21 @@ fn put_sections<M: Members>(
 }
 
 /// The lines of the map. Returns the names of each row.
-fn put_map<M: Members>(
+fn put_map<M: Members, S: MapSymbols>(
     alloc: Global,
     text: &mut Vec<u8>,
     members: &M,
     parts: &MapParts<'_>,
+    symbols: &S,
 ) -> Result<Vec<ByteStrings>, AllocError>
-    ensures text { OnOk result (text.new.items
-        ≡ text.old.items ++ shown_map (M.project members.now) (M.number members.now) parts.now) }
+    ensures text { OnOk result (text.new.items ≡ text.old.items
+        ++ shown_map (M.project members.now) (M.number members.now) parts.now (S.list symbols.now)) }
     ensures names { IfOk result (λ v. AreNamesOfRows (M.project members.now) (M.number members.now)
         (map vec_items parts.now.rows.now) v.items) }
 {
     put_entry_line(text, parts.entry)?;
     let names = put_sections(alloc, text, members, parts)?;
-    put_symbols(text, members, parts.symbols)?;
+    put_symbols(text, members, symbols)?;
     Ok(names)
 }
 
@@ -212,9 +211,9 @@ const SYMBOL_ROOM: usize = 64;
 const SECTION_ROOM: usize = 96;
 
 /// Room for the lines of the map, if names are of common length. What is not written of it is not touched.
-fn likely_size(parts: &MapParts<'_>) -> usize {
+fn likely_size(parts: &MapParts<'_>, symbols: usize) -> usize {
     let pieces = parts.placement.starts.len().saturating_mul(PIECE_ROOM);
-    let symbols = parts.symbols.len().saturating_mul(SYMBOL_ROOM);
+    let symbols = symbols.saturating_mul(SYMBOL_ROOM);
     let lines = parts.placement.sections.len().saturating_add(1);
     let sections = lines.saturating_mul(SECTION_ROOM);
     pieces.saturating_add(symbols).saturating_add(sections)
@@ -230,23 +229,26 @@ pub struct LinkMap {
 }
 
 /// The map of a link: the entry point, the output sections with their rows, and the symbols in byte order of names.
-/// `specs/MapOf.antt` says which values `parts` must have. It is written once, into room that grows where names are
-/// long: to measure it first would take as long as to write it.
+/// `specs/MapOf.antt` says which values `parts` must have, and `symbols`: names in byte order, among them all that are
+/// defined. It is written once, into room that grows where names are long: to measure it first would take as long as to
+/// write it.
 ///
 /// # Errors
 ///
 /// If there is no memory for the text, the only memory that it takes.
-pub fn render_map<M: Members>(
+pub fn render_map<M: Members, S: MapSymbols>(
     alloc: Global,
     parts: &MapParts<'_>,
+    symbols: &S,
     members: &M,
 ) -> Result<LinkMap, NoMemory>
-    ensures text { (layout : Layout) → IsMapOf (M.project members.now) (M.number members.now) layout parts.now
+    ensures text { (layout : Layout)
+        → IsMapOf (M.project members.now) (M.number members.now) layout parts.now (S.list symbols.now)
         → IfOk result (λ x. x.text.items ≡ map_text (M.project members.now) layout) }
     ensures names { IfOk result (λ x. AreNamesOfRows (M.project members.now) (M.number members.now)
         (map vec_items parts.now.rows.now) x.names.items) }
 {
-    let mut text = Vec::with_capacity(alloc, likely_size(parts))?;
-    let names = put_map(alloc, &mut text, members, parts)?;
+    let mut text = Vec::with_capacity(alloc, likely_size(parts, symbols.count()))?;
+    let names = put_map(alloc, &mut text, members, parts, symbols)?;
     Ok(LinkMap { text, names })
 }

@@ -22,6 +22,24 @@ pub struct MapSymbol<'a> {
     pub value: Option<u64>,
 }
 
+/// A list of symbols, each of which is made as its line is written.
+pub trait MapSymbols {
+    ghost use Rattle.std.specs.Prelude.{◌≡◌, ◌<◌, List, Some, length, slice_get};
+    ghost use Rattle.emit_text.specs.declared.symbols.MapSymbol.{MapSymbol};
+
+    /// The symbols.
+    ghost list: { Self → List MapSymbol };
+
+    /// How many there are.
+    fn count(&self) -> usize
+        ensures { result ≡ length (list self.now) };
+
+    /// The symbol at a place.
+    fn symbol(&self, place: usize) -> MapSymbol<'_>
+        requires { place < length (list self.now) }
+        ensures { slice_get (list self.now) place ≡ Some result };
+}
+
 /// The name of the object that defines a name, or `script`.
 fn owner_name<M: Members>(members: &M, case: Case) -> &[u8]
     ensures { result.now ≡ owner (M.project members.now) (decision_of (M.number members.now) case) }
@@ -63,17 +81,18 @@ fn put_symbol<M: Members>(
 }
 
 /// The lines of these symbols, in this order.
-pub(crate) fn put_symbols<M: Members>(
+pub(crate) fn put_symbols<M: Members, S: MapSymbols>(
     text: &mut Vec<u8>,
     members: &M,
-    symbols: &[MapSymbol<'_>],
+    symbols: &S,
 ) -> Result<(), AllocError>
     ensures { OnOk result (text.new.items
-        ≡ text.old.items ++ symbols_text (M.project members.now) (M.number members.now) symbols.now) }
+        ≡ text.old.items ++ symbols_text (M.project members.now) (M.number members.now) (S.list symbols.now)) }
 {
     let mut lines = LineBuffer::new();
-    for symbol in symbols {
-        put_symbol(text, &mut lines, members, symbol)?;
+    for place in 0..symbols.count() {
+        let symbol = symbols.symbol(place);
+        put_symbol(text, &mut lines, members, &symbol)?;
     }
     lines.move_to(text)?;
     Ok(())

@@ -11,7 +11,7 @@ use Rattle.emit.proofs.map.map_text.Goals as goal
 pub returns-clause-text : goal.returns-clause-text
 returns-clause-text c =
     let p = c.args.members.now.project.now in
-    text_is p c.args.link_layout.now c.args.values.now _ c.render_map.result
+    text_is p c.args.link_layout.now c.args.values.now _ _ c.render_map.result
     (record {
       entry = c.number_or_0.ensures;
       sections = ap shown_sections c.deref-2.ensures.value
@@ -22,6 +22,6 @@ returns-clause-text c =
       placement = λ s l. c.view.ensures.placement p.script s l.places;
       lent = c.requires;
       placed = λ s l. c.placed_are_rows.ensures p (provided p) s l.placed;
-      symbols = c.deref-3.ensures.value ∙ (c.in_ok-symbols.ensures ∙ ap (map map_symbol) c.deref.ensures.value);
+      symbols = ap (map map_symbol) c.deref.ensures.value;
     })
     c.render_map.ensures.text

@@ -3,8 +3,9 @@ use Rattle.std.proofs.Common.{◌≡◌, ◌++◌, drop}
 use Rattle.emit_text.specs.ShownMap.{symbols_text}
 use Rattle.emit_text.proofs.symbols.put_symbols.Given as goal
 
-abbrev pub invariant-loop-symbol : goal.invariant-loop-symbol
-invariant-loop-symbol g l =
+abbrev pub invariant-loop-place : goal.invariant-loop-place
+invariant-loop-place g l =
     (l.text.items ++ l.lines) ++ symbols_text (g.M.Members.project l.members) (g.M.Members.number l.members)
-    (drop l.symbol-index l.symbols)
-    ≡ l.initial.text.items ++ symbols_text (g.M.Members.project l.members) (g.M.Members.number l.members) l.symbols
+    (drop l.place (g.S.MapSymbols.list l.symbols))
+    ≡ l.initial.text.items ++ symbols_text (g.M.Members.project l.members) (g.M.Members.number l.members)
+    (g.S.MapSymbols.list l.symbols)
