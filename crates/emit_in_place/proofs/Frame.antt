@@ -1,10 +1,10 @@
 -- The bytes of an image outside of the input sections of an object turn on what the objects hold besides.
-use Rattle.std.proofs.Common.{◌≡◌, ◌+◌, ◌-◌, ◌<◌, ◌≤◌, ◌==◌, inl, inr, ℕ, nat_le, nat_lt, Bool, true, false, cond, not}
+use Rattle.std.proofs.Common.{◌≡◌, ◌+◌, ◌-◌, ◌<◌, ◌≤◌, ◌==◌, inl, inr, ℕ, nat_lt, Bool, true, false, cond, not}
 use Rattle.std.proofs.Common.{◌&&◌, List, length, find, slice_index, Option, Some, None, refl, sym, ap, ◌∙◌}
 use Rattle.std.proofs.Common.{subst, arith, bytes_eq}
 use Rattle.std.specs.Prelude.{slice_get}
 use Rattle.std.specs.List.{Contains}
-use Rattle.std.proofs.lemmas.Bool.{eqb-true, leb-true, ltb-true}
+use Rattle.std.proofs.lemmas.Bool.{eqb-true, and_parts}
 use Rattle.std.proofs.lemmas.Slice.Eq.{bytes_eq-Decides}
 use Rattle.ldmodel.specs.Each.{Each}
 use Rattle.ldmodel.specs.Image.{byte_at, covering_data, covering_piece, covers, file_headers, file_section_at, tail_at}
@@ -21,16 +21,13 @@ use Rattle.ldmodel_laws.proofs.ByteCases.{by_cases}
 use Rattle.ldmodel_laws.proofs.Finding.{map_in, member_of}
 use Rattle.ldmodel_laws.proofs.InImage.{linked, offset_by_name}
 use Rattle.ldmodel_laws.proofs.Members.{in_filter}
-use Rattle.ldmodel_laws.proofs.PieceBytes.{all_sections, both_of}
+use Rattle.ldmodel_laws.proofs.PieceBytes.{all_sections, covered}
 use Rattle.emit_in_place.specs.InPlaceRewrites.{IsOutside}
 use Rattle.emit_in_place.proofs.Others.{part_same}
 use Rattle.emit_in_place.proofs.Places.{Found, found}
 
 abbrev link : Project → Layout → GoodLink
 link p s = record { project = p; layout = s }
-
-covered : (a n o : ℕ) → covers a n o ≡ true → (a ≤ o) × (o < a + n)
-covered a n o e = let k = both_of (nat_le a o) (nat_lt o (a + n)) e in (leb-true a o k.0, ltb-true o (a + n) k.1)
 
 -- an input section with file bytes that covers an address has its offset in its range
 in_range : (gs : List Segment) (q : PlacedOutput) (y : PlacedPiece) (offset o : ℕ) → q.has_file_bytes ≡ true
@@ -75,7 +72,7 @@ module _ (p q : Project) (s : Layout) (i : ℕ) (b : NamedObject) (h : DiffersIn
         (map_in (λ (z : SectionInFile). z.section) (in_file gs) x in_section.among))).0
 
     has_bytes : (x.section.has_file_bytes ≡ true) × (covers x.offset x.section.size o ≡ true)
-    has_bytes = both_of x.section.has_file_bytes (covers x.offset x.section.size o) in_section.passes
+    has_bytes = and_parts x.section.has_file_bytes (covers x.offset x.section.size o) in_section.passes
 
     in_piece : Found (λ (z : PlacedPiece). covers z.start z.piece.size (x.section.start + (o - x.offset)))
         x.section.pieces y

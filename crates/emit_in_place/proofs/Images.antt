@@ -5,8 +5,10 @@ use Rattle.std.proofs.Common.{Option, Some, None, refl, sym, ap, ◌∙◌, subs
 use Rattle.std.specs.Prelude.{slice_get}
 use Rattle.std.specs.List.{All, AllZip, Contains, filter_map}
 use Rattle.std.specs.Option.{option_map, option_map_or}
-use Rattle.std.proofs.lemmas.Bool.{cases_lt, eq-eqb, eqb-true, false≢true, le-leb, leb-true, lt-ltb, ltb-true}
+use Rattle.std.proofs.lemmas.Bool.{cases_lt, eq-eqb, eqb-true, false≢true, le-leb, lt-ltb}
+use Rattle.std.proofs.lemmas.Bool.{and_parts, and_from}
 use Rattle.std.proofs.lemmas.List.FromFn.{fill_by_all, get_or-map-range_with_len, length-map-range_with_len}
+use Rattle.std.proofs.lemmas.List.Elements.{All-contains}
 use Rattle.std.proofs.lemmas.Option.{same_Some, slice_get-map}
 use Rattle.std.proofs.lemmas.Slice.Eq.{bytes_eq-Decides}
 use Rattle.elfobj.specs.Sections.{LinkedSection}
@@ -33,11 +35,12 @@ use Rattle.ldmodel_laws.specs.ImageBytes.{AreNamed, offset_in_file}
 use Rattle.ldmodel_laws.specs.Outline.{ObjectOutline, SectionOutline, object_outline}
 use Rattle.ldmodel_laws.specs.Outline.{section_outline}
 use Rattle.ldmodel_laws.specs.Spread.{EachLater, IsSpread}
-use Rattle.ldmodel_laws.proofs.Finding.{NotBoth, find_only, flat_map_in, in_flat_map, in_map, later_imply}
-use Rattle.ldmodel_laws.proofs.Members.{first_or_later, here, later, none_in_nil}
+use Rattle.ldmodel_laws.proofs.Finding.{NotBoth, find_only, flat_map_in, in_flat_map, in_map, find_mapped, none_in}
+use Rattle.ldmodel_laws.proofs.Members.{first_or_later, here, later, none_in_nil, at_place}
 use Rattle.ldmodel_laws.proofs.InImage.{linked}
 use Rattle.ldmodel_laws.proofs.Once.{later_map, names_later}
-use Rattle.ldmodel_laws.proofs.PieceBytes.{both_of, byte_of_piece, later_of_map, of_both, one_name, same_name}
+use Rattle.ldmodel_laws.proofs.PieceBytes.{byte_of_piece, one_name, same_name, covered}
+use Rattle.ldmodel_laws.proofs.EachOf.{later_of_map, later_imply}
 use Rattle.emit_relocate.specs.PreviousLinkInfo.{range_of}
 use Rattle.emit_relocate.specs.Fields.{fault_at}
 use Rattle.emit_relocate.specs.KnownLink.{KnownLink}
@@ -47,9 +50,9 @@ use Rattle.emit_in_place.specs.InPlaceRewrites.{IsBare, IsInPlaceRewrite}
 use Rattle.emit_in_place.specs.LocatedSections.{HasLocatedSections, IsLocatedSection, sites_of}
 use Rattle.emit_in_place.specs.declared.located_section.LocatedSection.{LocatedSection}
 use Rattle.emit_in_place.proofs.Frame.{byte_same}
-use Rattle.emit_in_place.proofs.Places.{Found, at_place, found, none_of_one}
+use Rattle.emit_in_place.proofs.Places.{Found, found}
 use Rattle.emit_in_place.proofs.Planning.{sites_at_spot}
-use Rattle.emit_in_place.proofs.Sites.{SpotPiece, of_member, spot_piece, spots_have_sites}
+use Rattle.emit_in_place.proofs.Sites.{SpotPiece, spot_piece, spots_have_sites}
 
 -- ---- lists of bytes
 
@@ -85,7 +88,7 @@ has_bytes gs q y r is some = go (q.has_file_bytes && not (y.piece.size == 0)) re
 
     go : (b : Bool) → (q.has_file_bytes && not (y.piece.size == 0)) ≡ b → cond b own none ≡ r → HasBytes q y gs r
     go true e f = record {
-      bytes = (both_of q.has_file_bytes (not (y.piece.size == 0)) e).0;
+      bytes = (and_parts q.has_file_bytes (not (y.piece.size == 0)) e).0;
       offset = ap (λ (z : model.FileRange). z.offset) (sym f);
       length = ap (λ (z : model.FileRange). z.length) (sym f);
     }
@@ -117,17 +120,6 @@ find_at os j o is apart =
     (λ a b h. one_name a.name b.name o.name h) os apart)
     (at_place os j o is) (same_name o.name)
 
--- what is found by what a list is mapped to
-find_mapped : {X Y : Type 0} (f : Y → Bool) (g : X → Y) (xs : List X) → find f (map g xs)
-    ≡ option_map g (find (λ x. f (g x)) xs)
-find_mapped f g [] = refl
-find_mapped {X} {Y} f g (x ∷ xs) = go (f (g x)) (find_mapped f g xs)
-  where
-    go : (b : Bool) → find f (map g xs) ≡ option_map g (find (λ y. f (g y)) xs)
-        → cond b (Some (g x)) (find f (map g xs)) ≡ option_map g (cond b (Some x) (find (λ y. f (g y)) xs))
-    go true e = refl
-    go false e = e
-
 -- ---- what tests find, or not
 
 none_found : {X : Type 0} (f : X → Bool) (xs : List X) (x : X) → find f xs ≡ None → Contains xs x → f x ≡ false
@@ -144,14 +136,11 @@ outside_of : (at offset length : ℕ) → covers offset length at ≡ false → 
 outside_of at offset length e = elim (cases_lt at offset) [
   | inl x ↦ inl x
   | inr x ↦ elim (cases_lt at (offset + length)) [
-    | inl y ↦ absurd (false≢true (sym e ∙ of_both (nat_le offset at) (nat_lt at (offset + length))
+    | inl y ↦ absurd (false≢true (sym e ∙ and_from (nat_le offset at) (nat_lt at (offset + length))
         (le-leb offset at x) (lt-ltb at (offset + length) y)))
     | inr y ↦ inr y
   ]
 ]
-
-covered : (a n o : ℕ) → covers a n o ≡ true → (a ≤ o) × (o < a + n)
-covered a n o e = let k = both_of (nat_le a o) (nat_lt o (a + n)) e in (leb-true a o k.0, ltb-true o (a + n) k.1)
 
 -- a list with a partner for each member
 record Partner {X Y : Type 0} (R : X → Y → Type 0) (xs : List X) (y : Y) : Type 0 where
@@ -244,7 +233,7 @@ module _ (p : Project) (l : KnownLink) (key : ObjectPlace) (o : NamedObject) (h 
   -- names are as distinct before
   names_before : EachLater (λ (x y : NamedObject). bytes_eq x.name y.name ≡ false) p.objects
   names_before =
-      later_of_map object_outline (λ (x y : ObjectOutline). bytes_eq x.name y.name ≡ false) p.objects
+      later_of_map (λ (x y : ObjectOutline). bytes_eq x.name y.name ≡ false) object_outline p.objects
       (subst (EachLater (λ (x y : ObjectOutline). bytes_eq x.name y.name ≡ false)) (sym h.rewritten.outlines)
       (later_map object_outline (λ (x y : ObjectOutline). bytes_eq x.name y.name ≡ false) q.objects
       (names_later q.objects h.names)))
@@ -271,13 +260,13 @@ module _ (p : Project) (l : KnownLink) (key : ObjectPlace) (o : NamedObject) (h 
         (part_is : y.piece.part ≡ InTable x.number) where
       is_there : is_part o.name (InTable x.number) y ≡ true
       is_there =
-          of_both (bytes_eq y.piece.object o.name) (is_same_part y.piece.part (InTable x.number))
+          and_from (bytes_eq y.piece.object o.name) (is_same_part y.piece.part (InTable x.number))
           ((bytes_eq-Decides y.piece.object o.name).1 own)
           (ap (λ m. is_same_part m (InTable x.number)) part_is ∙ eq-eqb x.number.0 x.number.0 refl)
 
       by_plan : (t : LocatedSection) → Contains located t → t.index.0 ≡ j → x.kind ≡ Nobits
       by_plan t in_spots index =
-          let k : IsLocatedSection q s o t = of_member (IsLocatedSection q s o) located t has.each in_spots in
+          let k : IsLocatedSection q s o t = All-contains (IsLocatedSection q s o) located t has.each in_spots in
           let w = partner_in (IsPlannedAt l o) located ws t planned in_spots in
           let r : IsPlannedAt l o t w.partner = w.related in
           let first : k.section ≡ x = same_Some _ _
@@ -345,8 +334,8 @@ module _ (p : Project) (l : KnownLink) (key : ObjectPlace) (o : NamedObject) (h 
             let none_of_u : u.kind ≡ Nobits = ap (λ (z : SectionOutline). z.kind) alike ∙ none_of_x in
             ap (λ m. option_map_or (section_byte p s a y.start n) m 0) e
             ∙ bare_byte p s a y.start n u
-            (of_member IsBare a.object.sections u (h.bare a before.is) found_u.among) none_of_u
-            ∙ sym (bare_byte q s o y.start n x (of_member IsBare o.object.sections x bare found_x.among) none_of_x)
+            (All-contains IsBare a.object.sections u (h.bare a before.is) found_u.among) none_of_u
+            ∙ sym (bare_byte q s o y.start n x (All-contains IsBare o.object.sections x bare found_x.among) none_of_x)
             ∙ sym (ap (λ m. option_map_or (section_byte q s o y.start n) m 0) f)
 
     of_part : (part : Part) → y.piece.part ≡ part → (n : ℕ) → part_byte p s o.name part y.start n
@@ -381,7 +370,7 @@ module _ (p : Project) (l : KnownLink) (key : ObjectPlace) (o : NamedObject) (h 
         let y : PlacedPiece = in_piece.origin in
         let own : covers_it (linked_piece q (segments s.sections) d y) ≡ true = ap covers_it in_piece.gives ∙ e in
         let r : model.FileRange = range_in (segments s.sections) d y in
-        let both = both_of (bytes_eq y.piece.object o.name) (covers r.offset r.length at) own in
+        let both = and_parts (bytes_eq y.piece.object o.name) (covers r.offset r.length at) own in
         let inside = covered r.offset r.length at both.1 in
         same_in_piece at clear d y in_section.among in_piece.among
         ((bytes_eq-Decides y.piece.object o.name).0 both.0) inside.0 inside.1
@@ -406,7 +395,7 @@ module _ (p : Project) (l : KnownLink) (key : ObjectPlace) (o : NamedObject) (h 
       (m : IsWhole r.section.kind r.section.bytes t.range r.run w) (above : w.at ≤ at)
       (below : at < w.at + length w.bytes) where
     k : IsLocatedSection q s o t
-    k = of_member (IsLocatedSection q s o) located t has.each in_spots
+    k = All-contains (IsLocatedSection q s o) located t has.each in_spots
 
     piece : SpotPiece q s o t k
     piece = spot_piece q s o t k
@@ -477,5 +466,5 @@ no_fault l o located ws planned has t c =
     let k = in_flat_map (sites_there o) located t
     (subst (λ ts. Contains ts t) (sym (spots_have_sites l.project l.layout o located has)) c) in
     let r : IsPlannedAt l o k.origin _ = (partner_in (IsPlannedAt l o) located ws k.origin planned k.among).related in
-    none_of_one (fault_at l) (sites_at o r.section k.origin.start) t r.faultless.faultless
+    none_in (fault_at l) (sites_at o r.section k.origin.start) t r.faultless.faultless
     (subst (λ ts. Contains ts t) (sym (sites_at_spot o k.origin r.section r.section_is)) k.gives)

@@ -62,12 +62,6 @@ found {X} f (y ∷ ys) x e = go (f y) refl e (found f ys x)
     go false t k rest = let r = rest k in
         record { place = suc r.place; is = r.is; among = later y ys x r.among; passes = r.passes }
 
--- the member of a place is in the list
-pub at_place : {X : Type 0} (xs : List X) (j : ℕ) (x : X) → slice_get xs j ≡ Some x → Contains xs x
-at_place [] j x e = absurd (let no : ⊥ = cc in no)
-at_place (y ∷ ys) zero x e = (0, omega arith, same_Some _ _ e)
-at_place (y ∷ ys) (suc j) x e = later y ys x (at_place ys j x e)
-
 -- a member has a place
 pub record Placed {X : Type 0} (xs : List X) (x : X) : Type 0 where
   pub place : ℕ
@@ -112,24 +106,6 @@ pub none_of_all : {Y Z : Type 0} (f : Y → Option Z) (ys : List Y) → ((y : Y)
 none_of_all f [] h = refl
 none_of_all f (y ∷ ys) h =
     ap (λ m. cons_option m (filter_map f ys)) (h y (here y ys)) ∙ none_of_all f ys (λ z c. h z (later y ys z c))
-
--- and the other way round
-pub none_of_one : {Y Z : Type 0} (f : Y → Option Z) (ys : List Y) (y : Y) → filter_map f ys ≡ [] → Contains ys y
-    → f y ≡ None
-none_of_one f ys y e c = go ys c.0 e (get_at ys c.0 y c.1 c.2)
-  where
-    none : {U V : Type 0} → (h : U → Option V) (u : U) (vs : List V) → cons_option (h u) vs ≡ [] → (h u ≡ None)
-        × (vs ≡ [])
-    none {U} {V} h u vs k = on (h u) k
-      where
-        on : (m : Option V) → cons_option m vs ≡ [] → (m ≡ None) × (vs ≡ [])
-        on None l = (refl, l)
-        on (Some v) l = absurd (let no : ⊥ = cc in no)
-
-    go : (zs : List _) (k : ℕ) → filter_map f zs ≡ [] → slice_get zs k ≡ Some y → f y ≡ None
-    go [] k d is = absurd (let no : ⊥ = cc in no)
-    go (z ∷ zs) zero d is = ap f (sym (same_Some z y is)) ∙ (none f z (filter_map f zs) d).0
-    go (z ∷ zs) (suc k) d is = go zs k (none f z (filter_map f zs) d).1 is
 
 -- what gives the same of each member gives the same of a list
 pub same_results : {Y Z : Type 0} (f g : Y → Option Z) (ys : List Y) → ((y : Y) → Contains ys y → f y ≡ g y)

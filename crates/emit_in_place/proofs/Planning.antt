@@ -2,12 +2,12 @@
 use Rattle.std.proofs.Common.{◌≡◌, ◌≢◌, ◌+◌, ◌<◌, ◌≤◌, ◌^◌, ◌==◌, ⊎_elim, cond, ℕ, zero, suc, List, [], ◌∷◌, ◌++◌}
 use Rattle.std.proofs.Common.{length, map, find, take, drop}
 use Rattle.std.proofs.Common.{get_or, Option, Some, None, refl, sym, ap, ◌∙◌, subst, arith, add-one, append-nil}
-use Rattle.std.proofs.Common.{take-suc, drop-cons}
+use Rattle.std.proofs.Common.{drop-cons}
 use Rattle.std.specs.Prelude.{slice_get, sum_by}
 use Rattle.std.specs.List.{All, AllPairs, AllZip, filter_map}
 use Rattle.std.specs.Option.{option_map, option_map_or}
 use Rattle.std.proofs.lemmas.Bool.{eq-eqb, ne_eqb}
-use Rattle.std.proofs.lemmas.List.{drop_all, length-map, map-append}
+use Rattle.std.proofs.lemmas.List.{drop_all, length-map, map-append, take_more}
 use Rattle.std.proofs.lemmas.List.Elements.{All-append}
 use Rattle.std.proofs.lemmas.List.Sums.{sum_by-append, sum_by-cons}
 use Rattle.std.proofs.lemmas.Grind.{flat_map-append}
@@ -43,6 +43,7 @@ use Rattle.emit_in_place.specs.Plan.{written_all}
 use Rattle.emit_in_place.specs.declared.plan.Rewrite.{Rewrite}
 use Rattle.emit_in_place.specs.LocatedSections.{bytes_of}
 use Rattle.emit_in_place.specs.declared.located_section.LocatedSection.{LocatedSection}
+use Rattle.ldmodel_laws.proofs.EachOf.{zip_more}
 
 -- ---- the order of fields
 
@@ -166,17 +167,6 @@ both_raised m a b =
     ap (λ n. record m { fields = n }) e
 
 -- ---- one section after another
-
-pub take_more : (ts : List LocatedSection) (i : ℕ) (d : LocatedSection) → i < length ts
-    → take (i + 1) ts ≡ take i ts ++ get_or ts i d ∷ []
-take_more ts i d low = ap (λ n. take n ts) (add-one i) ∙ take-suc ts i d low
-
-pub zip_more : {X Y : Type 0} (R : X → Y → Type 0) (xs : List X) (ys : List Y) (x : X) (y : Y) → AllZip R xs ys
-    → R x y → AllZip R (xs ++ x ∷ []) (ys ++ y ∷ [])
-zip_more R [] [] x y h k = (k, tt)
-zip_more R [] (w ∷ ws) x y h k = absurd h
-zip_more R (v ∷ vs) [] x y h k = absurd h
-zip_more R (v ∷ vs) (w ∷ ws) x y h k = (h.0, zip_more R vs ws x y h.1 k)
 
 pub count_more : (l : KnownLink) (o : NamedObject) (ts : List LocatedSection) (t : LocatedSection) (m : Counts)
     → raised (raised m count.Fields (evaluations l (sites_in_all o ts))) count.Fields (evaluations l (sites_there o t))

@@ -3,9 +3,9 @@ use Rattle.std.proofs.Common.{◌≡◌, ◌+◌, ◌<◌, ◌≤◌, ◌==◌, 
 use Rattle.std.proofs.Common.{List, [], ◌∷◌, ◌++◌, flat_map, Option, Some, None, refl, sym, ap}
 use Rattle.std.proofs.Common.{◌∙◌, subst, arith, bytes_eq}
 use Rattle.std.specs.Prelude.{slice_get}
-use Rattle.std.specs.List.{All, AllPairs, Contains}
+use Rattle.std.specs.List.{AllPairs, Contains}
 use Rattle.std.specs.Option.{option_map_or}
-use Rattle.std.proofs.lemmas.Bool.{eq-eqb, eqb-true, false≢true}
+use Rattle.std.proofs.lemmas.Bool.{eq-eqb, eqb-true, false≢true, and_parts}
 use Rattle.std.proofs.lemmas.Option.{same_Some}
 use Rattle.std.proofs.lemmas.Slice.Eq.{bytes_eq-Decides}
 use Rattle.elfobj.specs.Sections.{LinkedSection}
@@ -20,16 +20,13 @@ use Rattle.ldmodel.specs.declared.sections.Part.TheVariants.{InTable}
 use Rattle.ldmodel_laws.proofs.Finding.{in_flat_map}
 use Rattle.ldmodel_laws.proofs.InImage.{linked}
 use Rattle.ldmodel_laws.proofs.Members.{first_or_later, here, later, none_in_nil}
-use Rattle.ldmodel_laws.proofs.PieceBytes.{both_of}
-use Rattle.ldmodel_laws.proofs.Untouched.{same_part}
+use Rattle.ldmodel_laws.proofs.SameParts.{same_part}
 use Rattle.emit_relocate.specs.PreviousLinkInfo.{range_of}
 use Rattle.emit_in_place.specs.Plan.{sites_in_all, sites_there}
 use Rattle.emit_in_place.specs.LocatedSections.{HasLocatedSections, IsLocatedSection, sites_of}
 use Rattle.emit_in_place.specs.declared.located_section.LocatedSection.{LocatedSection}
 use Rattle.emit_in_place.proofs.Places.{Found, found}
-
-pub of_member : {X : Type 0} (P : X → Type 0) (xs : List X) (x : X) → All P xs → Contains xs x → P x
-of_member P xs x h c = subst P c.2 (h c.0 x c.1)
+use Rattle.std.proofs.lemmas.List.Elements.{All-contains}
 
 -- ---- the input section of a spot
 
@@ -48,7 +45,7 @@ pub spot_piece : (p : Project) (s : Layout) (o : NamedObject) (t : LocatedSectio
 spot_piece p s o t k =
     let f : Found (is_part o.name (InTable k.section.number)) (placed_pieces s) k.piece =
     found (is_part o.name (InTable k.section.number)) (placed_pieces s) k.piece k.placed in
-    let both = both_of (bytes_eq k.piece.piece.object o.name)
+    let both = and_parts (bytes_eq k.piece.piece.object o.name)
     (is_same_part k.piece.piece.part (InTable k.section.number)) f.passes in
     let object_is : k.piece.piece.object ≡ o.name = (bytes_eq-Decides k.piece.piece.object o.name).0 both.0 in
     let part_is : k.piece.piece.part ≡ InTable k.section.number =
@@ -198,7 +195,7 @@ module _ (p : Project) (s : Layout) (o : NamedObject) where
 
   pub spots_have_sites : (ts : List LocatedSection) → HasLocatedSections p s o ts → sites_in_all o ts ≡ sites_of s o
   spots_have_sites ts h = all_sites 0 o.object.sections ts (record {
-    each = λ t c. stands t (of_member (IsLocatedSection p s o) ts t h.each c);
+    each = λ t c. stands t (All-contains (IsLocatedSection p s o) ts t h.each c);
     ascending = h.ascending;
     all = λ k x y e f. let a = h.all k x y e f in (a.0, a.1, omega (arith, a.2));
   })

@@ -1,6 +1,6 @@
 -- Bytes written over the bytes of a file, one list after another.
 use Rattle.std.proofs.Common.{◌≡◌, ◌+◌, ◌-◌, ◌<◌, ◌≤◌, ◌^◌, ◌⊎◌, inl, inr, ⊎_elim, ℕ, List, [], ◌∷◌, ◌++◌, length, take}
-use Rattle.std.proofs.Common.{get_or, slice_index, refl, sym, ap, ◌∙◌, subst, arith, add-one, take-suc}
+use Rattle.std.proofs.Common.{get_or, slice_index, sym, ap, ◌∙◌, subst, arith, add-one, take-suc}
 use Rattle.std.specs.Prelude.{sum_by}
 use Rattle.std.specs.List.{All}
 use Rattle.std.proofs.lemmas.Bool.{cases_lt}
@@ -21,12 +21,6 @@ pub record IsStep (w : Written) (old new : List ℕ) : Type 0 where
   pub before : (o : ℕ) → o < w.at → slice_index new o ≡ slice_index old o
   pub after : (o : ℕ) → w.at + length w.bytes ≤ o → slice_index new o ≡ slice_index old o
   pub length : length new ≡ length old
-
-pub none_written : (old : List ℕ) → AreWritten [] old old
-none_written old = record {
-  length = refl;
-  each = λ o. inr (record { clear = λ w c. absurd (none_in_nil w c); byte = refl });
-}
 
 module _ (ws : List Written) (w : Written) (a b c : List ℕ) (h : AreWritten ws a b) (step : IsStep w b c) where
   -- a byte that the last write leaves alone

@@ -19,6 +19,7 @@ use Rattle.ldmodel.specs.declared.sections.Part.{Part}
 use Rattle.ldmodel.specs.declared.sections.Part.TheVariants.{InTable, InCommon}
 use Rattle.gather.specs.Apart.{AscendingSections}
 use Rattle.gather.specs.LiveMarks.{IsSectionAt}
+use Rattle.ldmodel_laws.proofs.EachOf.{each_append, each_imply}
 
 -- as a number, sections before blocks
 abbrev kind_of : Part → ℕ
@@ -48,14 +49,6 @@ Ascend (x ∷ xs) = Before x xs × Ascend xs
 abbrev Each : (SectionId → Type 0) → List SectionId → Type 0
 Each P [] = Unit {0}
 Each P (x ∷ xs) = P x × Each P xs
-
-each_append : (P : SectionId → Type 0) (xs ys : List SectionId) → Each P xs → Each P ys → Each P (xs ++ ys)
-each_append P [] ys a b = b
-each_append P (x ∷ xs) ys a b = (a.0, each_append P xs ys a.1 b)
-
-each_weaker : (P Q : SectionId → Type 0) → ((x : SectionId) → P x → Q x) → (xs : List SectionId) → Each P xs → Each Q xs
-each_weaker P Q f [] a = tt
-each_weaker P Q f (x ∷ xs) a = (f x a.0, each_weaker P Q f xs a.1)
 
 before_each : (x : SectionId) (P : SectionId → Type 0) → ((y : SectionId) → P y → Precedes x y) → (ys : List SectionId)
     → Each P ys → Before x ys
@@ -161,7 +154,7 @@ module _ (p : Project) (i : ℕ) (o : NamedObject) where
   blocks_from k [] = tt
   blocks_from k (s ∷ ss) =
       go (block_at p i o (k, s)) refl
-      (each_weaker (IsBlockFrom i (k + 1)) (IsBlockFrom i k) (λ x h. (h.0, h.1, omega (arith, h.2))) (found (k + 1) ss)
+      (each_imply (IsBlockFrom i (k + 1)) (IsBlockFrom i k) (λ x h. (h.0, h.1, omega (arith, h.2))) (found (k + 1) ss)
       (blocks_from (k + 1) ss))
     where
       go : (b : Option InputSection) → block_at p i o (k, s) ≡ b → Each (IsBlockFrom i k) (found (k + 1) ss)
@@ -206,9 +199,9 @@ module _ (p : Project) (i : ℕ) (o : NamedObject) where
   of_this : Each (λ x. x.object ≡ i) of_object
   of_this = subst (Each (λ x. x.object ≡ i)) (sym split)
       (each_append (λ x. x.object ≡ i) (ids (map (linked_input i o) o.object.sections)) (found 0 o.object.symbols)
-      (each_weaker (IsTableOf i) (λ x. x.object ≡ i) (λ x h. h.0) (ids (map (linked_input i o) o.object.sections))
+      (each_imply (IsTableOf i) (λ x. x.object ≡ i) (λ x h. h.0) (ids (map (linked_input i o) o.object.sections))
       (linked_tables i o o.object.sections))
-      (each_weaker (IsBlockFrom i 0) (λ x. x.object ≡ i) (λ x h. h.0) (found 0 o.object.symbols)
+      (each_imply (IsBlockFrom i 0) (λ x. x.object ≡ i) (λ x h. h.0) (found 0 o.object.symbols)
       (blocks_from 0 o.object.symbols)))
 
 module _ (p : Project) where
@@ -226,9 +219,9 @@ module _ (p : Project) where
   from_object n [] = tt
   from_object n (o ∷ os) = subst (Each (λ x. n ≤ x.object)) (sym (parts n o os))
       (each_append (λ x. n ≤ x.object) (ids (object_inputs p n o)) (of_all (n + 1) os)
-      (each_weaker (λ x. x.object ≡ n) (λ x. n ≤ x.object) (λ x h. omega (arith, h)) (ids (object_inputs p n o))
+      (each_imply (λ x. x.object ≡ n) (λ x. n ≤ x.object) (λ x h. omega (arith, h)) (ids (object_inputs p n o))
       (of_this p n o))
-      (each_weaker (λ x. n + 1 ≤ x.object) (λ x. n ≤ x.object) (λ x h. omega (arith, h)) (of_all (n + 1) os)
+      (each_imply (λ x. n + 1 ≤ x.object) (λ x. n ≤ x.object) (λ x h. omega (arith, h)) (of_all (n + 1) os)
       (from_object (n + 1) os)))
 
   all_ascend : (n : ℕ) (os : List NamedObject)

@@ -5,8 +5,7 @@ use Rattle.std.proofs.Common.{refl, ap, sym, ◌∙◌, subst, arith, Option, So
 use Rattle.std.specs.Prelude.{bytes_eq}
 use Rattle.std.specs.List.{list_any, position_from}
 use Rattle.std.specs.Option.{IfSome, option_map, option_map_or, is_none}
-use Rattle.std.proofs.lemmas.Bool.{false≢true, and_parts}
-use Rattle.std.proofs.lemmas.Bool.Decides.{nat_tests}
+use Rattle.std.proofs.lemmas.Bool.{false≢true, and_parts, eqb-true}
 use Rattle.std.proofs.lemmas.Slice.Eq.{bytes_eq-Decides}
 use Rattle.std.proofs.lemmas.Iterator.Adapters.{position_from-zero}
 use Rattle.ldscript.specs.terms.Parts.{Part, AnyRun, AnyByte, Byte, OneOf}
@@ -26,9 +25,6 @@ use Rattle.gather.specs.Words.{shown_words, words_of, words_from}
 use Rattle.gather.specs.WordTables.{shown_listed}
 use Rattle.gather.specs.declared.file_tables.FileTables.{FileTables}
 
-equal_numbers : (a b : ℕ) → eqb a b ≡ true → a ≡ b
-equal_numbers a b h = grind (arith, nat_tests)
-
 -- a pattern of bytes alone matches its name alone
 exact_only : (ps : List Part) (name q : List ℕ) → exact_name ps ≡ Some q → is_match ps name ≡ true → name ≡ q
 unfolding is_match
@@ -42,7 +38,7 @@ exact_only (Byte x ∷ ps) (b ∷ bs) q e m = go (exact_name ps) refl e (λ r a 
     go None a h rest = cc
     go (Some r) a h rest =
         let both = and_parts (eqb b x) (is_match ps bs) m in
-        let first : b ≡ x = equal_numbers b x both.0 in
+        let first : b ≡ x = eqb-true b x both.0 in
         let later : bs ≡ r = rest r a both.1 in
         cc
 exact_only (AnyRun ∷ ps) name q e m = cc

@@ -17,7 +17,7 @@ use Rattle.gather.specs.LiveMarks.{IsSectionAt}
 use Rattle.gather.specs.Matches.{number_of}
 use Rattle.gather.specs.Roots.{is_kept_by, kept_numbers}
 use Rattle.gather.specs.declared.gathered_section.GatheredSection.{GatheredSection}
-use Rattle.gather.proofs.InLists.{here, later, first_or_later, none_in_nil}
+use Rattle.ldmodel_laws.proofs.Members.{here, later, first_or_later, none_in_nil}
 
 module _ (statements : List InputStatementAt) where
   abbrev keeps : GatheredSection → Bool

@@ -18,7 +18,7 @@ use Rattle.gather.specs.SectionPlaces.{ArePlaces, AreProjectPlaces, IsPlaceOf}
 use Rattle.gather_sections.specs.SectionTable.{IsTableOf, number_of}
 use Rattle.gather_sections.specs.declared.input_section_table.InputSectionTable.{InputSectionTable}
 use Rattle.gather.proofs.InLists.{there}
-use Rattle.gather.proofs.PlacesUnder.{part_itself, same_part}
+use Rattle.ldmodel_laws.proofs.SameParts.{same_part, own_part}
 
 abbrev pub id_in : SectionKey → SectionId
 id_in k = section_id (λ key. key) k
@@ -31,7 +31,7 @@ same_id a b h =
 
 id_itself : (a : SectionId) → is_same a a ≡ true
 id_itself a =
-    and_from (eqb a.object a.object) (is_same_part a.part a.part) (eq-eqb a.object a.object refl) (part_itself a.part)
+    and_from (eqb a.object a.object) (is_same_part a.part a.part) (eq-eqb a.object a.object refl) (own_part a.part)
 
 key_of : SectionId → SectionKey
 key_of i = record { object = record { 0 = i.object }; part = i.part }

@@ -14,7 +14,8 @@ use Rattle.ldmodel.specs.Reach.{Path, start, step}
 use Rattle.ldmodel.specs.Sections.{InputSection}
 use Rattle.gather.specs.Graphs.{Graph, IsIn, IsLive, IsMarked, from_root, from_live}
 use Rattle.gather.specs.LiveMarks.{IsGraphOf, IsSectionAt, marked}
-use Rattle.gather.proofs.InLists.{in_filter, filter_in, filter_twice, same_test, marked_filter}
+use Rattle.gather.proofs.InLists.{filter_twice, marked_filter}
+use Rattle.ldmodel_laws.proofs.Members.{in_filter, filter_in, same_tests}
 
 live_in : (g : Graph) (k : ℕ) → IsLive g k → IsIn g k
 live_in g k (from_root s c i) = i
@@ -86,7 +87,7 @@ module _ (p : Project) (g : Graph) (w : IsGraphOf p g) where
     passes s = is_in s && test s
 
     mark_is : (k : ℕ) (s : InputSection) → IsSectionAt p k s → slice_index_or marks k false ≡ passes s
-    mark_is k s e = same_test (slice_index_or marks k false) (passes s)
+    mark_is k s e = same_tests (slice_index_or marks k false) (passes s)
         (λ m. let c : Contains (live p) s = (paths s).1 (live_path k ((reached k).0 m) s e) in
         let kept : Contains (candidates p) s × (test s ≡ true) =
         in_filter test (candidates p) s (subst (λ l. Contains l s) in_order c) in

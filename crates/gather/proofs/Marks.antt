@@ -9,6 +9,7 @@ use Rattle.std.proofs.lemmas.List.Elements.{Contains-push, Contains-push_cases, 
 use Rattle.std.proofs.lemmas.List.Sums.{sum_by-set}
 use Rattle.std.proofs.lemmas.Grind.{get_or_default_zero}
 use Rattle.gather.specs.Graphs.{Graph, IsIn, IsLive, LeadsTo, IsMarked, IsVisit, from_root, from_live}
+use Rattle.ldmodel_laws.proofs.Members.{none_in_nil}
 
 -- where the search stands: `at` is the section that is being expanded, or no section
 pub record Marks (g : Graph) (live : List Bool) (stack : List ℕ) (at : ℕ) : Type 0 where
@@ -24,9 +25,6 @@ work live stack = count_by not live + length stack
 pub marked_within : (live : List Bool) (s : ℕ) → IsMarked live s → s < length live
 marked_within live s m =
     ⊎_elim (λ h. h) (λ h. absurd (false≢true (sym (get_or_past live s false h) ∙ m))) (cases_lt s (length live))
-
-none_contained : (s : ℕ) → Contains [] s → ⊥
-none_contained s h = omega (arith, h.1)
 
 -- what a visit keeps and adds
 pub record Visited (g : Graph) (live : List Bool) (stack : List ℕ) (at next : ℕ) (live' : List Bool) (stack' : List ℕ)
@@ -130,7 +128,7 @@ marks_end g live m r s = (m.sound s, all s)
     all : (x : ℕ) → IsLive g x → IsMarked live x
     all x (from_root s h i) = r s h i
     all x (from_live a b l t i) =
-        ⊎_elim (λ p. p) (⊎_elim (λ p. absurd (none_contained a p)) (λ q.
+        ⊎_elim (λ p. p) (⊎_elim (λ p. absurd (none_in_nil a p)) (λ q.
         absurd (omega (arith, q, m.long, marked_within live a (all a l))))) (m.closed a b (all a l) t i)
 
 -- these are the sections that section s refers to
@@ -150,7 +148,3 @@ leads_out g s k items h are w i =
 pub each_contained : (xs : List ℕ) (P : ℕ → Type 0) → ((k : ℕ) → k < length xs → P (get_or xs k 0)) → (x : ℕ)
     → Contains xs x → P x
 each_contained xs P f x c = subst P (sym (get_or_default_zero xs c.0 x c.1) ∙ c.2) (f c.0 c.1)
-
-pub empty_length : (xs : List ℕ) → length xs ≡ 0 → xs ≡ []
-empty_length [] h = refl
-empty_length (x ∷ xs) h = absurd (omega (arith, h))

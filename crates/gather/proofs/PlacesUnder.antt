@@ -11,22 +11,12 @@ use Rattle.gather.specs.declared.gathered_section.GatheredSection.{GatheredSecti
 use Rattle.ldmodel.specs.Project.{Project}
 use Rattle.ldmodel.specs.Sections.{is_same_part}
 use Rattle.ldmodel.specs.declared.sections.Part.{Part}
-use Rattle.ldmodel.specs.declared.sections.Part.TheVariants.{InTable, InCommon}
 use Rattle.ldmodel.specs.declared.sections.SectionKey.{SectionKey}
 use Rattle.gather.specs.SectionPlaces.{ArePlaces, is_same_key, place_at, place_under, with_place}
 use Rattle.gather_sections.specs.SectionTable.{IsTableOf, len_of, number_of}
 use Rattle.gather_sections.specs.declared.input_section_table.SectionNumber.{SectionNumber}
 use Rattle.gather_sections.specs.declared.input_section_table.InputSectionTable.{InputSectionTable}
-
-pub same_part : (a b : Part) → is_same_part a b ≡ true → a ≡ b
-same_part (InTable k) (InTable n) h = ap (λ x. InTable (record { 0 = x })) (eqb-true k.0 n.0 h)
-same_part (InTable k) (InCommon t) h = absurd (cc)
-same_part (InCommon s) (InTable n) h = absurd (cc)
-same_part (InCommon s) (InCommon t) h = ap (λ x. InCommon (record { 0 = x })) (eqb-true s.0 t.0 h)
-
-pub part_itself : (a : Part) → is_same_part a a ≡ true
-part_itself (InTable k) = eq-eqb k.0 k.0 refl
-part_itself (InCommon s) = eq-eqb s.0 s.0 refl
+use Rattle.ldmodel_laws.proofs.SameParts.{same_part, own_part}
 
 same_key : (a b : SectionKey) → is_same_key a b ≡ true → a ≡ b
 same_key a b h =
@@ -37,7 +27,7 @@ same_key a b h =
 key_itself : (a : SectionKey) → is_same_key a a ≡ true
 key_itself a =
     and_from (eqb a.object.0 a.object.0) (is_same_part a.part a.part) (eq-eqb a.object.0 a.object.0 refl)
-    (part_itself a.part)
+    (own_part a.part)
 
 -- a column of a table, with one more place
 module _ (p : Project) (t : InputSectionTable) (table : IsTableOf p t) (s : SectionKey) (n : ℕ) (old : List (Option ℕ))
@@ -60,7 +50,7 @@ module _ (p : Project) (t : InputSectionTable) (table : IsTableOf p t) (s : Sect
             let both = table.apart k.object.0 s.object.0 k.part s.part at (e ∙ ap Some same) is in
             absurd (false≢true (sym differ ∙ and_from (eqb k.object.0 s.object.0) (is_same_part k.part s.part)
             (eq-eqb k.object.0 s.object.0 both.0)
-            (subst (λ (q : Part). is_same_part k.part q ≡ true) both.1 (part_itself k.part)))))
+            (subst (λ (q : Part). is_same_part k.part q ≡ true) both.1 (own_part k.part)))))
 
     put_at : (k : SectionKey) → place_under t (set old at (Some n)) k
         ≡ cond (is_same_key k s) (Some n) (place_under t old k)

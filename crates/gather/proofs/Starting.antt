@@ -6,6 +6,7 @@ use Rattle.std.specs.Prelude.{IsTrue}
 use Rattle.std.specs.List.{Contains, list_any}
 use Rattle.std.proofs.lemmas.List.{get_or_default, length-map}
 use Rattle.std.proofs.lemmas.Option.{get_or_from_slice_get, same_Some, slice_get_within}
+use Rattle.std.proofs.lemmas.Bool.{or_cases, or_left, or_right}
 use Rattle.gather.specs.GatheredSections.{AreGathered}
 use Rattle.gather.specs.Graphs.{graph_of}
 use Rattle.gather.specs.LiveMarks.{IsGraphOf, IsSectionAt}
@@ -20,7 +21,6 @@ use Rattle.gather.specs.SectionPlaces.{AddsTargets, IsPlaceOf, Refers}
 use Rattle.gather.proofs.InLists.{there}
 use Rattle.gather.proofs.Keyed.{as_many, id_at, id_in}
 use Rattle.gather.proofs.Named.{found_one}
-use Rattle.gather.proofs.Refers.{or_cases, or_left, or_right}
 
 -- of the section of a key
 pub own_row : (p : Project) (xs : List GatheredSection) (n : ℕ) (x : GatheredSection)

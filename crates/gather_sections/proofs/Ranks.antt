@@ -1,6 +1,6 @@
 -- The order of input sections.
 use Rattle.std.proofs.Common.{◌≡◌, ◌<◌, ◌==◌, ◌&&◌, ℕ, Bool, true, false, cond, refl, sym, ap, ◌∙◌, arith}
-use Rattle.std.proofs.lemmas.Bool.{eq-eqb, eqb-true, false≢true, ltb-true}
+use Rattle.std.proofs.lemmas.Bool.{eq-eqb, eqb-true, false≢true, ltb-true, and_parts}
 use Rattle.std.proofs.lemmas.Cmp.{nat_cmp_total, on_total, then_total}
 use Rattle.std.specs.Cmp.{IsTotalOrder, bool_cmp_total}
 use Rattle.std.specs.Ordering.{bool_cmp, is_eq, nat_cmp, ordering_then}
@@ -53,26 +53,18 @@ beq_true true false e = absurd (false≢true e)
 beq_true false true e = absurd (false≢true e)
 beq_true false false e = refl
 
-left : (s t : Bool) → s && t ≡ true → s ≡ true
-left true t e = refl
-left false t e = e
-
-right : (s t : Bool) → s && t ≡ true → t ≡ true
-right true t e = e
-right false t e = absurd (false≢true e)
-
 -- ranks that compare as equal are one
 pub one : (x y : ℕ × Bool × ℕ) → is_eq (rank_cmp x y) ≡ true → x ≡ y
 one x y e =
-    ap (λ (i : ℕ). (i, x.1, x.2)) (eqb-true x.0 y.0 (left (x.0 == y.0) (beq x.1 y.1) both))
-    ∙ ap (λ (b : Bool). (y.0, b, x.2)) (beq_true x.1 y.1 (right (x.0 == y.0) (beq x.1 y.1) both))
-    ∙ ap (λ (k : ℕ). (y.0, y.1, k)) (eqb-true x.2 y.2 (right ((x.0 == y.0) && beq x.1 y.1) (x.2 == y.2) all))
+    ap (λ (i : ℕ). (i, x.1, x.2)) (eqb-true x.0 y.0 (and_parts (x.0 == y.0) (beq x.1 y.1) both).0)
+    ∙ ap (λ (b : Bool). (y.0, b, x.2)) (beq_true x.1 y.1 (and_parts (x.0 == y.0) (beq x.1 y.1) both).1)
+    ∙ ap (λ (k : ℕ). (y.0, y.1, k)) (eqb-true x.2 y.2 (and_parts ((x.0 == y.0) && beq x.1 y.1) (x.2 == y.2) all).1)
   where
     all : are_equal x y ≡ true
     all = sym (equal x y) ∙ e
 
     both : (x.0 == y.0) && beq x.1 y.1 ≡ true
-    both = left ((x.0 == y.0) && beq x.1 y.1) (x.2 == y.2) all
+    both = (and_parts ((x.0 == y.0) && beq x.1 y.1) (x.2 == y.2) all).0
 
 beq_self : (x : Bool) → beq x x ≡ true
 beq_self true = refl

@@ -1,20 +1,21 @@
 -- Where a gap begins after an input section, and its bytes.
-use Rattle.std.proofs.Common.{◌≡◌, ◌⊎◌, inl, inr, ⊎_elim, ℕ, zero, suc, ◌+◌, ◌-◌, ◌<◌, ◌≤◌, ◌==◌, nat_le, nat_lt, Bool}
+use Rattle.std.proofs.Common.{◌≡◌, ◌⊎◌, inl, inr, ⊎_elim, ℕ, zero, suc, ◌+◌, ◌-◌, ◌<◌, ◌≤◌, ◌==◌, Bool}
 use Rattle.std.proofs.Common.{true, false}
 use Rattle.std.proofs.Common.{cond, not, ◌&&◌, List, [], ◌∷◌, ◌++◌, length, map, filter, find, Option, Some, None, refl}
 use Rattle.std.proofs.Common.{sym, ap, ◌∙◌, subst, arith}
 use Rattle.std.specs.List.{Contains}
-use Rattle.std.proofs.lemmas.Bool.{cases_lt, false≢true, lt-ltb, le-leb}
+use Rattle.std.proofs.lemmas.Bool.{cases_lt, false≢true}
 use Rattle.ldmodel.specs.Each.{Each}
 use Rattle.ldmodel.specs.Image.{covers, ends_in, fill_byte, gap_byte, gap_start}
 use Rattle.ldmodel.specs.Layout.{PlacedData, PlacedPiece, PlacedOutput}
 use Rattle.ldmodel_laws.specs.Gaps.{IsBare, IsGapStart}
 use Rattle.ldmodel_laws.specs.Spread.{IsSpread, data_end, piece_end}
-use Rattle.ldmodel_laws.proofs.Finding.{in_either, in_map, member_of}
-use Rattle.ldmodel_laws.proofs.Gapped.{gap_starts}
+use Rattle.ldmodel_laws.proofs.Finding.{in_map, member_of}
+use Rattle.ldmodel_laws.proofs.Gapped.{gap_starts, end_of_piece, end_of_data}
 use Rattle.ldmodel_laws.proofs.Members.{first_or_later, in_filter, none_in_nil}
-use Rattle.ldmodel_laws.proofs.PieceBytes.{of_both}
+use Rattle.ldmodel_laws.proofs.PieceBytes.{covering}
 use Rattle.ldmodel_carried.specs.Carried.{IsPast}
+use Rattle.std.proofs.lemmas.List.Elements.{Contains-append_cases}
 
 -- where nothing is found, no member passes the test
 none_passes : {X : Type 0} (test : X → Bool) (xs : List X) (x : X) → find test xs ≡ None → Contains xs x
@@ -29,9 +30,6 @@ none_passes {X} test (y ∷ ys) x h c e = go (test y) refl h (first_or_later y y
     go false f k (inl same) rest = false≢true (sym f ∙ (ap test same ∙ e))
     go false f k (inr in_rest) rest = rest k in_rest
 
-covering : (a n o : ℕ) → a ≤ o → o < a + n → covers a n o ≡ true
-covering a n o h k = of_both (nat_le a o) (nat_lt o (a + n)) (le-leb a o h) (lt-ltb o (a + n) k)
-
 -- an address in an input section or a data command is not bare
 no_piece : (q : PlacedOutput) (x : PlacedPiece) (at : ℕ) → Contains q.pieces x → IsBare q at → x.start ≤ at
     → at < piece_end x → ⊥
@@ -44,12 +42,6 @@ no_data : (q : PlacedOutput) (d : PlacedData) (at : ℕ) → Contains q.data_com
 no_data q d at c bare low high =
     none_passes (λ (y : PlacedData). covers y.start (length y.bytes) at) q.data_commands d bare.data_command c
     (covering d.start (length d.bytes) at low high)
-
-abbrev end_of_piece : PlacedPiece → ℕ
-end_of_piece x = x.start + x.piece.size
-
-abbrev end_of_data : PlacedData → ℕ
-end_of_data d = d.start + length d.bytes
 
 is_some : (n : ℕ) → not (n == 0) ≡ true → 0 < n
 is_some zero e = absurd (false≢true e)
@@ -79,7 +71,8 @@ module _ (q : PlacedOutput) (x : PlacedPiece) (n : ℕ) (past : IsPast q x n) wh
   not_after : piece_end x < gap_start q at → ⊥
   not_after high =
       ⊎_elim (λ first. omega (arith, first, high, inside.0, some))
-      (λ ends. by_end (in_either (map end_of_piece (filter (λ (y : PlacedPiece). not (y.piece.size == 0)) q.pieces))
+      (λ ends. by_end (Contains-append_cases
+      (map end_of_piece (filter (λ (y : PlacedPiece). not (y.piece.size == 0)) q.pieces))
       (map end_of_data q.data_commands) (gap_start q at) ends)) begins.longest
     where
       free : IsBare q (gap_start q at - 1)

@@ -7,16 +7,8 @@ use Rattle.ldmodel.specs.Each.{Each}
 use Rattle.ldmodel_laws.specs.Spread.{EachLater}
 use Rattle.ldmodel_laws.proofs.Finding.{each_member, member_of}
 use Rattle.ldmodel_laws.proofs.Members.{first_or_later, none_in_nil}
+use Rattle.ldmodel_laws.proofs.EachOf.{each_and, each_imply}
 use Rattle.ldmodel_carried.specs.Shifted.{Downs, HasCome, IsMoved, IsSame, MovedIf, Precedes, Run, Ups}
-
-each_imply : {X : Type 0} (P Q : X → Type 0) (xs : List X) → ((x : X) → P x → Q x) → Each P xs → Each Q xs
-each_imply P Q [] f h = tt
-each_imply P Q (x ∷ xs) f h = (f x h.0, each_imply P Q xs f h.1)
-
-each_both : {X : Type 0} (P Q R : X → Type 0) (xs : List X) → ((x : X) → P x → Q x → R x) → Each P xs → Each Q xs
-    → Each R xs
-each_both P Q R [] f h k = tt
-each_both P Q R (x ∷ xs) f h k = (f x h.0 k.0, each_both P Q R xs f h.1 k.1)
 
 not_less : (a b : ℕ) → nat_lt a b ≡ false → a < b → ⊥
 not_less a b e l = true≢false (sym (lt-ltb a b l) ∙ e)
@@ -49,17 +41,17 @@ lift (r ∷ rs) f g h (m, u, w) = go (nat_lt r.from r.to) refl w (lift rs f m h.
     go true e x rest = record {
       there = (
         λ up i l. x.moved i l
-            ∙ rest.kept (r.from + i) (each_imply (Precedes r) (OffUp (r.from + i)) rs
-            (λ s p goes. inl (let k = p.lies in omega (arith, k, goes, l))) h.0),
-        each_both (Precedes r) (ComeUp f m) (ComeUp f g) rs
-            (λ s p come up i l. x.after (s.to + i) (let k = p.goes in omega (arith, k)) ∙ come up i l) h.0 rest.there,
+            ∙ rest.kept (r.from + i) (each_imply (Precedes r) (OffUp (r.from + i))
+            (λ s p goes. inl (let k = p.lies in omega (arith, k, goes, l))) rs h.0),
+        each_and (Precedes r) (ComeUp f m) (ComeUp f g)
+            (λ s p come up i l. x.after (s.to + i) (let k = p.goes in omega (arith, k)) ∙ come up i l) rs h.0 rest.there,
       );
       kept = λ o off. off_same r m g o x (off.0 (ltb-true r.from r.to e)) ∙ rest.kept o off.1;
     }
     go false e x rest = record {
       there = (
         λ up i l. absurd (not_less r.from r.to e up),
-        each_imply (ComeUp f m) (ComeUp f g) rs (λ s come up i l. x (s.to + i) ∙ come up i l) rest.there,
+        each_imply (ComeUp f m) (ComeUp f g) (λ s come up i l. x (s.to + i) ∙ come up i l) rs rest.there,
       );
       kept = λ o off. x o ∙ rest.kept o off.1;
     }
@@ -83,19 +75,19 @@ lower (r ∷ rs) f g h (m, w, u) = go (nat_lt r.to r.from) refl w (lower rs m g 
     go : (b : Bool) → nat_lt r.to r.from ≡ b → MovedIf b r f m → Lowered rs m g → Lowered (r ∷ rs) f g
     go true e x rest = record {
       there = (
-        λ down i l. rest.kept (r.to + i) (each_imply (Precedes r) (OffDown (r.to + i)) rs
-            (λ s p goes. inl (let k = p.goes in omega (arith, k, l))) h.0)
+        λ down i l. rest.kept (r.to + i) (each_imply (Precedes r) (OffDown (r.to + i))
+            (λ s p goes. inl (let k = p.goes in omega (arith, k, l))) rs h.0)
             ∙ x.moved i l,
-        each_both (Precedes r) (ComeDown m g) (ComeDown f g) rs
-            (λ s p come down i l. come down i l
-            ∙ x.after (s.from + i) (let k = p.goes in omega (arith, k, down))) h.0 rest.there,
+        each_and (Precedes r) (ComeDown m g) (ComeDown f g) (λ s p come down i l. come down i l
+            ∙ x.after (s.from + i) (let k = p.goes in omega (arith, k, down)))
+            rs h.0 rest.there,
       );
       kept = λ o off. rest.kept o off.1 ∙ off_same r f m o x (off.0 (ltb-true r.to r.from e));
     }
     go false e x rest = record {
       there = (
         λ down i l. absurd (not_less r.to r.from e down),
-        each_imply (ComeDown m g) (ComeDown f g) rs (λ s come down i l. come down i l ∙ x (s.from + i)) rest.there,
+        each_imply (ComeDown m g) (ComeDown f g) (λ s come down i l. come down i l ∙ x (s.from + i)) rs rest.there,
       );
       kept = λ o off. rest.kept o off.1 ∙ x o;
     }
@@ -113,7 +105,7 @@ others (s ∷ ss) r h c = go (first_or_later s ss r c) (λ in_rest. others ss r 
     go : (s ≡ r) ⊎ Contains ss r → (Contains ss r → Each (Beside r) ss) → Each (Beside r) (s ∷ ss)
     go (inl same) rest = (
       inl same,
-      each_imply (Precedes s) (Beside r) ss (λ t p. inr (inr (subst (λ z. Precedes z t) same p))) h.0,
+      each_imply (Precedes s) (Beside r) (λ t p. inr (inr (subst (λ z. Precedes z t) same p))) ss h.0,
     )
     go (inr in_rest) rest = (inr (inl (member_of (Precedes s) ss r h.0 in_rest)), rest in_rest)
 
@@ -145,23 +137,23 @@ in_place rs f g h order up down = each_member (HasCome f h) rs one
     one : (r : Run) → Contains rs r → HasCome f h r
     one r c i low = elim (cases_lt r.from r.to) [
       | inl rises ↦
-          lowered.kept (r.to + i) (each_imply (Beside r) (OffDown (r.to + i)) rs (λ s b falls.
+          lowered.kept (r.to + i) (each_imply (Beside r) (OffDown (r.to + i)) (λ s b falls.
           off_at r i low s b (λ same. let k : r.to < r.from = subst (λ (z : Run). z.to < z.from) same falls in
-          let none : ⊥ = omega (arith, k, rises) in none)) (others rs r order c))
+          let none : ⊥ = omega (arith, k, rises) in none)) rs (others rs r order c))
           ∙ member_of (ComeUp f g) rs r lifted.there c rises i low
       | inr not_up ↦ elim (cases_lt r.to r.from) [
         | inl falls ↦
             member_of (ComeDown g h) rs r lowered.there c falls i low
-            ∙ lifted.kept (r.from + i) (each_imply (Beside r) (OffUp (r.from + i)) rs (λ s b rises.
-            off_from r i low s b falls rises) (others rs r order c))
+            ∙ lifted.kept (r.from + i) (each_imply (Beside r) (OffUp (r.from + i)) (λ s b rises.
+            off_from r i low s b falls rises) rs (others rs r order c))
         | inr not_down ↦
             let same : r.to + i ≡ r.from + i = omega (arith, not_up, not_down) in
-            lowered.kept (r.to + i) (each_imply (Beside r) (OffDown (r.to + i)) rs (λ s b falls.
+            lowered.kept (r.to + i) (each_imply (Beside r) (OffDown (r.to + i)) (λ s b falls.
             off_at r i low s b (λ is. let k : r.to < r.from = subst (λ (z : Run). z.to < z.from) is falls in
-            let none : ⊥ = omega (arith, k, not_down) in none)) (others rs r order c))
-            ∙ lifted.kept (r.to + i) (each_imply (Beside r) (OffUp (r.to + i)) rs (λ s b rises.
+            let none : ⊥ = omega (arith, k, not_down) in none)) rs (others rs r order c))
+            ∙ lifted.kept (r.to + i) (each_imply (Beside r) (OffUp (r.to + i)) (λ s b rises.
             off_at r i low s b (λ is. let k : r.from < r.to = subst (λ (z : Run). z.from < z.to) is rises in
-            let none : ⊥ = omega (arith, k, not_up) in none)) (others rs r order c))
+            let none : ⊥ = omega (arith, k, not_up) in none)) rs (others rs r order c))
             ∙ subst (λ n. f (r.to + i) ≡ f n) same refl
       ]
     ]

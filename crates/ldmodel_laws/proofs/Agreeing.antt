@@ -5,9 +5,8 @@ use Rattle.std.proofs.Common.{subst}
 use Rattle.std.specs.Option.{option_map}
 use Rattle.ldscript.specs.terms.Expressions as expression
 use Rattle.ldscript.specs.terms.Expressions.{Expr}
-use Rattle.ldscript.specs.terms.declared.operator.BinaryOperator.{BinaryOperator}
 use Rattle.ldmodel.specs.Chain.{and_then}
-use Rattle.ldmodel.specs.Value.{Scope, ValueFault, NotReady, value, named, is_true, unary_value, binary_value}
+use Rattle.ldmodel.specs.Value.{Scope, ValueFault, value, named, is_true, unary_value, binary_value}
 use Rattle.ldmodel.specs.Value.{decides_alone, aligned, asked_of_region, asked_of_section}
 use Rattle.ldmodel_laws.specs.Bounds.{DoAgree}
 

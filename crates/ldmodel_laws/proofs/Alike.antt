@@ -5,7 +5,7 @@ use Rattle.std.proofs.Common.{Result, Ok, Err, refl, sym, ap, subst, ◌∙◌, 
 use Rattle.std.proofs.lemmas.List.{append-nil}
 use Rattle.std.specs.List.{list_any}
 use Rattle.std.specs.Option.{option_map, option_or}
-use Rattle.std.specs.Prelude.{⊤, find}
+use Rattle.std.specs.Prelude.{find}
 use Rattle.std.proofs.lemmas.Bool.{or_parts}
 use Rattle.std.proofs.lemmas.List.Folds.{find-append}
 use Rattle.std.proofs.lemmas.Slice.Eq.{bytes_eq-Decides}
@@ -37,7 +37,7 @@ use Rattle.ldmodel.specs.Placement.{with_dot, with_data, data_step, moved_on, ad
 use Rattle.ldmodel.specs.Placement.{body_command_step, body_step}
 use Rattle.ldmodel.specs.Chain.{and_then}
 use Rattle.ldmodel.specs.Fault.{Fault, MovedBack}
-use Rattle.ldmodel.specs.Layout.{Layout, ScriptSymbol, address, noted, number, scope_of, script_value, symbol_named}
+use Rattle.ldmodel.specs.Layout.{Layout, ScriptSymbol, address, noted, number, scope_of, symbol_named}
 use Rattle.ldmodel.specs.Layout.{value_at, with_symbol}
 use Rattle.ldmodel.specs.Rows.{Piece}
 use Rattle.ldmodel.specs.Value.{ValueFault, value}

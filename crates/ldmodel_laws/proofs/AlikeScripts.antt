@@ -1,50 +1,30 @@
 -- The layouts of a script in which other PROVIDEs are in force differ in symbols alone, as far as the rows are the
 -- same.
-use Rattle.std.proofs.Common.{◌≡◌, ℕ, ◌+◌, ◌≤◌, List, [], ◌∷◌, ◌++◌, length, Bool, true, false}
-use Rattle.std.proofs.Common.{Result, Ok, refl, sym, ap, subst, ◌∙◌, append_assoc, arith, bytes_eq, Some}
-use Rattle.std.specs.List.{Contains, list_any}
-use Rattle.std.specs.Prelude.{⊤}
+use Rattle.std.proofs.Common.{◌≡◌, ◌≢◌, ℕ, ◌≤◌, List, [], ◌∷◌, ◌++◌, length, false}
+use Rattle.std.proofs.Common.{Ok, refl, sym, ap, subst, ◌∙◌, append_assoc, arith, bytes_eq}
 use Rattle.std.proofs.lemmas.List.{append-nil}
-use Rattle.std.proofs.lemmas.Slice.Eq.{bytes_eq-Decides}
 use Rattle.ldscript.specs.Script.{IsSound}
-use Rattle.ldscript.specs.statements.Mentions.{Clashes, Mention, SymbolGiven, in_body, in_body_command, in_directive}
-use Rattle.ldscript.specs.statements.Mentions.{in_item_command, in_items, in_load_head, in_load_tail, in_optional}
-use Rattle.ldscript.specs.statements.Mentions.{in_region_name}
-use Rattle.ldscript.specs.statements.Mentions.{in_section, in_top_command, mentions}
-use Rattle.ldscript.specs.statements.Numbering.{
-  DirectiveAt,
-  all_directives,
-  directives_in,
-  directives_of,
-  item_directives,
-}
+use Rattle.ldscript.specs.statements.Numbering.{DirectiveAt, all_directives, item_directives}
 use Rattle.ldscript.specs.statements.Numbering.{items_directives}
 use Rattle.ldscript.specs.statements.Numbering.{top_directives}
-use Rattle.ldscript.specs.statements.declared.directive.Directive.{Directive}
-use Rattle.ldscript.specs.statements.declared.directive.Directive.TheVariants as directive
-use Rattle.ldscript.specs.statements.declared.section.BodyCommand.{BodyCommand}
-use Rattle.ldscript.specs.statements.declared.section.BodyCommand.TheVariants as body
-use Rattle.ldscript.specs.statements.declared.section.BodyStatement.{BodyStatement}
-use Rattle.ldscript.specs.statements.declared.section.OutputSection.{OutputSection}
 use Rattle.ldscript.specs.statements.declared.statement.Command.{Command}
 use Rattle.ldscript.specs.statements.declared.statement.Command.TheVariants as top
 use Rattle.ldscript.specs.statements.declared.statement.Item.{Item}
-use Rattle.ldscript.specs.statements.declared.statement.ItemCommand.{ItemCommand}
-use Rattle.ldscript.specs.statements.declared.statement.ItemCommand.TheVariants as item
 use Rattle.ldscript.specs.statements.declared.statement.Region.{Region}
 use Rattle.ldscript.specs.statements.declared.statement.Statement.{Statement}
 use Rattle.ldmodel.specs.Placement.{directive_step}
 use Rattle.ldmodel.specs.Chain.{and_then, run}
-use Rattle.ldmodel.specs.Fault.{Fault}
-use Rattle.ldmodel.specs.Layout.{Layout, ScriptSymbol, nothing_placed, number}
+use Rattle.ldmodel.specs.Layout.{Layout, nothing_placed, number}
 use Rattle.ldmodel.specs.Placement.{command_step, item_step, region_step, statement_step, with_region}
 use Rattle.ldmodel.specs.Rows.{Piece}
 use Rattle.ldmodel_laws.specs.Alike.{AreAlike, AreNew, AreSameBefore, AreSymbolsAlike, IsPartedAt, LeadTo, given_names}
 use Rattle.ldmodel_laws.specs.Alike.{names_given}
+use Rattle.ldmodel_laws.specs.Spread.{EachLater}
 use Rattle.ldmodel_laws.proofs.Alike.{Both, IsSame, both_ok, both_then, directive_both, having, number_both}
-use Rattle.ldmodel_laws.proofs.AlikeSections.{item_fewer, items_alike, names_on}
+use Rattle.ldmodel_laws.proofs.AlikeSections.{item_fewer, items_alike}
 use Rattle.ldmodel_laws.proofs.Effects.{came, directive_named, kept_same, named_kept, region_kept, run_by}
-use Rattle.ldmodel_laws.proofs.Finding.{in_append, in_front}
+use Rattle.ldmodel_laws.proofs.Mentioned.{names_on, names_of_both, symbols_differ, other_name}
+use Rattle.ldmodel_laws.proofs.EachOf.{none_any, each_imply}
 
 -- the statements of SECTIONS
 module _ (first : ℕ) (old rows : List (List Piece)) (earlier provided : List (List ℕ))
@@ -164,127 +144,14 @@ statements_alike first old rows earlier provided names xs s t u v rs a p q l =
 
 -- ---- no name is given twice
 
--- names, in the order in which a script mentions the symbols that it gives values, among others
-data Among : List (List ℕ) → List Mention → Type 0 where
-  no_more : {ms : List Mention} → Among [] ms
-  passed : {ns : List (List ℕ)} {m : Mention} {ms : List Mention} → Among ns ms → Among ns (m ∷ ms)
-  given : {ns : List (List ℕ)} {n : List ℕ} {ms : List Mention} → Among ns ms → Among (n ∷ ns) (SymbolGiven n ∷ ms)
-
-past : {ns : List (List ℕ)} (ms : List Mention) {ls : List Mention} → Among ns ls → Among ns (ms ++ ls)
-past [] h = h
-past (m ∷ ms) h = passed (past ms h)
-
-wider : {ns : List (List ℕ)} {ms : List Mention} (ls : List Mention) → Among ns ms → Among ns (ms ++ ls)
-wider ls no_more = no_more
-wider ls (passed h) = passed (wider ls h)
-wider ls (given h) = given (wider ls h)
-
-both : {ns ks : List (List ℕ)} {ms ls : List Mention} → Among ns ms → Among ks ls → Among (ns ++ ks) (ms ++ ls)
-both {ms = ms} no_more k = past ms k
-both (passed h) k = passed (both h k)
-both (given h) k = given (both h k)
-
-names_of_both : (cs ds : List DirectiveAt) → names_given (cs ++ ds) ≡ names_given cs ++ names_given ds
-names_of_both cs ds =
-    sym (append-nil (names_given (cs ++ ds)))
-    ∙ (names_on cs ds [] ∙ ap (λ l. names_given cs ++ l) (append-nil (names_given ds)))
-
-both_lists : (cs ds : List DirectiveAt) (ms ls : List Mention) → Among (names_given cs) ms → Among (names_given ds) ls
-    → Among (names_given (cs ++ ds)) (ms ++ ls)
-both_lists cs ds ms ls h k = subst (λ ns. Among ns (ms ++ ls)) (sym (names_of_both cs ds)) (both h k)
-
-in_one : (line : ℕ) (c : Directive) → Among (names_given (record { line = line; command = c } ∷ [])) (in_directive c)
-in_one line (directive.Assign a) = given no_more
-in_one line (directive.Provide a) = given no_more
-in_one line (directive.Assert a) = no_more
-
-in_body_one : (line : ℕ) (c : BodyCommand) → Among (names_given (directives_of line c)) (in_body_command c)
-in_body_one line (body.Directive c) = in_one line c
-in_body_one line (body.Dot c) = no_more
-in_body_one line (body.Data w e) = no_more
-in_body_one line (body.Input i) = no_more
-
-in_bodies : (ss : List BodyStatement) → Among (names_given (directives_in ss)) (in_body ss)
-in_bodies [] = no_more
-in_bodies (s ∷ ss) =
-    both_lists (directives_of s.line s.command) (directives_in ss) (in_body_command s.command) (in_body ss)
-    (in_body_one s.line s.command) (in_bodies ss)
-
-in_output : (s : OutputSection) → Among (names_given (directives_in s.body)) (in_section s)
-in_output s =
-    passed (wider (in_load_tail s.load) (wider (in_region_name s.region)
-    (past (in_optional s.address ++ in_load_head s.load ++ in_optional s.alignment) (in_bodies s.body))))
-
-in_item : (line : ℕ) (c : ItemCommand) → Among (names_given (item_directives line c)) (in_item_command c)
-in_item line (item.Directive c) = in_one line c
-in_item line (item.Section s) = in_output s
-in_item line (item.Dot c) = no_more
-in_item line (item.Discard is) = no_more
-
-in_all : (is : List Item) → Among (names_given (items_directives is)) (in_items is)
-in_all [] = no_more
-in_all (i ∷ is) =
-    both_lists (item_directives i.line i.command) (items_directives is) (in_item_command i.command) (in_items is)
-    (in_item i.line i.command) (in_all is)
-
-in_top : (line : ℕ) (c : Command) → Among (names_given (top_directives line c)) (in_top_command c)
-in_top line (top.Directive c) = in_one line c
-in_top line (top.Sections is) = passed (in_all is)
-in_top line (top.Entry n) = no_more
-in_top line (top.Memory rs) = no_more
-
-in_script : (ss : List Statement) → Among (names_given (all_directives ss)) (mentions ss)
-in_script [] = no_more
-in_script (s ∷ ss) =
-    both_lists (top_directives s.line s.command) (all_directives ss) (in_top_command s.command) (mentions ss)
-    (in_top s.line s.command) (in_script ss)
-
--- nothing of some mentions clashes with what stands before it
-abbrev NoClash : List Mention → List Mention → Type 0
-NoClash before ms =
-    (more : List Mention) (m : Mention) (after : List Mention) → ms ≡ more ++ m ∷ after → Clashes (before ++ more) m → ⊥
-
-shift : (before : List Mention) (m : Mention) (ms : List Mention) → NoClash before (m ∷ ms)
-    → NoClash (before ++ m ∷ []) ms
-shift before m ms h more x after e clash =
-    h (m ∷ more) x after (ap (λ l. m ∷ l) e) (subst (λ l. Clashes l x) (append_assoc before (m ∷ []) more) clash)
-
--- a symbol that stands before is not the one of this name
-other : (before : List Mention) (n k : List ℕ) (ms : List Mention) → Contains before (SymbolGiven n)
-    → NoClash before (SymbolGiven k ∷ ms) → bytes_eq n k ≡ false
-other before n k ms c h = go (bytes_eq n k) refl
-  where
-    go : (b : Bool) → bytes_eq n k ≡ b → b ≡ false
-    go false e = refl
-    go true e =
-        let same : n ≡ k = (bytes_eq-Decides n k).0 e in
-        absurd (h [] (SymbolGiven k) ms refl
-        (subst (λ l. Contains l (SymbolGiven k)) (sym (append-nil before))
-        (subst (λ z. Contains before (SymbolGiven z)) same c)))
-
-none_later : (before : List Mention) (n : List ℕ) → Contains before (SymbolGiven n) → {ns : List (List ℕ)}
-    {ms : List Mention} → Among ns ms → NoClash before ms → list_any (bytes_eq n) ns ≡ false
-none_later before n c no_more h = refl
-none_later before n c (passed {m = m} {ms = ms} r) h =
-    none_later (before ++ m ∷ []) n (in_front before (m ∷ []) (SymbolGiven n) c) r (shift before m ms h)
-none_later before n c (given {n = k} {ms = ms} r) h =
-    rw (other before n k ms c h)
-    (none_later (before ++ SymbolGiven k ∷ []) n (in_front before (SymbolGiven k ∷ []) (SymbolGiven n) c) r
-    (shift before (SymbolGiven k) ms h))
-
-all_new : (before : List Mention) {ns : List (List ℕ)} {ms : List Mention} → Among ns ms → NoClash before ms
-    → AreNew ns [] []
-all_new before no_more h = tt
-all_new before (passed {m = m} {ms = ms} r) h = all_new (before ++ m ∷ []) r (shift before m ms h)
-all_new before (given {n = n} {ms = ms} r) h =
-    let later : NoClash (before ++ SymbolGiven n ∷ []) ms = shift before (SymbolGiven n) ms h in (
-      refl,
-      refl,
-      none_later (before ++ SymbolGiven n ∷ []) n
-          (in_append before (SymbolGiven n ∷ []) (SymbolGiven n) (0, omega arith, refl))
-          r later,
-      all_new (before ++ SymbolGiven n ∷ []) r later,
-    )
+all_new : (ns : List (List ℕ)) → EachLater (λ n k. n ≢ k) ns → AreNew ns [] []
+all_new [] h = tt
+all_new (n ∷ ns) h = (
+  refl,
+  refl,
+  none_any (bytes_eq n) ns (each_imply (λ k. n ≢ k) (λ k. bytes_eq n k ≡ false) (other_name n) ns h.0),
+  all_new ns h.1,
+)
 
 pub begun_alike : (script : List Statement) → IsSound script
     → AreAlike (names_given (all_directives script)) nothing_placed nothing_placed
@@ -292,8 +159,7 @@ begun_alike script sound = record {
   same = refl;
   symbols = record {
     values = λ name x y e f. absurd (let none : ⊥ = cc in none);
-    new = all_new [] (in_script script) (λ more m after e clash.
-        sound.no_clash (record { before = more; mention = m; after = after; place = e; clash = clash }));
+    new = all_new (names_given (all_directives script)) (symbols_differ script sound);
   };
 }
 

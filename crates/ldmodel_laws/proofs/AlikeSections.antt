@@ -1,10 +1,10 @@
 -- Output sections, and statements of SECTIONS, lead to layouts that differ in symbols alone from layouts that do.
-use Rattle.std.proofs.Common.{◌≡◌, ℕ, ◌+◌, ◌<◌, ◌≤◌, List, [], ◌∷◌, ◌++◌, length, Option, Some, None, max}
-use Rattle.std.proofs.Common.{Result, Ok, Err, refl, sym, ap, subst, ◌∙◌, append_assoc, arith, length-append}
+use Rattle.std.proofs.Common.{◌≡◌, ℕ, ◌+◌, ◌≤◌, List, [], ◌∷◌, ◌++◌, length, Option, Some, None}
+use Rattle.std.proofs.Common.{Result, Ok, Err, refl, sym, ap, subst, ◌∙◌, arith, length-append}
 use Rattle.std.proofs.lemmas.List.{append-nil}
 use Rattle.std.specs.Prelude.{slice_index_or}
 use Rattle.ldscript.specs.terms.Expressions.{Expr}
-use Rattle.ldscript.specs.statements.Numbering.{directives_in, directives_of, item_directives, items_directives}
+use Rattle.ldscript.specs.statements.Numbering.{directives_in, directives_of, item_directives}
 use Rattle.ldscript.specs.statements.declared.directive.DotCommand.{DotCommand}
 use Rattle.ldscript.specs.statements.declared.directive.DotCommand.TheVariants.{Set, Add}
 use Rattle.ldscript.specs.statements.declared.section.BodyStatement.{BodyStatement}
@@ -22,11 +22,9 @@ use Rattle.ldmodel.specs.Layout.{Layout, PlacedOutput, ScriptSymbol, address, no
 use Rattle.ldmodel.specs.Placement.{free_dot_step, item_command_step, item_step, next_row, opened, section_step}
 use Rattle.ldmodel.specs.Rows.{Piece}
 use Rattle.ldmodel.specs.Placement.{find_region, load_region, placed_section, section_end, with_room, with_section}
-use Rattle.ldmodel.specs.Placement.{Given, Head, first_free, given, given_alignment, given_load, head_of, load_address}
+use Rattle.ldmodel.specs.Placement.{Given, Head, given, given_alignment, given_load, head_of, load_address}
 use Rattle.ldmodel.specs.Placement.{number_if_given, section_start, widest}
 use Rattle.ldmodel_laws.specs.Alike.{AreAlike, AreBodiesAlike, AreSameBefore, AreSymbolsAlike, given_names, names_given}
-use Rattle.ldmodel_laws.specs.Alike.{with_symbols}
-use Rattle.ldscript.specs.statements.Numbering.{DirectiveAt}
 use Rattle.ldmodel_laws.proofs.Alike.{
   Both,
   IsSame,
@@ -41,6 +39,7 @@ use Rattle.ldmodel_laws.proofs.Alike.{same_both}
 use Rattle.ldmodel_laws.specs.Placed.{PieceTo}
 use Rattle.ldmodel_laws.proofs.Effects.{came, directive_named, free_dot_kept, named_kept, run_by, Quiet, added, onward}
 use Rattle.ldmodel_laws.proofs.Effects.{renamed, still, command_by, section_placed}
+use Rattle.ldmodel_laws.proofs.Mentioned.{names_on}
 
 -- heads
 module _ (names : List (List ℕ)) (s : Layout) (ys : List ScriptSymbol) (a : AreSymbolsAlike names s.symbols ys) where
@@ -132,15 +131,6 @@ pub heads_agree : (names : List (List ℕ)) (row : List Piece) (s t : Layout) (l
     → AreAlike names s t → head_of s row line o ≡ Ok h → head_of t row line o ≡ Ok g → h ≡ g
 heads_agree names row s t line o h g a p q =
     head_both names s t.symbols a.symbols row line o h g p (ap (λ z. head_of z row line o) (sym a.same) ∙ q)
-
--- names that are given in one part and in another
-pub names_on : (cs ds : List DirectiveAt) (names : List (List ℕ))
-    → names_given (cs ++ ds) ++ names ≡ names_given cs ++ (names_given ds ++ names)
-names_on [] ds names = refl
-names_on (c ∷ cs) ds names =
-    append_assoc (given_names c.command) (names_given (cs ++ ds)) names
-    ∙ (ap (λ l. given_names c.command ++ l) (names_on cs ds names)
-    ∙ sym (append_assoc (given_names c.command) (names_given cs) (names_given ds ++ names)))
 
 -- the statements of a body
 run_alike : (earlier provided names : List (List ℕ)) (xs : List BodyStatement) (b c d e : Body)

@@ -1,7 +1,6 @@
 -- Fields of an input section share no byte and lie in it.
-use Rattle.std.proofs.Common.{◌≡◌, ℕ, zero, suc, ◌<◌, ◌≤◌, Bool, true, false, cond, min, max, nat_lt, List, [], ◌∷◌}
+use Rattle.std.proofs.Common.{◌≡◌, ℕ, ◌<◌, ◌≤◌, Bool, true, false, cond, min, max, nat_lt, List, [], ◌∷◌}
 use Rattle.std.proofs.Common.{length, map, filter, Option, Some, None, Ok, Err, refl, ap, ◌∙◌, subst, arith, All}
-use Rattle.std.proofs.Common.{AllPairs}
 use Rattle.std.specs.List.{filter_map, cons_option}
 use Rattle.byteorder.specs.Endian.{little_bytes}
 use Rattle.elfobj.specs.Profile as object
@@ -22,29 +21,7 @@ use Rattle.ldmodel.specs.Relocations.{Site, is_evaluated, site_value, site_place
 use Rattle.ldmodel.specs.Relocations.{field_or_overflow, patch_of, fields_of}
 use Rattle.ldmodel.specs.SymbolValues.{SymbolValue, Number, NotDefined, NotInOutput}
 use Rattle.ldmodel_laws.specs.Spread.{EachLater}
-
--- lists by their members, and by their places
-each_of_all : {X : Type 0} (P : X → Type 0) (xs : List X) → All P xs → Each P xs
-each_of_all P [] h = tt
-each_of_all P (x ∷ xs) h = (h 0 x (omega arith), each_of_all P xs (λ k d l. h (suc k) d (omega (arith, l))))
-
-all_of_each : {X : Type 0} (P : X → Type 0) (xs : List X) → Each P xs → All P xs
-all_of_each P [] h k d l = absurd (omega (arith, l))
-all_of_each P (x ∷ xs) h zero d l = h.0
-all_of_each P (x ∷ xs) h (suc k) d l = all_of_each P xs h.1 k d (omega (arith, l))
-
-pub later_of_pairs : {X : Type 0} (R : X → X → Type 0) (xs : List X) → AllPairs R xs → EachLater R xs
-later_of_pairs R [] h = tt
-later_of_pairs R (x ∷ xs) h = (
-  each_of_all (R x) xs (λ k d l. h 0 (suc k) d (omega arith) (omega (arith, l))),
-  later_of_pairs R xs (λ i j d k l. h (suc i) (suc j) d (omega (arith, k)) (omega (arith, l))),
-)
-
-pairs_of_later : {X : Type 0} (R : X → X → Type 0) (xs : List X) → EachLater R xs → AllPairs R xs
-pairs_of_later R [] h i j d k l = absurd (omega (arith, l))
-pairs_of_later R (x ∷ xs) h i zero d k l = absurd (omega (arith, k))
-pairs_of_later R (x ∷ xs) h zero (suc j) d k l = all_of_each (R x) xs h.0 j d (omega (arith, l))
-pairs_of_later R (x ∷ xs) h (suc i) (suc j) d k l = pairs_of_later R xs h.1 i j d (omega (arith, k)) (omega (arith, l))
+use Rattle.ldmodel_laws.proofs.EachOf.{each_of_all, all_of_each, later_of_pairs, pairs_of_later}
 
 -- where a field stands
 pub record Stands (r : Relocation) (a : Patch) : Type 0 where

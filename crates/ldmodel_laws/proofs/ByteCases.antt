@@ -17,7 +17,7 @@ use Rattle.ldmodel.specs.SectionHeaders.{FilePart}
 use Rattle.ldmodel.specs.Segments.{SectionInFile}
 use Rattle.ldmodel.specs.declared.sections.Part.{Part}
 use Rattle.ldmodel.specs.declared.sections.Part.TheVariants.{InTable, InCommon}
-use Rattle.ldmodel_laws.specs.ByteCases.{byte_among, byte_past_headers, object_byte, output_byte, part_byte, piece_byte}
+use Rattle.ldmodel_laws.specs.ByteCases.{byte_among, byte_past_headers, object_byte, output_byte, part_byte}
 use Rattle.ldmodel_laws.specs.ByteCases.{section_byte}
 
 -- the field that covers a byte, else the section's own byte

@@ -2,7 +2,7 @@
 use Rattle.std.proofs.Common.{◌≡◌, ◌≢◌, ℕ, zero, suc, ◌+◌, ◌%◌, ◌^◌, Bool, true, false, not, ◌&&◌, ◌==◌, ◌<◌, List, []}
 use Rattle.std.proofs.Common.{◌∷◌, ◌++◌, length, codes, decimal, flat_map, refl, sym, ap, arith, ◌∙◌, append_assoc}
 use Rattle.std.proofs.lemmas.Fmt.{decimal_by_steps, decimal_injective}
-use Rattle.std.proofs.lemmas.Bool.{false≢true, eq-eqb}
+use Rattle.std.proofs.lemmas.Bool.{false≢true, eq-eqb, and_parts}
 use Rattle.ldmodel.specs.Commands.{Query, Image, Map, Faults, Command, Edit, Ask, edit_line, query_line, line}
 use Rattle.ldmodel.specs.Commands.{edit_payload, payload, spelling, HasNo, IsWord, IsPayload, HasWords, IsCommand}
 use Rattle.ldmodel.specs.Commands.{AreCommands, BeginsCommand}
@@ -50,16 +50,13 @@ abbrev has_no : ℕ → List ℕ → Bool
 has_no b [] = true
 has_no b (x ∷ xs) = not (x == b) && has_no b xs
 
-both : (p q : Bool) → p && q ≡ true → (p ≡ true) × (q ≡ true)
-both true q e = (refl, e)
-both false q e = absurd (false≢true e)
-
 differs : (x b : ℕ) → not (x == b) ≡ true → x ≢ b
 differs x b e same = false≢true (rw (eq-eqb x b same) at e)
 
 no_by_test : (b : ℕ) (xs : List ℕ) → has_no b xs ≡ true → HasNo b xs
 no_by_test b [] e = tt
-no_by_test b (x ∷ xs) e = let two = both (not (x == b)) (has_no b xs) e in (differs x b two.0, no_by_test b xs two.1)
+no_by_test b (x ∷ xs) e =
+    let two = and_parts (not (x == b)) (has_no b xs) e in (differs x b two.0, no_by_test b xs two.1)
 
 small : (bytes : List ℕ) → IsPayload bytes → length bytes < 2 ^ 64
 small bytes h = omega arith

@@ -162,7 +162,7 @@ directive_quiet provided line b d c h =
     let k = came (directive_step provided b.layout line d) (λ s. Ok (record b { layout = s })) c h in
     renamed k.value (directive_named provided b.layout line d k.value k.is) (let f = k.gives in cc)
 
-bytes_of_width : (w : Width) (x : ℕ) → length (little_bytes (byte_count w) x) ≡ byte_count w
+pub bytes_of_width : (w : Width) (x : ℕ) → length (little_bytes (byte_count w) x) ≡ byte_count w
 bytes_of_width Byte x = refl
 bytes_of_width Short x = refl
 bytes_of_width Long x = refl

@@ -1,9 +1,9 @@
 -- Output sections with file bytes do not meet in the image.
-use Rattle.std.proofs.Common.{◌≡◌, ⊎_elim, ℕ, ◌+◌, ◌-◌, ◌<◌, ◌≤◌, ◌==◌, Bool, true, false, cond, not, ◌&&◌, List, []}
+use Rattle.std.proofs.Common.{◌≡◌, ⊎_elim, ℕ, ◌+◌, ◌-◌, ◌<◌, ◌≤◌, ◌==◌, Bool, true, false, cond, not, List, []}
 use Rattle.std.proofs.Common.{◌∷◌, ◌++◌, length, map, filter, flat_map, fold, refl, sym, ap, ◌∙◌, subst, arith}
 use Rattle.std.proofs.Math.Nat.{eq-zero-or-pos}
 use Rattle.std.proofs.lemmas.List.Elements.{filter-append}
-use Rattle.std.proofs.lemmas.Bool.{eqb-true, eq-eqb, false≢true, leb-true}
+use Rattle.std.proofs.lemmas.Bool.{eqb-true, eq-eqb, false≢true, leb-true, and_parts}
 use Rattle.ldmodel.specs.Each.{Each}
 use Rattle.ldmodel_laws.specs.FileLayout.{Neighbours, IsTogether, Shares}
 use Rattle.ldmodel.specs.Layout.{PlacedOutput}
@@ -13,32 +13,15 @@ use Rattle.ldmodel.specs.Segments.{begun, begun_from, nonempty}
 use Rattle.ldmodel_laws.specs.FileOrder.{with_file_bytes, end_in_file, AreInFileOrder}
 use Rattle.ldmodel_laws.specs.Spread.{EachLater}
 use Rattle.ldmodel_laws.proofs.Grouped.{is_grouping}
-use Rattle.ldmodel_laws.proofs.RowParts.{each_append}
 use Rattle.ldmodel_laws.proofs.Segmented.{same_count}
-use Rattle.ldmodel_laws.proofs.Spreading.{each_and, each_imply}
-
-both_left : (a b : Bool) → a && b ≡ true → a ≡ true
-both_left true b e = refl
-both_left false b e = absurd (let none : ⊥ = cc in none)
-
-both_right : (a b : Bool) → a && b ≡ true → b ≡ true
-both_right true b e = e
-both_right false b e = absurd (let none : ⊥ = cc in none)
+use Rattle.ldmodel_laws.proofs.EachOf.{each_imply, each_and, each_append, each_filter, later_filter, each_parts}
 
 -- of two neighbours in a segment the second begins at the end of the first or past it
 after_one : (p q : PlacedOutput) → Shares p q → end_of p ≤ q.start
 after_one p q h =
-    let less = both_left _ _ h in
-    let least = both_left _ _ less in
-    leb-true (end_of p) q.start (both_right _ _ least)
-
-each_filter : {X : Type 0} (P : X → Type 0) (test : X → Bool) (xs : List X) → Each P xs → Each P (filter test xs)
-each_filter P test [] h = tt
-each_filter P test (x ∷ xs) h = go (test x) (each_filter P test xs h.1)
-  where
-    go : (b : Bool) → Each P (filter test xs) → Each P (cond b (x ∷ filter test xs) (filter test xs))
-    go true rest = (h.0, rest)
-    go false rest = rest
+    let less = (and_parts _ _ h).0 in
+    let least = (and_parts _ _ less).0 in
+    leb-true (end_of p) q.start (and_parts _ _ least).1
 
 each_passes : {X : Type 0} (test : X → Bool) (xs : List X) → Each (λ x. test x ≡ true) (filter test xs)
 each_passes test [] = tt
@@ -49,23 +32,10 @@ each_passes test (x ∷ xs) = go (test x) refl (each_passes test xs)
     go true e rest = (e, rest)
     go false e rest = rest
 
-later_filter : {X : Type 0} (R : X → X → Type 0) (test : X → Bool) (xs : List X) → EachLater R xs
-    → EachLater R (filter test xs)
-later_filter R test [] h = tt
-later_filter R test (x ∷ xs) h = go (test x) (later_filter R test xs h.1)
-  where
-    go : (b : Bool) → EachLater R (filter test xs) → EachLater R (cond b (x ∷ filter test xs) (filter test xs))
-    go true rest = (each_filter (R x) test xs h.0, rest)
-    go false rest = rest
-
 pub later_both : {X : Type 0} (R : X → X → Type 0) (xs ys : List X) → EachLater R xs → EachLater R ys
     → Each (λ x. Each (R x) ys) xs → EachLater R (xs ++ ys)
 later_both R [] ys h k l = k
 later_both R (x ∷ xs) ys h k l = (each_append (R x) xs ys h.0 l.0, later_both R xs ys h.1 k l.1)
-
-each_parts : {X : Type 0} (P : X → Type 0) (xs ys : List X) → Each P (xs ++ ys) → Each P xs × Each P ys
-each_parts P [] ys h = (tt, h)
-each_parts P (x ∷ xs) ys h = let rest = each_parts P xs ys h.1 in ((h.0, rest.0), rest.1)
 
 -- ---- a segment
 

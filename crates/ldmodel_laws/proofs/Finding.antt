@@ -1,10 +1,12 @@
 -- The one member of a list that passes a test is the one that is found.
-use Rattle.std.proofs.Common.{◌≡◌, ◌⊎◌, inl, inr, ⊎_elim, Bool, true, false, cond, ◌&&◌, List, [], ◌∷◌, ◌++◌, map}
+use Rattle.std.proofs.Common.{◌≡◌, ◌⊎◌, inl, inr, ⊎_elim, Bool, true, false, cond, ◌&&◌, List, [], ◌∷◌, map}
 use Rattle.std.proofs.Common.{filter, find, flat_map, Option, Some, None, refl, sym, ap, ◌∙◌, subst}
 use Rattle.std.specs.List.{Contains, cons_option, filter_map}
+use Rattle.std.specs.Option.{option_map}
 use Rattle.ldmodel.specs.Each.{Each}
 use Rattle.ldmodel_laws.specs.Spread.{EachLater}
 use Rattle.ldmodel_laws.proofs.Members.{here, later, first_or_later, none_in_nil}
+use Rattle.std.proofs.lemmas.List.Elements.{Contains-append_right, Contains-append_left, Contains-append_cases}
 
 pub member_of : {X : Type 0} (P : X → Type 0) (xs : List X) (x : X) → Each P xs → Contains xs x → P x
 member_of P [] x h c = absurd (none_in_nil x c)
@@ -45,32 +47,6 @@ find_filter f g (x ∷ xs) = go (f x) (find_filter f g xs)
     go true h = ap (λ r. cond (g x) (Some x) r) h
     go false h = h
 
-pub later_imply : {X : Type 0} (R S : X → X → Type 0) → ((x y : X) → R x y → S x y) → (xs : List X) → EachLater R xs
-    → EachLater S xs
-later_imply R S f [] h = tt
-later_imply {X} R S f (x ∷ xs) h = (each x xs h.0, later_imply R S f xs h.1)
-  where
-    each : (x : X) (ys : List X) → Each (R x) ys → Each (S x) ys
-    each x [] k = tt
-    each x (y ∷ ys) k = (f x y k.0, each x ys k.1)
-
-pub in_append : {X : Type 0} (xs ys : List X) (x : X) → Contains ys x → Contains (xs ++ ys) x
-in_append [] ys x c = c
-in_append (y ∷ xs) ys x c = later y (xs ++ ys) x (in_append xs ys x c)
-
-pub in_front : {X : Type 0} (xs ys : List X) (x : X) → Contains xs x → Contains (xs ++ ys) x
-in_front [] ys x c = absurd (none_in_nil x c)
-in_front (y ∷ xs) ys x c =
-    ⊎_elim (λ same. subst (λ z. Contains (y ∷ (xs ++ ys)) z) same (here y (xs ++ ys))) (λ in_rest.
-    later y (xs ++ ys) x (in_front xs ys x in_rest)) (first_or_later y xs x c)
-
-pub in_either : {X : Type 0} (xs ys : List X) (x : X) → Contains (xs ++ ys) x → Contains xs x ⊎ Contains ys x
-in_either [] ys x c = inr c
-in_either (y ∷ xs) ys x c =
-    ⊎_elim (λ same. inl (subst (λ z. Contains (y ∷ xs) z) same (here y xs)))
-    (λ in_rest. ⊎_elim (λ l. inl (later y xs x l)) (λ r. inr r) (in_either xs ys x in_rest))
-    (first_or_later y (xs ++ ys) x c)
-
 -- what a member of a mapped list comes of
 pub record Comes {X Y : Type 0} (f : X → Y) (xs : List X) (y : Y) : Type 0 where
   pub origin : X
@@ -103,14 +79,15 @@ in_flat_map f (x ∷ xs) y c =
     ⊎_elim (λ own. record { origin = x; among = here x xs; gives = own })
     (λ in_rest. let k = in_flat_map f xs y in_rest in
     record { origin = k.origin; among = later x xs k.origin k.among; gives = k.gives })
-    (in_either (f x) (flat_map f xs) y c)
+    (Contains-append_cases (f x) (flat_map f xs) y c)
 
 pub flat_map_in : {X Y : Type 0} (f : X → List Y) (xs : List X) (x : X) (y : Y) → Contains xs x → Contains (f x) y
     → Contains (flat_map f xs) y
 flat_map_in f [] x y c d = absurd (none_in_nil x c)
 flat_map_in f (z ∷ zs) x y c d =
-    ⊎_elim (λ same. in_front (f z) (flat_map f zs) y (subst (λ w. Contains (f w) y) (sym same) d)) (λ in_rest.
-    in_append (f z) (flat_map f zs) y (flat_map_in f zs x y in_rest d)) (first_or_later z zs x c)
+    ⊎_elim (λ same. Contains-append_left (f z) (flat_map f zs) y (subst (λ w. Contains (f w) y) (sym same) d))
+    (λ in_rest. Contains-append_right (f z) (flat_map f zs) y (flat_map_in f zs x y in_rest d))
+    (first_or_later z zs x c)
 
 -- what a member of a filtered and mapped list comes of
 pub record ComesSome {X Y : Type 0} (f : X → Option Y) (xs : List X) (y : Y) : Type 0 where
@@ -132,3 +109,49 @@ in_filter_map {X} {Y} f (x ∷ xs) y c = go (f x) refl c (in_filter_map f xs y)
         (λ in_rest. let k = rest in_rest in
         record { origin = k.origin; among = later x xs k.origin k.among; gives = k.gives })
         (first_or_later z (filter_map f xs) y d)
+
+pub none_in : {X Y : Type 0} (f : X → Option Y) (xs : List X) (x : X) → filter_map f xs ≡ [] → Contains xs x
+    → f x ≡ None
+none_in f [] x e c = absurd (none_in_nil x c)
+none_in {X} {Y} f (y ∷ ys) x e c = go (f y) refl e (first_or_later y ys x c) (λ l. none_in f ys x l)
+  where
+    go : (m : Option Y) → f y ≡ m → cons_option m (filter_map f ys) ≡ [] → (y ≡ x) ⊎ Contains ys x
+        → (filter_map f ys ≡ [] → Contains ys x → f x ≡ None) → f x ≡ None
+    go (Some u) a b d rest = absurd (let none : ⊥ = cc in none)
+    go None a b (inl is) rest = ap f (sym is) ∙ a
+    go None a b (inr in_rest) rest = rest b in_rest
+
+pub filter_map_in : {X Y : Type 0} (f : X → Option Y) (xs : List X) (x : X) (y : Y) → Contains xs x → f x ≡ Some y
+    → Contains (filter_map f xs) y
+filter_map_in f [] x y c e = absurd (none_in_nil x c)
+filter_map_in {X} {Y} f (z ∷ zs) x y c e = go (f z) refl (first_or_later z zs x c) (λ k. filter_map_in f zs x y k e)
+  where
+    go : (m : Option Y) → f z ≡ m → (z ≡ x) ⊎ Contains zs x → (Contains zs x → Contains (filter_map f zs) y)
+        → Contains (cons_option m (filter_map f zs)) y
+    go None a (inl is) rest = absurd (let both : None ≡ Some y = sym a ∙ ap f is ∙ e in let none : ⊥ = cc in none)
+    go None a (inr k) rest = rest k
+    go (Some u) a (inl is) rest =
+        let both : Some u ≡ Some y = sym a ∙ ap f is ∙ e in
+        let one : u ≡ y = cc in
+        subst (λ v. Contains (u ∷ filter_map f zs) v) one (here u (filter_map f zs))
+    go (Some u) a (inr k) rest = later u (filter_map f zs) y (rest k)
+
+pub found_passes : {X : Type 0} (test : X → Bool) (xs : List X) (x : X) → find test xs ≡ Some x → test x ≡ true
+found_passes test [] x e = absurd (let none : ⊥ = cc in none)
+found_passes test (y ∷ ys) x e = go (test y) refl e (found_passes test ys x)
+  where
+    go : (b : Bool) → test y ≡ b → cond b (Some y) (find test ys) ≡ Some x → (find test ys ≡ Some x → test x ≡ true)
+        → test x ≡ true
+    go true k f rest = let same : y ≡ x = cc in subst (λ z. test z ≡ true) same k
+    go false k f rest = rest f
+
+-- what is found by what a list is mapped to
+pub find_mapped : {X Y : Type 0} (f : Y → Bool) (g : X → Y) (xs : List X) → find f (map g xs)
+    ≡ option_map g (find (λ x. f (g x)) xs)
+find_mapped f g [] = refl
+find_mapped {X} {Y} f g (x ∷ xs) = go (f (g x)) (find_mapped f g xs)
+  where
+    go : (b : Bool) → find f (map g xs) ≡ option_map g (find (λ y. f (g y)) xs)
+        → cond b (Some (g x)) (find f (map g xs)) ≡ option_map g (cond b (Some x) (find (λ y. f (g y)) xs))
+    go true e = refl
+    go false e = e

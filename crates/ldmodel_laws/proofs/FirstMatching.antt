@@ -2,7 +2,7 @@
 use Rattle.std.proofs.Common.{◌≡◌, ◌+◌, ◌↔◌, ℕ, Bool, true, false, cond, not, List, [], ◌∷◌, ◌++◌, length, refl, ap}
 use Rattle.std.proofs.Common.{sym, ◌∙◌, subst, ⊎_elim, arith, Option, Some, None, MatchOption}
 use Rattle.std.specs.List.{Contains, list_any, position, position_from}
-use Rattle.std.proofs.lemmas.Bool.{and_parts, and_from, true≢false, false_from_ne_true}
+use Rattle.std.proofs.lemmas.Bool.{and_parts, and_from, true≢false, false_from_ne_true, not_from_false, not-true}
 use Rattle.std.proofs.lemmas.Iterator.Adapters.{position_from-zero}
 use Rattle.ldscript.specs.terms.Matching.{Matches, is_match}
 use Rattle.ldscript.specs.terms.Parts as pattern
@@ -75,13 +75,6 @@ module _ {X : Type 0} (p : X → Bool) (P : X → Type 0) (decides : (x : X) →
 abbrev pub MatchIsDecided : Type 0
 MatchIsDecided = (pattern : List pattern.Part) (name : List ℕ) → (is_match pattern name ≡ true) ↔ Matches pattern name
 
-not_false : (b : Bool) → b ≡ false → not b ≡ true
-not_false b e = ap not e
-
-from_not : (b : Bool) → not b ≡ true → b ≡ false
-from_not true h = sym h
-from_not false h = refl
-
 module _ (decided : MatchIsDecided) (file section : List ℕ) where
   word_is_taken : (w : SectionWord) → word_takes file section w ≡ true → WordTakes file section w
   word_is_taken w h =
@@ -89,7 +82,7 @@ module _ (decided : MatchIsDecided) (file section : List ℕ) where
       record {
         matches = (decided w.pattern section).0 both.0;
         included = λ x c m. true≢false (sym (any_in (λ x. is_match x file) w.excluded x c ((decided x file).1 m))
-            ∙ from_not (is_any_match w.excluded file) both.1);
+            ∙ not-true (is_any_match w.excluded file) both.1);
       }
 
   none_excludes : (w : SectionWord) → WordTakes file section w → is_any_match w.excluded file ≡ false
@@ -99,7 +92,7 @@ module _ (decided : MatchIsDecided) (file section : List ℕ) where
 
   taken_word_is : (w : SectionWord) → WordTakes file section w → word_takes file section w ≡ true
   taken_word_is w t = and_from (is_match w.pattern section) (not (is_any_match w.excluded file))
-      ((decided w.pattern section).1 t.matches) (not_false (is_any_match w.excluded file) (none_excludes w t))
+      ((decided w.pattern section).1 t.matches) (not_from_false (is_any_match w.excluded file) (none_excludes w t))
 
   is_taken : (i : Input) → takes file section i ≡ true → Takes file section i
   is_taken i h =

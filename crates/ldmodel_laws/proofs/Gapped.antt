@@ -90,10 +90,10 @@ module _ {X : Type 0} (start size : X → ℕ) (at from x : ℕ) (l : from ≤ x
           ≡ None) (sym (other (covers (start y) (size y) x) refl d)) (more k (e.1))
 
 -- the ends of input sections of nonzero size, and of data commands
-abbrev end_of_piece : PlacedPiece → ℕ
+abbrev pub end_of_piece : PlacedPiece → ℕ
 end_of_piece x = x.start + x.piece.size
 
-abbrev end_of_data : PlacedData → ℕ
+abbrev pub end_of_data : PlacedData → ℕ
 end_of_data d = d.start + length d.bytes
 
 pieces_ended : (at from : ℕ) (ps : List PlacedPiece) (es : List ℕ)

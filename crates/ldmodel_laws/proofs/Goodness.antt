@@ -1,12 +1,13 @@
 -- A link without faults is good: its layout is spread, and each of its sites has a field.
-use Rattle.std.proofs.Common.{◌≡◌, ◌⊎◌, inl, inr, ℕ, ◌^◌, ◌==◌, nat_lt, Bool, true, false, cond, ◌&&◌, List, [], ◌∷◌}
+use Rattle.std.proofs.Common.{◌≡◌, ℕ, ◌^◌, ◌==◌, nat_lt, Bool, true, false, cond, ◌&&◌, List, [], ◌∷◌}
 use Rattle.std.proofs.Common.{◌++◌, map, flat_map, find, Option, Some, None, Result, Ok, Err, refl, sym, ap, ◌∙◌, subst}
 use Rattle.std.proofs.Common.{bytes_eq}
-use Rattle.std.specs.List.{Contains, cons_option, filter_map}
+use Rattle.std.specs.List.{Contains, filter_map}
 use Rattle.std.specs.Option.{option_map_or}
 use Rattle.std.specs.Result.{result_err}
-use Rattle.std.proofs.lemmas.Bool.{true≢false, eqb-true}
+use Rattle.std.proofs.lemmas.Bool.{true≢false, eqb-true, and_parts, and_from}
 use Rattle.std.proofs.lemmas.Slice.Eq.{bytes_eq-Decides}
+use Rattle.std.proofs.lemmas.List.{map-append}
 use Rattle.elfobj.specs.Sections.{LinkedSection}
 use Rattle.elfobj.specs.declared.section.SectionIndex.{SectionIndex}
 use Rattle.ldmodel.specs.Fault.{Fault, ImageTooLong}
@@ -21,7 +22,7 @@ use Rattle.ldmodel.specs.Placement.{placement}
 use Rattle.ldmodel.specs.Project.{NamedObject, Project}
 use Rattle.ldmodel.specs.Relocations.{Site, entry_fault, relocation_faults, site_field, sites, sites_at}
 use Rattle.ldmodel.specs.Relocations.{sites_of_section}
-use Rattle.ldmodel.specs.Rows.{Piece, rows}
+use Rattle.ldmodel.specs.Rows.{rows}
 use Rattle.ldmodel.specs.SectionHeaders.{image_length}
 use Rattle.ldmodel.specs.Sections.{is_same_part}
 use Rattle.ldmodel.specs.Segments.{segments}
@@ -32,13 +33,15 @@ use Rattle.ldmodel.specs.declared.sections.Part.TheVariants.{InTable, InCommon}
 use Rattle.ldmodel_laws.specs.PlacedOnce.{AreNumbered, Differ}
 use Rattle.ldmodel_laws.specs.Spread.{EachLater, entries_in}
 use Rattle.ldmodel_laws.specs.Untouched.{HasField, IsFaultless, IsGood}
-use Rattle.ldmodel_laws.proofs.Finding.{NotBoth, each_member, find_only, flat_map_in, in_flat_map, in_map, later_imply}
-use Rattle.ldmodel_laws.proofs.Members.{first_or_later, here, later, none_in_nil}
-use Rattle.ldmodel_laws.proofs.OnceInRows.{is_one, once_in_rows, own_part}
+use Rattle.ldmodel_laws.proofs.Finding.{NotBoth, each_member, find_only, flat_map_in, in_flat_map, in_map, none_in}
+use Rattle.ldmodel_laws.proofs.Members.{here, later, none_in_nil}
+use Rattle.ldmodel_laws.proofs.OnceInRows.{is_one, once_in_rows}
 use Rattle.ldmodel_laws.proofs.OwnRows.{placed_are_rows}
-use Rattle.ldmodel_laws.proofs.PieceBytes.{both_of, later_of_map, of_both}
 use Rattle.ldmodel_laws.proofs.Spreading.{script_spread}
-use Rattle.ldmodel_laws.proofs.Untouched.{by_object, by_section, object_found, same_part, sites_by}
+use Rattle.ldmodel_laws.proofs.Untouched.{by_object, by_section, object_found, sites_by}
+use Rattle.ldmodel_laws.proofs.EachOf.{later_of_map, later_imply}
+use Rattle.ldmodel_laws.proofs.RowParts.{entry}
+use Rattle.ldmodel_laws.proofs.SameParts.{same_part, own_part}
 
 -- ---- the placement of a layout
 
@@ -64,19 +67,12 @@ of_placement p s e = go (placement p.script (rows p) (provided p)) refl e
 
 -- ---- where a part of an object is placed
 
-abbrev entry : PlacedPiece → Piece
-entry x = x.piece
-
 abbrev pieces_of : PlacedOutput → List PlacedPiece
 pieces_of q = q.pieces
 
-mapped_append : {X Y : Type 0} (f : X → Y) (xs ys : List X) → map f (xs ++ ys) ≡ map f xs ++ map f ys
-mapped_append f [] ys = refl
-mapped_append f (x ∷ xs) ys = ap (λ l. f x ∷ l) (mapped_append f xs ys)
-
 entries_joined : (qs : List PlacedOutput) → map entry (flat_map pieces_of qs) ≡ flat_map (λ r. r) (map entries_in qs)
 entries_joined [] = refl
-entries_joined (q ∷ qs) = mapped_append entry q.pieces (flat_map pieces_of qs)
+entries_joined (q ∷ qs) = map-append entry q.pieces (flat_map pieces_of qs)
     ∙ ap (λ l. map entry q.pieces ++ l) (entries_joined qs)
 
 -- a test of parts is passed by one of two entries that differ
@@ -88,14 +84,14 @@ not_both object part x y h = go (is_part object part x) (is_part object part y) 
     go false b e f = refl
     go true false e f = refl
     go true true e f =
-        let first = both_of (bytes_eq x.piece.object object) (is_same_part x.piece.part part) e in
-        let second = both_of (bytes_eq y.piece.object object) (is_same_part y.piece.part part) f in
+        let first = and_parts (bytes_eq x.piece.object object) (is_same_part x.piece.part part) e in
+        let second = and_parts (bytes_eq y.piece.object object) (is_same_part y.piece.part part) f in
         let names : x.piece.object ≡ y.piece.object = (bytes_eq-Decides x.piece.object object).0 first.0
         ∙ sym ((bytes_eq-Decides y.piece.object object).0 second.0) in
         let parts : x.piece.part ≡ y.piece.part = same_part x.piece.part part first.1
         ∙ sym (same_part y.piece.part part second.1) in
         let one : is_one x.piece.object y.piece.object x.piece.part y.piece.part ≡ true =
-        of_both (bytes_eq x.piece.object y.piece.object) (is_same_part x.piece.part y.piece.part)
+        and_from (bytes_eq x.piece.object y.piece.object) (is_same_part x.piece.part y.piece.part)
         ((bytes_eq-Decides x.piece.object y.piece.object).1 names) (ap (λ m. is_same_part m y.piece.part) parts
         ∙ own_part y.piece.part) in
         absurd (true≢false (sym one ∙ h))
@@ -105,7 +101,7 @@ pub placed_once : (p : Project) (s : Layout) → placement p.script (rows p) (pr
     → AreNamesDistinct p.objects → AreNumbered p
     → EachLater (λ (x y : PlacedPiece). Differ x.piece y.piece) (placed_pieces s)
 placed_once p s placed names numbers =
-    later_of_map entry Differ (placed_pieces s)
+    later_of_map Differ entry (placed_pieces s)
     (subst (EachLater Differ)
     (sym (entries_joined s.sections ∙ ap (flat_map (λ r. r)) (placed_are_rows p (provided p) s placed)))
     (once_in_rows p names numbers))
@@ -133,16 +129,6 @@ section_found o k z e = go o.object.sections e
         )
         on false g m rest = let l = rest m in (l.0, later y ys z l.1)
 
-none_in : {X Y : Type 0} (f : X → Option Y) (xs : List X) (x : X) → filter_map f xs ≡ [] → Contains xs x → f x ≡ None
-none_in f [] x e c = absurd (none_in_nil x c)
-none_in {X} {Y} f (y ∷ ys) x e c = go (f y) refl e (first_or_later y ys x c) (λ l. none_in f ys x l)
-  where
-    go : (m : Option Y) → f y ≡ m → cons_option m (filter_map f ys) ≡ [] → (y ≡ x) ⊎ Contains ys x
-        → (filter_map f ys ≡ [] → Contains ys x → f x ≡ None) → f x ≡ None
-    go (Some u) a b d rest = absurd (let none : ⊥ = cc in none)
-    go None a b (inl is) rest = ap f (sym is) ∙ a
-    go None a b (inr in_rest) rest = rest b in_rest
-
 no_error : (r : Result (List ℕ) Fault) → result_err r ≡ None → (f : List ℕ) × (r ≡ Ok f)
 no_error (Ok f) e = (f, refl)
 no_error (Err x) e = absurd (let none : ⊥ = cc in none)
@@ -169,7 +155,7 @@ module _ (l : GoodLink) (h : IsFaultless l) where
       find_only (is_part w.piece.object w.piece.part) (placed_pieces s) w
       (later_imply (λ (x y : PlacedPiece). Differ x.piece y.piece) (NotBoth (is_part w.piece.object w.piece.part))
       (not_both w.piece.object w.piece.part) (placed_pieces s) differ)
-      c (of_both (bytes_eq w.piece.object w.piece.object) (is_same_part w.piece.part w.piece.part)
+      c (and_from (bytes_eq w.piece.object w.piece.object) (is_same_part w.piece.part w.piece.part)
       ((bytes_eq-Decides w.piece.object w.piece.object).1 refl) (own_part w.piece.part))
 
   all_fields : (t : Site) → Contains (sites p s) t → HasField l t

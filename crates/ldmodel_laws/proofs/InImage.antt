@@ -3,9 +3,9 @@ use Rattle.std.proofs.Common.{◌≡◌, ◌↔◌, ◌⊎◌, inl, inr, ℕ, �
 use Rattle.std.proofs.Common.{cond, not, ◌&&◌, List, [], ◌∷◌, length, map, filter, slice_index, Option, Some}
 use Rattle.std.proofs.Common.{None, Ok, refl, sym, ap, ◌∙◌, subst, arith, bytes_eq, max, min}
 use Rattle.std.specs.Int.{next_multiple_of}
-use Rattle.std.specs.List.{Contains, cons_option, filter_map}
+use Rattle.std.specs.List.{Contains}
 use Rattle.std.specs.Option.{option_map_or}
-use Rattle.std.proofs.lemmas.Bool.{true≢false, lt-ltb, le-leb, leb-true, ltb-true}
+use Rattle.std.proofs.lemmas.Bool.{true≢false, lt-ltb, le-leb, leb-true, ltb-true, and_parts, and_from}
 use Rattle.elfobj.specs.Profile as elf
 use Rattle.elfobj.specs.RelocationKinds.{width}
 use Rattle.elfobj.specs.Sections.{LinkedSection}
@@ -27,12 +27,13 @@ use Rattle.ldmodel.specs.declared.sections.Part.TheVariants.{InTable, InCommon}
 use Rattle.ldmodel_laws.specs.ImageBytes.{AreNamed}
 use Rattle.ldmodel_laws.specs.Spread.{EachLater}
 use Rattle.ldmodel_laws.specs.Untouched.{HasField, IsGood}
-use Rattle.ldmodel_laws.proofs.Apart.{fields_apart, later_of_pairs, some_width}
-use Rattle.ldmodel_laws.proofs.Finding.{NotBoth, find_only, flat_map_in, in_flat_map, in_map, later_imply, map_in}
-use Rattle.ldmodel_laws.proofs.Finding.{member_of}
-use Rattle.ldmodel_laws.proofs.Members.{filter_in, first_or_later, here, in_any, in_filter, later, none_in_nil}
-use Rattle.ldmodel_laws.proofs.PieceBytes.{before_end, both_of, names_apart, of_both, one_name, same_name}
+use Rattle.ldmodel_laws.proofs.Apart.{fields_apart, some_width}
+use Rattle.ldmodel_laws.proofs.Finding.{NotBoth, find_only, flat_map_in, in_flat_map, in_map, map_in}
+use Rattle.ldmodel_laws.proofs.Finding.{member_of, filter_map_in}
+use Rattle.ldmodel_laws.proofs.Members.{filter_in, first_or_later, in_any, in_filter, none_in_nil}
+use Rattle.ldmodel_laws.proofs.PieceBytes.{before_end, names_apart, one_name, same_name}
 use Rattle.ldmodel_laws.proofs.Untouched.{by_object, by_section, known, same, sites_by, wide}
+use Rattle.ldmodel_laws.proofs.EachOf.{later_of_pairs, later_imply}
 
 -- ---- output sections in the file
 
@@ -92,7 +93,7 @@ module _ (l : GoodLink) (good : IsGood l) where
           → (cond b here_in none).offset + i < image_length l.project l.layout
       go true e k =
           let under = before_end l.project l.layout q z i good.spread good.named there
-          (both_of q.has_file_bytes (not (z.piece.size == 0)) e).0 among k in
+          (and_parts q.has_file_bytes (not (z.piece.size == 0)) e).0 among k in
           let past = loaded_in_image l.project l.layout in
           omega (arith, under, past)
       go false e k = absurd (omega (arith, k))
@@ -120,24 +121,9 @@ inside_old old new good x c i low =
 
 -- ---- fields
 
-filter_map_in : {X Y : Type 0} (f : X → Option Y) (xs : List X) (x : X) (y : Y) → Contains xs x → f x ≡ Some y
-    → Contains (filter_map f xs) y
-filter_map_in f [] x y c e = absurd (none_in_nil x c)
-filter_map_in {X} {Y} f (z ∷ zs) x y c e = go (f z) refl (first_or_later z zs x c) (λ k. filter_map_in f zs x y k e)
-  where
-    go : (m : Option Y) → f z ≡ m → (z ≡ x) ⊎ Contains zs x → (Contains zs x → Contains (filter_map f zs) y)
-        → Contains (cons_option m (filter_map f zs)) y
-    go None a (inl is) rest = absurd (let both : None ≡ Some y = sym a ∙ ap f is ∙ e in let none : ⊥ = cc in none)
-    go None a (inr k) rest = rest k
-    go (Some u) a (inl is) rest =
-        let both : Some u ≡ Some y = sym a ∙ ap f is ∙ e in
-        let one : u ≡ y = cc in
-        subst (λ v. Contains (u ∷ filter_map f zs) v) one (here u (filter_map f zs))
-    go (Some u) a (inr k) rest = later u (filter_map f zs) y (rest k)
-
 covers_from : (a : Patch) (i : ℕ) → patches.patch_covers a i ≡ true → (a.offset ≤ i) × (i < patch_end a)
 covers_from a i e =
-    let k = both_of (nat_le a.offset i) (nat_lt i (patch_end a)) e in
+    let k = and_parts (nat_le a.offset i) (nat_lt i (patch_end a)) e in
     (leb-true a.offset i k.0, ltb-true i (patch_end a) k.1)
 
 -- patches that share no byte do not both cover one
@@ -253,7 +239,7 @@ module _ (l : GoodLink) (x : LinkedPiece) (t : Site) (c : Contains (sites_in l.p
       field_byte i low inside =
           let at : ℕ = t.relocation.offset + i in
           let covered : patches.patch_covers here_in at ≡ true =
-          of_both (nat_le t.relocation.offset at) (nat_lt at (t.relocation.offset + length field))
+          and_from (nat_le t.relocation.offset at) (nat_lt at (t.relocation.offset + length field))
           (le-leb t.relocation.offset at (omega arith))
           (lt-ltb at (t.relocation.offset + length field) (omega (arith, low))) in
           (known l good x d).byte at inside

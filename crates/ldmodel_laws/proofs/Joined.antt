@@ -1,5 +1,5 @@
 -- Joined lists: of pairs in either order, of the one member that passes a test, and of those that pass and the others.
-use Rattle.std.proofs.Common.{◌≡◌, Bool, true, false, cond, not, ◌&&◌, List, [], ◌∷◌, ◌++◌, map, filter, find, flat_map}
+use Rattle.std.proofs.Common.{◌≡◌, Bool, true, false, cond, not, ◌&&◌, List, [], ◌∷◌, ◌++◌, filter, find, flat_map}
 use Rattle.std.proofs.Common.{Some, refl, sym, ap, ◌∙◌, subst, append_assoc}
 use Rattle.std.specs.List.{Contains}
 use Rattle.std.specs.List.Sorted.{IsPermutation}
@@ -7,6 +7,7 @@ use Rattle.std.specs.Option.{option_map_or}
 use Rattle.std.proofs.lemmas.List.Sorted.{IsPermutation-append, IsPermutation-append_comm, IsPermutation-append_left}
 use Rattle.std.proofs.lemmas.List.Sorted.{IsPermutation-append_right, IsPermutation-refl, IsPermutation-sym}
 use Rattle.std.proofs.lemmas.List.Sorted.{IsPermutation-trans}
+use Rattle.std.proofs.lemmas.List.Elements.{filter-append}
 use Rattle.ldmodel.specs.Each.{Each}
 use Rattle.ldmodel_laws.specs.Spread.{EachLater}
 use Rattle.ldmodel_laws.proofs.Finding.{NotBoth}
@@ -25,32 +26,16 @@ pub joined_none : {X Y : Type 0} (f : X → List Y) (xs : List X) → Each (λ x
 joined_none f [] h = refl
 joined_none f (x ∷ xs) h = ap (λ l. l ++ flat_map f xs) h.0 ∙ joined_none f xs h.1
 
-pub joined_mapped : {X Y Z : Type 0} (f : Y → List Z) (g : X → Y) (xs : List X) → flat_map f (map g xs)
-    ≡ flat_map (λ x. f (g x)) xs
-joined_mapped f g [] = refl
-joined_mapped f g (x ∷ xs) = ap (λ l. f (g x) ++ l) (joined_mapped f g xs)
-
 -- ---- what a test keeps
 
 pub filter_all : {X : Type 0} (xs : List X) → filter (λ x. true) xs ≡ xs
 filter_all [] = refl
 filter_all (x ∷ xs) = ap (λ l. x ∷ l) (filter_all xs)
 
-pub filter_append : {X : Type 0} (test : X → Bool) (xs ys : List X) → filter test (xs ++ ys)
-    ≡ filter test xs ++ filter test ys
-filter_append test [] ys = refl
-filter_append {X} test (x ∷ xs) ys = go (test x) (filter_append test xs ys)
-  where
-    go : (b : Bool) → filter test (xs ++ ys) ≡ filter test xs ++ filter test ys
-        → cond b (x ∷ filter test (xs ++ ys)) (filter test (xs ++ ys))
-        ≡ cond b (x ∷ filter test xs) (filter test xs) ++ filter test ys
-    go true h = ap (λ l. x ∷ l) h
-    go false h = h
-
 pub filter_joined : {X Y : Type 0} (test : Y → Bool) (f : X → List Y) (xs : List X) → filter test (flat_map f xs)
     ≡ flat_map (λ x. filter test (f x)) xs
 filter_joined test f [] = refl
-filter_joined test f (x ∷ xs) = filter_append test (f x) (flat_map f xs)
+filter_joined test f (x ∷ xs) = filter-append test (f x) (flat_map f xs)
     ∙ ap (λ l. filter test (f x) ++ l) (filter_joined test f xs)
 
 pub filter_both : {X : Type 0} (f g : X → Bool) (xs : List X) → filter (λ x. f x && g x) xs ≡ filter g (filter f xs)
@@ -69,7 +54,7 @@ pub filter_parts : {X Y : Type 0} (test : Y → Bool) (keeps : X → Bool) (f : 
     → filter test (flat_map f xs) ≡ flat_map f (filter keeps xs)
 filter_parts test keeps f [] h = refl
 filter_parts {X} {Y} test keeps f (x ∷ xs) h =
-    filter_append test (f x) (flat_map f xs)
+    filter-append test (f x) (flat_map f xs)
     ∙ go (keeps x) (λ y c. h x y (here x xs) c) (filter_parts test keeps f xs (λ z y c d. h z y (later x xs z c) d))
   where
     kept : (b : Bool) (ys : List Y) → ((y : Y) → Contains ys y → test y ≡ b) → filter test ys ≡ cond b ys []

@@ -2,6 +2,7 @@ pub mod Members
 pub mod Reaching
 pub mod Liveness
 pub mod Ordering
+pub mod EachOf
 pub mod FirstMatching
 pub mod Renumbered
 pub mod DistinctNames
@@ -15,6 +16,8 @@ pub mod Targeted
 pub mod Gapped
 pub mod Small
 pub mod Agreeing
+pub mod Mentioned
+pub mod SameParts
 pub mod Alike
 pub mod AlikeSections
 pub mod AlikeScripts

@@ -1,8 +1,9 @@
 -- Members of lists, of filtered lists, and of lists in which some member passes a test.
 use Rattle.std.proofs.Common.{◌≡◌, ◌<◌, ◌≤◌, ◌⊎◌, ℕ, zero, suc, Bool, true, false, cond, List, [], ◌∷◌, length, filter}
-use Rattle.std.proofs.Common.{refl, ap, sym, ◌∙◌, subst, inl, inr, ⊎_elim, arith, get_or}
+use Rattle.std.proofs.Common.{refl, ap, sym, ◌∙◌, subst, inl, inr, ⊎_elim, arith, get_or, Some, slice_get}
 use Rattle.std.specs.List.{Contains, list_any}
 use Rattle.std.proofs.lemmas.Bool.{or_cases, or_left, or_right, true≢false}
+use Rattle.std.proofs.lemmas.Option.{same_Some}
 
 pub here : {X : Type 0} (x : X) (xs : List X) → Contains (x ∷ xs) x
 here x xs = (0, omega arith, refl)
@@ -20,6 +21,11 @@ first_or_later y ys x c = member_at y ys x c.0 c.1 c.2
 
 pub none_in_nil : {X : Type 0} (x : X) → Contains [] x → ⊥
 none_in_nil x c = omega (arith, c.1)
+
+pub at_place : {X : Type 0} (xs : List X) (k : ℕ) (x : X) → slice_get xs k ≡ Some x → Contains xs x
+at_place [] k x e = absurd (let none : ⊥ = cc in none)
+at_place (y ∷ ys) zero x e = subst (λ z. Contains (y ∷ ys) z) (same_Some _ _ e) (here y ys)
+at_place (y ∷ ys) (suc k) x e = later y ys x (at_place ys k x e)
 
 -- what a filter keeps is in the list and passes the test
 pub in_filter : {X : Type 0} (p : X → Bool) (xs : List X) (x : X) → Contains (filter p xs) x → Contains xs x
@@ -93,3 +99,9 @@ same_or_longer {X} p q (y ∷ ys) h = go (p y) (q y) refl refl (same_or_longer p
         inr (omega (arith, long))
     go false true e f (inr less) = inr (omega (arith, less))
     go false false e f rest = rest
+
+-- tests that are passed under the same conditions are equal
+pub same_tests : (b c : Bool) → (b ≡ true → c ≡ true) → (c ≡ true → b ≡ true) → b ≡ c
+same_tests true c h k = sym (h refl)
+same_tests false true h k = k refl
+same_tests false false h k = refl

@@ -3,7 +3,7 @@ use Rattle.std.proofs.Common.{◌≡◌, ◌⊎◌, inl, inr, ⊎_elim, ℕ, ◌
 use Rattle.std.proofs.Common.{List, [], ◌∷◌, map, flat_map, count_by, Option, Some, None, refl, sym, ap, ◌∙◌, subst}
 use Rattle.std.proofs.Common.{arith, bytes_eq}
 use Rattle.std.specs.List.{Contains, enumerate_from, filter_map, cons_option}
-use Rattle.std.proofs.lemmas.Bool.{false≢true, eqb-true}
+use Rattle.std.proofs.lemmas.Bool.{false≢true, eqb-true, and_right}
 use Rattle.std.proofs.lemmas.Slice.Eq.{bytes_eq-Decides}
 use Rattle.elfobj.specs.Sections.{LinkedSection}
 use Rattle.elfobj.specs.Symbols.{NamedSymbol}
@@ -22,12 +22,12 @@ use Rattle.ldmodel_laws.specs.PlacedOnce.{AreNumbered}
 use Rattle.ldmodel_laws.specs.Spread.{EachLater}
 use Rattle.ldmodel_laws.proofs.FileOrder.{later_both}
 use Rattle.std.proofs.lemmas.List.Sums.{sum_by-cons}
-use Rattle.ldmodel_laws.proofs.Finding.{ComesOf, each_member, in_either, in_filter_map, in_flat_map, in_map}
-use Rattle.ldmodel_laws.proofs.Finding.{later_imply}
+use Rattle.std.proofs.lemmas.List.Elements.{Contains-append_cases}
+use Rattle.ldmodel_laws.proofs.Finding.{ComesOf, each_member, in_filter_map, in_flat_map, in_map}
 use Rattle.ldmodel_laws.proofs.Finding.{member_of}
 use Rattle.ldmodel_laws.proofs.Liveness.{in_order}
 use Rattle.ldmodel_laws.proofs.Members.{here, later, first_or_later, none_in_nil}
-use Rattle.ldmodel_laws.proofs.PieceBytes.{later_filtered}
+use Rattle.ldmodel_laws.proofs.EachOf.{later_filter, later_imply}
 
 -- ---- lists
 
@@ -156,10 +156,6 @@ counted {X} test (y ∷ ys) x c e = go (first_or_later y ys x c) (λ in_rest. co
 abbrev pub Apart : InputSection → InputSection → Type 0
 Apart s t = (bytes_eq s.object t.object && is_same_part s.id.part t.id.part) ≡ false
 
-no_both : (a b : Bool) → b ≡ false → (a && b) ≡ false
-no_both true b e = e
-no_both false b e = refl
-
 -- sections of one object, by their parts
 module _ (p : Project) (i : ℕ) (o : NamedObject) where
   tables_apart : (xs : List LinkedSection) → EachLater (λ (x y : LinkedSection). (x.number.0 == y.number.0) ≡ false) xs
@@ -167,7 +163,7 @@ module _ (p : Project) (i : ℕ) (o : NamedObject) where
   tables_apart xs h = later_map (linked_input i o) Apart xs
       (later_imply (λ (x y : LinkedSection). (x.number.0 == y.number.0) ≡ false) (λ x y.
       Apart (linked_input i o x) (linked_input i o y)) (λ x y e.
-      no_both (bytes_eq o.name o.name) (x.number.0 == y.number.0) e) xs h)
+      and_right (bytes_eq o.name o.name) (x.number.0 == y.number.0) e) xs h)
 
   -- the block of an entry has the number of its symbol
   IsBlock : ℕ → InputSection → Type 0
@@ -210,7 +206,7 @@ module _ (p : Project) (i : ℕ) (o : NamedObject) where
   blocks_differ a b l u v e f =
       let first : u.id.part ≡ InCommon (record { 0 = a.0 }) = block_is a u e in
       let second : v.id.part ≡ InCommon (record { 0 = b.0 }) = block_is b v f in
-      no_both (bytes_eq u.object v.object) (is_same_part u.id.part v.id.part)
+      and_right (bytes_eq u.object v.object) (is_same_part u.id.part v.id.part)
       (ap (λ m. is_same_part m v.id.part) first ∙ ap (λ m. is_same_part (InCommon (record { 0 = a.0 })) m) second
       ∙ differs (a.0 == b.0) refl)
     where
@@ -236,7 +232,8 @@ module _ (p : Project) (i : ℕ) (o : NamedObject) where
       let k = in_map (linked_input i o) o.object.sections s c in
       let b = a_block t d in
       let first : s.id.part ≡ InTable k.origin.number = ap (λ (u : InputSection). u.id.part) (sym k.gives) in
-      no_both (bytes_eq s.object t.object) (is_same_part s.id.part t.id.part) (ap (λ m. is_same_part m t.id.part) first
+      and_right (bytes_eq s.object t.object) (is_same_part s.id.part t.id.part)
+      (ap (λ m. is_same_part m t.id.part) first
       ∙ ap (λ m. is_same_part (InTable k.origin.number) m) b.1)
 
   own_apart : EachLater (λ (x y : LinkedSection). (x.number.0 == y.number.0) ≡ false) o.object.sections
@@ -269,7 +266,7 @@ module _ (p : Project) (i : ℕ) (o : NamedObject) where
       ap (λ (u : InputSection). u.object) (sym k.gives))
       (λ d. let k = in_filter_map (block_at p i o) (enumerate_from 0 o.object.symbols) s d in
       block_named k.origin (decision p k.origin.1.name) s k.gives)
-      (in_either (map (linked_input i o) o.object.sections) (common_blocks p i o) s c)
+      (Contains-append_cases (map (linked_input i o) o.object.sections) (common_blocks p i o) s c)
 
 -- ---- of all objects
 
@@ -332,5 +329,5 @@ module _ (p : Project) (names : AreNamesDistinct p.objects) (numbers : AreNumber
   live_apart =
       let k = in_order p in
       subst (EachLater Apart) (sym k.1)
-      (later_filtered Apart k.0 (candidates p)
-      (later_filtered Apart (λ s. not (is_discarded p s)) (input_sections p) all_apart))
+      (later_filter Apart k.0 (candidates p)
+      (later_filter Apart (λ s. not (is_discarded p s)) (input_sections p) all_apart))

@@ -4,7 +4,7 @@ use Rattle.std.proofs.Common.{List, [], ◌∷◌, ◌++◌, length, map, filter
 use Rattle.std.proofs.Common.{◌∙◌, subst, arith, bytes_eq}
 use Rattle.std.specs.List.{Contains, enumerate_from, range_with_len}
 use Rattle.std.specs.Option.{option_map_or}
-use Rattle.std.proofs.lemmas.Bool.{true≢false, eqb-true, eq-eqb}
+use Rattle.std.proofs.lemmas.Bool.{true≢false, eqb-true, and_parts, and_from}
 use Rattle.std.proofs.lemmas.Slice.Eq.{bytes_eq-Decides}
 use Rattle.ldscript.specs.statements.Numbering.{InputStatementAt, input_statements, output_sections}
 use Rattle.ldscript.specs.statements.declared.place.InputPlace.{InputPlace}
@@ -18,14 +18,13 @@ use Rattle.ldmodel.specs.Rows.{Piece, below, is_in_section, is_taken_by, piece_o
 use Rattle.ldmodel.specs.Rows.{taken}
 use Rattle.ldmodel.specs.Sections.{InputSection, is_same_part}
 use Rattle.ldmodel.specs.declared.sections.Part.{Part}
-use Rattle.ldmodel.specs.declared.sections.Part.TheVariants.{InTable, InCommon}
 use Rattle.ldmodel_laws.specs.PlacedOnce.{AreNumbered, Differ}
 use Rattle.ldmodel_laws.specs.Spread.{EachLater}
-use Rattle.ldmodel_laws.proofs.Finding.{each_member, in_flat_map, in_map, later_imply, member_of}
+use Rattle.ldmodel_laws.proofs.Finding.{each_member, in_flat_map, in_map, member_of}
 use Rattle.ldmodel_laws.proofs.Members.{first_or_later, in_filter, none_in_nil}
 use Rattle.ldmodel_laws.proofs.Once.{Apart, later_flat_map, later_map, live_apart, rising, sorted, sorted_in}
-use Rattle.ldmodel_laws.proofs.PieceBytes.{both_of, later_filtered, of_both}
-use Rattle.ldmodel_laws.proofs.Untouched.{same_part}
+use Rattle.ldmodel_laws.proofs.EachOf.{later_filter, later_imply}
+use Rattle.ldmodel_laws.proofs.SameParts.{same_part, own_part}
 
 -- members that a relation of earlier and later ones holds of in neither way are one
 pub unique : {X : Type 0} (R : X → X → Type 0) (xs : List X) (s t : X) → EachLater R xs → Contains xs s → Contains xs t
@@ -40,10 +39,6 @@ unique {X} R (x ∷ xs) s t h c d m n =
     go (inr a) (inl f) rest = absurd (n (subst (λ z. R z s) f (member_of (R x) xs s h.0 a)))
     go (inr a) (inr b) rest = rest a b
 
-pub own_part : (a : Part) → is_same_part a a ≡ true
-own_part (InTable k) = eq-eqb (k.0) (k.0) refl
-own_part (InCommon k) = eq-eqb (k.0) (k.0) refl
-
 -- two entries of one name and part
 abbrev pub is_one : (object other : List ℕ) → (a b : Part) → Bool
 is_one object other a b = bytes_eq object other && is_same_part a b
@@ -54,11 +49,11 @@ turned object other a b h = go (is_one other object b a) refl
     go : (t : Bool) → is_one other object b a ≡ t → is_one other object b a ≡ false
     go false e = e
     go true e =
-        let k = both_of (bytes_eq other object) (is_same_part b a) e in
+        let k = and_parts (bytes_eq other object) (is_same_part b a) e in
         let names : object ≡ other = sym ((bytes_eq-Decides other object).0 k.0) in
         let parts : a ≡ b = sym (same_part b a k.1) in
         let one : is_one object other a b ≡ true =
-        of_both (bytes_eq object other) (is_same_part a b) ((bytes_eq-Decides object other).1 names)
+        and_from (bytes_eq object other) (is_same_part a b) ((bytes_eq-Decides object other).1 names)
         (ap (λ m. is_same_part m b) parts ∙ own_part b) in
         absurd (true≢false (sym one ∙ h))
 
@@ -133,7 +128,7 @@ module _ (p : Project) (names : AreNamesDistinct p.objects) (numbers : AreNumber
   own_entries n i =
       sorted Differ (λ x y h. turned x.object y.object x.part y.part h) (below i.input.sort) (taken p n)
       (later_map (piece_of n) Differ (filter (is_taken_by p n) (live p))
-      (later_filtered Apart (is_taken_by p n) (live p) (live_apart p names numbers)))
+      (later_filter Apart (is_taken_by p n) (live p) (live_apart p names numbers)))
 
   abbrev statements : List (ℕ × InputStatementAt)
   statements = enumerate_from 0 (input_statements p.script)

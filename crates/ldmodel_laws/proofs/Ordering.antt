@@ -5,7 +5,7 @@ use Rattle.std.specs.List.{Contains}
 use Rattle.std.specs.List.Sorted.{IsSortedBy, ties}
 use Rattle.std.specs.Cmp.{IsStrictWeakOrder}
 use Rattle.std.specs.Cmp.Lexicographic.{nat_list_cmp_total}
-use Rattle.std.proofs.lemmas.Bool.{false≢true, and_parts}
+use Rattle.std.proofs.lemmas.Bool.{false≢true, and_parts, not-true}
 use Rattle.std.proofs.lemmas.List.Sorted.{sorted_far, ranks_by, IsStrictWeakOrder-flip, IsStrictWeakOrder-by_number}
 use Rattle.ldscript.specs.statements.declared.input.Sort.{Sort}
 use Rattle.ldscript.specs.statements.declared.input.Sort.TheVariants.{ByName, ByAlignment}
@@ -26,10 +26,6 @@ filtered_in p (y ∷ ys) z zs h = go (p y) h (filtered_in p ys z zs)
 same_rest : {X : Type 0} (b : Bool) (y : X) (us vs : List X) → cond b (y ∷ us) us ≡ cond b (y ∷ vs) vs → us ≡ vs
 same_rest true y us vs h = cc
 same_rest false y us vs h = h
-
-not_true : (b : Bool) → not b ≡ true → b ≡ false
-not_true true h = sym h
-not_true false h = refl
 
 -- two tests that are not both passed commute
 apart : {X : Type 0} (b c : Bool) (x y : X) (zs : List X) → (b ≡ true → c ≡ true → ⊥)
@@ -116,8 +112,8 @@ module _ {X : Type 0} (lt : X → X → Bool) (o : IsStrictWeakOrder lt) where
   -- of two with equal keys as a, neither is below the other
   not_both : (a x y : X) → lt y x ≡ true → ties lt a x ≡ true → ties lt a y ≡ true → ⊥
   not_both a x y e tx ty =
-      let ax = not_true (lt a x) (and_parts (not (lt a x)) (not (lt x a)) tx).0 in
-      let ya = not_true (lt y a) (and_parts (not (lt a y)) (not (lt y a)) ty).1 in
+      let ax = not-true (lt a x) (and_parts (not (lt a x)) (not (lt x a)) tx).0 in
+      let ya = not-true (lt y a) (and_parts (not (lt a y)) (not (lt y a)) ty).1 in
       false≢true (sym (o.chain y a x ya ax) ∙ e)
 
   insert_stable : (a x : X) (ys : List X) → filter (ties lt a) (insert_by lt x ys) ≡ filter (ties lt a) (x ∷ ys)

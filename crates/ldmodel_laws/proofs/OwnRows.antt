@@ -1,5 +1,5 @@
 -- The rows of a project are, output section by output section, what its input statements have.
-use Rattle.std.proofs.Common.{◌≡◌, ℕ, zero, suc, ◌+◌, ◌≤◌, ◌==◌, Bool, true, false, cond, List, [], ◌∷◌, ◌++◌, length}
+use Rattle.std.proofs.Common.{◌≡◌, ℕ, zero, suc, ◌+◌, ◌≤◌, ◌==◌, Bool, true, false, List, [], ◌∷◌, ◌++◌, length}
 use Rattle.std.proofs.Common.{map, Ok, refl, sym, ap, ◌∙◌, arith, append-nil}
 use Rattle.std.specs.List.{range_with_len}
 use Rattle.std.proofs.lemmas.Bool.{eq-eqb, eqb-true}
@@ -14,11 +14,11 @@ use Rattle.ldmodel.specs.Layout.{Layout}
 use Rattle.ldmodel.specs.Placement.{placement}
 use Rattle.ldmodel.specs.Project.{Project}
 use Rattle.ldmodel.specs.Rows.{Piece, sorted_pieces, taken, below, piece_of, rows}
-use Rattle.ldmodel.specs.Sorting.{insert_by, sort_by}
 use Rattle.ldmodel_laws.specs.Spread.{entries_in}
 use Rattle.ldmodel_laws.proofs.RowParts.{IsOf, in_rows, of_all, in_none, in_all, in_append, StandsIn, stands_in}
 use Rattle.ldmodel_laws.proofs.RowParts.{stands_discarded, stands_later}
 use Rattle.ldmodel_laws.proofs.RowsPlaced.{coming, all_placed}
+use Rattle.ldmodel_laws.proofs.EachOf.{each_sorted}
 
 same_from : {X : Type 0} (f g : ℕ → X) (k : ℕ) → ((j : ℕ) → k ≤ j → f j ≡ g j) → (n : ℕ) → map f (range_with_len k n)
     ≡ map g (range_with_len k n)
@@ -100,20 +100,6 @@ module _ (of : ℕ → InputStatementAt → List Piece) (mark : (n : ℕ) (i : I
 each_map : {X Y : Type 0} (P : Y → Type 0) (f : X → Y) → ((x : X) → P (f x)) → (xs : List X) → Each P (map f xs)
 each_map P f h [] = tt
 each_map P f h (x ∷ xs) = (h x, each_map P f h xs)
-
-each_inserted : {X : Type 0} (P : X → Type 0) (below : X → X → Bool) (x : X) (xs : List X) → P x → Each P xs
-    → Each P (insert_by below x xs)
-each_inserted P below x [] h k = (h, tt)
-each_inserted P below x (y ∷ ys) h k = go (below y x) (each_inserted P below x ys h k.1)
-  where
-    go : (b : Bool) → Each P (insert_by below x ys) → Each P (cond b (y ∷ insert_by below x ys) (x ∷ y ∷ ys))
-    go true rest = (k.0, rest)
-    go false rest = (h, k)
-
-each_sorted : {X : Type 0} (P : X → Type 0) (below : X → X → Bool) (xs : List X) → Each P xs → Each P (sort_by below xs)
-unfolding sort_by
-each_sorted P below [] h = tt
-each_sorted P below (x ∷ xs) h = each_inserted P below x (sort_by below xs) h.0 (each_sorted P below xs h.1)
 
 module _ (p : Project) where
   marked : (n : ℕ) (i : InputStatementAt) → Each (IsOf n) (sorted_pieces p n i)

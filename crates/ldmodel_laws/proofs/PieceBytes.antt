@@ -4,8 +4,10 @@ use Rattle.std.proofs.Common.{◌&&◌, List, [], ◌∷◌, ◌++◌, length, m
 use Rattle.std.proofs.Common.{sym, ap, ◌∙◌, subst, arith, bytes_eq, length-append}
 use Rattle.std.specs.List.{Contains}
 use Rattle.std.specs.Option.{option_map_or}
-use Rattle.std.proofs.lemmas.Bool.{true≢false, false≢true, lt-ltb, le-leb, le-ltb, ltb-true, leb-true, eqb-true}
+use Rattle.std.proofs.lemmas.Bool.{true≢false, lt-ltb, le-leb, le-ltb, ltb-true, leb-true, eqb-true}
+use Rattle.std.proofs.lemmas.Bool.{and_parts, and_from}
 use Rattle.std.proofs.lemmas.Slice.Eq.{bytes_eq-Decides}
+use Rattle.std.proofs.lemmas.List.{map-append}
 use Rattle.ldmodel.specs.Each.{Each}
 use Rattle.ldmodel.specs.Headers.{elf_header, program_header, program_headers, ascending}
 use Rattle.ldmodel.specs.Image.{byte_at, covering_data, covering_piece, covers, file_headers, file_section_at, tail_at}
@@ -21,10 +23,11 @@ use Rattle.ldmodel_laws.specs.ImageBytes.{AreNamed, offset_in_file}
 use Rattle.ldmodel_laws.specs.Spread.{EachLater, IsSpread, piece_end}
 use Rattle.ldmodel_laws.proofs.ByteCases.{by_cases}
 use Rattle.ldmodel_laws.proofs.FileOrder.{files_in_order}
-use Rattle.ldmodel_laws.proofs.Finding.{Comes, NotBoth, each_member, find_filter, find_only, in_map, later_imply}
+use Rattle.ldmodel_laws.proofs.Finding.{Comes, NotBoth, find_filter, find_only, in_map}
 use Rattle.ldmodel_laws.proofs.Finding.{member_of}
 use Rattle.ldmodel_laws.proofs.Grouped.{is_grouping}
-use Rattle.ldmodel_laws.proofs.Members.{filter_in, in_filter}
+use Rattle.ldmodel_laws.proofs.Members.{filter_in}
+use Rattle.ldmodel_laws.proofs.EachOf.{later_of_map, later_filter, later_imply}
 
 -- ---- the headers
 
@@ -79,14 +82,10 @@ sections_placed : (g : Segment) (qs : List PlacedOutput) → map section_in (map
 sections_placed g [] = refl
 sections_placed g (q ∷ qs) = ap (λ l. q ∷ l) (sections_placed g qs)
 
-pub map_append : {X Y : Type 0} (f : X → Y) (xs ys : List X) → map f (xs ++ ys) ≡ map f xs ++ map f ys
-map_append f [] ys = refl
-map_append f (x ∷ xs) ys = ap (λ l. f x ∷ l) (map_append f xs ys)
-
 sections_of : (end : ℕ) (gs : List Group) → map section_in (in_file (begun_from end gs)) ≡ flat_map group_sections gs
 sections_of end [] = refl
 sections_of end (g ∷ gs) =
-    map_append section_in (map (in_segment (begun end g)) (group_sections g))
+    map-append section_in (map (in_segment (begun end g)) (group_sections g))
     (in_file (begun_from (file_end end (begun end g)) gs))
     ∙ ap (λ l. l ++ map section_in (in_file (begun_from (file_end end (begun end g)) gs)))
     (sections_placed (begun end g) (group_sections g))
@@ -97,42 +96,13 @@ unfolding segments
 all_sections sections = sections_of (headers_end (length (groups (nonempty sections)))) (groups (nonempty sections))
     ∙ (is_grouping (nonempty sections)).parts
 
--- members of a mapped list that differ come of members that do
-pub later_of_map : {X Y : Type 0} (f : X → Y) (R : Y → Y → Type 0) (xs : List X) → EachLater R (map f xs)
-    → EachLater (λ x y. R (f x) (f y)) xs
-later_of_map f R [] h = tt
-later_of_map {X} f R (x ∷ xs) h = (each xs h.0, later_of_map f R xs h.1)
-  where
-    each : (ys : List X) → Each (R (f x)) (map f ys) → Each (λ y. R (f x) (f y)) ys
-    each [] k = tt
-    each (y ∷ ys) k = (k.0, each ys k.1)
-
-pub later_filtered : {X : Type 0} (R : X → X → Type 0) (test : X → Bool) (xs : List X) → EachLater R xs
-    → EachLater R (filter test xs)
-later_filtered R test [] h = tt
-later_filtered {X} R test (x ∷ xs) h = go (test x) (later_filtered R test xs h.1)
-  where
-    go : (b : Bool) → EachLater R (filter test xs) → EachLater R (cond b (x ∷ filter test xs) (filter test xs))
-    go true rest = (
-      each_member (R x) (filter test xs) (λ y c. member_of (R x) xs y h.0 (in_filter test xs y c).0),
-      rest,
-    )
-    go false rest = rest
-
 -- ---- ranges
 
-pub both_of : (a b : Bool) → a && b ≡ true → (a ≡ true) × (b ≡ true)
-both_of true b e = (refl, e)
-both_of false b e = absurd (false≢true e)
+pub covered : (a n o : ℕ) → covers a n o ≡ true → (a ≤ o) × (o < a + n)
+covered a n o e = let k = and_parts (nat_le a o) (nat_lt o (a + n)) e in (leb-true a o k.0, ltb-true o (a + n) k.1)
 
-pub of_both : (a b : Bool) → a ≡ true → b ≡ true → (a && b) ≡ true
-of_both a b e f = ap (λ x. x && b) e ∙ f
-
-covered : (a n o : ℕ) → covers a n o ≡ true → (a ≤ o) × (o < a + n)
-covered a n o e = let k = both_of (nat_le a o) (nat_lt o (a + n)) e in (leb-true a o k.0, ltb-true o (a + n) k.1)
-
-covering : (a n o : ℕ) → a ≤ o → o < a + n → covers a n o ≡ true
-covering a n o h k = of_both (nat_le a o) (nat_lt o (a + n)) (le-leb a o h) (lt-ltb o (a + n) k)
+pub covering : (a n o : ℕ) → a ≤ o → o < a + n → covers a n o ≡ true
+covering a n o h k = and_from (nat_le a o) (nat_lt o (a + n)) (le-leb a o h) (lt-ltb o (a + n) k)
 
 -- two ranges of which one ends before the other do not both cover a number
 apart : (a n b m o : ℕ) → a + n ≤ b → (covers a n o && covers b m o) ≡ false
@@ -162,9 +132,9 @@ one_name a b name h = go (bytes_eq a name) (bytes_eq b name) refl refl
 pub names_apart : (sections : List PlacedOutput) → AreNamed sections
     → EachLater (λ (x y : SectionInFile). bytes_eq x.section.name y.section.name ≡ false) (in_file (segments sections))
 names_apart sections named =
-    later_of_map section_in (λ (r t : PlacedOutput). bytes_eq r.name t.name ≡ false) (in_file (segments sections))
+    later_of_map (λ (r t : PlacedOutput). bytes_eq r.name t.name ≡ false) section_in (in_file (segments sections))
     (subst (EachLater (λ (r t : PlacedOutput). bytes_eq r.name t.name ≡ false)) (sym (all_sections sections))
-    (later_filtered (λ (r t : PlacedOutput). bytes_eq r.name t.name ≡ false) (λ (r : PlacedOutput).
+    (later_filter (λ (r t : PlacedOutput). bytes_eq r.name t.name ≡ false) (λ (r : PlacedOutput).
     not (r.size == 0)) sections named))
 
 module _ (sections : List PlacedOutput) (named : AreNamed sections) (q : PlacedOutput) (there : Contains sections q)

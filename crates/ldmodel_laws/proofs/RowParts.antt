@@ -22,16 +22,13 @@ use Rattle.ldmodel.specs.Rows.{Piece, is_in_section}
 use Rattle.ldmodel_laws.specs.Placed.{PieceTo}
 use Rattle.ldmodel_laws.proofs.Effects.{came, Kept, kept_same, kept_all}
 use Rattle.ldmodel_laws.proofs.Placements.{piece_to}
+use Rattle.ldmodel_laws.proofs.EachOf.{each_append}
 
 abbrev pub entry : PlacedPiece → Piece
 entry x = x.piece
 
 abbrev pub entries : List PlacedPiece → List Piece
 entries xs = map entry xs
-
-pub each_append : {X : Type 0} (P : X → Type 0) (xs ys : List X) → Each P xs → Each P ys → Each P (xs ++ ys)
-each_append P [] ys h k = k
-each_append P (x ∷ xs) ys h k = (h.0, each_append P xs ys h.1 k)
 
 -- ---- an input statement takes its entries from the front of what is left of the row
 

@@ -7,6 +7,8 @@ use Rattle.std.specs.Option.{option_map_or}
 use Rattle.std.proofs.lemmas.Bool.{true≢false, eqb-true, eq-eqb}
 use Rattle.std.proofs.lemmas.List.Concat.{flat_map-append}
 use Rattle.std.proofs.lemmas.List.Sorted.{IsPermutation-trans}
+use Rattle.std.proofs.lemmas.List.Folds.{flat_map-map}
+use Rattle.std.proofs.lemmas.List.Elements.{filter-append}
 use Rattle.std.proofs.lemmas.Slice.Eq.{bytes_eq-Decides}
 use Rattle.elfobj.specs.Sections.{LinkedSection}
 use Rattle.elfobj.specs.declared.section.SectionIndex.{SectionIndex}
@@ -27,20 +29,17 @@ use Rattle.ldmodel.specs.declared.sections.Part.TheVariants.{InTable, InCommon}
 use Rattle.ldmodel_laws.specs.PlacedOnce.{AreNumbered, Differ, IsPlacedOnce}
 use Rattle.ldmodel_laws.specs.Spread.{EachLater}
 use Rattle.ldmodel_laws.specs.Untouched.{IsFaultless}
-use Rattle.ldmodel_laws.proofs.Finding.{NotBoth, later_imply, member_of}
+use Rattle.ldmodel_laws.proofs.Finding.{NotBoth, member_of}
 use Rattle.ldmodel_laws.proofs.Goodness.{not_both, of_placement, placed_once}
-use Rattle.ldmodel_laws.proofs.Joined.{exchanged, filter_all, filter_append, filter_joined, found_joined, joined_mapped}
+use Rattle.ldmodel_laws.proofs.Joined.{exchanged, filter_all, filter_joined, found_joined}
 use Rattle.ldmodel_laws.proofs.Joined.{joined_none, joined_permuted, joined_same, parted}
 use Rattle.ldmodel_laws.proofs.Once.{names_later}
 use Rattle.ldmodel_laws.proofs.PieceBytes.{one_name}
 use Rattle.ldmodel_laws.proofs.Untouched.{by_object, by_section, sites_by}
+use Rattle.ldmodel_laws.proofs.EachOf.{later_imply}
+use Rattle.ldmodel_laws.proofs.Members.{same_tests}
 
 -- ---- tests the other way round
-
-same_tests : (b c : Bool) → (b ≡ true → c ≡ true) → (c ≡ true → b ≡ true) → b ≡ c
-same_tests true c h k = sym (h refl)
-same_tests false true h k = k refl
-same_tests false false h k = refl
 
 names_turned : (a b : List ℕ) → bytes_eq a b ≡ bytes_eq b a
 names_turned a b =
@@ -229,7 +228,7 @@ module _ (test : Site → Bool) (p : Project) where
             joined_same _ _ q.pieces (λ w c.
             kept_of w.start w.piece.part (object_named p w.piece.object)
             ∙ ap (filter test) (sym (sites_by p (linked_piece p (segments s.sections) q w))))
-            ∙ sym (joined_mapped (λ x. filter test (sites_in p x)) (linked_piece p (segments s.sections) q) q.pieces)
+            ∙ sym (flat_map-map (λ x. filter test (sites_in p x)) (linked_piece p (segments s.sections) q) q.pieces)
             ∙ sym (filter_joined test (sites_in p) (linked_in q))
 
         go : (qs : List PlacedOutput) → flat_map kept_entry (flat_map (λ (q : PlacedOutput). q.pieces) qs)
@@ -239,7 +238,7 @@ module _ (test : Site → Bool) (p : Project) where
             flat_map-append kept_entry q.pieces (flat_map (λ (r : PlacedOutput). r.pieces) qs)
             ∙ ap (λ l. l ++ flat_map kept_entry (flat_map (λ (r : PlacedOutput). r.pieces) qs)) (of_one q)
             ∙ ap (λ l. filter test (flat_map (sites_in p) (linked_in q)) ++ l) (go qs)
-            ∙ sym (filter_append test (flat_map (sites_in p) (linked_in q))
+            ∙ sym (filter-append test (flat_map (sites_in p) (linked_in q))
             (flat_map (sites_in p) (flat_map linked_in qs)))
             ∙ ap (filter test) (sym (flat_map-append (sites_in p) (linked_in q) (flat_map linked_in qs)))
 

@@ -19,16 +19,7 @@ use Rattle.ldmodel_laws.specs.Spread.{AreApart, AreSpread, EachLater, IsSpread, 
 use Rattle.ldmodel_laws.proofs.Effects.{run_by, Kept, kept_same, Named, unchanged, named, Quiet, still, renamed, onward}
 use Rattle.ldmodel_laws.proofs.Effects.{added, named_kept, directive_named, free_dot_kept, region_kept, SectionPlaced}
 use Rattle.ldmodel_laws.proofs.Effects.{section_placed, command_by}
-use Rattle.ldmodel_laws.proofs.RowParts.{each_append}
-
-pub each_imply : {X : Type 0} (P Q : X → Type 0) → ((x : X) → P x → Q x) → (xs : List X) → Each P xs → Each Q xs
-each_imply P Q f [] h = tt
-each_imply P Q f (x ∷ xs) h = (f x h.0, each_imply P Q f xs h.1)
-
-pub each_and : {X : Type 0} (P Q R : X → Type 0) → ((x : X) → P x → Q x → R x) → (xs : List X) → Each P xs → Each Q xs
-    → Each R xs
-each_and P Q R f [] h k = tt
-each_and P Q R f (x ∷ xs) h k = (f x h.0 k.0, each_and P Q R f xs h.1 k.1)
+use Rattle.ldmodel_laws.proofs.EachOf.{each_imply, each_and, each_append}
 
 -- one more at the end, past all before it
 pub later_append : {X : Type 0} (R : X → X → Type 0) (xs : List X) (y : X) → EachLater R xs → Each (λ x. R x y) xs

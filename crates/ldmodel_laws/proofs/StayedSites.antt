@@ -5,9 +5,10 @@ use Rattle.std.proofs.Common.{Option, Some, None, Ok, refl, sym, ap, ◌∙◌, 
 use Rattle.std.specs.List.{Contains}
 use Rattle.std.specs.List.Sorted.{IsPermutation}
 use Rattle.std.specs.Option.{option_map_or}
-use Rattle.std.proofs.lemmas.Bool.{true≢false}
+use Rattle.std.proofs.lemmas.Bool.{true≢false, and_from}
 use Rattle.std.proofs.lemmas.List.Sorted.{Contains-permutation, IsPermutation-sym}
 use Rattle.std.proofs.lemmas.Slice.Eq.{bytes_eq-Decides}
+use Rattle.std.proofs.lemmas.List.{map-append}
 use Rattle.elfobj.specs.Sections.{LinkedSection}
 use Rattle.elfobj.specs.Symbols.{NamedSymbol}
 use Rattle.elfobj.specs.declared.relocation.Relocation.{Relocation}
@@ -34,11 +35,12 @@ use Rattle.ldmodel_laws.proofs.InImage.{stayed_both}
 use Rattle.ldmodel_laws.proofs.Joined.{filter_both, filter_parts}
 use Rattle.ldmodel_laws.proofs.Members.{any_in, in_any, in_filter, none_in_nil}
 use Rattle.ldmodel_laws.proofs.Once.{later_map}
-use Rattle.ldmodel_laws.proofs.OnceInRows.{is_one, own_part, turned, unique}
-use Rattle.ldmodel_laws.proofs.PieceBytes.{later_of_map, map_append, of_both}
+use Rattle.ldmodel_laws.proofs.OnceInRows.{is_one, turned, unique}
 use Rattle.ldmodel_laws.proofs.SitesByPiece.{kept_of_layout, of_layout}
 use Rattle.ldmodel_laws.proofs.Unmoved.{by_value, same_filters}
 use Rattle.ldmodel_laws.proofs.Untouched.{by_object, by_section, in_old, object_found, other_target, sites_by}
+use Rattle.ldmodel_laws.proofs.EachOf.{later_of_map}
+use Rattle.ldmodel_laws.proofs.SameParts.{own_part}
 
 -- ---- input sections in the output are different ones
 
@@ -67,15 +69,15 @@ keys_same p s = go s.sections
         ≡ map placed_key (flat_map (λ (q : PlacedOutput). q.pieces) qs)
     go [] = refl
     go (q ∷ qs) =
-        map_append linked_key (linked_in q) (flat_map linked_in qs)
+        map-append linked_key (linked_in q) (flat_map linked_in qs)
         ∙ ap (λ l. l ++ map linked_key (flat_map linked_in qs)) (of_one q q.pieces)
         ∙ ap (λ l. map placed_key q.pieces ++ l) (go qs)
-        ∙ sym (map_append placed_key q.pieces (flat_map (λ (r : PlacedOutput). r.pieces) qs))
+        ∙ sym (map-append placed_key q.pieces (flat_map (λ (r : PlacedOutput). r.pieces) qs))
 
 linked_once : (p : Project) (s : Layout) → IsPlacedOnce p s
     → EachLater (λ (x y : LinkedPiece). AreOther (linked_key x) (linked_key y)) (linked_pieces p s)
 linked_once p s h =
-    later_of_map linked_key AreOther (linked_pieces p s)
+    later_of_map AreOther linked_key (linked_pieces p s)
     (subst (EachLater AreOther) (sym (keys_same p s))
     (later_map placed_key AreOther (placed_pieces s) (placed_once p s h.placed h.names h.numbers)))
 
@@ -117,7 +119,7 @@ module _ (old new : GoodLink) (h : IsPlacedOnce new.project new.layout) where
       itself : has_stayed old x ≡ true → has_part_stayed old new x.object x.part ≡ true
       itself e =
           any_in (is_linked_part x.object x.part) (stayed old new) x ((stayed_both old new x).1 (c, e))
-          (of_both (bytes_eq x.object x.object) (is_same_part x.part x.part)
+          (and_from (bytes_eq x.object x.object) (is_same_part x.part x.part)
           ((bytes_eq-Decides x.object x.object).1 refl) (own_part x.part))
 
       only : has_part_stayed old new x.object x.part ≡ true → has_stayed old x ≡ true

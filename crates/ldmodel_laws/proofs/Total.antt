@@ -1,6 +1,6 @@
 -- No edit is without an outcome, and none comes to 'out of memory'.
 use Rattle.std.proofs.Common.{◌≡◌, ◌≢◌, ⊎_elim, inl, inr, ℕ, ◌^◌, ◌<◌, ◌≤◌, Bool, true, false, cond, not, ◌||◌, List}
-use Rattle.std.proofs.Common.{[], ◌∷◌, length, find, nat_lt, nat_le, Option, Some, None, Ok, Err, refl, sym, ap, ◌∙◌}
+use Rattle.std.proofs.Common.{length, nat_lt, nat_le, Option, Some, None, Ok, Err, refl, sym, ap, ◌∙◌}
 use Rattle.std.proofs.Common.{subst, arith}
 use Rattle.std.proofs.lemmas.Bool.{cases_lt, true≢false}
 use Rattle.elfobj.specs.Refusal.{object_refusal, holds, refusals}
@@ -23,6 +23,7 @@ use Rattle.ldmodel.specs.Edits.{NotAnObject, NotAScript, Limit, NoMemory, early_
 use Rattle.ldmodel.specs.Edits.{RefusesObject, After, edit_refusal_number, is_in_use, is_object_name, is_too_long}
 use Rattle.ldmodel.specs.Edits.{is_full}
 use Rattle.ldmodel_laws.specs.Outcomes.{HasOutcome, IsNoScript}
+use Rattle.ldmodel_laws.proofs.Finding.{found_passes}
 
 outcome_early : (p : Project) (c : Change) (r : Refusal) → early_refusal p c ≡ Some r → HasOutcome p c
 outcome_early p c r e = (Err r, inl e)
@@ -169,15 +170,6 @@ late_number p (SetScript text) r h = subst (λ x. edit_refusal_number x ≤ 6) (
 pub outer_number : (p : Project) (c : Change) (r : Refusal) → After p c (Err r) → edit_refusal_number r ≤ 6
 outer_number p c r (inl e) = early_number r (subst IsEarly e (is_early p c))
 outer_number p c r (inr h) = late_number p c r h.1
-
-found_passes : {X : Type 0} (test : X → Bool) (xs : List X) (x : X) → find test xs ≡ Some x → test x ≡ true
-found_passes test [] x e = absurd (let none : ⊥ = cc in none)
-found_passes test (y ∷ ys) x e = go (test y) refl e (found_passes test ys x)
-  where
-    go : (b : Bool) → test y ≡ b → cond b (Some y) (find test ys) ≡ Some x → (find test ys ≡ Some x → test x ≡ true)
-        → test x ≡ true
-    go true k f rest = let same : y ≡ x = cc in subst (λ z. test z ≡ true) same k
-    go false k f rest = rest f
 
 never_memory : (bytes : List ℕ) → object_refusal bytes ≡ Some why.NoMemory → ⊥
 unfolding object_refusal holds

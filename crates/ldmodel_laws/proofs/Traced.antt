@@ -17,7 +17,6 @@ use Rattle.ldscript.specs.statements.declared.section.BodyCommand.TheVariants as
 use Rattle.ldscript.specs.statements.declared.section.BodyStatement.{BodyStatement}
 use Rattle.ldscript.specs.statements.declared.section.OutputSection.{OutputSection}
 use Rattle.ldscript.specs.statements.declared.section.Width.{Width}
-use Rattle.ldscript.specs.statements.declared.section.Width.TheVariants.{Byte, Short, Long, Quad}
 use Rattle.ldscript.specs.statements.declared.statement.Command.{Command}
 use Rattle.ldscript.specs.statements.declared.statement.Command.TheVariants as top
 use Rattle.ldscript.specs.statements.declared.statement.Item.{Item}
@@ -37,8 +36,9 @@ use Rattle.ldmodel_laws.specs.Placed.{PieceTo, past_inputs, with_piece}
 use Rattle.ldmodel_laws.specs.Traces.{BodyEffect, dot_noted, inputs_counted, symbol_given, dot_moved, entry_placed}
 use Rattle.ldmodel_laws.specs.Traces.{data_added, BodyEffects, no_effect, effect_then, AddsNothing, AddsSection, Trace}
 use Rattle.ldmodel_laws.specs.Traces.{all_added, nothing_added, region_added, section_added}
-use Rattle.ldmodel_laws.proofs.Effects.{came, Named, unchanged, named, directive_named, section_placed}
+use Rattle.ldmodel_laws.proofs.Effects.{came, Named, unchanged, named, directive_named, section_placed, bytes_of_width}
 use Rattle.ldmodel_laws.proofs.Placements.{piece_to}
+use Rattle.ldmodel_laws.proofs.Mentioned.{sections_append}
 
 -- a state that is given is that of the result
 given_is : {X : Type 0} (s t : X) → ◌≡◌ {A = Result X Fault} (Ok s) (Ok t) → s ≡ t
@@ -109,12 +109,6 @@ directive_does provided line b d c h =
     let k = came (directive_step provided b.layout line d) (λ s. Ok (record b { layout = s })) c h in
     subst (BodyEffects b) (given_is (record b { layout = k.value }) c k.gives)
     (named_does b k.value (directive_named provided b.layout line d k.value k.is))
-
-bytes_of_width : (w : Width) (x : ℕ) → length (little_bytes (byte_count w) x) ≡ byte_count w
-bytes_of_width Byte x = refl
-bytes_of_width Short x = refl
-bytes_of_width Long x = refl
-bytes_of_width Quad x = refl
 
 data_does : (line : ℕ) (b : Body) (w : Width) (e : Expr) (c : Body) → data_step line b w e ≡ Ok c → BodyEffects b c
 data_does line b w e c h =
@@ -235,12 +229,6 @@ regions_traced (r ∷ ms) s t u rs os e k =
     (subst (λ (v : Layout). Trace v (ms ++ rs) os u)
     (sym (given_is (with_region s r.name first.value second.value) one.value second.gives))
     (regions_traced ms one.value t u rs os one.gives k))
-
-sections_append : (xs ys : List Item) → sections_in (xs ++ ys) ≡ sections_in xs ++ sections_in ys
-sections_append [] ys = refl
-sections_append (x ∷ xs) ys =
-    ap (λ l. item_sections x.line x.command ++ l) (sections_append xs ys)
-    ∙ sym (append_assoc (item_sections x.line x.command) (sections_in xs) (sections_in ys))
 
 module _ (rows : List (List Piece)) (provided : List (List ℕ)) where
   item_traced : (line : ℕ) (s : Layout) (c : ItemCommand) (t u : Layout) (rs : List Region) (os : List OutputSectionAt)

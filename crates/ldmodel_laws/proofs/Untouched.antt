@@ -4,7 +4,7 @@ use Rattle.std.proofs.Common.{not, ◌&&◌, List, [], ◌∷◌, length, map, f
 use Rattle.std.proofs.Common.{None, Ok, refl, sym, ap, ◌∙◌, subst, arith, bytes_eq}
 use Rattle.std.specs.List.{Contains, cons_option, filter_map}
 use Rattle.std.specs.Option.{option_map_or}
-use Rattle.std.proofs.lemmas.Bool.{false≢true, true≢false, leb-true, ltb-true, eqb-true, eq-eqb}
+use Rattle.std.proofs.lemmas.Bool.{false≢true, true≢false, leb-true, ltb-true, eqb-true, eq-eqb, and_parts}
 use Rattle.std.proofs.lemmas.Slice.Eq.{bytes_eq-Decides}
 use Rattle.elfobj.specs.file.Numbers.{u16_at}
 use Rattle.elfobj.specs.Object.{ObjectData, object_of}
@@ -23,7 +23,6 @@ use Rattle.ldmodel.specs.Layout.{Layout, PlacedPiece, PlacedOutput}
 use Rattle.ldmodel.specs.Project.{NamedObject, Project}
 use Rattle.ldmodel.specs.Relocations.{Site, site_field_with, is_evaluated, patch_of, site_field, site_symbol}
 use Rattle.ldmodel.specs.Relocations.{site_value, sites_at}
-use Rattle.ldmodel.specs.Sections.{is_same_part}
 use Rattle.ldmodel.specs.Segments.{Segment, file_offset, segments}
 use Rattle.ldmodel.specs.Stayed.{FileRange, GoodLink, LinkedPiece, has_stayed, is_moved, linked_piece, linked_pieces}
 use Rattle.ldmodel.specs.Stayed.{link_pieces, range_in, retargeted, same_piece, sites_in, sites_in_part}
@@ -34,10 +33,11 @@ use Rattle.ldmodel.specs.declared.sections.Part.{Part}
 use Rattle.ldmodel.specs.declared.sections.Part.TheVariants.{InTable, InCommon}
 use Rattle.ldmodel_laws.specs.Untouched.{AreRead, HasField, IsGood, IsOutside}
 use Rattle.ldmodel_laws.proofs.Apart.{Stands, stands}
-use Rattle.ldmodel_laws.proofs.Finding.{Comes, flat_map_in, in_flat_map, in_map, member_of, each_member}
+use Rattle.ldmodel_laws.proofs.Finding.{flat_map_in, in_flat_map, in_map, map_in, member_of, each_member}
 use Rattle.ldmodel_laws.proofs.Members.{Passes, here, later, in_any, in_filter, filter_in}
-use Rattle.ldmodel_laws.proofs.PieceBytes.{both_of, byte_of_piece}
+use Rattle.ldmodel_laws.proofs.PieceBytes.{byte_of_piece}
 use Rattle.ldmodel_laws.proofs.Targeted.{same_value}
+use Rattle.ldmodel_laws.proofs.SameParts.{same_part}
 
 -- ---- an input section in a link
 
@@ -61,7 +61,7 @@ module _ (l : GoodLink) (good : IsGood l) where
           → byte_at l.project l.layout ((cond b here none).offset + i)
           ≡ part_byte l.project l.layout z.piece.object z.piece.part z.start i
       go true e k = byte_of_piece l.project l.layout q z i good.spread good.named there
-          (both_of q.has_file_bytes (not (z.piece.size == 0)) e).0 among k
+          (and_parts q.has_file_bytes (not (z.piece.size == 0)) e).0 among k
       go false e k = absurd (omega (arith, k))
 
   -- what is known of a linked piece
@@ -95,20 +95,14 @@ pub record SamePiece (x y : LinkedPiece) : Type 0 where
   pub offset : x.range.offset ≡ y.range.offset
   pub length : x.range.length ≡ y.range.length
 
-pub same_part : (a b : Part) → is_same_part a b ≡ true → a ≡ b
-same_part (InTable k) (InTable n) e = ap (λ m. InTable (record { 0 = m })) (eqb-true (k.0) (n.0) e)
-same_part (InCommon k) (InCommon n) e = ap (λ m. InCommon (record { 0 = m })) (eqb-true (k.0) (n.0) e)
-same_part (InTable k) (InCommon n) e = absurd (false≢true e)
-same_part (InCommon k) (InTable n) e = absurd (false≢true e)
-
 pub same : (x y : LinkedPiece) → same_piece x y ≡ true → SamePiece x y
 same x y e =
-    let range = both_of _ _ e in
-    let size = both_of _ _ range.0 in
-    let start = both_of _ _ size.0 in
-    let part = both_of _ _ start.0 in
-    let names = both_of _ _ part.0 in
-    let ranges = both_of _ _ range.1 in
+    let range = and_parts _ _ e in
+    let size = and_parts _ _ range.0 in
+    let start = and_parts _ _ size.0 in
+    let part = and_parts _ _ start.0 in
+    let names = and_parts _ _ part.0 in
+    let ranges = and_parts _ _ range.1 in
     record {
       object = (bytes_eq-Decides x.object y.object).0 names.0;
       text = (bytes_eq-Decides x.text y.text).0 names.1;
@@ -133,20 +127,29 @@ one_field t v w f g e h n =
     let both : Ok f ≡ Ok g = sym e ∙ ap (site_field_with t) values ∙ h in
     cc
 
--- what two links have of a site: one field, or two where byte i is in neither
-record Agree (p r : Project) (s u : Layout) (i : ℕ) (t : Site) : Type 0 where
+-- a relocation of a section, at an address
+abbrev pub site_of : NamedObject → LinkedSection → ℕ → Relocation → Site
+site_of o z start = λ r. record { object = o; section = z; start = start; relocation = r }
+
+-- what two links have of a relocation of a section that starts at two addresses: one field, or two where byte i is in
+-- neither
+pub record Agree (p r : Project) (s u : Layout) (o : NamedObject) (z : LinkedSection) (a b i : ℕ) (x : Relocation)
+    : Type 0 where
   pub first : List ℕ
   pub second : List ℕ
-  pub in_first : site_field p s t ≡ Ok first
-  pub in_second : site_field r u t ≡ Ok second
+  pub in_first : site_field p s (site_of o z a x) ≡ Ok first
+  pub in_second : site_field r u (site_of o z b x) ≡ Ok second
   pub either : (first ≡ second)
-      ⊎ (IsOutside i t × (length first ≡ width t.relocation.kind) × (length second ≡ width t.relocation.kind))
+      ⊎ (IsOutside i (site_of o z b x) × (length first ≡ width x.kind) × (length second ≡ width x.kind))
 
-abbrev fields : Project → Layout → List Site → List Patch
-fields p s ts = filter_map (λ t. patch_of t (site_field p s t)) ts
+abbrev fields : Project → Layout → NamedObject → LinkedSection → ℕ → List Relocation → List Patch
+fields p s o z start rs = filter_map (λ t. patch_of t (site_field p s t)) (map (site_of o z start) rs)
+
+abbrev with_field : Relocation → List ℕ → Patch
+with_field x field = record { offset = x.offset; field = field }
 
 outside : (i : ℕ) (t : Site) (field : List ℕ) → IsOutside i t → length field ≡ width t.relocation.kind
-    → patches.patch_covers (record { offset = t.relocation.offset; field = field }) i ≡ false
+    → patches.patch_covers (with_field t.relocation field) i ≡ false
 outside i t field h l = go (nat_le t.relocation.offset i) (nat_lt i (t.relocation.offset + length field)) refl refl h
   where
     go : (a b : Bool) → nat_le t.relocation.offset i ≡ a → nat_lt i (t.relocation.offset + length field) ≡ b
@@ -160,34 +163,36 @@ abbrev byte_of : List ℕ → ℕ → Patch → List Patch → ℕ
 byte_of bytes i a others = cond (patches.patch_covers a i) (slice_index a.field (i - a.offset))
     (patched_byte bytes others i)
 
-same_bytes : (p r : Project) (s u : Layout) (i : ℕ) (bytes : List ℕ) (ts : List Site) → Each (Agree p r s u i) ts
-    → patched_byte bytes (fields p s ts) i ≡ patched_byte bytes (fields r u ts) i
-same_bytes p r s u i bytes [] h = refl
-same_bytes p r s u i bytes (t ∷ ts) h = go h.0.either (same_bytes p r s u i bytes ts h.1)
-  where
-    with_field : List ℕ → Patch
-    with_field field = record { offset = t.relocation.offset; field = field }
+module _ (p r : Project) (s u : Layout) (o : NamedObject) (z : LinkedSection) (a b i : ℕ) (bytes : List ℕ) where
+  same_bytes : (xs : List Relocation) → Each (Agree p r s u o z a b i) xs
+      → patched_byte bytes (fields p s o z a xs) i ≡ patched_byte bytes (fields r u o z b xs) i
+  same_bytes [] h = refl
+  same_bytes (x ∷ xs) h = go h.0.either (same_bytes xs h.1)
+    where
+      left : patched_byte bytes (fields p s o z a (x ∷ xs)) i
+          ≡ byte_of bytes i (with_field x h.0.first) (fields p s o z a xs)
+      left = ap (λ m. patched_byte bytes (cons_option (patch_of (site_of o z a x) m) (fields p s o z a xs)) i)
+          h.0.in_first
 
-    left : patched_byte bytes (fields p s (t ∷ ts)) i ≡ byte_of bytes i (with_field h.0.first) (fields p s ts)
-    left = ap (λ m. patched_byte bytes (cons_option (patch_of t m) (fields p s ts)) i) h.0.in_first
+      right : patched_byte bytes (fields r u o z b (x ∷ xs)) i
+          ≡ byte_of bytes i (with_field x h.0.second) (fields r u o z b xs)
+      right = ap (λ m. patched_byte bytes (cons_option (patch_of (site_of o z b x) m) (fields r u o z b xs)) i)
+          h.0.in_second
 
-    right : patched_byte bytes (fields r u (t ∷ ts)) i ≡ byte_of bytes i (with_field h.0.second) (fields r u ts)
-    right = ap (λ m. patched_byte bytes (cons_option (patch_of t m) (fields r u ts)) i) h.0.in_second
-
-    go : (h.0.first ≡ h.0.second)
-        ⊎ (IsOutside i t × (length h.0.first ≡ width t.relocation.kind) × (length h.0.second ≡ width t.relocation.kind))
-        → patched_byte bytes (fields p s ts) i ≡ patched_byte bytes (fields r u ts) i
-        → patched_byte bytes (fields p s (t ∷ ts)) i ≡ patched_byte bytes (fields r u (t ∷ ts)) i
-    go (inl e) rest =
-        left ∙ ap (λ n. cond (patches.patch_covers (with_field h.0.first) i)
-        (slice_index h.0.first (i - t.relocation.offset)) n) rest
-        ∙ ap (λ f. byte_of bytes i (with_field f) (fields r u ts)) e ∙ sym right
-    go (inr k) rest =
-        left ∙ ap (λ b. cond b (slice_index h.0.first (i - t.relocation.offset))
-        (patched_byte bytes (fields p s ts) i)) (outside i t h.0.first k.0 k.1)
-        ∙ rest ∙ sym (ap (λ b.
-        cond b (slice_index h.0.second (i - t.relocation.offset)) (patched_byte bytes (fields r u ts) i))
-        (outside i t h.0.second k.0 k.2)) ∙ sym right
+      go : (h.0.first ≡ h.0.second)
+          ⊎ (IsOutside i (site_of o z b x) × (length h.0.first ≡ width x.kind) × (length h.0.second ≡ width x.kind))
+          → patched_byte bytes (fields p s o z a xs) i ≡ patched_byte bytes (fields r u o z b xs) i
+          → patched_byte bytes (fields p s o z a (x ∷ xs)) i ≡ patched_byte bytes (fields r u o z b (x ∷ xs)) i
+      go (inl e) rest =
+          left ∙ ap (λ n. cond (patches.patch_covers (with_field x h.0.first) i)
+          (slice_index h.0.first (i - x.offset)) n) rest
+          ∙ ap (λ f. byte_of bytes i (with_field x f) (fields r u o z b xs)) e ∙ sym right
+      go (inr k) rest =
+          left ∙ ap (λ c. cond c (slice_index h.0.first (i - x.offset))
+          (patched_byte bytes (fields p s o z a xs) i)) (outside i (site_of o z b x) h.0.first k.0 k.1)
+          ∙ rest ∙ sym (ap (λ c.
+          cond c (slice_index h.0.second (i - x.offset)) (patched_byte bytes (fields r u o z b xs) i))
+          (outside i (site_of o z b x) h.0.second k.0 k.2)) ∙ sym right
 
 -- the field of a site of an evaluated relocation has its width
 pub wide : (p : Project) (s : Layout) (o : NamedObject) (x : LinkedSection) (start : ℕ) (r : Relocation)
@@ -233,7 +238,7 @@ no_sections : sections_of [] ≡ []
 unfolding sections_of u16_at
 no_sections = refl
 
-abbrev IsBare : Option NamedObject → Type 0
+abbrev pub IsBare : Option NamedObject → Type 0
 IsBare None = Unit {0}
 IsBare (Some o) = o.object.sections ≡ []
 
@@ -249,7 +254,7 @@ bare p name o h e t =
     ap (λ (d : ObjectData). d.sections) object ∙ no_sections
 
 -- objects of one name and one text are one, or have no sections
-same_object : (p r : Project) (name : List ℕ) → AreRead p → AreRead r → text_of p name ≡ text_of r name
+pub same_object : (p r : Project) (name : List ℕ) → AreRead p → AreRead r → text_of p name ≡ text_of r name
     → (object_named p name ≡ object_named r name) ⊎ (IsBare (object_named p name) × IsBare (object_named r name))
 same_object p r name g h e = go (object_named p name) (object_named r name) refl refl e
   where
@@ -324,6 +329,39 @@ none p s start i (InTable k) None e = refl
 none p s start i (InTable k) (Some o) e =
     ap (λ zs. option_map_or (section_byte p s o start i) (find (λ (z : LinkedSection). z.number.0 == k.0) zs) 0) e
 
+-- byte i of a part that starts at two addresses, where the fields of its sections agree
+module _ (p r : Project) (s u : Layout) (a b i : ℕ) (before after : List Site)
+    (agree : (o : NamedObject) (z : LinkedSection) → before ≡ sites_at o z a → after ≡ sites_at o z b
+    → (x : Relocation) → Contains (filter (λ (w : Relocation). is_evaluated w.kind) z.relocations) x
+    → Agree p r s u o z a b i x) where
+  of_one : (part : Part) (m : Option NamedObject) → before ≡ by_object a part m → after ≡ by_object b part m
+      → part_of_object p s a i part m ≡ part_of_object r u b i part m
+  of_one (InCommon k) m e f = refl
+  of_one (InTable k) None e f = refl
+  of_one (InTable k) (Some o) e f = go (section_numbered o k) e f
+    where
+      go : (n : Option LinkedSection) → before ≡ by_section o a n → after ≡ by_section o b n
+          → option_map_or (section_byte p s o a i) n 0 ≡ option_map_or (section_byte r u o b i) n 0
+      go None c d = refl
+      go (Some z) c d =
+          same_bytes p r s u o z a b i z.bytes (filter (λ (w : Relocation). is_evaluated w.kind) z.relocations)
+          (each_member (Agree p r s u o z a b i) (filter (λ (w : Relocation). is_evaluated w.kind) z.relocations)
+          (agree o z c d))
+
+  pub parts_same : (name : List ℕ) (part : Part)
+      → (object_named p name ≡ object_named r name) ⊎ (IsBare (object_named p name) × IsBare (object_named r name))
+      → before ≡ by_object a part (object_named p name) → after ≡ by_object b part (object_named r name)
+      → part_byte p s name part a i ≡ part_byte r u name part b i
+  parts_same name part objects e f =
+      part_by p s name part a i ∙ go objects ∙ sym (part_by r u name part b i)
+    where
+      go : (object_named p name ≡ object_named r name) ⊎ (IsBare (object_named p name) × IsBare (object_named r name))
+          → part_of_object p s a i part (object_named p name) ≡ part_of_object r u b i part (object_named r name)
+      go (inl same) =
+          ap (part_of_object p s a i part) same
+          ∙ of_one part (object_named r name) (e ∙ ap (by_object a part) same) f
+      go (inr k) = none p s a i part (object_named p name) k.0 ∙ sym (none r u b i part (object_named r name) k.1)
+
 module _ (old new : GoodLink) (g : IsGood old) (read : AreRead new.project) (x : LinkedPiece)
     (stays : Contains (stayed old new) x) where
   in_both : Contains (link_pieces new) x × (has_stayed old x ≡ true)
@@ -383,88 +421,50 @@ module _ (old new : GoodLink) (g : IsGood old) (read : AreRead new.project) (x :
 
     module _ (i : ℕ) (clear : (t : Site) → Contains (retargeted old new) t → Contains (sites_in new.project x) t
         → IsOutside i t) where
-      module _ (o : NamedObject) (z : LinkedSection) (all_new : sites_in new.project x ≡ sites_at o z x.start) where
-        agree : (t : Site) → Contains (sites_at o z x.start) t → Agree old.project new.project old.layout new.layout i t
-        unfolding site_field
-        agree t c = go (is_moved old new t) refl
-          where
-            in_x : Contains (sites_in new.project x) t
-            in_x = subst (λ ts. Contains ts t) (sym all_new) c
-
-            first : HasField old t
-            first = in_old t in_x
-
-            second : HasField new t
-            second = in_new t in_x
-
-            comes : Comes (λ (r : Relocation). record { object = o; section = z; start = x.start; relocation = r })
-                (filter (λ (r : Relocation). is_evaluated r.kind) z.relocations) t
-            comes = in_map (λ (r : Relocation). record { object = o; section = z; start = x.start; relocation = r })
-                (filter (λ (r : Relocation). is_evaluated r.kind) z.relocations) t c
-
-            evaluated : is_evaluated comes.origin.kind ≡ true
-            evaluated = (in_filter (λ (r : Relocation). is_evaluated r.kind) z.relocations comes.origin comes.among).1
-
-            width_in : (p : Project) (s : Layout) (field : List ℕ) → site_field p s t ≡ Ok field → length field
-                ≡ width t.relocation.kind
-            width_in p s field f =
-                wide p s o z x.start comes.origin field evaluated (ap (site_field p s) comes.gives ∙ f)
-                ∙ ap (λ (u : Site). width u.relocation.kind) comes.gives
-
-            go : (b : Bool) → is_moved old new t ≡ b → Agree old.project new.project old.layout new.layout i t
-            go true e = record {
-              first = first.0;
-              second = second.0;
-              in_first = first.1;
-              in_second = second.1;
-              either = inr (
-                clear t (is_retargeted t in_x e) in_x,
-                width_in old.project old.layout first.0 first.1,
-                width_in new.project new.layout second.0 second.1,
-              );
-            }
-            go false e = record {
-              first = first.0;
-              second = second.0;
-              in_first = first.1;
-              in_second = second.1;
-              either = inl (one_field t (site_value old.project old.layout t) (site_value new.project new.layout t)
-                  first.0 second.0 first.1 second.1 (unmoved (site_value_in old t) (site_value_in new t) e));
-            }
-
-        section_same : section_byte old.project old.layout o x.start i z
-            ≡ section_byte new.project new.layout o x.start i z
-        section_same = same_bytes old.project new.project old.layout new.layout i z.bytes (sites_at o z x.start)
-            (each_member (Agree old.project new.project old.layout new.layout i) (sites_at o z x.start) agree)
-
-      of_one : (part : Part) (m : Option NamedObject) → sites_in new.project x ≡ by_object x.start part m
-          → part_of_object old.project old.layout x.start i part m
-          ≡ part_of_object new.project new.layout x.start i part m
-      of_one (InCommon k) m b = refl
-      of_one (InTable k) None b = refl
-      of_one (InTable k) (Some o) b = go (section_numbered o k) b
+      agree : (o : NamedObject) (z : LinkedSection) → sites_in old.project y ≡ sites_at o z x.start
+          → sites_in new.project x ≡ sites_at o z x.start → (r : Relocation)
+          → Contains (filter (λ (w : Relocation). is_evaluated w.kind) z.relocations) r
+          → Agree old.project new.project old.layout new.layout o z x.start x.start i r
+      unfolding site_field
+      agree o z all_old all_new r c = go (is_moved old new t) refl
         where
-          go : (n : Option LinkedSection) → sites_in new.project x ≡ by_section o x.start n
-              → option_map_or (section_byte old.project old.layout o x.start i) n 0
-              ≡ option_map_or (section_byte new.project new.layout o x.start i) n 0
-          go None d = refl
-          go (Some z) d = section_same o z d
+          t : Site
+          t = site_of o z x.start r
 
-      parts_same : part_byte old.project old.layout x.object x.part x.start i
-          ≡ part_byte new.project new.layout x.object x.part x.start i
-      parts_same = part_by old.project old.layout x.object x.part x.start i ∙ go objects
-          ∙ sym (part_by new.project new.layout x.object x.part x.start i)
-        where
-          go : (object_named old.project x.object ≡ object_named new.project x.object)
-              ⊎ (IsBare (object_named old.project x.object) × IsBare (object_named new.project x.object))
-              → part_of_object old.project old.layout x.start i x.part (object_named old.project x.object)
-              ≡ part_of_object new.project new.layout x.start i x.part (object_named new.project x.object)
-          go (inl e) =
-              ap (part_of_object old.project old.layout x.start i x.part) e
-              ∙ of_one x.part (object_named new.project x.object) (sites_by new.project x)
-          go (inr k) =
-              none old.project old.layout x.start i x.part (object_named old.project x.object) k.0
-              ∙ sym (none new.project new.layout x.start i x.part (object_named new.project x.object) k.1)
+          in_x : Contains (sites_in new.project x) t
+          in_x = subst (λ ts. Contains ts t) (sym all_new)
+              (map_in (site_of o z x.start) (filter (λ (w : Relocation). is_evaluated w.kind) z.relocations) r c)
+
+          first : HasField old t
+          first = in_old t in_x
+
+          second : HasField new t
+          second = in_new t in_x
+
+          is : is_evaluated r.kind ≡ true
+          is = (in_filter (λ (w : Relocation). is_evaluated w.kind) z.relocations r c).1
+
+          go : (b : Bool) → is_moved old new t ≡ b
+              → Agree old.project new.project old.layout new.layout o z x.start x.start i r
+          go true e = record {
+            first = first.0;
+            second = second.0;
+            in_first = first.1;
+            in_second = second.1;
+            either = inr (
+              clear t (is_retargeted t in_x e) in_x,
+              wide old.project old.layout o z x.start r first.0 is first.1,
+              wide new.project new.layout o z x.start r second.0 is second.1,
+            );
+          }
+          go false e = record {
+            first = first.0;
+            second = second.0;
+            in_first = first.1;
+            in_second = second.1;
+            either = inl (one_field t (site_value old.project old.layout t) (site_value new.project new.layout t)
+                first.0 second.0 first.1 second.1 (unmoved (site_value_in old t) (site_value_in new t) e));
+          }
 
       untouched_byte : i < x.range.length → byte_at old.project old.layout (x.range.offset + i)
           ≡ byte_at new.project new.layout (x.range.offset + i)
@@ -474,7 +474,9 @@ module _ (old new : GoodLink) (g : IsGood old) (read : AreRead new.project) (x :
           ∙ ap (λ n. part_byte old.project old.layout y.object y.part n i) (sym alike.start)
           ∙ ap (λ part. part_byte old.project old.layout y.object part x.start i) (sym alike.part)
           ∙ ap (λ name. part_byte old.project old.layout name x.part x.start i) (sym alike.object)
-          ∙ parts_same ∙ sym ((known new h x in_both.0).byte i low)
+          ∙ parts_same old.project new.project old.layout new.layout x.start x.start i (sites_in old.project y)
+          (sites_in new.project x) agree x.object x.part objects old_sites (sites_by new.project x)
+          ∙ sym ((known new h x in_both.0).byte i low)
 
 pub untouched : (old new : GoodLink) → IsGood old → IsGood new → (x : LinkedPiece) → Contains (stayed old new) x
     → (i : ℕ) → ((t : Site) → Contains (retargeted old new) t → Contains (sites_in new.project x) t → IsOutside i t)

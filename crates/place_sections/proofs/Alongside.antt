@@ -1,10 +1,10 @@
 -- The body of an output section goes on alongside that of a previous layout.
 use Rattle.std.proofs.Common.{◌≡◌, ℕ, ◌+◌, ◌==◌, List, [], ◌∷◌, ◌++◌, Bool, true, false, Ok, refl, sym, ap, subst, ◌∙◌}
-use Rattle.std.proofs.Common.{append_assoc, drop, length, map, ◌<◌, suc, arith, cond, eq-eqb, get_or, Bor}
+use Rattle.std.proofs.Common.{drop, length, map, ◌<◌, suc, arith, cond, eq-eqb, get_or, Bor}
 use Rattle.std.proofs.Common.{Option, Some, None, IfSome, Result}
 use Rattle.std.specs.Prelude.{⊤, slice_get}
 use Rattle.std.proofs.lemmas.List.{drop_more, length-map}
-use Rattle.ldscript.specs.statements.Numbering.{DirectiveAt, directives_in, directives_of}
+use Rattle.ldscript.specs.statements.Numbering.{directives_in, directives_of}
 use Rattle.ldscript.specs.statements.declared.section.BodyCommand.{BodyCommand}
 use Rattle.ldscript.specs.statements.declared.section.BodyCommand.TheVariants as body
 use Rattle.ldscript.specs.statements.declared.section.BodyStatement.{BodyStatement}
@@ -21,7 +21,7 @@ use Rattle.ldmodel.specs.declared.rows.Piece as rows
 use Rattle.place_terms.specs.Keyed.{piece_at}
 use Rattle.place_terms.specs.Naming.{Naming, piece_named, row_named}
 use Rattle.place_terms.specs.SectionTable.{keyed_piece}
-use Rattle.ldmodel_laws.specs.Alike.{AreBodiesAlike, BodiesStayAlike, HeadsAgree, given_names, names_given}
+use Rattle.ldmodel_laws.specs.Alike.{AreBodiesAlike, BodiesStayAlike, HeadsAgree, names_given}
 use Rattle.place_sections.proofs.Counting.{along_none}
 use Rattle.place_sections.proofs.Adding.{end_is}
 use Rattle.place_sections.proofs.Beginning.{begins_mapped, begins_on, begins_same}
@@ -36,20 +36,12 @@ use Rattle.place_sections.specs.Leads.{Begins}
 use Rattle.place_sections.specs.State.{body_of}
 use Rattle.place_sections.specs.declared.state.CurrentOutput.{CurrentOutput}
 use Rattle.place_sections.specs.declared.state.LayoutCursor.{LayoutCursor}
+use Rattle.ldmodel_laws.proofs.Mentioned.{names_on}
 
 -- a list from an element on
 pub from_here : {X : Type 0} (xs : List X) (k : ℕ) (x : X) → k < length xs → x ≡ get_or xs k x
     → drop k xs ≡ x ∷ drop (k + 1) xs
 from_here xs k x l at = drop_more xs k x l ∙ ap (λ y. y ∷ drop (k + 1) xs) (sym at)
-
--- names that are given in one part and in another
-pub names_on : (cs ds : List DirectiveAt) (names : List (List ℕ))
-    → names_given (cs ++ ds) ++ names ≡ names_given cs ++ (names_given ds ++ names)
-names_on [] ds names = refl
-names_on (c ∷ cs) ds names =
-    append_assoc (given_names c.command) (names_given (cs ++ ds)) names
-    ∙ (ap (λ l. given_names c.command ++ l) (names_on cs ds names)
-    ∙ sym (append_assoc (given_names c.command) (names_given cs) (names_given ds ++ names)))
 
 abbrev pub starts : List PlacedPiece → List ℕ
 starts pieces = map (λ (x : PlacedPiece). x.start) pieces

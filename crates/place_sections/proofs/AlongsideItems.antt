@@ -2,8 +2,8 @@
 use Rattle.std.proofs.Common.{◌≡◌, ℕ, ◌≤◌, ◌<◌, List, [], ◌∷◌, ◌++◌, Ok, refl, sym, ap, subst, ◌∙◌, arith}
 use Rattle.std.proofs.Common.{Bool, true, false, get_or, length, map}
 use Rattle.std.proofs.Math.ListN.{get_or-map}
-use Rattle.std.proofs.lemmas.List.{append-nil, length-map}
-use Rattle.ldscript.specs.statements.Numbering.{DirectiveAt, all_directives, item_directives, items_directives}
+use Rattle.std.proofs.lemmas.List.{length-map}
+use Rattle.ldscript.specs.statements.Numbering.{all_directives, item_directives, items_directives}
 use Rattle.ldscript.specs.statements.declared.section.OutputSection.{OutputSection}
 use Rattle.ldscript.specs.statements.declared.statement.Command.{Command}
 use Rattle.ldscript.specs.statements.declared.statement.Command.TheVariants as top
@@ -18,7 +18,6 @@ use Rattle.ldmodel.specs.declared.rows.Piece as rows
 use Rattle.ldmodel_laws.specs.Alike.{AreAlike, ItemsStayAlike, StatementsStayAlike, names_given}
 use Rattle.place_terms.specs.Keyed.{KeyedSection, section_of}
 use Rattle.place_terms.specs.Naming.{Naming, row_named}
-use Rattle.place_sections.proofs.Alongside.{names_on}
 use Rattle.place_sections.proofs.Ending.{Chained, chained}
 use Rattle.place_sections.proofs.InParts.{in_parts, whole}
 use Rattle.place_sections.proofs.Onward.{items_on, leads_before, statements_on}
@@ -31,6 +30,7 @@ use Rattle.place_sections.specs.Inputs.{rows_of}
 use Rattle.place_sections.specs.Leads.{Leads}
 use Rattle.place_sections.specs.Parts.{after_sections, before_sections, if_sections, items_within}
 use Rattle.place_sections.specs.declared.script.Input.{Input}
+use Rattle.ldmodel_laws.proofs.Mentioned.{names_on, names_of_both}
 
 module _ (n : Naming) (i : Input) (script : List Statement) (s : Layout) (x : Item) (xs : List Item)
     (a : ItemsAlongside n i script s (x ∷ xs)) where
@@ -164,11 +164,6 @@ directives_in_parts : (script : List Statement) → all_directives script
 directives_in_parts [] = refl
 directives_in_parts (x ∷ xs) = directives_first x.line x.command xs (directives_in_parts xs)
 
-names_both : (cs ds : List DirectiveAt) → names_given (cs ++ ds) ≡ names_given cs ++ names_given ds
-names_both cs ds =
-    sym (append-nil (names_given (cs ++ ds)))
-    ∙ (names_on cs ds [] ∙ ap (λ l. names_given cs ++ l) (append-nil (names_given ds)))
-
 -- what goes on alongside a script goes on alongside its SECTIONS
 pub items_alongside : (n : Naming) (i : Input) (script script' : List Statement) (s t : Layout)
     (statements : List Statement) (items : List Item) → StatementsStayAlike → script' ≡ script
@@ -191,9 +186,9 @@ items_alongside n i script script' s t statements items law same_script same_ite
     let names : names_given (all_directives statements)
     ≡ names_given (all_directives before) ++ (names_given (items_directives within) ++ left) =
     ap names_given (directives_in_parts statements)
-    ∙ (names_both (all_directives before) (items_directives within ++ all_directives after)
+    ∙ (names_of_both (all_directives before) (items_directives within ++ all_directives after)
     ∙ ap (λ l. names_given (all_directives before) ++ l)
-    (names_both (items_directives within) (all_directives after))) in
+    (names_of_both (items_directives within) (all_directives after))) in
     subst (λ z. ItemsAlongside n i z t items) (sym same_script)
     (subst (ItemsAlongside n i script t) (sym same_items) (record {
       rows = a.rows;

@@ -1,8 +1,8 @@
 -- Ranges of which no two share an address do not meet.
 use Rattle.std.proofs.Common.{◌≡◌, ◌∙◌, sym, refl, ap, subst, ℕ, ◌+◌, ◌≤◌, ◌<◌, List, [], ◌∷◌, ◌++◌, length, get_or}
-use Rattle.std.proofs.Common.{Bool, true, false, not, ◌&&◌, ◌==◌, nat_lt, arith, inl, inr, Option, Some, None}
+use Rattle.std.proofs.Common.{true, not, ◌&&◌, ◌==◌, nat_lt, arith, inl, inr, Option, Some, None}
 use Rattle.std.proofs.Common.{append_assoc, zero, suc, if◌then◌else◌}
-use Rattle.std.proofs.lemmas.Bool.{cases_lt, le-leb, lt-ltb, ltb-true}
+use Rattle.std.proofs.lemmas.Bool.{cases_lt, le-leb, lt-ltb, ltb-true, and_parts}
 use Rattle.std.proofs.lemmas.List.Sums.{get_or-le-sum_by, sum_by-append, sum_by-cons}
 use Rattle.std.proofs.lemmas.List.Sorted.{sum_by-IsPermutation}
 use Rattle.std.proofs.lemmas.List.Quantifiers.{position-Some}
@@ -23,22 +23,16 @@ covers_within address e from within =
     ap (λ b. if b && nat_lt address (e.start + e.size) then 1 else 0) (le-leb e.start address from)
     ∙ ap (λ b. if b then 1 else 0) (lt-ltb address (e.start + e.size) within)
 
-pub both : (a b : Bool) → (a && b) ≡ true → (a ≡ true) × (b ≡ true)
-both true true h = (refl, refl)
-both true false h = absurd (cc h)
-both false true h = absurd (cc h)
-both false false h = absurd (cc h)
-
 pub no_zero : (n : ℕ) → not (n == 0) ≡ true → 0 < n
 no_zero zero h = absurd (cc h)
 no_zero (suc n) h = omega arith
 
 meets_share : (a b : Extent) → meet a b ≡ true → Shared a b
 meets_share a b met =
-    let one_end = both (not (a.size == 0) && not (b.size == 0) && nat_lt a.start (b.start + b.size))
+    let one_end = and_parts (not (a.size == 0) && not (b.size == 0) && nat_lt a.start (b.start + b.size))
     (nat_lt b.start (a.start + a.size)) met in
-    let other_end = both (not (a.size == 0) && not (b.size == 0)) (nat_lt a.start (b.start + b.size)) one_end.0 in
-    let sized = both (not (a.size == 0)) (not (b.size == 0)) other_end.0 in
+    let other_end = and_parts (not (a.size == 0) && not (b.size == 0)) (nat_lt a.start (b.start + b.size)) one_end.0 in
+    let sized = and_parts (not (a.size == 0)) (not (b.size == 0)) other_end.0 in
     let n : 0 < a.size = no_zero a.size sized.0 in
     let m : 0 < b.size = no_zero b.size sized.1 in
     let one : a.start < b.start + b.size = ltb-true a.start (b.start + b.size) other_end.1 in

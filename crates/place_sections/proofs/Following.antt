@@ -15,18 +15,19 @@ use Rattle.ldmodel.specs.Chain.{run}
 use Rattle.ldmodel.specs.Layout.{Layout, PlacedOutput, noted}
 use Rattle.ldmodel.specs.Placement.{item_step}
 use Rattle.ldmodel.specs.Rows.{Piece}
-use Rattle.place_sections.proofs.Outputs.{item_names, items_names, sections_of_both}
+use Rattle.place_sections.proofs.Outputs.{item_names, items_names}
 use Rattle.place_sections.proofs.Runs.{drop_at}
 use Rattle.place_sections.proofs.Taking.{after_first}
 use Rattle.place_sections.specs.Next.{AreFirst, IsNext, IsNextAt}
 use Rattle.place_sections.specs.Parts.{if_sections, items_within}
+use Rattle.ldmodel_laws.proofs.Mentioned.{sections_append}
 
 -- the statements of SECTIONS have the first output sections
 first_of : (c : Command) (ss : List Statement) (within : List Item) → (later : List OutputSectionAt)
     → output_sections ss ≡ sections_in within ++ later
     → (more : List OutputSectionAt) × (sections_in (items_of c ++ items ss)
     ≡ sections_in (if_sections c (λ is. is) within) ++ more)
-first_of (top.Sections is) ss within later e = (output_sections ss, sections_of_both is (items ss))
+first_of (top.Sections is) ss within later e = (output_sections ss, sections_append is (items ss))
 first_of (top.Entry name) ss within later e = (later, e)
 first_of (top.Memory regions) ss within later e = (later, e)
 first_of (top.Directive c) ss within later e = (later, e)
@@ -84,7 +85,7 @@ module _ (rows : List (List Piece)) (provided : List (List ℕ)) (script : List 
       let parted : items ≡ take k items ++ x ∷ drop (suc k) items =
       sym (take-append-drop k items) ∙ ap (λ l. take k items ++ l) (drop_at items k x there) in
       let all = ap (λ l. length (sections_in l)) parted
-      ∙ (ap length (sections_of_both (take k items) (x ∷ drop (suc k) items))
+      ∙ (ap length (sections_append (take k items) (x ∷ drop (suc k) items))
       ∙ length-append (sections_in (take k items))
       (item_sections x.line x.command ++ sections_in (drop (suc k) items))) in
       let own = length-append (item_sections x.line x.command) (sections_in (drop (suc k) items)) in
@@ -99,7 +100,7 @@ module _ (rows : List (List Piece)) (provided : List (List ℕ)) (script : List 
       is_next script (length s.sections) x.line x.command (sections_in (take k items)) (after ++ first.later)
       (first.all
       ∙ (ap (λ l. sections_in l ++ first.later) parted
-      ∙ (ap (λ l. l ++ first.later) (sections_of_both (take k items) (x ∷ drop (suc k) items))
+      ∙ (ap (λ l. l ++ first.later) (sections_append (take k items) (x ∷ drop (suc k) items))
       ∙ (append_assoc (sections_in (take k items)) (item_sections x.line x.command ++ after) first.later
       ∙ ap (λ l. sections_in (take k items) ++ l) (append_assoc (item_sections x.line x.command) after first.later)))))
       many

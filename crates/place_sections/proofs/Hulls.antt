@@ -3,14 +3,14 @@ use Rattle.std.proofs.Common.{◌≡◌, ◌∙◌, ◌≢◌, sym, refl, ap, su
 use Rattle.std.proofs.Common.{Option, Some, None}
 use Rattle.std.proofs.Common.{Bool, true, false, not, ◌&&◌, ◌==◌, nat_lt, arith, inl, inr, min, max, get_or-set_other}
 use Rattle.std.proofs.Common.{get_or-set_same}
-use Rattle.std.proofs.lemmas.Bool.{cases_eq, lt-ltb, ltb-true, false_from_ne_true}
+use Rattle.std.proofs.lemmas.Bool.{cases_eq, lt-ltb, ltb-true, false_from_ne_true, and_parts}
 use Rattle.std.proofs.lemmas.List.{get_or_default, length-set}
 use Rattle.std.specs.Option.{is_some}
 use Rattle.place_sections.specs.Extents.{meet}
 use Rattle.place_sections.specs.Hulls.{around, Around, Kept, Marked, MarkedAt, Missed, Under, Within, below, found}
 use Rattle.place_sections.specs.Hulls.{here}
 use Rattle.place_sections.specs.Hulls.{may_meet, same}
-use Rattle.place_sections.proofs.Apart.{both, no_zero}
+use Rattle.place_sections.proofs.Apart.{no_zero}
 use Rattle.place_sections.specs.declared.extent.Extent.{Extent}
 use Rattle.place_sections.specs.declared.hull.Hull.{Hull}
 
@@ -26,10 +26,10 @@ record Met (a b : Extent) : Type 0 where
 
 met_is : (a b : Extent) → meet a b ≡ true → Met a b
 met_is a b met =
-    let one_end = both (not (a.size == 0) && not (b.size == 0) && nat_lt a.start (b.start + b.size))
+    let one_end = and_parts (not (a.size == 0) && not (b.size == 0) && nat_lt a.start (b.start + b.size))
     (nat_lt b.start (a.start + a.size)) met in
-    let other_end = both (not (a.size == 0) && not (b.size == 0)) (nat_lt a.start (b.start + b.size)) one_end.0 in
-    let sized = both (not (a.size == 0)) (not (b.size == 0)) other_end.0 in
+    let other_end = and_parts (not (a.size == 0) && not (b.size == 0)) (nat_lt a.start (b.start + b.size)) one_end.0 in
+    let sized = and_parts (not (a.size == 0)) (not (b.size == 0)) other_end.0 in
     record {
       sized = no_zero a.size sized.0;
       before = ltb-true a.start (b.start + b.size) other_end.1;

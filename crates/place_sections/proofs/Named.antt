@@ -25,6 +25,7 @@ use Rattle.place_sections.specs.Meetings.{AreOutputs, AreOverlaps}
 use Rattle.place_sections.specs.declared.extent.Extent.{Extent}
 use Rattle.place_sections.specs.declared.overlaps.Space.{Space}
 use Rattle.place_sections.specs.declared.overlaps.Space.TheVariants.{Memory, Load}
+use Rattle.place_sections.proofs.Taking.{after_first}
 
 abbrev extent_of : Space → PlacedOutput → Extent
 extent_of space q = extent_in space (placed_of q)
@@ -83,10 +84,6 @@ get_left [] ys i x at = absurd (cc at)
 get_left (z ∷ zs) ys zero x at = at
 get_left (z ∷ zs) ys (suc i) x at = get_left zs ys i x at
 
-get_middle : {A : Type 0} (xs ys : List A) (x : A) → slice_get (xs ++ x ∷ ys) (length xs) ≡ Some x
-get_middle [] ys x = refl
-get_middle (z ∷ zs) ys x = get_middle zs ys x
-
 -- the fault of one section
 met_is : (p : Project) (number : ℕ → ℕ) (space : Space) (earlier rest : List PlacedOutput) (q : PlacedOutput)
     → NamesStand p (earlier ++ q ∷ rest)
@@ -99,7 +96,7 @@ met_is p number space earlier rest q names = elim (cases_lt i (length earlier)) 
       ap (λ o. map (fault_of p number) (fault_with space (length earlier) o))
       (ap (λ b. cond b (Some i) None) (lt-ltb i (length earlier) within))
       ∙ ap (λ f. f ∷ []) (fault_is p number space (length earlier) i)
-      ∙ ap (λ n. fault_named space n (name_of_output p i) ∷ []) (names (length earlier) q (get_middle earlier rest q))
+      ∙ ap (λ n. fault_named space n (name_of_output p i) ∷ []) (names (length earlier) q (after_first earlier q rest))
       ∙ ap (λ n. fault_named space q.name n ∷ []) (names i x (get_left earlier (q ∷ rest) i x at))
       ∙ ap (met (fault_named space) q) (sym (find_at (meets_in space q) earlier ∙ at))
   | inr past ↦

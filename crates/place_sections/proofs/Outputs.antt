@@ -25,6 +25,7 @@ use Rattle.ldmodel.specs.Placement.{Head, head_of}
 use Rattle.place_sections.proofs.Ending.{chained}
 use Rattle.place_sections.proofs.Grows.{body_grows, directive_keeps, given_is}
 use Rattle.ldmodel.specs.Placement.{Body}
+use Rattle.ldmodel_laws.proofs.Mentioned.{sections_append}
 
 abbrev names_of : List PlacedOutput → List (List ℕ)
 names_of sections = map (λ (q : PlacedOutput). q.name) sections
@@ -121,11 +122,6 @@ command_names rows provided line s (top.Sections xs) t e = items_names rows prov
 command_names rows provided line s (top.Directive c) t e =
     unnamed t.sections s.sections (directive_keeps provided s line c t e)
 
-pub sections_of_both : (xs ys : List Item) → sections_in (xs ++ ys) ≡ sections_in xs ++ sections_in ys
-sections_of_both [] ys = refl
-sections_of_both (x ∷ xs) ys = ap (λ l. item_sections x.line x.command ++ l) (sections_of_both xs ys)
-    ∙ sym (append_assoc (item_sections x.line x.command) (sections_in xs) (sections_in ys))
-
 pub statements_names : (rows : List (List Piece)) (provided : List (List ℕ)) (xs : List Statement) (s t : Layout)
     → run (statement_step rows provided) s xs ≡ Ok t → names_of t.sections ≡ names_of s.sections
     ++ names_in (sections_in (items xs))
@@ -139,7 +135,7 @@ statements_names rows provided (x ∷ xs) s t e =
     ∙ (append_assoc (names_of s.sections) (names_in (sections_in (items_of x.command)))
     (names_in (sections_in (items xs)))
     ∙ ap (λ l. names_of s.sections
-    ++ l) (sym (ap names_in (sections_of_both (items_of x.command) (items xs))
+    ++ l) (sym (ap names_in (sections_append (items_of x.command) (items xs))
     ∙ map-append (λ (y : OutputSectionAt). y.section.name) (sections_in (items_of x.command))
     (sections_in (items xs))))))
 

@@ -1,32 +1,15 @@
 -- A script has one SECTIONS.
-use Rattle.std.proofs.Common.{◌≡◌, List, [], ◌∷◌, ◌++◌, refl, sym, ap, subst, ◌∙◌, arith}
-use Rattle.std.proofs.Common.{append-nil, append_assoc, zero, suc}
+use Rattle.std.proofs.Common.{◌≡◌, List, [], ◌∷◌, ◌++◌, refl, sym, ap, subst, arith}
+use Rattle.std.proofs.Common.{append-nil, zero, suc}
 use Rattle.std.specs.List.{Contains}
-use Rattle.std.proofs.lemmas.List.{get_or_append_left, length-append}
-use Rattle.std.proofs.lemmas.List.Elements.{All-cons, All-nil}
+use Rattle.std.proofs.lemmas.List.Elements.{All-cons, All-nil, Contains-append_left}
 use Rattle.ldscript.specs.Script.{IsSound}
-use Rattle.ldscript.specs.statements.Mentions.{Clashes, Mention, SectionsGiven, in_items, in_top_command, mentions}
+use Rattle.ldscript.specs.statements.Mentions.{Mention, SectionsGiven, in_items, in_top_command, mentions}
 use Rattle.ldscript.specs.statements.declared.statement.Command.{Command}
 use Rattle.ldscript.specs.statements.declared.statement.Command.TheVariants as top
 use Rattle.ldscript.specs.statements.declared.statement.Statement.{Statement}
 use Rattle.place_sections.specs.Parts.{AreOutside, IsOutside, after_sections, before_sections, if_sections}
-
--- nothing of some mentions clashes with what stands before it
-abbrev NoClash : List Mention → List Mention → Type 0
-NoClash before ms =
-    (more : List Mention) (m : Mention) (after : List Mention) → ms ≡ more ++ m ∷ after → Clashes (before ++ more) m → ⊥
-
-shift : (before ms ls : List Mention) → NoClash before (ms ++ ls) → NoClash (before ++ ms) ls
-shift before ms ls h more m after e clash =
-    h (ms ++ more) m after (ap (λ l. ms ++ l) e ∙ sym (append_assoc ms more (m ∷ after)))
-    (subst (λ l. Clashes l m) (append_assoc before ms more) clash)
-
-stays_in : (xs ys : List Mention) (x : Mention) → Contains xs x → Contains (xs ++ ys) x
-stays_in xs ys x c = (
-  c.0,
-  omega (arith, c.1, length-append xs ys),
-  get_or_append_left xs ys x c.0 c.1 ∙ c.2,
-)
+use Rattle.ldmodel_laws.proofs.Mentioned.{NoClash, shift, no_clash_in}
 
 last_in : (xs ys : List Mention) (x : Mention) → Contains (xs ++ x ∷ ys) x
 last_in [] ys x = (0, omega arith, refl)
@@ -39,7 +22,7 @@ none_past before [] there h = All-nil (λ (x : Statement). IsOutside x.command)
 none_past before (s ∷ ss) there h =
     All-cons (λ (x : Statement). IsOutside x.command) s ss (is_outside s.command refl)
     (none_past (before ++ in_top_command s.command) ss
-    (stays_in before (in_top_command s.command) SectionsGiven there)
+    (Contains-append_left before (in_top_command s.command) SectionsGiven there)
     (shift before (in_top_command s.command) (mentions ss) h))
   where
     is_outside : (c : Command) → s.command ≡ c → IsOutside c
@@ -69,13 +52,7 @@ none_after before (s ∷ ss) h =
         (shift before (in_top_command s.command) (mentions ss) h)
 
 pub after_outside : (script : List Statement) → IsSound script → AreOutside (after_sections script)
-after_outside script sound = none_after [] script (λ more m after e clash. sound.no_clash (record {
-  before = more;
-  mention = m;
-  after = after;
-  place = e;
-  clash = clash;
-}))
+after_outside script sound = none_after [] script (no_clash_in script sound)
 
 pub before_outside : (script : List Statement) → AreOutside (before_sections script)
 before_outside [] = All-nil (λ (x : Statement). IsOutside x.command)

@@ -7,13 +7,7 @@ use Rattle.ldmodel.specs.Chain.{and_then, run}
 use Rattle.ldmodel.specs.Fault.{Fault}
 use Rattle.ldmodel.specs.Layout.{Layout}
 use Rattle.place_sections.proofs.Ending.{Chained, chained}
-
--- a list up to an element, and from it on
-pub take_more : {X : Type 0} (xs : List X) (k : ℕ) (x : X) → slice_get xs k ≡ Some x → take (suc k) xs
-    ≡ take k xs ++ x ∷ []
-take_more [] k x e = absurd (let no : ⊥ = cc in no)
-take_more (y ∷ ys) zero x e = let same : y ≡ x = cc in ap (λ z. z ∷ []) same
-take_more (y ∷ ys) (suc k) x e = ap (λ l. y ∷ l) (take_more ys k x e)
+use Rattle.place_terms.proofs.TakenOver.{take_one}
 
 pub drop_at : {X : Type 0} (xs : List X) (k : ℕ) (x : X) → slice_get xs k ≡ Some x → drop k xs ≡ x ∷ drop (suc k) xs
 drop_at [] k x e = absurd (let no : ⊥ = cc in no)
@@ -52,7 +46,7 @@ module _ {X : Type 0} (step : Layout → X → Result Layout Fault) where
   pub run_more : (xs : List X) (k : ℕ) (x : X) (s t u : Layout) → run step s (take k xs) ≡ Ok t
       → slice_get xs k ≡ Some x → step t x ≡ Ok u → run step s (take (suc k) xs) ≡ Ok u
   run_more xs k x s t u e there f =
-      ap (run step s) (take_more xs k x there)
+      ap (run step s) (take_one xs k x there)
       ∙ (run_append (take k xs) (x ∷ []) s
       ∙ (ap (λ r. and_then r (λ v. run step v (x ∷ []))) e
       ∙ (run_first x [] t ∙ (ap (λ r. and_then r (λ v. run step v [])) f ∙ run_none u))))

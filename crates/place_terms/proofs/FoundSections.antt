@@ -71,13 +71,6 @@ after_taken [] xs k j e =
 after_taken (t ∷ ts) xs zero j e = absurd (omega (arith, e))
 after_taken (t ∷ ts) xs (suc k) j e = after_taken ts xs k j (omega (arith, e))
 
-pub among_taken : (ts : List ReusedOutput) (xs : List Closed) (k : ℕ) (t : ReusedOutput) → k < length ts → t
-    ≡ get_or ts k t
-    → slice_get (both ts xs) k ≡ Some (keyed_taken t)
-among_taken [] xs k t l e = absurd (omega (arith, l))
-among_taken (y ∷ ts) xs zero t l e = ap (λ x. Some (keyed_taken x)) (sym e)
-among_taken (y ∷ ts) xs (suc k) t l e = among_taken ts xs k t (omega (arith, l)) e
-
 -- an output section that has the name is the one of its number
 pub guessed_right : (number : List ℕ → Option ℕ) (ts : List ReusedOutput) (xs : List Closed) (j : ℕ) (r : Closed)
     (name : List ℕ) → AreInOrder number (section_names (both ts xs)) → slice_get xs j ≡ Some r
@@ -100,10 +93,6 @@ both_pushed ts xs x =
     ap (λ l. map keyed_taken ts ++ l) (map-append keyed xs (x ∷ []))
     ∙ sym (append_assoc (map keyed_taken ts) (map keyed xs) (keyed x ∷ []))
 
-pub none_there : {X : Type 0} (xs : List X) → length xs ≡ 0 → xs ≡ []
-none_there [] e = refl
-none_there (x ∷ xs) e = absurd (omega (arith, e))
-
 pub both_taken : (ts : List ReusedOutput) (xs : List Closed) (t : ReusedOutput) → xs ≡ [] → both (ts ++ t ∷ []) xs
     ≡ both ts xs ++ keyed_taken t ∷ []
 both_taken ts xs t e = rw e
@@ -123,7 +112,7 @@ no_sections script ts xs ds n a b c = rw (a, b, c) (record {
   data_counted = refl;
 })
 
-last_or_push : {X : Type 0} (o : Option X) (xs : List X) (x : X) → last_or o (xs ++ x ∷ []) ≡ Some x
+pub last_or_push : {X : Type 0} (o : Option X) (xs : List X) (x : X) → last_or o (xs ++ x ∷ []) ≡ Some x
 last_or_push o [] x = refl
 last_or_push o (y ∷ ys) x = last_or_push (Some y) ys x
 

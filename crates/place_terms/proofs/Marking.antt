@@ -6,10 +6,11 @@ use Rattle.std.specs.List.{list_any}
 use Rattle.std.proofs.lemmas.Grind.{get_or-set_at}
 use Rattle.std.proofs.lemmas.List.{get_or-set_other, length-set}
 use Rattle.ldscript.specs.statements.declared.statement.Statement.{Statement}
-use Rattle.place_terms.proofs.Lists.{is_same_name, same_name, other_name}
+use Rattle.place_terms.proofs.Lists.{is_same_name, same_name}
 use Rattle.place_terms.proofs.Numbers.{symbols_told}
 use Rattle.place_terms.specs.ProvidedTable.{Marks}
 use Rattle.place_terms.specs.Tables.{symbol_number}
+use Rattle.ldmodel_laws.proofs.Mentioned.{other_name}
 
 any_more : (name m : List ℕ) (names : List (List ℕ)) → list_any (bytes_eq name) (names ++ m ∷ [])
     ≡ (list_any (bytes_eq name) names || bytes_eq name m)

@@ -9,11 +9,12 @@ use Rattle.std.proofs.lemmas.Grind.{get_or-set_at}
 use Rattle.ldscript.specs.statements.declared.statement.Statement.{Statement}
 use Rattle.ldmodel.specs.Layout.{ScriptSymbol, MemoryRegion}
 use Rattle.ldmodel.specs.Placement.{freed_from}
-use Rattle.place_terms.proofs.Lists.{find-append, or_else, same_name, is_same_name, other_name}
+use Rattle.place_terms.proofs.Lists.{find-append, or_else, same_name, is_same_name}
 use Rattle.place_terms.proofs.Numbers.{Tells, symbols_told}
 use Rattle.place_terms.specs.RegionTable.{region_names}
 use Rattle.place_terms.specs.LayoutSymbols.{value_of, AreValuesOf}
 use Rattle.place_terms.specs.Tables.{symbol_number, entry_under, AreInOrder}
+use Rattle.ldmodel_laws.proofs.Mentioned.{other_name}
 
 -- names whose numbers follow one another from one on
 abbrev InOrderFrom : (List ℕ → Option ℕ) → ℕ → List (List ℕ) → Type 0

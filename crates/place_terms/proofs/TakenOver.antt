@@ -19,7 +19,8 @@ use Rattle.place_terms.specs.declared.previous_layout.PreviousLayout.{PreviousLa
 use Rattle.place_terms.specs.declared.previous_layout.ReusedOutput.{ReusedOutput}
 use Rattle.place_terms.specs.declared.sections.Closed.{Closed}
 
-take_one : {X : Type 0} (xs : List X) (k : ℕ) (x : X) → slice_get xs k ≡ Some x → take (suc k) xs ≡ take k xs ++ x ∷ []
+pub take_one : {X : Type 0} (xs : List X) (k : ℕ) (x : X) → slice_get xs k ≡ Some x → take (suc k) xs
+    ≡ take k xs ++ x ∷ []
 take_one [] k x e = absurd (let no : ⊥ = cc in no)
 take_one (y ∷ ys) zero x e = let same : y ≡ x = cc in ap (λ z. z ∷ []) same
 take_one (y ∷ ys) (suc k) x e = ap (λ l. y ∷ l) (take_one ys k x e)

@@ -7,7 +7,7 @@ use Rattle.std.specs.List.{Contains}
 use Rattle.std.specs.List.Sorted.{IsPermutation}
 use Rattle.std.specs.Option.{option_map_or}
 use Rattle.std.specs.Prelude.{if◌then◌else◌, sum_by}
-use Rattle.std.proofs.lemmas.Bool.{eq-eqb, eqb-true, false≢true}
+use Rattle.std.proofs.lemmas.Bool.{eq-eqb, eqb-true, false≢true, and_parts, and_from}
 use Rattle.std.proofs.lemmas.List.{length-map}
 use Rattle.std.proofs.lemmas.List.Filters.{sum_by-filter_both}
 use Rattle.std.proofs.lemmas.List.Sorted.{length_permutation}
@@ -44,13 +44,15 @@ use Rattle.ldmodel.specs.declared.sections.Part.TheVariants.{InTable, InCommon}
 use Rattle.ldmodel_laws.specs.Outline.{HasSameFrame, DiffersInContents, object_outline}
 use Rattle.ldmodel_laws.specs.Spread.{EachLater}
 use Rattle.ldmodel_laws.specs.StayedSites.{has_part_stayed, is_linked_part, lies_in_stayed}
-use Rattle.ldmodel_laws.proofs.Finding.{ComesOf, NotBoth, find_only, flat_map_in, in_flat_map, in_map, later_imply}
+use Rattle.ldmodel_laws.proofs.Finding.{ComesOf, NotBoth, find_only, flat_map_in, in_flat_map, in_map}
 use Rattle.ldmodel_laws.proofs.Finding.{map_in}
 use Rattle.ldmodel_laws.proofs.Joined.{filter_joined, found_joined, joined_same}
 use Rattle.ldmodel_laws.proofs.Members.{any_in, filter_in, first_or_later, here, in_any, later, none_in_nil}
 use Rattle.ldmodel_laws.proofs.Once.{names_later}
-use Rattle.ldmodel_laws.proofs.PieceBytes.{both_of, of_both, one_name, same_name}
-use Rattle.ldmodel_laws.proofs.Untouched.{linked_text, same, same_part}
+use Rattle.ldmodel_laws.proofs.PieceBytes.{one_name, same_name}
+use Rattle.ldmodel_laws.proofs.Untouched.{linked_text, same}
+use Rattle.ldmodel_laws.proofs.EachOf.{later_imply}
+use Rattle.ldmodel_laws.proofs.SameParts.{same_part}
 
 -- ---- lists
 
@@ -310,16 +312,16 @@ module _ (p q : Project) (s : Layout) (i : ℕ) (h : DiffersInContents p q i) (f
   same_self : (x y : LinkedPiece) → x.object ≡ y.object → x.text ≡ y.text → x.part ≡ y.part → x.start ≡ y.start
       → x.size ≡ y.size → x.range ≡ y.range → same_piece x y ≡ true
   same_self x y object text part start size range =
-      of_both _ (same_range x.range y.range)
-      (of_both _ (x.size == y.size)
-      (of_both _ (x.start == y.start)
-      (of_both _ (is_same_part x.part y.part)
-      (of_both (bytes_eq x.object y.object) (bytes_eq x.text y.text)
+      and_from _ (same_range x.range y.range)
+      (and_from _ (x.size == y.size)
+      (and_from _ (x.start == y.start)
+      (and_from _ (is_same_part x.part y.part)
+      (and_from (bytes_eq x.object y.object) (bytes_eq x.text y.text)
       ((bytes_eq-Decides x.object y.object).1 object) ((bytes_eq-Decides x.text y.text).1 text))
       (ap (λ k. is_same_part k y.part) part ∙ own_part y.part))
       (eq-eqb x.start y.start start))
       (eq-eqb x.size y.size size))
-      (of_both (x.range.offset == y.range.offset) (x.range.length == y.range.length)
+      (and_from (x.range.offset == y.range.offset) (x.range.length == y.range.length)
       (eq-eqb x.range.offset y.range.offset (ap (λ r. r.offset) range))
       (eq-eqb x.range.length y.range.length (ap (λ r. r.length) range)))
     where
@@ -389,7 +391,7 @@ module _ (p q : Project) (s : Layout) (i : ℕ) (h : DiffersInContents p q i) (f
         there = find_got (is_part o.name (InTable z.number)) (placed_pieces s) w e
 
         both : (bytes_eq w.piece.object o.name ≡ true) × (is_same_part w.piece.part (InTable z.number) ≡ true)
-        both = both_of _ _ there.1
+        both = and_parts _ _ there.1
 
         k : ComesOf (λ (r : PlacedOutput). r.pieces) s.sections w
         k = in_flat_map (λ (r : PlacedOutput). r.pieces) s.sections w there.0
@@ -533,7 +535,7 @@ module _ (p q : Project) (s : Layout) (i : ℕ) (h : DiffersInContents p q i) (f
       go None e = omega arith
       go (Some x) e =
           let there = find_got (is_piece z) (link_pieces new) x e in
-          let both = both_of (bytes_eq x.object b.name) (is_same_part x.part (InTable z.number)) there.1 in
+          let both = and_parts (bytes_eq x.object b.name) (is_same_part x.part (InTable z.number)) there.1 in
           let changed = own_changed x there.0 ((bytes_eq-Decides x.object b.name).0 both.0) in
           let among = filter_in (is_piece z) outside x
           (filter_in (λ (y : LinkedPiece). not (has_stayed old y)) (link_pieces new) x there.0 (ap not changed)) there.1 in
@@ -553,9 +555,9 @@ module _ (p q : Project) (s : Layout) (i : ℕ) (h : DiffersInContents p q i) (f
       go y z differ x true false e f = refl
       go y z differ x true true e f =
           let first = same_part x.part (InTable y.number)
-          (both_of (bytes_eq x.object b.name) (is_same_part x.part (InTable y.number)) e).1 in
+          (and_parts (bytes_eq x.object b.name) (is_same_part x.part (InTable y.number)) e).1 in
           let second = same_part x.part (InTable z.number)
-          (both_of (bytes_eq x.object b.name) (is_same_part x.part (InTable z.number)) f).1 in
+          (and_parts (bytes_eq x.object b.name) (is_same_part x.part (InTable z.number)) f).1 in
           let same : y.number.0 ≡ z.number.0 = ap number_in (sym first ∙ second) in
           absurd (false≢true (sym differ ∙ eq-eqb y.number.0 z.number.0 same))
 

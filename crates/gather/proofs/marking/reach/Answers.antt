@@ -1,9 +1,10 @@
 use Rattle.std.proofs.Common.{◌≡◌, ◌<◌, ◌↔◌, ◌∙◌, ℕ, List, [], length, get_or, arith, below_more, refl, subst, sym}
 use Rattle.std.specs.List.{Contains}
 use Rattle.std.proofs.lemmas.List.Elements.{Contains-push, Contains-get_or}
+use Rattle.std.proofs.lemmas.List.{nil_from_length}
 use Rattle.gather.specs.Graphs.{Graph, graph_of, IsIn, IsLive, IsMarked, from_root, from_live}
 use Rattle.gather.proofs.Marks.{visited, Visited, marks_pop, marks_done, marks_end, marked_within, leads_in, leads_out}
-use Rattle.gather.proofs.Marks.{AreTargets, Marks, empty_length, each_contained}
+use Rattle.gather.proofs.Marks.{AreTargets, Marks, each_contained}
 use Rattle.gather.proofs.marking.reach.Goals as goal
 
 pub loop-root-preserved : goal.loop-root-preserved
@@ -101,6 +102,6 @@ loop-section-preserved g c =
 pub returns-clause-live : goal.returns-clause-live
 returns-clause-live g c =
     let w : Graph = graph_of c.args.out.now c.args.roots.now (g.R.References.refers c.args.references.now) in
-    let empty : c.loop-section.stack.items ≡ [] = empty_length _ (omega (arith, c.in_default.ensures.cases.0)) in
+    let empty : c.loop-section.stack.items ≡ [] = nil_from_length _ (omega (arith, c.in_default.ensures.cases.0)) in
     marks_end w _ (subst (λ l. Marks w c.loop-section.live.items l (length w.out)) empty
     c.loop-section.invariant.marks) c.loop-section.invariant.roots
