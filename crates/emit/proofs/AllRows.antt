@@ -23,11 +23,12 @@ use Rattle.ldmodel.specs.declared.sections.SectionKey.{SectionKey}
 use Rattle.place.specs.declared.indexed_layout.IndexedLayout.{IndexedLayout}
 use Rattle.emit.specs.declared.relocated.Relocated.{Relocated}
 use Rattle.emit_relocate.specs.KnownLink.{KnownLink}
-use Rattle.place.proofs.Lists.{each_at, find_at, later_of_map}
+use Rattle.place.proofs.Lists.{each_at, find_at}
 use Rattle.emit.proofs.Lists.{get_left, take_next, zip_more}
 use Rattle.emit.proofs.Running.{drop_drop}
 use Rattle.emit.specs.Output.{IsJoinedRow}
 use Rattle.emit.specs.Pieces.{AreRowsAt, AreSources, IsRowAt, IsSized}
+use Rattle.ldmodel_laws.proofs.EachOf.{later_of_map}
 
 -- ---- each input section is found
 

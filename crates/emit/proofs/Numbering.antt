@@ -20,8 +20,8 @@ use Rattle.emit_relocate.specs.KnownLink.{KnownLink}
 use Rattle.emit.specs.Numbers.{HaveNumbers}
 use Rattle.emit.specs.Runs.{AreRunsUnless, IsRunUnless}
 use Rattle.place.specs.IndexedLayout.{linked_in}
-use Rattle.place.proofs.Lists.{later_of_map}
 use Rattle.emit.proofs.Lists.{get_left, get_right, pairs_later}
+use Rattle.ldmodel_laws.proofs.EachOf.{later_of_map}
 
 -- sections whose numbers ascend have different ones
 pub numbers_differ : (o : ObjectData) (xs : List Section) → xs ≡ map section_of o.sections

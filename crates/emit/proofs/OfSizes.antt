@@ -21,11 +21,12 @@ use Rattle.ldmodel.specs.Rows.{is_taken_by, piece_of, pieces_in, row, rows, sort
 use Rattle.ldmodel.specs.Sections.{InputSection}
 use Rattle.ldmodel.specs.Sorting.{insert_by, sort_by}
 use Rattle.ldscript.specs.statements.Numbering.{InputStatementAt, input_statements}
-use Rattle.place.proofs.Lists.{each_at, each_filter, each_into_map}
+use Rattle.place.proofs.Lists.{each_at}
 use Rattle.emit.proofs.Lists.{each_join}
 use Rattle.emit.proofs.OfRows.{named_self, numbered_is}
 use Rattle.emit.specs.Numbers.{HaveNumbers}
 use Rattle.emit.specs.Pieces.{IsSized}
+use Rattle.ldmodel_laws.proofs.EachOf.{each_filter, each_into_map}
 
 each_any : {X : Type 0} (P : X → Type 0) → ((x : X) → P x) → (xs : List X) → Each P xs
 each_any P f [] = tt

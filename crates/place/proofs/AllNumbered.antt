@@ -1,9 +1,9 @@
 -- All entries of the rows of a project have numbers.
-use Rattle.std.proofs.Common.{◌≡◌, ◌<◌, ◌+◌, ◌∙◌, ℕ, zero, suc, sym, ap, subst, arith, List, [], ◌∷◌, length, drop, map}
+use Rattle.std.proofs.Common.{◌≡◌, ◌<◌, ◌+◌, ◌∙◌, ℕ, sym, ap, subst, List, [], ◌∷◌, length, drop, map}
 use Rattle.std.proofs.Common.{flat_map, Option, Vec, Global}
 use Rattle.std.proofs.lemmas.Bool.{eqb-true}
 use Rattle.std.proofs.lemmas.Slice.Eq.{bytes_eq-Decides}
-use Rattle.std.specs.List.{All, Contains}
+use Rattle.std.specs.List.{Contains}
 use Rattle.std.specs.Option.{option_map_or}
 use Rattle.std.specs.Prelude.{IsSome}
 use Rattle.ldmodel.specs.Edits.{AreNamesDistinct}
@@ -23,15 +23,9 @@ use Rattle.place.specs.Columns.{HaveNumbers}
 use Rattle.place.specs.Entries.{all_entries, row_entries}
 use Rattle.place.specs.InPlace.{IsOwned}
 use Rattle.place.specs.declared.indexed_section.IndexedSection.{IndexedSection}
-use Rattle.place.proofs.Lists.{each_append}
-use Rattle.place.proofs.Members.{each_join}
 use Rattle.place.proofs.Numbers.{same_key}
 use Rattle.place.proofs.Owned.{IsInput}
-
-each_all : {X : Type 0} (P : X → Type 0) (xs : List X) → Each P xs → All P xs
-each_all P [] h k d below = absurd (omega (arith, below))
-each_all P (x ∷ xs) h zero d below = h.0
-each_all P (x ∷ xs) h (suc k) d below = each_all P xs h.1 k d (omega (arith, below))
+use Rattle.ldmodel_laws.proofs.EachOf.{each_parts, each_append, all_of_each}
 
 module _ (p : Project) (t : InputSectionTable) (distinct : AreNamesDistinct p.objects) (table : IsTableOf p t)
     (of_objects : (s : InputSection) → Contains (input_sections p) s → IsOfObject p s) where
@@ -70,9 +64,9 @@ module _ (p : Project) (t : InputSectionTable) (distinct : AreNamesDistinct p.ob
   rows_numbered n [] starts h k = tt
   rows_numbered n (row ∷ rows) starts h k =
       let rest : List model.Piece = flat_map (λ (r : List model.Piece). r) (rows_in p rows) in
-      let owned = each_append (IsOwned p) (map (piece_in p) row.items) rest h in
-      let parts = each_append OfInput (map (piece_in p) row.items) rest k in
-      each_join IsNumbered (row_entries n row.items starts)
+      let owned = each_parts (IsOwned p) (map (piece_in p) row.items) rest h in
+      let parts = each_parts OfInput (map (piece_in p) row.items) rest k in
+      each_append IsNumbered (row_entries n row.items starts)
       (all_entries (n + 1) rows (drop (length row.items) starts)) (row_numbered n row.items starts owned.0 parts.0)
       (rows_numbered (n + 1) rows (drop (length row.items) starts) owned.1 parts.1)
 
@@ -81,7 +75,7 @@ module _ (p : Project) (t : InputSectionTable) (distinct : AreNamesDistinct p.ob
       → Each OfInput (flat_map (λ (row : List model.Piece). row) (model.rows p))
       → HaveNumbers t (all_entries 0 rows starts)
   all_numbered rows starts same owned parts =
-      (each_all IsNumbered (all_entries 0 rows starts)
+      (all_of_each IsNumbered (all_entries 0 rows starts)
       (rows_numbered 0 rows starts
       (subst (λ r. Each (IsOwned p) (flat_map (λ (row : List model.Piece). row) r)) (sym same) owned)
       (subst (λ r. Each OfInput (flat_map (λ (row : List model.Piece). row) r)) (sym same) parts)))

@@ -4,7 +4,7 @@ use Rattle.std.proofs.Common.{List, [], ◌∷◌, ◌++◌, length, get_or, dro
 use Rattle.std.proofs.Math.ListN.{drop_of_length-le}
 use Rattle.std.proofs.Math.Seq.{drop-cons}
 use Rattle.std.proofs.lemmas.Bool.{cases_lt}
-use Rattle.std.proofs.lemmas.List.{append_assoc}
+use Rattle.std.proofs.lemmas.List.{append_assoc, drop_min}
 use Rattle.std.specs.List.{zip}
 use Rattle.ldmodel.specs.declared.rows.Piece.{Piece}
 use Rattle.place.specs.Entries.{all_entries, entry_of, row_entries}
@@ -52,16 +52,6 @@ row_whole n k row starts xs all end before =
         let h : length starts ≤ k = omega arith in
         ap (row_entries n (drop k row)) (drop_of_length-le starts h) ∙ ap (map (entry_of n)) (zip_none (drop k row))
 
--- what is left after a row
-drop_at_most : (n : ℕ) (xs : List ℕ) → drop (min n (length xs)) xs ≡ drop n xs
-drop_at_most n xs = go (cases_lt n (length xs))
-  where
-    go : (n < length xs) ⊎ (length xs ≤ n) → drop (min n (length xs)) xs ≡ drop n xs
-    go (inl h) = let e : min n (length xs) ≡ n = omega arith in ap (λ k. drop k xs) e
-    go (inr h) =
-        let e : length xs ≤ min n (length xs) = omega arith in
-        drop_of_length-le xs e ∙ sym (drop_of_length-le xs h)
-
 -- one more row
 pub rows_more : (i : ℕ) (rows : List (Vec Piece Global)) (left : List ℕ) (xs all : List IndexedSection)
     (row : Vec Piece Global) → i < length rows → row ≡ get_or rows i row
@@ -72,7 +62,7 @@ rows_more i rows left xs all row h e before =
     append_assoc xs (row_entries i row.items left)
     (all_entries (i + 1) (drop (i + 1) rows) (drop (min (length row.items) (length left)) left))
     ∙ ap (λ l. xs ++ (row_entries i row.items left ++ all_entries (i + 1) (drop (i + 1) rows) l))
-    (drop_at_most (length row.items) left)
+    (drop_min (length row.items) left)
     ∙ ap (λ r. xs ++ all_entries i r left) (sym first) ∙ before
   where
     next : (i + 1) ≡ suc i

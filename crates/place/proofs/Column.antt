@@ -2,14 +2,13 @@
 use Rattle.std.proofs.Common.{◌≡◌, ◌≢◌, ◌<◌, ◌==◌, ℕ, suc, refl, sym, ap, subst, arith, ◌∙◌}
 use Rattle.std.proofs.Common.{List, [], ◌∷◌, ◌++◌, length, get_or, set, find, cond, Bool, true, false, not, ⊎_elim}
 use Rattle.std.proofs.Common.{Option, Some, None}
-use Rattle.std.proofs.lemmas.Bool.{cases_eq, eq-eqb, eqb-true, false≢true, ne_eqb}
+use Rattle.std.proofs.lemmas.Bool.{cases_eq, eq-eqb, eqb-true, false≢true, ne_eqb, and_parts, and_from}
 use Rattle.std.proofs.lemmas.List.{append_assoc, get_or-set_other, get_or-set_same, get_or_default, length-set}
 use Rattle.std.proofs.lemmas.List.Folds.{find-append}
 use Rattle.std.specs.Cmp.{both_ways}
 use Rattle.std.specs.Option.{is_none, is_some, option_and_then, option_map, option_or}
 use Rattle.std.specs.Prelude.{IsSome}
 use Rattle.ldmodel.specs.declared.sections.Part.{Part}
-use Rattle.ldmodel.specs.declared.sections.Part.TheVariants.{InTable, InCommon}
 use Rattle.ldmodel.specs.Project.{Project}
 use Rattle.ldmodel.specs.Sections.{is_same_part}
 use Rattle.place.specs.Columns.{AddsEntries, HaveNumbers, IsColumn, has_number, is_number, place_of}
@@ -18,7 +17,7 @@ use Rattle.place.specs.declared.indexed_section.IndexedSection.{IndexedSection}
 use Rattle.gather.specs.sections.SectionTable.{IsTableOf, len_of, number_of}
 use Rattle.gather.specs.sections.declared.input_section_table.InputSectionTable.{InputSectionTable}
 use Rattle.place.specs.declared.indexed_layout.SectionAddress.{SectionAddress}
-use Rattle.place.proofs.Members.{both_of, of_both}
+use Rattle.ldmodel_laws.proofs.SameParts.{same_part, own_part}
 
 -- ---- what is found
 
@@ -47,16 +46,6 @@ number_is : (o : Option ℕ) (at : ℕ) → is_number at o ≡ true → o ≡ So
 number_is None at h = absurd (false≢true h)
 number_is (Some n) at h = ap Some (sym (eqb-true at n h))
 
-same_part : (q r : Part) → is_same_part q r ≡ true → q ≡ r
-same_part (InTable k) (InTable n) e = ap (λ m. InTable (record { 0 = m })) (eqb-true k.0 n.0 e)
-same_part (InTable k) (InCommon n) e = absurd (false≢true e)
-same_part (InCommon k) (InTable n) e = absurd (false≢true e)
-same_part (InCommon k) (InCommon n) e = ap (λ m. InCommon (record { 0 = m })) (eqb-true k.0 n.0 e)
-
-part_itself : (q : Part) → is_same_part q q ≡ true
-part_itself (InTable k) = eq-eqb k.0 k.0 refl
-part_itself (InCommon s) = eq-eqb s.0 s.0 refl
-
 -- a column of the first entries has the place of the first entry of each part
 module _ (p : Project) (entries : List IndexedSection) (t : InputSectionTable)
     (places : List (Option SectionAddress))
@@ -67,13 +56,13 @@ module _ (p : Project) (entries : List IndexedSection) (t : InputSectionTable)
 
   same_number : (e : IndexedSection) → sought e ≡ true → number_of t e.object e.part ≡ number_of t n part
   same_number e h =
-      let k = both_of (e.object == n) (is_same_part e.part part) h in
+      let k = and_parts (e.object == n) (is_same_part e.part part) h in
       ap (λ i. number_of t i e.part) (eqb-true e.object n k.0) ∙ ap (number_of t n) (same_part e.part part k.1)
 
   is_sought : (e : IndexedSection) → (e.object ≡ n) × (e.part ≡ part) → sought e ≡ true
   is_sought e k =
-      of_both (e.object == n) (is_same_part e.part part) (eq-eqb e.object n k.0)
-      (subst (λ (q : Part). is_same_part e.part q ≡ true) k.1 (part_itself e.part))
+      and_from (e.object == n) (is_same_part e.part part) (eq-eqb e.object n k.0)
+      (subst (λ (q : Part). is_same_part e.part q ≡ true) k.1 (own_part e.part))
 
   module _ (at : ℕ) (is : number_of t n part ≡ Some at) where
     same_test : (e : IndexedSection) → sought e ≡ has_number t at e

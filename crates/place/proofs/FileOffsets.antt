@@ -1,7 +1,7 @@
 -- Where segments stand in the file.
 use Rattle.std.proofs.Common.{◌≡◌, ◌∙◌, sym, refl, ap, ℕ, ◌+◌, ◌-◌, ◌*◌, ◌%◌, ◌≤◌, ◌<◌, ◌^◌, List, [], ◌∷◌, ◌++◌}
-use Rattle.std.proofs.Common.{length, fold, drop, get_or, append_assoc, drop-cons, add-one, min, subst, suc}
-use Rattle.std.proofs.lemmas.List.{append-nil, drop_all}
+use Rattle.std.proofs.Common.{length, fold, drop, get_or, append_assoc, min, subst, suc}
+use Rattle.std.proofs.lemmas.List.{append-nil, drop_all, drop_more}
 use Rattle.std.proofs.Common.{◌==◌, arith, if◌then◌else◌}
 use Rattle.std.proofs.Math.Nat.{min-eq_left}
 use Rattle.std.proofs.lemmas.Nat.{mod_below}
@@ -74,10 +74,6 @@ placing_none all done end empty same = record {
   room = subst HaveRoom (sym empty) (All-nil (λ (x : code.Segment). x.offset + 2 ^ 64 ≤ 2 ^ 128));
 }
 
-front_is : (all : List code_group.Group) (k : ℕ) (d : code_group.Group) → k < length all
-    → drop k all ≡ get_or all k d ∷ drop (k + 1) all
-front_is all k d below = drop-cons all k d below ∙ ap (λ n. get_or all k d ∷ drop n all) (sym (add-one k))
-
 pub placing_more : (all : List code_group.Group) (k : ℕ) (d : code_group.Group) (done : List code.Segment)
     (end next : ℕ)
     (x : code.Segment) → Placing all (drop k all) done end k → k < length all → x ≡ segment_at end (get_or all k d)
@@ -86,7 +82,7 @@ pub placing_more : (all : List code_group.Group) (k : ℕ) (d : code_group.Group
 unfolding segments_from
 placing_more all k d done end next x h below is same near fits = record {
   same =
-      h.same ∙ ap (λ l. done ++ segments_from end l) (front_is all k d below)
+      h.same ∙ ap (λ l. done ++ segments_from end l) (drop_more all k d below)
       ∙ ap (λ y. done ++ (y ∷ segments_from (past end y) (drop (k + 1) all))) (sym is)
       ∙ sym (append_assoc done (x ∷ []) (segments_from (past end x) (drop (k + 1) all)))
       ∙ ap (λ n. (done ++ x ∷ []) ++ segments_from n (drop (k + 1) all)) (sym same);
@@ -153,22 +149,18 @@ reached_none all end follow same = record {
   near = omega (arith, same);
 }
 
-pub segment_front : (all : List code.Segment) (k : ℕ) (d : code.Segment) → k < length all
-    → drop k all ≡ get_or all k d ∷ drop (k + 1) all
-segment_front all k d below = drop-cons all k d below ∙ ap (λ n. get_or all k d ∷ drop n all) (sym (add-one k))
-
 -- the segment at a place is no more than a page past the end there
 pub reached_near : (all : List code.Segment) (k : ℕ) (d : code.Segment) (end : ℕ)
     → Reached all (drop k all) end k → k < length all → (get_or all k d).offset ≤ end + 4096
 unfolding Follow
-reached_near all k d end h below = (subst (λ l. Follow end l) (segment_front all k d below) h.follow).0
+reached_near all k d end h below = (subst (λ l. Follow end l) (drop_more all k d below) h.follow).0
 
 pub reached_more : (all : List code.Segment) (k : ℕ) (d : code.Segment) (end next : ℕ)
     → Reached all (drop k all) end k → k < length all → next ≡ past end (get_or all k d) → next ≤ end + 4096 + 2 ^ 64
     → Reached all (drop (k + 1) all) next (k + 1)
 unfolding Follow
 reached_more all k d end next h below same near =
-    let front = segment_front all k d below in
+    let front = drop_more all k d below in
     record {
       follow = subst (λ n. Follow n (drop (k + 1) all)) (sym same) (subst (λ l. Follow end l) front h.follow).1;
       same = h.same ∙ ap (λ l. fold past end l) front ∙ ap (λ n. fold past n (drop (k + 1) all)) (sym same);

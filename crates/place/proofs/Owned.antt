@@ -1,5 +1,5 @@
 -- Each input section in the output is of an object of the project.
-use Rattle.std.proofs.Common.{◌≡◌, ◌∙◌, ◌<◌, ℕ, Bool, true, false, cond, not, sym, subst, refl, ◌+◌}
+use Rattle.std.proofs.Common.{◌≡◌, ◌∙◌, ◌<◌, ℕ, Bool, true, false, cond, not, sym, subst, refl}
 use Rattle.std.proofs.Common.{List, [], ◌∷◌, length, filter, flat_map}
 use Rattle.std.specs.List.{Contains, enumerate_from, range_with_len}
 use Rattle.ldscript.specs.statements.Numbering.{InputStatementAt, input_statements, output_sections}
@@ -12,46 +12,15 @@ use Rattle.ldmodel.specs.Rows.{Piece, below, is_in_section, is_taken_by, piece_o
 use Rattle.ldmodel.specs.Rows.{taken}
 use Rattle.ldmodel.specs.Sections.{InputSection}
 use Rattle.ldmodel.specs.declared.sections.Part.{Part}
-use Rattle.ldmodel.specs.Sorting.{insert_by, sort_by}
-use Rattle.place.proofs.Lists.{each_filter, each_into_map}
 use Rattle.ldmodel_project.specs.Inputs.{AreObjectsNamed}
 use Rattle.gather.specs.sections.OfObjects.{IsOfObject}
 use Rattle.place.specs.InPlace.{IsOwned}
-use Rattle.place.proofs.Members.{each_join, got, here, later, member_of}
+use Rattle.ldmodel_laws.proofs.EachOf.{each_filter, each_into_map, each_always, each_flat}
+use Rattle.ldmodel_laws.proofs.EachOf.{each_sorted}
+use Rattle.ldmodel_laws.proofs.Members.{at_place}
+use Rattle.ldmodel_laws.proofs.Finding.{member_of, each_member}
 
 -- ---- lists
-
-each_always : {X : Type 0} (P : X → Type 0) → ((x : X) → P x) → (xs : List X) → Each P xs
-each_always P h [] = tt
-each_always P h (x ∷ xs) = (h x, each_always P h xs)
-
-each_flat : {X Y : Type 0} (P : Y → Type 0) (f : X → List Y) (xs : List X) → Each (λ x. Each P (f x)) xs
-    → Each P (flat_map f xs)
-each_flat P f [] h = tt
-each_flat P f (x ∷ xs) h = each_join P (f x) (flat_map f xs) h.0 (each_flat P f xs h.1)
-
-each_inserted : {X : Type 0} (P : X → Type 0) (less : X → X → Bool) (x : X) (xs : List X) → P x → Each P xs
-    → Each P (insert_by less x xs)
-each_inserted P less x [] h k = (h, tt)
-each_inserted P less x (y ∷ ys) h k = go (less y x) (each_inserted P less x ys h k.1)
-  where
-    go : (b : Bool) → Each P (insert_by less x ys) → Each P (cond b (y ∷ insert_by less x ys) (x ∷ y ∷ ys))
-    go true rest = (k.0, rest)
-    go false rest = (h, k)
-
-each_sorted : {X : Type 0} (P : X → Type 0) (less : X → X → Bool) (xs : List X) → Each P xs → Each P (sort_by less xs)
-unfolding sort_by
-each_sorted P less [] h = tt
-each_sorted P less (x ∷ xs) h = each_inserted P less x (sort_by less xs) h.0 (each_sorted P less xs h.1)
-
-each_numbered : {X : Type 0} (P : ℕ × X → Type 0) (n : ℕ) (xs : List X)
-    → ((i : ℕ) (x : X) → Contains xs x → P (i, x)) → Each P (enumerate_from n xs)
-each_numbered P n [] h = tt
-each_numbered P n (x ∷ xs) h = (h n x (here x xs), each_numbered P (n + 1) xs (λ i y c. h i y (later x xs y c)))
-
-each_member : {X : Type 0} (P : X → Type 0) (xs : List X) → ((x : X) → Contains xs x → P x) → Each P xs
-each_member P [] h = tt
-each_member P (x ∷ xs) h = (h x (here x xs), each_member P xs (λ y c. h y (later x xs y c)))
 
 -- ---- rows
 
@@ -120,7 +89,7 @@ module _ (p : Project) (named : AreObjectsNamed p.objects)
   is_owned : (x : Piece) → IsInput p x.object x.part → IsOwned p x
   is_owned x k =
       let o = of_objects k.section k.among in
-      let among : Contains p.objects o.object = got p.objects k.section.id.object o.object o.at in
+      let among : Contains p.objects o.object = at_place p.objects k.section.id.object o.object o.at in
       let is : o.object.name ≡ x.object = o.name ∙ k.object in
       record {
         object = o.object;

@@ -31,9 +31,9 @@ use Rattle.place.specs.IndexedLayout.{IsIndexedLayout, IsSectionAddress, place_i
 use Rattle.place.specs.declared.indexed_section.IndexedSection.{IndexedSection}
 use Rattle.place.specs.declared.indexed_layout.SectionAddress.{SectionAddress}
 use Rattle.place.specs.declared.indexed_layout.IndexedLayout.{IndexedLayout}
-use Rattle.place.proofs.Lists.{each_append}
 use Rattle.place.proofs.Numbers.{same_key}
 use Rattle.place.proofs.Column.{has_first}
+use Rattle.ldmodel_laws.proofs.EachOf.{each_parts}
 
 module _ (p : Project) (distinct : AreNamesDistinct p.objects) (k : SectionKey) where
   -- an entry is the one that is looked for
@@ -116,7 +116,7 @@ module _ (p : Project) (distinct : AreNamesDistinct p.objects) (k : SectionKey) 
   in_rows n [] (q ∷ qs) e owned = cc
   in_rows n (row ∷ rows) [] e owned = cc
   in_rows n (row ∷ rows) (q ∷ qs) e owned =
-      let owns = each_append (IsOwned p) (entries_in q)
+      let owns = each_parts (IsOwned p) (entries_in q)
       (flat_map (λ (r : List model.Piece). r) (map entries_in qs)) owned in
       let here : entries_in q ≡ map (piece_in p) row.items = cc in
       let later : map entries_in qs ≡ map (λ (row : List Piece). map (piece_in p) row) (map vec_items rows) = cc in

@@ -7,7 +7,7 @@ use Rattle.std.proofs.lemmas.Grind.{fold-append}
 use Rattle.std.proofs.lemmas.Bool.{false_from_ne_true}
 use Rattle.std.proofs.lemmas.Bool.Decides.{Decides-eqb}
 use Rattle.std.proofs.lemmas.List.{append-nil, drop_all, length-map}
-use Rattle.std.specs.List.{AllZip, last_or}
+use Rattle.std.specs.List.{AllZip}
 use Rattle.ldmodel.specs.Layout.{PlacedOutput}
 use Rattle.ldmodel.specs.PlacementView.{placed_of}
 use Rattle.ldmodel.specs.Segments.{Group, file_size, groups, nonempty, reach, shares_segment}
@@ -18,17 +18,8 @@ use Rattle.place.specs.declared.group.Running.{Running}
 use Rattle.place.specs.Grouping.{IsGroup, Current, IsRunning, Grouped, Takes, bare, begun, joined, single}
 use Rattle.place.specs.Grouping.{extended, groups_after, groups_from}
 use Rattle.place.proofs.Grouped.{from_none}
-
-pub zip_more : {A B : Type 0} (R : A → B → Type 0) (xs : List A) (ys : List B) (x : A) (y : B) → AllZip R xs ys → R x y
-    → AllZip R (xs ++ x ∷ []) (ys ++ y ∷ [])
-zip_more R [] [] x y all one = (one, tt)
-zip_more R [] (z ∷ zs) x y all one = absurd all
-zip_more R (w ∷ ws) [] x y all one = absurd all
-zip_more R (w ∷ ws) (z ∷ zs) x y all one = (all.0, zip_more R ws zs x y all.1 one)
-
-last_more : {A : Type 0} (o : Option A) (xs : List A) (x : A) → last_or o (xs ++ x ∷ []) ≡ Some x
-last_more o [] x = refl
-last_more o (y ∷ ys) x = last_more (Some y) ys x
+use Rattle.ldmodel_laws.proofs.EachOf.{zip_more}
+use Rattle.place_terms.proofs.FoundSections.{last_or_push}
 
 -- an output section alone
 pub begun_is : (s : List PlacedOutput) (q : PlacedOutput) (number : OutputIndex) → slice_get s number.0 ≡ Some q
@@ -64,7 +55,7 @@ joined_is s g x q number at is = record {
   writable = is.writable;
   executable = is.executable;
   first = is.first;
-  last = at ∙ sym (last_more (Some g.first) g.others q);
+  last = at ∙ sym (last_or_push (Some g.first) g.others q);
 } where
   in_file : (b : Bool)
       → (if b then ((q.start + q.size) - x.start) else x.file_size) ≡ (if b then reach g q else file_size g)
@@ -195,13 +186,6 @@ shared_by_numbers p q x y b px qy same =
 
 no_zero : (n : ℕ) → (n ≡ 0 → ⊥) → (n == 0) ≡ false
 no_zero n other = false_from_ne_true (n == 0) (λ t. other ((Decides-eqb n 0).0 t))
-
-pub take_skips : (done : List code.Group) (running : Option Running) (k : ℕ) (placed : Placed) → (placed.size == 0)
-    ≡ true
-    → Takes done running k placed done running
-take_skips done running k placed empty = record {
-  at = λ s rest q at is h. skips s rest q done running (ap (λ (x : Placed). x.size == 0) is ∙ empty) h;
-}
 
 pub take_begins : (done : List code.Group) (k : ℕ) (placed : Placed) (number : OutputIndex) (g : code.Group)
     → number.0 ≡ k → (placed.size ≡ 0 → ⊥) → g ≡ begun number placed

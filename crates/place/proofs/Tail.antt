@@ -11,7 +11,7 @@ use Rattle.ldmodel.specs.SectionHeaders.{SectionHeader, header_bytes, header_nam
 use Rattle.ldmodel.specs.SectionHeaders.{image_length, output_header, section_headers, table_headers, tables}
 use Rattle.ldmodel.specs.Segments.{begun_from, file_end, headers_end, loaded_end, segments, Group, Segment, begun}
 use Rattle.ldmodel.specs.Segments.{groups, nonempty}
-use Rattle.ldmodel.specs.Tail.{SymbolEntry, symbol_bytes, symbol_entry, symbol_name_table, output_symbol_table}
+use Rattle.ldmodel.specs.Tail.{symbol_bytes, symbol_entry, symbol_name_table, output_symbol_table}
 use Rattle.ldmodel.specs.Tail.{table_symbols}
 use Rattle.ldmodel.specs.declared.segment.Segment as code
 use Rattle.place.specs.Placing.{Follow, past}
@@ -24,9 +24,6 @@ length_flat f n each (x ∷ xs) = omega (arith, length-append (f x) (flat_map f 
 
 header_length : (h : SectionHeader) → length (header_bytes h) ≡ 64
 header_length h = refl
-
-entry_length : (x : SymbolEntry) → length (symbol_bytes x) ≡ 24
-entry_length x = refl
 
 pub symbol_table_length : (p : Project) (s : Layout) → length (output_symbol_table p s)
     ≡ 24 * (length (table_symbols p s) + 1)

@@ -5,7 +5,7 @@ use Rattle.std.proofs.Common.{append-nil, drop, bytes_eq, eq-eqb, nat_le, nat_lt
 use Rattle.std.specs.Bool.{beq}
 use Rattle.std.specs.List.{AllZip}
 use Rattle.std.specs.Option.{option_map_or}
-use Rattle.std.proofs.lemmas.Bool.{leb-true, eqb-true, false_from_ne_true}
+use Rattle.std.proofs.lemmas.Bool.{leb-true, eqb-true, false_from_ne_true, and_parts}
 use Rattle.std.proofs.lemmas.Option.{same_Some}
 use Rattle.std.proofs.lemmas.List.{drop_all, map-append}
 use Rattle.std.proofs.lemmas.Slice.Eq.{bytes_eq-Decides}
@@ -20,10 +20,10 @@ use Rattle.ldmodel.specs.Segments.{Group, SectionInFile, Segment, end_of, file_o
 use Rattle.ldmodel.specs.Segments.{in_segment, nonempty, page_size, reach, group_sections, segments, segment_start}
 use Rattle.ldmodel.specs.declared.placed.Placed.{Placed}
 use Rattle.ldmodel.specs.declared.segment.Segment as code
-use Rattle.place.proofs.Lists.{each_append, each_at, each_filter, each_of_map, find_at, find_none}
-use Rattle.place.proofs.Lists.{later_filter, later_of_map}
+use Rattle.place.proofs.Lists.{each_at, find_at, find_none}
 use Rattle.place.specs.Offsets.{is_last, offset_at, offsets_in}
 use Rattle.place.specs.Offsets.{IsOffset}
+use Rattle.ldmodel_laws.proofs.EachOf.{each_parts, each_filter, later_filter, each_of_map, later_of_map, each_by}
 
 -- sections of nonzero size, and where they begin in the file, in the segments from one on
 data Ahead : List code.Segment → List PlacedOutput → List ℕ → Type 0 where
@@ -99,12 +99,6 @@ walk (q ∷ qs) xs os h = go (q.size == 0) refl h (walk qs)
 abbrev Sized : PlacedOutput → Type 0
 Sized q = (q.size == 0) ≡ false
 
-both : (a b : Bool) → (a && b) ≡ true → (a ≡ true) × (b ≡ true)
-both true true h = (refl, refl)
-both true false h = absurd (let none : ⊥ = cc in none)
-both false true h = absurd (let none : ⊥ = cc in none)
-both false false h = absurd (let none : ⊥ = cc in none)
-
 no_zero : (n : ℕ) → (n == 0) ≡ false → 0 < n
 no_zero zero h = absurd (let none : ⊥ = cc in none)
 no_zero (suc n) h = omega arith
@@ -112,11 +106,11 @@ no_zero (suc n) h = omega arith
 follows : (p q : PlacedOutput) → Shares p q → end_of p ≤ q.start
 follows p q h =
     let flags : Bool = beq p.writable q.writable && beq p.executable q.executable in
-    let one = both (flags && (difference_of p == difference_of q) && nat_le (end_of p) q.start
+    let one = and_parts (flags && (difference_of p == difference_of q) && nat_le (end_of p) q.start
     && nat_lt q.start (end_of p + page_size)) (not (q.has_file_bytes && not p.has_file_bytes)) h in
-    let two = both (flags && (difference_of p == difference_of q) && nat_le (end_of p) q.start)
+    let two = and_parts (flags && (difference_of p == difference_of q) && nat_le (end_of p) q.start)
     (nat_lt q.start (end_of p + page_size)) one.0 in
-    let three = both (flags && (difference_of p == difference_of q)) (nat_le (end_of p) q.start) two.0 in
+    let three = and_parts (flags && (difference_of p == difference_of q)) (nat_le (end_of p) q.start) two.0 in
     leb-true (end_of p) q.start three.1
 
 last_after : (p : PlacedOutput) (ps : List PlacedOutput) → Neighbours Shares (p ∷ ps)
@@ -170,7 +164,7 @@ ahead_all sections [] [] z t h = over
 ahead_all sections [] (x ∷ xs) z t h = absurd z
 ahead_all sections (g ∷ gs) [] z t h = absurd z
 ahead_all sections (g ∷ gs) (x ∷ xs) z t h =
-    let sized = each_append Sized (group_sections g.group) (parts_of gs) h in
+    let sized = each_parts Sized (group_sections g.group) (parts_of gs) h in
     let here = z.0 in
     subst (λ os. Ahead (x ∷ xs) (group_sections g.group ++ parts_of gs) os)
     (sym (map-append (λ (y : SectionInFile). y.offset) (map (in_segment g) (group_sections g.group)) (in_file gs)))
@@ -197,10 +191,6 @@ map_at : {X Y : Type 0} (f g : X → Y) (xs : List X) → ((k : ℕ) (x : X) →
 map_at f g [] h = refl
 map_at f g (x ∷ xs) h =
     ap (λ y. y ∷ map f xs) (h 0 x refl) ∙ ap (λ l. g x ∷ l) (map_at f g xs (λ k y e. h (suc k) y e))
-
-each_by : {X : Type 0} (P : X → Type 0) (xs : List X) → ((k : ℕ) (x : X) → slice_get xs k ≡ Some x → P x) → Each P xs
-each_by P [] h = tt
-each_by P (x ∷ xs) h = (h 0 x refl, each_by P xs (λ k y e. h (suc k) y e))
 
 map_map : {X Y Z : Type 0} (f : Y → Z) (g : X → Y) (xs : List X) → map f (map g xs) ≡ map (λ x. f (g x)) xs
 map_map f g [] = refl

@@ -3,7 +3,7 @@ use Rattle.std.proofs.Common.{◌≡◌, ◌<◌, ◌≤◌, ℕ, ◌+◌, ◌-�
 use Rattle.std.proofs.Common.{length, map, refl, sym, ap, ◌∙◌, subst, arith, Some, slice_get}
 use Rattle.std.specs.Int.{next_multiple_of}
 use Rattle.std.specs.List.{Contains}
-use Rattle.std.proofs.lemmas.Bool.{eqb-false, ne_eqb}
+use Rattle.std.proofs.lemmas.Bool.{eqb-false, ne_eqb, and_parts}
 use Rattle.ldmodel.specs.Each.{Each}
 use Rattle.ldmodel.specs.Layout.{Layout, PlacedPiece, PlacedOutput}
 use Rattle.ldmodel.specs.Link.{max_image_length}
@@ -15,7 +15,8 @@ use Rattle.ldmodel.specs.Stayed.{FileRange, range_in}
 use Rattle.ldmodel_laws.specs.FileOrder.{AreInFileOrder, end_in_file, with_file_bytes}
 use Rattle.ldmodel_laws.specs.ImageBytes.{AreNamed}
 use Rattle.ldmodel_laws.specs.Spread.{IsSpread, piece_end}
-use Rattle.place.proofs.Members.{both_of, filter_in, got, in_map, member_of}
+use Rattle.ldmodel_laws.proofs.Members.{filter_in, at_place}
+use Rattle.ldmodel_laws.proofs.Finding.{member_of, in_map}
 
 up_to_multiple : (n : ℕ) → n ≤ next_multiple_of n 8
 up_to_multiple n = omega arith
@@ -38,7 +39,7 @@ module _ (p : Project) (s : Layout) (spread : Each IsSpread s.sections) (named :
   within : (q.start ≤ z.start) × (piece_end z ≤ q.start + q.size)
   within =
       member_of (λ (x : PlacedPiece). (q.start ≤ x.start) × (piece_end x ≤ q.start + q.size)) q.pieces z
-      (member_of IsSpread s.sections q spread (got s.sections k q at)).pieces_inside among
+      (member_of IsSpread s.sections q spread (at_place s.sections k q at)).pieces_inside among
 
   not_zero : (n : ℕ) → not (n == 0) ≡ true → 0 < n
   not_zero n e = go (n == 0) refl e
@@ -49,7 +50,7 @@ module _ (p : Project) (s : Layout) (spread : Each IsSpread s.sections) (named :
 
   is_nonempty : 0 < z.piece.size → Contains (nonempty s.sections) q
   is_nonempty some =
-      filter_in (λ (r : PlacedOutput). not (r.size == 0)) s.sections q (got s.sections k q at)
+      filter_in (λ (r : PlacedOutput). not (r.size == 0)) s.sections q (at_place s.sections k q at)
       (ap not (ne_eqb q.size 0 (λ e. absurd (omega (arith, e, some, within.0, within.1)))))
 
   begins_inside : q.has_file_bytes ≡ true → 0 < z.piece.size
@@ -81,7 +82,7 @@ module _ (p : Project) (s : Layout) (spread : Each IsSpread s.sections) (named :
             length = z.piece.size;
           }) (record { offset = 0; length = 0 }) in r.offset) < 2 ^ 64
       go true e =
-          let both = both_of q.has_file_bytes (not (z.piece.size == 0)) e in
+          let both = and_parts q.has_file_bytes (not (z.piece.size == 0)) e in
           short_64 (file_offset (segments s.sections) q + (z.start - q.start))
           (omega (arith, begins_inside both.0 (not_zero z.piece.size both.1), short))
       go false e = short_64 0 (omega arith)

@@ -5,7 +5,7 @@ use Rattle.std.proofs.Common.{count_by}
 use Rattle.std.proofs.Common.{eq-eqb}
 use Rattle.std.specs.List.{Contains, slice_index_or}
 use Rattle.std.specs.Option.{option_map_or}
-use Rattle.std.proofs.lemmas.Bool.{eqb-true}
+use Rattle.std.proofs.lemmas.Bool.{eqb-true, and_parts, and_from}
 use Rattle.std.proofs.lemmas.List.Sums.{sum_by-cons}
 use Rattle.std.proofs.lemmas.Slice.Eq.{bytes_eq-Decides}
 use Rattle.ldmodel.specs.Edits.{AreNamesDistinct, has_name}
@@ -20,8 +20,8 @@ use Rattle.emit.specs.relocate.PreviousLinkInfo.{range_of}
 use Rattle.relink_driver.specs.Origins.{AreOrigins}
 use Rattle.relink_driver.specs.SectionLocation.{same_location}
 use Rattle.relink_driver.specs.declared.section_location.SectionLocation.{SectionLocation}
-use Rattle.place.proofs.Members.{any_in, both_of, first_or_later, got, none_in_nil, of_both}
 use Rattle.relink_driver.proofs.Once.{own_part}
+use Rattle.ldmodel_laws.proofs.Members.{first_or_later, none_in_nil, any_in, at_place}
 
 -- ---- the object of a name
 
@@ -85,12 +85,12 @@ pub record Same (x y : LinkedPiece) : Type 0 where
 
 pub same_of : (x y : LinkedPiece) → same_piece x y ≡ true → Same x y
 same_of x y e =
-    let a = both_of _ (same_range x.range y.range) e in
-    let b = both_of _ (x.size == y.size) a.0 in
-    let c = both_of _ (x.start == y.start) b.0 in
-    let d = both_of _ (is_same_part x.part y.part) c.0 in
-    let f = both_of (bytes_eq x.object y.object) (bytes_eq x.text y.text) d.0 in
-    let g = both_of (x.range.offset == y.range.offset) (x.range.length == y.range.length) a.1 in
+    let a = and_parts _ (same_range x.range y.range) e in
+    let b = and_parts _ (x.size == y.size) a.0 in
+    let c = and_parts _ (x.start == y.start) b.0 in
+    let d = and_parts _ (is_same_part x.part y.part) c.0 in
+    let f = and_parts (bytes_eq x.object y.object) (bytes_eq x.text y.text) d.0 in
+    let g = and_parts (x.range.offset == y.range.offset) (x.range.length == y.range.length) a.1 in
     record {
       object = (bytes_eq-Decides x.object y.object).0 f.0;
       text = (bytes_eq-Decides x.text y.text).0 f.1;
@@ -103,16 +103,16 @@ same_of x y e =
 
 of_same : (x y : LinkedPiece) → Same x y → same_piece x y ≡ true
 of_same x y h =
-    of_both _ (same_range x.range y.range)
-    (of_both _ (x.size == y.size)
-    (of_both _ (x.start == y.start)
-    (of_both _ (is_same_part x.part y.part)
-    (of_both (bytes_eq x.object y.object) (bytes_eq x.text y.text)
+    and_from _ (same_range x.range y.range)
+    (and_from _ (x.size == y.size)
+    (and_from _ (x.start == y.start)
+    (and_from _ (is_same_part x.part y.part)
+    (and_from (bytes_eq x.object y.object) (bytes_eq x.text y.text)
     ((bytes_eq-Decides x.object y.object).1 h.object) ((bytes_eq-Decides x.text y.text).1 h.text))
     (ap (λ k. is_same_part k y.part) h.part ∙ own_part y.part))
     (eq-eqb x.start y.start h.start))
     (eq-eqb x.size y.size h.size))
-    (of_both (x.range.offset == y.range.offset) (x.range.length == y.range.length)
+    (and_from (x.range.offset == y.range.offset) (x.range.length == y.range.length)
     (eq-eqb x.range.offset y.range.offset h.offset) (eq-eqb x.range.length y.range.length h.length))
 
 -- ---- where they stand
@@ -130,9 +130,9 @@ pub record Shows (x : LinkedPiece) (m : Option SectionLocation) : Type 0 where
 
 pub alike : (x y : LinkedPiece) (b a : SectionLocation) → Same x y → IsAt y b → IsAt x a → same_location b a ≡ true
 alike x y b a h was is =
-    of_both (b.start == a.start) _ (eq-eqb b.start a.start (was.start ∙ sym h.start ∙ sym is.start))
-    (of_both (b.size == a.size) _ (eq-eqb b.size a.size (was.size ∙ sym h.size ∙ sym is.size))
-    (of_both (b.range.offset == a.range.offset) (b.range.length == a.range.length)
+    and_from (b.start == a.start) _ (eq-eqb b.start a.start (was.start ∙ sym h.start ∙ sym is.start))
+    (and_from (b.size == a.size) _ (eq-eqb b.size a.size (was.size ∙ sym h.size ∙ sym is.size))
+    (and_from (b.range.offset == a.range.offset) (b.range.length == a.range.length)
     (eq-eqb b.range.offset a.range.offset (ap (λ (r : model.FileRange). r.offset) was.range ∙ sym h.offset
     ∙ sym (ap (λ (r : model.FileRange). r.offset) is.range)))
     (eq-eqb b.range.length a.range.length (ap (λ (r : model.FileRange). r.length) was.range ∙ sym h.length
@@ -165,7 +165,7 @@ module _ (old : GoodLink) (p : Project) (from : List (Option ℕ)) (origins : Ar
             object = o;
             at = e;
             name = same;
-            text = x_text ∙ ap (text_of p) same ∙ text_is p o names (got p.objects i o e);
+            text = x_text ∙ ap (text_of p) same ∙ text_is p o names (at_place p.objects i o e);
           }
 
   module _ (y : LinkedPiece) (y_text : y.text ≡ text_of old.project y.object) where
@@ -180,10 +180,10 @@ module _ (old : GoodLink) (p : Project) (from : List (Option ℕ)) (origins : Ar
         y_name ∙ ap (λ m. option_map_or (λ (o : NamedObject). o.name) m []) at in
         let text : y.text ≡ o.object.object.text =
         y_text ∙ ap (text_of old.project) name
-        ∙ text_is old.project o.object old_names (got old.project.objects j o.object at) in
-        let s = both_of (b.start == a.start) _ same in
-        let t = both_of (b.size == a.size) _ s.1 in
-        let u = both_of (b.range.offset == a.range.offset) (b.range.length == a.range.length) t.1 in
+        ∙ text_is old.project o.object old_names (at_place old.project.objects j o.object at) in
+        let s = and_parts (b.start == a.start) _ same in
+        let t = and_parts (b.size == a.size) _ s.1 in
+        let u = and_parts (b.range.offset == a.range.offset) (b.range.length == a.range.length) t.1 in
         any_in (same_piece x) (link_pieces old) y c (of_same x y (record {
           object = o.name ∙ sym name;
           text = o.text ∙ sym text;

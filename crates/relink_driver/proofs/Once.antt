@@ -5,6 +5,7 @@ use Rattle.std.specs.List.{Contains, list_any, position_from}
 use Rattle.std.specs.Prelude.{position}
 use Rattle.std.proofs.lemmas.Iterator.Adapters.{position_from-zero}
 use Rattle.std.proofs.lemmas.List.{map-append}
+use Rattle.std.proofs.lemmas.List.Elements.{Contains-append_left, Contains-append_right, Contains-append_cases}
 use Rattle.std.proofs.lemmas.Option.{same_Some}
 use Rattle.std.proofs.lemmas.Slice.Eq.{bytes_eq-Decides}
 use Rattle.ldmodel.specs.Each.{Each}
@@ -16,8 +17,9 @@ use Rattle.ldmodel.specs.declared.sections.Part.{Part}
 use Rattle.ldmodel.specs.declared.sections.Part.TheVariants.{InTable, InCommon}
 use Rattle.ldmodel_laws.specs.PlacedOnce.{Differ}
 use Rattle.ldmodel_laws.specs.Spread.{EachLater, entries_in}
-use Rattle.place.proofs.Members.{across, any_in, first_or_later, in_back, in_either, in_front, last_part}
-use Rattle.place.proofs.Members.{later_of_map, member_of, none_any, none_in_nil}
+use Rattle.ldmodel_laws.proofs.Members.{first_or_later, none_in_nil, any_in}
+use Rattle.ldmodel_laws.proofs.Finding.{member_of}
+use Rattle.ldmodel_laws.proofs.EachOf.{none_any, later_of_map, across, last_part}
 
 abbrev pub rows_flat : List PlacedOutput → List Piece
 rows_flat qs = flat_map (λ (row : List Piece). row) (map entries_in qs)
@@ -65,14 +67,15 @@ in_pieces (q ∷ qs) z c =
     ⊎_elim (λ own_row. record { number = 0; section = q; at = refl; among = own_row })
     (λ in_rest. let k = in_pieces qs z in_rest in
     record { number = suc k.number; section = k.section; at = k.at; among = k.among })
-    (in_either q.pieces (pieces qs) z c)
+    (Contains-append_cases q.pieces (pieces qs) z c)
 
 pub pieces_in : (qs : List PlacedOutput) (k : ℕ) (q : PlacedOutput) (z : PlacedPiece) → slice_get qs k ≡ Some q
     → Contains q.pieces z → Contains (pieces qs) z
 pieces_in [] k q z e c = absurd (let none : ⊥ = cc in none)
 pieces_in (r ∷ rs) zero q z e c =
-    in_front r.pieces (pieces rs) z (subst (λ (x : PlacedOutput). Contains x.pieces z) (sym (same_Some _ _ e)) c)
-pieces_in (r ∷ rs) (suc k) q z e c = in_back r.pieces (pieces rs) z (pieces_in rs k q z e c)
+    Contains-append_left r.pieces (pieces rs) z
+    (subst (λ (x : PlacedOutput). Contains x.pieces z) (sym (same_Some _ _ e)) c)
+pieces_in (r ∷ rs) (suc k) q z e c = Contains-append_right r.pieces (pieces rs) z (pieces_in rs k q z e c)
 
 found_among : (xs : List PlacedPiece) (z : PlacedPiece) → EachLater Apart xs → Contains xs z
     → find (is_of z) xs ≡ Some z

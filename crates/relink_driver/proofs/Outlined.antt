@@ -28,7 +28,7 @@ use Rattle.ldmodel_laws.specs.Outline.{DiffersInContents, ObjectOutline, Section
 use Rattle.ldmodel_laws.specs.Outline.{section_outline}
 use Rattle.ldmodel_project.specs.ByPlace.{name_of_section as section_name_in, piece_in, rows_in}
 use Rattle.place.specs.InPlace.{IsOwned}
-use Rattle.place.proofs.Members.{in_map, map_in}
+use Rattle.ldmodel_laws.proofs.Finding.{in_map, map_in}
 
 -- ---- lists
 

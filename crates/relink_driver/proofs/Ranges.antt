@@ -41,8 +41,8 @@ use Rattle.relink_driver.specs.declared.stayed_sections.PreviousView.{PreviousVi
 use Rattle.relink_driver.proofs.Inside.{below_64}
 use Rattle.relink_driver.proofs.Kept as same
 use Rattle.relink_driver.proofs.Kept.{Same, alike, same_of}
-use Rattle.place.proofs.Members.{in_any}
 use Rattle.relink_driver.proofs.Standings.{Linked, in_link, link_in, of_link, owned, shows, stood}
+use Rattle.ldmodel_laws.proofs.Members.{in_any}
 
 -- a range is known where an input section stands as it stood
 record Known (before now : Option SectionLocation) (r : FileRange) : Type 0 where

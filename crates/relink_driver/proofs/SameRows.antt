@@ -7,7 +7,7 @@ use Rattle.std.specs.List.{Contains, position_or_len, slice_index_or}
 use Rattle.std.specs.Option.{option_and_then, option_map_or}
 use Rattle.std.specs.Prelude.{IfSome, nat_lt, position, unwrap_or}
 use Rattle.std.specs.Vec.{vec_items}
-use Rattle.std.proofs.lemmas.Bool.{eqb-true, false≢true, ltb-false}
+use Rattle.std.proofs.lemmas.Bool.{eqb-true, false≢true, ltb-false, and_parts, and_from}
 use Rattle.std.proofs.lemmas.List.{length-map}
 use Rattle.std.proofs.lemmas.List.Sums.{prefix_len-le-length, sum_by-cons}
 use Rattle.std.proofs.lemmas.Option.{same_Some}
@@ -37,8 +37,9 @@ use Rattle.relink_driver.specs.SameRows.{are_same_pieces, came_for, first_change
 use Rattle.relink_driver.specs.SameRows.{is_same_piece, is_same_row, is_same_section, kind_number, part_name}
 use Rattle.relink_driver.specs.StayedSections.{IsReplaced, PreviousState, ReplacedObjectState, last_place}
 use Rattle.relink_driver.proofs.Kept.{counted, same_part}
-use Rattle.place.proofs.Members.{both_of, each_split, got, of_both}
 use Rattle.relink_driver.proofs.Once.{own_part}
+use Rattle.ldmodel_laws.proofs.Members.{at_place}
+use Rattle.ldmodel_laws.proofs.EachOf.{each_parts}
 
 -- ---- lists
 
@@ -97,7 +98,7 @@ first_apart o objects k y distinct e same =
     let split = sum_by-cons (λ (z : NamedObject). cond {A = ℕ} (has_name y.name z) 1 0) o objects in
     let one : cond {A = ℕ} (has_name y.name o) 1 0 ≡ cond {A = ℕ} true 1 0 =
     ap (λ b. cond {A = ℕ} b 1 0) ((bytes_eq-Decides o.name y.name).1 same) in
-    let more = counted (has_name y.name) objects y (got objects k y e) ((bytes_eq-Decides y.name y.name).1 refl) in
+    let more = counted (has_name y.name) objects y (at_place objects k y e) ((bytes_eq-Decides y.name y.name).1 refl) in
     omega (arith, split, one, more, distinct y.name)
 
 one_place : (objects : List NamedObject) (i j : ℕ) (x y : NamedObject) → AreNamesDistinct objects
@@ -181,8 +182,8 @@ module _ (old new : Project) (x : PreviousState) (origins : AreOrigins old new x
     came : (r : ReplacedObjectState) → IsReplaced old new r → came_for r new a b ≡ true → a.part ≡ b.part
         → AreNamedAlike old new a b
     came r is h part =
-        let first = both_of (r.old.0 == a.object.0) _ h in
-        let second = both_of (r.new.0 == b.object.0) _ first.1 in
+        let first = and_parts (r.old.0 == a.object.0) _ h in
+        let second = and_parts (r.new.0 == b.object.0) _ first.1 in
         let before : slice_get old.objects a.object.0 ≡ Some is.before =
         ap (slice_get old.objects) (sym (eqb-true r.old.0 a.object.0 first.0)) ∙ is.old in
         let after : slice_get new.objects b.object.0 ≡ Some is.after =
@@ -201,7 +202,7 @@ module _ (old new : Project) (x : PreviousState) (origins : AreOrigins old new x
 
     sound_section : is_same_section x new a b ≡ true → AreNamedAlike old new a b
     sound_section e =
-        let both = both_of (is_same_part a.part b.part) _ e in
+        let both = and_parts (is_same_part a.part b.part) _ e in
         go (last_place x b.object) refl both.1 (same_part a.part b.part both.0)
       where
         renewed : (m : Option ReplacedObjectState) → IfSome m (IsReplaced old new)
@@ -242,8 +243,8 @@ module _ (old new : Project) (x : PreviousState) (origins : AreOrigins old new x
           ap (λ o. part_name o a.part) (sym there.object) ∙ sym (part_is old a.object.0 a.part there.before before)
           ∙ alike.section ∙ ap (name_of_part new b.object.0) (sym alike.part)
           ∙ part_is new b.object.0 a.part there.after after in
-          of_both (r.old.0 == a.object.0) _ (eq-eqb r.old.0 a.object.0 place)
-          (of_both (r.new.0 == b.object.0) _ (eq-eqb r.new.0 b.object.0 h)
+          and_from (r.old.0 == a.object.0) _ (eq-eqb r.old.0 a.object.0 place)
+          (and_from (r.new.0 == b.object.0) _ (eq-eqb r.new.0 b.object.0 h)
           (ap (λ m. option_map_or (has_same_name r.object a.part) m false) after
           ∙ (bytes_eq-Decides (part_name r.object a.part) (part_name there.after.object a.part)).1 named))
 
@@ -253,11 +254,11 @@ module _ (old new : Project) (x : PreviousState) (origins : AreOrigins old new x
           eq-eqb i a.object.0 (one_place old.objects i a.object.0 o y distinct at was (sym names))
       found_object None e =
           found_renewed x.replaced replaced
-          (known b.object.0 o y is e (got old.objects a.object.0 y was) names)
+          (known b.object.0 o y is e (at_place old.objects a.object.0 y was) names)
 
       found_section : is_same_section x new a b ≡ true
       found_section =
-          of_both (is_same_part a.part b.part) _
+          and_from (is_same_part a.part b.part) _
           (ap (λ part. is_same_part part b.part) alike.part ∙ own_part b.part)
           (found_object (last_place x b.object) refl)
 
@@ -265,11 +266,11 @@ module _ (old new : Project) (x : PreviousState) (origins : AreOrigins old new x
 
   sound_piece : (a b : Piece) → is_same_piece x new a b ≡ true → piece_in old a ≡ piece_in new b
   sound_piece a b e =
-      let c1 = both_of (a.statement.0 == b.statement.0) _ e in
-      let c2 = both_of (is_same_section x new a.section b.section) _ c1.1 in
-      let c3 = both_of (kind_number a.kind == kind_number b.kind) _ c2.1 in
-      let c4 = both_of (a.flags == b.flags) _ c3.1 in
-      let c5 = both_of (a.size == b.size) (a.alignment == b.alignment) c4.1 in
+      let c1 = and_parts (a.statement.0 == b.statement.0) _ e in
+      let c2 = and_parts (is_same_section x new a.section b.section) _ c1.1 in
+      let c3 = and_parts (kind_number a.kind == kind_number b.kind) _ c2.1 in
+      let c4 = and_parts (a.flags == b.flags) _ c3.1 in
+      let c5 = and_parts (a.size == b.size) (a.alignment == b.alignment) c4.1 in
       let alike = sound_section a.section b.section c2.0 in
       let statement = eqb-true a.statement.0 b.statement.0 c1.0 in
       let kind = same_kind a.kind b.kind c3.0 in
@@ -299,14 +300,14 @@ module _ (old new : Project) (x : PreviousState) (origins : AreOrigins old new x
   sound_pieces [] (b ∷ bs) long e = absurd (omega (arith, long))
   sound_pieces (a ∷ rest) [] long e = absurd (omega (arith, long))
   sound_pieces (a ∷ rest) (b ∷ bs) long e =
-      let both = both_of (is_same_piece x new a b) (are_same_pieces x new rest bs) e in
+      let both = and_parts (is_same_piece x new a b) (are_same_pieces x new rest bs) e in
       ap (λ c. c ∷ map (piece_in old) rest) (sound_piece a b both.0)
       ∙ ap (λ l. piece_in new b ∷ l) (sound_pieces rest bs (omega (arith, long)) both.1)
 
   sound_row : (before now : List Piece) → is_same_row x new before now ≡ true
       → map (piece_in old) before ≡ map (piece_in new) now
   sound_row before now e =
-      let both = both_of (length before == length now) (are_same_pieces x new before now) e in
+      let both = and_parts (length before == length now) (are_same_pieces x new before now) e in
       sound_pieces before now (eqb-true (length before) (length now) both.0) both.1
 
   -- no row differs before the first that the code finds to
@@ -341,14 +342,14 @@ module _ (old new : Project) (x : PreviousState) (origins : AreOrigins old new x
         let some : 0 < length (object_name new b.section.object.0) =
         subst (λ (n : List ℕ). 0 < length n) alike.object owned.some in
         let o = has_object new b.section.object.0 some in
-        of_both (a.statement.0 == b.statement.0) _
+        and_from (a.statement.0 == b.statement.0) _
         (eq-eqb a.statement.0 b.statement.0 (ap (λ (p : model.Piece). p.statement) e))
-        (of_both (is_same_section x new a.section b.section) _
+        (and_from (is_same_section x new a.section b.section) _
         (found_section a.section b.section distinct known alike y.0 y.1 o.0 o.1)
-        (of_both (kind_number a.kind == kind_number b.kind) _
+        (and_from (kind_number a.kind == kind_number b.kind) _
         (eq-eqb (kind_number a.kind) (kind_number b.kind) (ap (λ (p : model.Piece). kind_number p.kind) e))
-        (of_both (a.flags == b.flags) _ (eq-eqb a.flags b.flags (ap (λ (p : model.Piece). p.flags) e))
-        (of_both (a.size == b.size) (a.alignment == b.alignment)
+        (and_from (a.flags == b.flags) _ (eq-eqb a.flags b.flags (ap (λ (p : model.Piece). p.flags) e))
+        (and_from (a.size == b.size) (a.alignment == b.alignment)
         (eq-eqb a.size b.size (ap (λ (p : model.Piece). p.size) e))
         (eq-eqb a.alignment b.alignment (ap (λ (p : model.Piece). p.alignment) e))))))
 
@@ -357,13 +358,13 @@ module _ (old new : Project) (x : PreviousState) (origins : AreOrigins old new x
     found_pieces [] now e owned = refl
     found_pieces (a ∷ rest) [] e owned = absurd (let none : ⊥ = cc in none)
     found_pieces (a ∷ rest) (b ∷ bs) e owned =
-        of_both (is_same_piece x new a b) (are_same_pieces x new rest bs)
+        and_from (is_same_piece x new a b) (are_same_pieces x new rest bs)
         (found_piece a b (head_is _ _ _ _ e) owned.0) (found_pieces rest bs (tail_is _ _ _ _ e) owned.1)
 
     found_row : (before now : List Piece) → map (piece_in old) before ≡ map (piece_in new) now
         → Each (IsOwned old) (map (piece_in old) before) → is_same_row x new before now ≡ true
     found_row before now e owned =
-        of_both (length before == length now) (are_same_pieces x new before now)
+        and_from (length before == length now) (are_same_pieces x new before now)
         (eq-eqb (length before) (length now)
         (sym (length-map before (piece_in old)) ∙ ap length e ∙ length-map now (piece_in new)))
         (found_pieces before now e owned)
@@ -385,7 +386,7 @@ module _ (old new : Project) (x : PreviousState) (origins : AreOrigins old new x
     fewest [] (b ∷ bs) (suc n) e owned = absurd (let none : ⊥ = cc in none)
     fewest (a ∷ rest) [] (suc n) e owned = absurd (let none : ⊥ = cc in none)
     fewest (a ∷ rest) (b ∷ bs) (suc n) e owned =
-        let parts = each_split (IsOwned old) (map (piece_in old) (vec_items a))
+        let parts = each_parts (IsOwned old) (map (piece_in old) (vec_items a))
         (flat_map (λ (row : List model.Piece). row) (rows_in old rest)) owned in
         let same = found_row (vec_items a) (vec_items b) (head_is _ _ _ _ e) parts.0 in
         let next : 1 + first_changed x new rest bs ≡ suc (first_changed x new rest bs) = omega arith in

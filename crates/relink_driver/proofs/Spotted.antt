@@ -5,9 +5,9 @@ use Rattle.std.proofs.Common.{Option, Some, None, ap, arith, length, refl, slice
 use Rattle.std.specs.List.{All, AllPairs, Contains}
 use Rattle.std.specs.Option.{option_and_then, option_map, option_map_or}
 use Rattle.std.specs.Prelude.{option_to_list, slice_index_or, sum_by}
-use Rattle.std.proofs.lemmas.Bool.{cases_lt}
+use Rattle.std.proofs.lemmas.Bool.{cases_lt, and_parts, and_from}
 use Rattle.std.proofs.lemmas.List.{length-map, take_all}
-use Rattle.std.proofs.lemmas.List.Elements.{All-cons, All-nil}
+use Rattle.std.proofs.lemmas.List.Elements.{All-cons, All-nil, Contains-append_left, Contains-append_right}
 use Rattle.std.proofs.lemmas.List.Kept.{AllPairs-cons}
 use Rattle.std.proofs.lemmas.List.Sums.{sum_by-append, sum_by-cons}
 use Rattle.std.proofs.Math.Numerals.{add-one}
@@ -37,7 +37,7 @@ use Rattle.emit.specs.in_place.LocatedSections.{HasLocatedSections, IsLocatedSec
 use Rattle.emit.specs.in_place.declared.located_section.LocatedSection.{LocatedSection}
 use Rattle.place.specs.IndexedLayout.{IsIndexedLayout}
 use Rattle.place.specs.declared.indexed_layout.IndexedLayout.{IndexedLayout}
-use Rattle.place.proofs.Members.{both_of, each_join, find_in, here, in_back, in_front, of_both}
+use Rattle.place.proofs.Members.{find_in}
 use Rattle.std.proofs.lemmas.Slice.Eq.{bytes_eq-Decides}
 use Rattle.relink_driver.specs.InPlace.{bytes_of_object, own_bytes}
 use Rattle.relink_driver.specs.LocatedSections.{key_of, spot_at, spot_of, spot_with, spots_below}
@@ -48,6 +48,8 @@ use Rattle.relink_driver.proofs.Kept.{IsAt, same_part}
 use Rattle.relink_driver.proofs.Once.{found, in_pieces, own_part}
 use Rattle.relink_driver.proofs.Standings.{in_link, link_in, of_link, shows, stood}
 use Rattle.relink_driver.proofs.TouchedSites.{find_got, found_some}
+use Rattle.ldmodel_laws.proofs.Members.{here}
+use Rattle.ldmodel_laws.proofs.EachOf.{each_append}
 
 -- ---- lists that are made number by number
 
@@ -73,9 +75,9 @@ later_back : {X : Type 0} (R : X → X → Type 0) (xs : List X) (m : Option X) 
 later_back R [] None h k = tt
 later_back R [] (Some y) h k = (tt, tt)
 later_back R (x ∷ xs) None h k =
-    (each_join (R x) xs [] h.0 tt, later_back R xs None h.1 (λ y e. (k y e).1))
+    (each_append (R x) xs [] h.0 tt, later_back R xs None h.1 (λ y e. (k y e).1))
 later_back R (x ∷ xs) (Some y) h k =
-    (each_join (R x) xs (y ∷ []) h.0 ((k y refl).0, tt), later_back R xs (Some y) h.1 (λ z e. (k z e).1))
+    (each_append (R x) xs (y ∷ []) h.0 ((k y refl).0, tt), later_back R xs (Some y) h.1 (λ z e. (k z e).1))
 
 module _ {T : Type 0} (f : ℕ → Option T) (index : T → ℕ) (own : (n : ℕ) (x : T) → f n ≡ Some x → index x ≡ n) where
   abbrev made : ℕ → List T
@@ -84,7 +86,7 @@ module _ {T : Type 0} (f : ℕ → Option T) (index : T → ℕ) (own : (n : ℕ
 
   each_made : (P : T → Type 0) → ((n : ℕ) (x : T) → f n ≡ Some x → P x) → (n : ℕ) → Each P (made n)
   each_made P h zero = tt
-  each_made P h (suc n) = each_join P (made n) (option_to_list (f n)) (each_made P h n) (go (f n) refl)
+  each_made P h (suc n) = each_append P (made n) (option_to_list (f n)) (each_made P h n) (go (f n) refl)
     where
       go : (m : Option T) → f n ≡ m → Each P (option_to_list m)
       go None e = tt
@@ -93,7 +95,7 @@ module _ {T : Type 0} (f : ℕ → Option T) (index : T → ℕ) (own : (n : ℕ
   before : (n : ℕ) → Each (λ x. index x < n) (made n)
   before zero = tt
   before (suc n) =
-      each_join (λ x. index x < suc n) (made n) (option_to_list (f n))
+      each_append (λ x. index x < suc n) (made n) (option_to_list (f n))
       (imply_each (λ x. index x < n) (λ x. index x < suc n) (λ x less. omega (arith, less)) (made n) (before n))
       (go (f n) refl)
     where
@@ -113,10 +115,10 @@ module _ {T : Type 0} (f : ℕ → Option T) (index : T → ℕ) (own : (n : ℕ
   has_made (suc n) k x less e = go (cases_lt k n) (λ earlier. has_made n k x earlier e)
     where
       go : (k < n) ⊎ (n ≤ k) → (k < n → Contains (made n) x) → Contains (made (suc n)) x
-      go (inl earlier) rest = in_front (made n) (option_to_list (f n)) x (rest earlier)
+      go (inl earlier) rest = Contains-append_left (made n) (option_to_list (f n)) x (rest earlier)
       go (inr previous) rest =
           let same : n ≡ k = omega (arith, less, previous) in
-          in_back (made n) (option_to_list (f n)) x
+          Contains-append_right (made n) (option_to_list (f n)) x
           (subst (λ m. Contains (option_to_list m) x) (sym (ap f same ∙ e)) (here x []))
 
   -- sums over them
@@ -248,7 +250,7 @@ module _ (p : Project) (s : Layout) (t : IndexedLayout) (indexed_layout : IsInde
         → (a : SectionLocation) × (location_in t (key x) ≡ Some a)
     has_standing x y e =
         let in_it = find_in (is_part o.name (InTable x.number)) (placed_pieces s) y e in
-        let both = both_of _ _ in_it.1 in
+        let both = and_parts _ _ in_it.1 in
         let k = in_pieces s.sections y in_it.0 in
         (shows p s t indexed_layout (key x) k.number k.section y k.at k.among
         (name_is ∙ sym ((bytes_eq-Decides y.piece.object o.name).0 both.0))
@@ -310,7 +312,7 @@ module _ (p : Project) (s : Layout) (t : IndexedLayout) (indexed_layout : IsInde
 
     mine : (x : LinkedSection) (v : LinkedPiece) → is_mine x v ≡ true → (v.object ≡ o.name) × (v.part ≡ InTable x.number)
     mine x v e =
-        let both = both_of (bytes_eq v.object o.name) (is_same_part v.part (InTable x.number)) e in
+        let both = and_parts (bytes_eq v.object o.name) (is_same_part v.part (InTable x.number)) e in
         ((bytes_eq-Decides v.object o.name).0 both.0, same_part v.part (InTable x.number) both.1)
 
     -- what stands nowhere by the tables is not in the output
@@ -340,7 +342,7 @@ module _ (p : Project) (s : Layout) (t : IndexedLayout) (indexed_layout : IsInde
         let w = stood p s t indexed_layout (key x) a e in
         let z : LinkedPiece = of_link p s w.section w.piece in
         found_some (is_mine x) (linked_pieces p s) z (link_in p s w.number w.section w.piece w.at w.among)
-        (of_both (bytes_eq z.object o.name) (is_same_part z.part (InTable x.number))
+        (and_from (bytes_eq z.object o.name) (is_same_part z.part (InTable x.number))
         ((bytes_eq-Decides z.object o.name).1 (sym w.object ∙ name_is))
         (ap (λ m. is_same_part m (InTable x.number)) (sym w.part) ∙ own_part (InTable x.number)))
 

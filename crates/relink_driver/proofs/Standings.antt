@@ -5,7 +5,7 @@ use Rattle.std.proofs.Common.{slice_get, bytes_eq}
 use Rattle.std.specs.List.{Contains, list_any}
 use Rattle.std.specs.Option.{option_and_then, option_map}
 use Rattle.std.specs.Prelude.{nat_lt, position}
-use Rattle.std.proofs.lemmas.Bool.{lt-ltb}
+use Rattle.std.proofs.lemmas.Bool.{lt-ltb, and_parts}
 use Rattle.std.proofs.lemmas.Option.{same_Some, slice_get-map}
 use Rattle.std.proofs.lemmas.Slice.Eq.{bytes_eq-Decides}
 use Rattle.ldmodel.specs.Layout.{Layout, PlacedPiece, PlacedOutput}
@@ -29,9 +29,11 @@ use Rattle.relink_driver.specs.SectionLocation as code
 use Rattle.relink_driver.specs.SectionLocation.{bytes_from, range_from, location_in, location_of, location_with}
 use Rattle.relink_driver.specs.declared.section_location.SectionLocation.{SectionLocation}
 use Rattle.relink_driver.proofs.Kept.{IsAt, Shows, same_part}
-use Rattle.place.proofs.Members.{Beside, beside, both_of, find_in, in_back, in_either, in_front, in_map, map_in}
-use Rattle.place.proofs.Members.{member_of, none_in_nil}
+use Rattle.place.proofs.Members.{Beside, beside, find_in}
 use Rattle.relink_driver.proofs.Once.{flat, found, in_pieces, pieces, pieces_in, section_is}
+use Rattle.ldmodel_laws.proofs.Members.{none_in_nil}
+use Rattle.ldmodel_laws.proofs.Finding.{member_of, in_map, map_in}
+use Rattle.std.proofs.lemmas.List.Elements.{Contains-append_left, Contains-append_right, Contains-append_cases}
 
 -- ---- input sections in the output
 
@@ -69,16 +71,16 @@ module _ (of : PlacedOutput → PlacedPiece → LinkedPiece) where
         among = k.among;
         is = k.is;
       })
-      (in_either (map (of q) q.pieces) (all qs) x c)
+      (Contains-append_cases (map (of q) q.pieces) (all qs) x c)
 
   all_in : (qs : List PlacedOutput) (k : ℕ) (q : PlacedOutput) (z : PlacedPiece) → slice_get qs k ≡ Some q
       → Contains q.pieces z → Contains (all qs) (of q z)
   all_in [] k q z e c = absurd (let none : ⊥ = cc in none)
   all_in (r ∷ rs) zero q z e c =
       let is : r ≡ q = same_Some _ _ e in
-      in_front (map (of r) r.pieces) (all rs) (of q z)
+      Contains-append_left (map (of r) r.pieces) (all rs) (of q z)
       (subst (λ (p : PlacedOutput). Contains (map (of p) p.pieces) (of q z)) (sym is) (map_in (of q) q.pieces z c))
-  all_in (r ∷ rs) (suc k) q z e c = in_back (map (of r) r.pieces) (all rs) (of q z) (all_in rs k q z e c)
+  all_in (r ∷ rs) (suc k) q z e c = Contains-append_right (map (of r) r.pieces) (all rs) (of q z) (all_in rs k q z e c)
 
 abbrev pub of_link : Project → Layout → PlacedOutput → PlacedPiece → LinkedPiece
 of_link p s = linked_piece p (segments s.sections)
@@ -245,7 +247,8 @@ module _ (p : Project) (s : Layout) (t : IndexedLayout) (indexed_layout : IsInde
           let w = piece_of key (placed_part s (object_name p key.object.0) key.part) x.start h.0 in
           let z : PlacedPiece = w.0 in
           let in_it = find_in (is_part (object_name p key.object.0) key.part) (pieces s.sections) z w.1 in
-          let both = both_of (bytes_eq z.piece.object (object_name p key.object.0)) (is_same_part z.piece.part key.part)
+          let both = and_parts (bytes_eq z.piece.object (object_name p key.object.0))
+          (is_same_part z.piece.part key.part)
           in_it.1 in
           let object : object_name p key.object.0 ≡ z.piece.object =
           sym ((bytes_eq-Decides z.piece.object (object_name p key.object.0)).0 both.0) in

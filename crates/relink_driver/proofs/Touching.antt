@@ -60,8 +60,8 @@ use Rattle.emit.specs.in_place.LocatedSections.{HasLocatedSections, bytes_of, si
 use Rattle.emit.specs.in_place.declared.rewrite.Rewrite.{Rewrite}
 use Rattle.emit.specs.in_place.declared.rewrite.Rewrite.TheVariants.{Done, Faulty}
 use Rattle.place.specs.IndexedLayout.{IsIndexedLayout}
-use Rattle.place.proofs.Members.{first_or_later, got, here, later, member_of, none_in_nil}
-use Rattle.ldmodel_laws.proofs.Finding.{flat_map_in}
+use Rattle.ldmodel_laws.proofs.Finding.{flat_map_in, member_of}
+use Rattle.ldmodel_laws.proofs.Members.{here, later, first_or_later, none_in_nil, at_place}
 use Rattle.relink_driver.specs.Reads.{ReadsNothing}
 use Rattle.relink_driver.specs.InPlace.{IsNextLink, IsKeptLink, IsInPlaceOutcome, bytes_of_object, own_bytes}
 use Rattle.relink_driver.specs.LocatedSections.{spots_below}
@@ -347,7 +347,7 @@ module _ (p : Project) (x : PreviousState) (r : ReplacedObjectState) (f : IsNext
       let a : NamedObject = came_before old p x r is f in
       let fields : evaluations (link_at s) (sites_of s b) ≡ length (sites_of s b) =
       all_evaluated (link_at s) (sites_of s b)
-      (λ t c. all_fields p s none t (own_sites p s b (got p.objects place b f.at) t c)) in
+      (λ t c. all_fields p s none t (own_sites p s b (at_place p.objects place b f.at) t c)) in
       let sites = touched_sites old.project p s place ret k.frame names a b (was old p x r is f) f.at name fresh k.worth
       (piece once) (permuted once) in
       let bytes = spots_bytes p s x.snapshot.indexed_layout (indexed_layout old is) r.new b f.at
@@ -362,7 +362,7 @@ module _ (p : Project) (x : PreviousState) (r : ReplacedObjectState) (f : IsNext
             sum_by (own_bytes (new_link p s) o.name) o.object.sections) m 0) f.at))
             (touched_bytes old.project p s place ret k.frame names a b (was old p x r is f) f.at name fresh
             (member_of (λ (o : NamedObject). EachLater (λ (y z : LinkedSection). (y.number.0 == z.number.0) ≡ false)
-            o.object.sections) p.objects b numbers (got p.objects place b f.at)) most);
+            o.object.sections) p.objects b numbers (at_place p.objects place b f.at)) most);
       }
 
   none_past : (xs : List (List rows_of.Piece)) → entries_from (length xs) xs ≡ 0

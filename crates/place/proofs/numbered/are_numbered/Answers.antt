@@ -7,7 +7,7 @@ use Rattle.ldmodel.specs.Project.{NamedObject}
 use Rattle.ldmodel_project.specs.Inputs.{shown_input}
 use Rattle.ldmodel_project.specs.declared.input.InputObject.{InputObject}
 use Rattle.place.proofs.Ascending.{each_more}
-use Rattle.place.proofs.Lists.{each_into_map}
+use Rattle.ldmodel_laws.proofs.EachOf.{each_into_map}
 use Rattle.place.proofs.numbered.are_numbered.Goals as goal
 
 abbrev HasNumbers : NamedObject → Type 0
