@@ -1,4 +1,4 @@
-//! The map of a link.
+//! What the map of a link is made of; `emit_text::maps` writes it.
 
 ghost use Rattle.std.specs.Prelude.{◌≡◌, IfOk, map};
 ghost use Rattle.std.specs.Vec.{vec_items};

@@ -9,6 +9,9 @@ use ldmodel::memory::NoMemory;
 use std::alloc::Global;
 use std::marker::Model;
 
+/// How many bytes of room there are at first for each string: the names of an object and of a section.
+const STRING_ROOM: usize = 32;
+
 /// The range of a byte string among others.
 #[derive(Clone, Copy)]
 pub struct Span {
@@ -67,7 +70,7 @@ impl Model for GrowingStrings {
 }
 
 impl GrowingStrings {
-    /// An empty list, with room for this many strings.
+    /// An empty list, with room for this many strings of common length.
     ///
     /// # Errors
     ///
@@ -76,8 +79,9 @@ impl GrowingStrings {
         ensures { IfOk result (λ t. t ≡ []) }
     {
         let spans = Vec::with_capacity(alloc, count)?;
+        let bytes = Vec::with_capacity(alloc, count.saturating_mul(STRING_ROOM))?;
         Ok(GrowingStrings {
-            bytes: Vec::new(alloc),
+            bytes,
             last: LineBuffer::new(),
             spans,
         })

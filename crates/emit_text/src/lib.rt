@@ -1,5 +1,5 @@
-//! The texts of a link: the map (`map_text`) and the lines of faults (`fault_text`). Each is written once, into room
-//! for names of common length, which grows where names are longer.
+//! The texts of a link: the map (`maps::render_map`) and the lines of faults. Each is written in one pass, into a buffer
+//! for names of common length, which grows for longer ones.
 //!
 //! - `faults`, `fault_line`: fault lines; `maps`, `map_line`: the map; `line`, `line_buffer`, `hex`: how lines are
 //!   written;
