@@ -13,8 +13,8 @@ const IMAGE_MODE: u32 = 0o755;
 /// The permission bits of a map that is made: all may read it.
 pub const MAP_MODE: u32 = 0o644;
 
-/// The most bytes of a file that are read: one more than an object or a script may have, so that a file which is too
-/// long is seen to be, and one without an end is not read for ever.
+/// The most bytes of a file that are read: one more than an object or a script may have, so that a file that is too
+/// long is recognized, and an endless one is not read forever.
 const MOST: usize = MAX_PAYLOAD + 1;
 
 /// How many bytes one read is to give at most. A buffer is zeros before it is read into, so that all files are read
@@ -39,8 +39,8 @@ fn read_once(file: &mut File, buffer: &mut [u8]) -> io::Result<Option<usize>> {
     }
 }
 
-/// The bytes of a file, of which the first are read into a buffer. A read that has room for more than the size that the
-/// system tells and gives just that many has met the end, so that most files take one.
+/// The bytes of a file; the first ones are read into a buffer. If the first read has room for more than the reported
+/// size and returns exactly that size, it has reached the end; so most files take one read.
 fn read_by_buffer(rt: &HostRuntime, name: &str, buffer: &mut [u8]) -> io::Result<Vec<u8>> {
     let mut file = File::open(rt, name)?;
     let size = usize::try_from(file.metadata()?.len()).unwrap_or(MOST);
@@ -61,7 +61,7 @@ fn read_by_buffer(rt: &HostRuntime, name: &str, buffer: &mut [u8]) -> io::Result
 ///
 /// # Errors
 ///
-/// Where the file can't be read; of kind `OutOfMemory` if memory runs out.
+/// If the file can't be read; of kind `OutOfMemory` if memory runs out.
 pub fn read_file(rt: &HostRuntime, name: &str) -> io::Result<Vec<u8>> {
     let mut buffer = read_buffer(rt)?;
     read_by_buffer(rt, name, &mut buffer)
@@ -91,7 +91,7 @@ fn is_regular(rt: &HostRuntime, name: &str) -> bool {
     }
 }
 
-/// Takes away a regular file. One that may not be taken away stays.
+/// Removes a regular file. One that may not be removed stays.
 fn take_away(rt: &HostRuntime, name: &str) {
     if is_regular(rt, name) {
         let _ = fs::remove_file(rt, name);
@@ -102,8 +102,8 @@ fn take_away(rt: &HostRuntime, name: &str) {
 ///
 /// # Errors
 ///
-/// Where the file can't be written. No part of the bytes is left of it then: a regular file is taken away, and what may
-/// not be taken away, or stands behind a link, is emptied.
+/// If the file can't be written. No part of the bytes is left of it then: a regular file is removed; a file that may
+/// not be removed, or stands behind a link, is emptied.
 pub fn write_file(rt: &HostRuntime, name: &str, mode: u32, bytes: &[u8]) -> io::Result<()> {
     let mut file = OpenOptions::new()
         .write(true)
@@ -120,7 +120,7 @@ pub fn write_file(rt: &HostRuntime, name: &str, mode: u32, bytes: &[u8]) -> io::
     written
 }
 
-/// Writes an image in place of a file of its name. A regular one is taken away first: a program that runs keeps the
+/// Writes an image in place of a file of its name. A regular one is removed first: a program that runs keeps the
 /// file that it began with, and the image is a new one.
 ///
 /// # Errors

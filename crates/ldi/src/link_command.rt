@@ -25,7 +25,7 @@ pub struct FileNames {
     pub objects: Vec<String>,
 }
 
-/// Writes the map and then the image: where the map can't be written, an old image stays as it is.
+/// Writes the map and then the image: if the map can't be written, an old image stays as it is.
 fn write_output(rt: &HostRuntime, names: &FileNames, output: &Output) -> io::Result<()> {
     if let Some(map) = &names.map {
         write_file(rt, map.as_str(), MAP_MODE, output.map())?;

@@ -76,7 +76,7 @@ pub fn session<R: Read + Drop, W: Write + Drop>(
     // What stands after each outcome.
     ensures ran { IfOk result (λ ended. Leaves (empty_project options) (R.remaining reader)
         (W.contents writer) ended.source ended.sink ended.outcome) }
-    // `Read` and `Write` come where a call of that device failed, and nowhere else.
+    // `Read` and `Write` come only if a call of that device failed.
     ensures counted { IfOk result (λ ended. FaultsCounted 0 ended.source.failed 0 ended.sink.failed ended.outcome) }
 {
     // the linker is made here and lent, so that few values are in hand at each end

@@ -29,8 +29,8 @@ pub enum Status {
     Malformed,
 }
 
-/// Reads the commands of `source` to its end, makes their edits in `linker`, and writes an answer to each into `sink`,
-/// which is flushed before a byte of the next command is read.
+/// Reads the commands of `source` to its end, makes their edits in `linker`, and writes an answer to each into `sink`.
+/// An answer is flushed before a byte of the next command is read.
 ///
 /// Bytes that begin no command are answered `stream`, and end the run with `Status::Malformed`. An edit without memory
 /// for its payload is skipped and answered `refused 7 0`.

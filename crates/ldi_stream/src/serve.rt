@@ -173,6 +173,7 @@ pub fn serve_one<R: Source, W: Sink, L: Linker>(
     ensures counted { FaultsCounted (R.failed source.old) (R.failed source.new)
         (W.failed sink.old) (W.failed sink.new) result }
 {
+    // for the prover: brings in the laws of the lines of commands
     one_first_command();
     lines_without_feed();
     let mut line = [0u8; MAX_LINE];

@@ -14,7 +14,7 @@ use ldmodel_project::project::{Next, Project};
 use ldmodel_project::staged::Staged;
 use symres::decisions::change::{ObjectAt, ObjectChange, undone};
 
-/// An object at a place, where there are both.
+/// An object at a place, if there are both.
 fn object_at<'a>(place: Option<usize>, object: Option<&'a Object>) -> Option<ObjectAt<'a>>
     ensures { shown_at result ≡ beside place (option_copied object.entry) }
 {
@@ -43,6 +43,7 @@ pub(crate) fn object_change<'a>(
     requires edited { edited_key staged.now.objects.step ≡ Some key.0 }
     ensures { IsChange project.now.contents.entries staged.now.objects key.0 result }
 {
+    // for the prover: brings in the laws of edited tables, of keys with a place, and of a change taken back
     tables_follow();
     found_where_placed();
     undone();

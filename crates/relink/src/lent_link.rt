@@ -7,8 +7,8 @@ use ldmodel_project::staged::Staged;
 use relink_driver::stayed_sections::PreviousView;
 use std::alloc::Global;
 
-/// The previous link, lent to the link of the next project, which makes the origins of its objects only if its names
-/// have no faults.
+/// The previous link, lent to the link of the next project. That link makes the origins of the project's objects only
+/// if its names have no faults.
 #[derive(Clone, Copy)]
 pub(crate) struct LentLink<'a> {
     pub(crate) previous: &'a PreviousLink,
@@ -25,7 +25,7 @@ impl<'a> LentLink<'a> {
     ghost use Rattle.relink.specs.PreviousLink.{lent_state};
 
     /// The origins of the objects of the next project, in their order; an object that the edit puts has none. Fails
-    /// where memory runs out.
+    /// if memory runs out.
     pub(crate) fn origins(&self, alloc: Global) -> Result<Vec<Option<usize>>, NoMemory>
         ensures { IfOk result (λ from. from.items ≡ (lent_state self.now).from) }
     {

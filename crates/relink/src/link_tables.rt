@@ -40,7 +40,7 @@ struct IncomingChange {
     matches: Option<Matches>,
 }
 
-/// Forgets the names that no object declares any more, where an object went. It takes no memory.
+/// If an object was removed, forgets the names that no object declares now. It takes no memory.
 fn forget_if(symbol_table: &mut SymbolTable, went: bool)
     ensures tables { symbol_table.new.kept.names.objects ≡ symbol_table.old.kept.names.objects }
     ensures forgotten { went ≡ true → Forgets symbol_table.old.kept.names symbol_table.new.kept.names }
@@ -52,7 +52,7 @@ fn forget_if(symbol_table: &mut SymbolTable, went: bool)
     }
 }
 
-/// Puts the names into byte order after a link without faults, so that the next one need not sort them. Where memory
+/// Puts the names into byte order after a link without faults, so that the next one need not sort them. If memory
 /// runs out, they stay as they are.
 fn put_in_order_if(symbol_table: &mut SymbolTable, is_good: bool)
     ensures tables { symbol_table.new.kept.names.objects ≡ symbol_table.old.kept.names.objects }
@@ -65,7 +65,7 @@ fn put_in_order_if(symbol_table: &mut SymbolTable, is_good: bool)
 }
 
 impl LinkTables {
-    /// Takes all memory that a change of one object needs. Fails where memory runs out: then the tables are of the same
+    /// Takes all memory that a change of one object needs. Fails if memory runs out: then the tables are of the same
     /// objects as before.
     fn make_room(
         &mut self,
@@ -85,7 +85,7 @@ impl LinkTables {
         Ok(IncomingChange { order, matches })
     }
 
-    /// Updates the tables for an edit of the object under a key, and links the next project. Fails where memory runs
+    /// Updates the tables for an edit of the object under a key, and links the next project. Fails if memory runs
     /// out: then the tables are those of the project before the edit.
     fn update_for_object(
         &mut self,
@@ -134,7 +134,7 @@ impl LinkTables {
         }
     }
 
-    /// Updates the tables for an edit of no object, as one of the script, and links the next project. Fails where
+    /// Updates the tables for an edit of no object, as one of the script, and links the next project. Fails if
     /// memory runs out: then the tables are those of the project before the edit.
     fn update_for_script(
         &mut self,
@@ -179,7 +179,7 @@ impl LinkTables {
     ///
     /// # Errors
     ///
-    /// Where memory runs out. The tables are then those of the project before the edit.
+    /// If memory runs out. The tables are then those of the project before the edit.
     pub(crate) fn update(
         &mut self,
         alloc: Global,

@@ -36,8 +36,7 @@ impl Model for NameList {
     ghost invariant = { λ n. sum_by (λ k. k) n.lengths.items ≡ length n.text.items };
 }
 
-/// Whether the name at place `at`, which is the one that is looked for if `is_same`, may be there: that one only at
-/// `place`.
+/// Whether a name may be at place `at`: if `is_same`, it is the name that is looked for, which may be only at `place`.
 fn is_allowed(is_same: bool, place: Option<usize>, at: usize) -> bool
     ensures { result ≡ true → is_same ≡ true → place ≡ Some at }
 {
@@ -52,7 +51,7 @@ impl NameList {
     ///
     /// # Errors
     ///
-    /// Where memory runs out.
+    /// If memory runs out.
     pub(crate) fn with_room(alloc: Global, count: usize, bytes: usize) -> Result<NameList, NoMemory>
         ensures names { IfOk result (λ n. n.names ≡ []) }
         ensures count { IfOk result (λ n. count ≤ n.count_room) }
@@ -117,7 +116,7 @@ fn name_bytes(inputs: &[InputObject<'_>]) -> usize
 ///
 /// # Errors
 ///
-/// Where memory runs out.
+/// If memory runs out.
 pub(crate) fn room_for_names(
     alloc: Global,
     inputs: &[InputObject<'_>],

@@ -27,7 +27,7 @@ impl LinkOutcome {
         }
     }
 
-    /// 0 where the link has no faults, else 1.
+    /// 0 if the link has no faults, else 1.
     pub(crate) fn status(&self) -> u8
         ensures { (bytes : List ℕ) → result ≡ (shown bytes self.now).status }
     {
@@ -37,7 +37,7 @@ impl LinkOutcome {
         }
     }
 
-    /// The image, which the canvas holds where there is one.
+    /// The image, which the canvas holds if there is one.
     pub(crate) fn image<'a>(&self, canvas: &'a Canvas) -> &'a [u8]
         ensures { result.now ≡ (shown canvas.now.bytes self.now).image }
     {

@@ -43,7 +43,7 @@ pub(crate) struct PreviousLink {
 pub(crate) struct EditEffect {
     /// Whether the edit is known to put no object that this link has already.
     pub known: bool,
-    /// The key of the object that this link does not have any more, if there is one.
+    /// The key of the object that this link no longer has, if there is one.
     pub gone: Option<usize>,
     /// Whether the script stays.
     pub same_script: bool,
@@ -166,7 +166,7 @@ impl PreviousLink {
         }
     }
 
-    /// The origins of the objects under these keys, in their order; that under the key `gone` has none. Fails where
+    /// The origins of the objects under these keys, in their order; that under the key `gone` has none. Fails if
     /// memory runs out.
     pub(crate) fn origins_of(
         &self,
@@ -181,7 +181,7 @@ impl PreviousLink {
             .collect(alloc)
     }
 
-    /// Notes that the previous link does not have the object under a key any more, if there is a key.
+    /// Notes that the previous link no longer has the object under a key, if there is a key.
     fn forget(&mut self, key: Option<usize>)
         ensures snapshot { self.new.snapshot ≡ self.old.snapshot }
         ensures names { self.new.names ≡ self.old.names }
@@ -286,7 +286,7 @@ pub(crate) fn lend_previous<'a>(
 ///
 /// # Errors
 ///
-/// Where memory runs out.
+/// If memory runs out.
 pub(crate) fn origins_for(
     alloc: Global,
     previous: &Option<LentLink<'_>>,

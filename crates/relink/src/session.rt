@@ -30,8 +30,8 @@ use symres::decisions::law::{distinct_more, names_of_objects};
 
 /// A linker that keeps how names are resolved, which statements take the input sections of each object, and the
 /// previous link without faults. An edit of an object reads at most that object, and resolves only its names. If the
-/// link before it has no faults, input sections are placed only from the first output section on that changed, and the
-/// image is written over the previous one, except for the input sections that stayed.
+/// link before it has no faults, input sections are placed only from the first changed output section on, and the image
+/// is written over the previous one, except for the input sections that stayed.
 #[derive(Drop)]
 pub struct Session {
     alloc: Global,
@@ -65,7 +65,7 @@ impl Model for Session {
         × IsPreviousLink (listing_of s.project) s.canvas.bytes s.outcome s.previous };
 }
 
-/// What is kept of a project without objects. Fails where memory runs out.
+/// What is kept of a project without objects. Fails if memory runs out.
 fn tables_of_empty(
     alloc: Global,
     seed: RandomState,
@@ -86,7 +86,7 @@ impl Session {
     ///
     /// # Errors
     ///
-    /// Where memory runs out.
+    /// If memory runs out.
     pub fn new(alloc: Global, seed: RandomState, options: Options) -> Result<Session, NoMemory>
         ensures { IfOk result (λ session. session ≡ empty_project options) }
     {
@@ -119,12 +119,13 @@ impl Session {
         })
     }
 
-    /// Stages an edit, updates the tables and links, and only then commits the next project and records its link. If an
-    /// object replaces one of the same bytes, nothing changes, and the link that is there answers.
+    /// Stages an edit, updates the tables and links; commits the next project and records its link only after that. If
+    /// an object replaces one of the same bytes, nothing changes, and the link that is there answers.
     fn apply_edit(&mut self, edit: Edit<'_>, meter: &mut Meter) -> Result<Linked, EditRefusal>
         ensures applied { Applied self.old (change_of edit.entry) self.new result }
         ensures counted { OnOk result (IsWholeWork self.old (change_of edit.entry) self.new meter.old meter.new) }
     {
+        // for the prover: brings in the laws of names that objects declare, and of keys with a place
         names_of_objects();
         distinct_more();
         found_where_placed();

@@ -27,7 +27,7 @@ use relink_driver::name_faults::{entry_fault_line, name_fault_lines};
 use std::alloc::Global;
 use symres::SymbolTable;
 
-/// Links a project over the tables that are kept of it. `keys` are those of its objects. Fails where memory runs out:
+/// Links a project over the tables that are kept of it. `keys` are those of its objects. Fails if memory runs out:
 /// then the canvas is as it was.
 fn link_keyed(
     alloc: Global,
@@ -49,6 +49,7 @@ fn link_keyed(
     ensures reads { OnOk result (ReadsNothing meter.old meter.new) }
     ensures worked { IfOk result (HasWorked project.now (lent_of previous.entry) meter.old meter.new) }
 {
+    // for the prover: brings in the law on the keys of the objects present
     found_where_placed();
     // while a project is opened most links end here: what goes over all objects is made only after this
     if let Some(text) = name_fault_lines(alloc, project, symbol_table)? {
@@ -81,7 +82,7 @@ fn link_keyed(
 ///
 /// # Errors
 ///
-/// Where memory runs out. Then the canvas is as it was.
+/// If memory runs out. Then the canvas is as it was.
 pub(crate) fn link_next(
     alloc: Global,
     next: &Next<'_>,
@@ -118,11 +119,11 @@ pub(crate) fn link_next(
     )
 }
 
-/// Links a project over what is kept of it, where there is no previous link.
+/// Links a project over what is kept of it, if there is no previous link.
 ///
 /// # Errors
 ///
-/// Where memory runs out.
+/// If memory runs out.
 pub(crate) fn link_first(
     alloc: Global,
     project: &Project,

@@ -60,7 +60,7 @@ fn is_dirty(
 ///
 /// # Errors
 ///
-/// Where memory runs out.
+/// If memory runs out.
 pub fn dirty_objects(
     alloc: Global,
     project: &ProjectView<'_>,

@@ -79,7 +79,7 @@ fn map_members<'a, 'b>(
     }
 }
 
-/// The map, if it is asked for, else no bytes and no names. Fails where memory runs out.
+/// The map, if it is asked for, else no bytes and no names. Fails if memory runs out.
 fn map_if_asked(
     context: PassContext<'_, '_>,
     indexed_layout: &IndexedLayout,
@@ -174,7 +174,7 @@ fn run_passes(
 ///
 /// # Errors
 ///
-/// Where memory runs out. Then the canvas is as it was.
+/// If memory runs out. Then the canvas is as it was.
 pub(crate) fn relink_shown(
     alloc: Global,
     project: &ProjectView<'_>,
@@ -215,19 +215,19 @@ pub(crate) fn relink_shown(
 }
 
 /// Links a project whose names are resolved and whose sections are matched. If there is a previous link, the canvas
-/// holds its image. If the project has no faults, the canvas then holds the project's image: in input sections that
-/// stayed only the fields are written whose symbols have other values. If it has faults, the canvas is as it was.
+/// holds its image. If the project has no faults, the canvas then holds the project's image; in input sections that
+/// stayed, only the fields of symbols with a new value are written. If it has faults, the canvas is as it was.
 ///
 /// The fast path: if one object was replaced by one that differs only in the contents of its sections, and queries are
 /// answered from the previous link, then only these sections of the image are written, unless there are faults. Else,
 /// if the script is the same, the layout of the previous link is resumed at the first row that differs.
 ///
 /// If the project has no faults, exactly this is counted: the input sections placed from that row on, the fields
-/// outside of what stayed and those in it whose symbols have other values, and the bytes that are written.
+/// outside of what stayed, the fields of symbols with a new value in what stayed, and the bytes that are written.
 ///
 /// # Errors
 ///
-/// Where memory runs out. Then the canvas is as it was.
+/// If memory runs out. Then the canvas is as it was.
 pub fn relink(
     alloc: Global,
     project: &ProjectView<'_>,

@@ -14,8 +14,8 @@ use ldmodel::edit::EditRefusal;
 use ldmodel::memory::NoMemory;
 use std::alloc::Global;
 
-/// The status of the program: 0 after a good link, 1 after one with faults, 2 where an edit is refused, 4 where memory
-/// ran out.
+/// The status of the program: 0 after a good link, 1 after one with faults, 2 if an edit is refused, 4 if memory ran
+/// out.
 pub fn exit_status(outcome: &Result<Output, LinkFault>) -> u8
     ensures { result ≡ link_status (answer_of outcome.now) }
 {
@@ -60,7 +60,7 @@ fn refused_message(alloc: Global, word: &[u8], why: EditRefusal) -> Result<Vec<u
 ///
 /// # Errors
 ///
-/// Where there is no memory for the text.
+/// If there is no memory for the text.
 pub fn message(
     alloc: Global,
     words: &[String],

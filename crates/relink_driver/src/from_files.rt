@@ -81,7 +81,7 @@ fn project_of(
     Ok(project)
 }
 
-/// The link of a project, with its map or without. Fails where memory runs out.
+/// The link of a project, with its map or without. Fails if memory runs out.
 fn link_project(
     alloc: Global,
     seed: RandomState,
@@ -125,7 +125,7 @@ fn link_files(
 ///
 /// # Errors
 ///
-/// `Refused` with the first edit that is refused; `Memory` where memory runs out.
+/// `Refused` with the first edit that is refused; `Memory` if memory runs out.
 pub fn link(
     alloc: Global,
     seed: RandomState,

@@ -17,7 +17,7 @@ use std::alloc::{AllocError, Global};
 use std::hash::RandomState;
 use symres::SymbolTable;
 
-/// Links a project from scratch, over its resolved names and its matches. Fails where memory runs out.
+/// Links a project from scratch, over its resolved names and its matches. Fails if memory runs out.
 fn link_over(
     alloc: Global,
     project: &ProjectView<'_>,
@@ -55,7 +55,7 @@ fn link_over(
 ///
 /// # Errors
 ///
-/// Where memory runs out.
+/// If memory runs out.
 pub(crate) fn link(
     alloc: Global,
     seed: RandomState,

@@ -35,8 +35,8 @@ use ldmodel_project::view::ProjectView;
 use place::numbered::are_numbered;
 use std::alloc::Global;
 
-/// Whether each of the first `count` objects has the place that it had in the previous link, except the one at `place`,
-/// which the previous link does not have.
+/// Whether each of the first `count` objects has the place that it had in the previous link, except for the object at
+/// `place`: that one is not in the previous link.
 fn is_alone(previous: &PreviousView<'_>, count: usize, place: ObjectPlace) -> bool
     ensures { (result ≡ true) ↔ ((i : ℕ) → i < count
         → slice_index_or previous.now.from.now i None ≡ origin_beside place.0 i) }
@@ -85,6 +85,7 @@ fn outlines_decide()
     ensures { (old : GoodLink) (project : Project) (i : ℕ) → DiffersInContents old.project project i
         → IsKeptLink old.project project old.layout }
 {
+    // for the prover: brings in the laws of `ldmodel_outline`
     rewritten_names();
     rewritten_rows();
     rewritten_values();
@@ -98,7 +99,7 @@ fn outlines_decide()
 ///
 /// # Errors
 ///
-/// Where memory runs out. Then the canvas is as it was.
+/// If memory runs out. Then the canvas is as it was.
 fn rewrite_object(
     context: PassContext<'_, '_>,
     previous: &PreviousView<'_>,
@@ -120,6 +121,7 @@ fn rewrite_object(
 {
     // for the prover: brings in that the counts fit a u64
     let _counts = (meter.fields(), meter.bytes());
+    // for the prover: brings in the laws of equal outlines, of what stayed, and of sections in the image
     outlines_decide();
     stayed_by_part();
     stayed_in_image();
@@ -152,11 +154,11 @@ fn rewrite_object(
 }
 
 /// Takes the fast path, if it is open: writes the sections of the one object that differs over the previous image.
-/// `false`, and only then, if it is not open, or if a relocation has a fault; then the canvas is as it was.
+/// `false` exactly if it is not open or a relocation has a fault; then the canvas is as it was.
 ///
 /// # Errors
 ///
-/// Where memory runs out. Then the canvas is as it was.
+/// If memory runs out. Then the canvas is as it was.
 pub(crate) fn rewrite_if_alone(
     context: PassContext<'_, '_>,
     canvas: &mut Canvas,
@@ -176,6 +178,7 @@ pub(crate) fn rewrite_if_alone(
     let Some(replaced) = find_replaced(&previous, context.project) else {
         return Ok(false);
     };
+    // for the prover: brings in the laws of equal outlines
     outlines_decide();
     // for the prover: brings in the invariant of `context.project`
     let _inputs = context.project.inputs();

@@ -8,12 +8,12 @@
 //!   another value;
 //! - `in_place` over `outline`, `located`: the fast path, for a link that differs from the previous one only in the
 //!   contents of one object's sections;
-//! - `name_faults`: the fault lines of names, with which a link may end;
+//! - `name_faults`: the fault lines of names; a link may end with them;
 //! - `symbol_values`, `section_location`: the values of symbols, and where a section lies in memory and in the file;
 //! - `from_scratch`, `output`: a link from scratch; `plain`: `Plain`, the linker that links from scratch after every
 //!   edit;
-//! - `from_files` over `file`, `fault`, `exit_report`: a link of files: a script and objects become a project, which is
-//!   linked once; its exit status, and its text on standard error.
+//! - `from_files` over `file`, `fault`, `exit_report`: a link of files: a script and objects become a project, linked
+//!   once; its exit status, and its text on standard error.
 #![tactic(auto)]
 
 mod context;

@@ -20,7 +20,7 @@ use symres::SymbolTable;
 ///
 /// # Errors
 ///
-/// Where memory runs out.
+/// If memory runs out.
 #[tactic(auto, unfolding(ldmodel::specs::Link::link))]
 pub fn name_fault_lines(
     alloc: Global,
@@ -51,7 +51,7 @@ fn without_objects<'a>(script: &'a Script, options: &'a Options) -> ProjectView<
 ///
 /// # Errors
 ///
-/// Where memory runs out.
+/// If memory runs out.
 pub fn entry_fault_line(
     alloc: Global,
     script: &Script,

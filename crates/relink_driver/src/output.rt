@@ -24,7 +24,7 @@ pub struct Output {
 /// What an output holds: only a link without faults has an image.
 #[derive(Drop)]
 enum Content {
-    /// The map is empty where it was not asked for.
+    /// The map is empty if it was not asked for.
     Good { image: Canvas, map: Vec<u8> },
     /// The fault lines.
     Faulty(Vec<u8>),
@@ -44,7 +44,7 @@ impl Output {
     ///
     /// # Errors
     ///
-    /// Where memory runs out.
+    /// If memory runs out.
     pub fn of(
         alloc: Global,
         seed: RandomState,
@@ -61,7 +61,7 @@ impl Output {
     ///
     /// # Errors
     ///
-    /// Where memory runs out.
+    /// If memory runs out.
     pub fn without_map(
         alloc: Global,
         seed: RandomState,
@@ -91,7 +91,7 @@ impl Output {
         }
     }
 
-    /// 0 where the link has no faults, else 1.
+    /// 0 if the link has no faults, else 1.
     pub fn status(&self) -> u8
         ensures { result ≡ self.now.status }
     {
@@ -101,7 +101,7 @@ impl Output {
         }
     }
 
-    /// The image; empty where the link has faults.
+    /// The image; empty if the link has faults.
     pub fn image(&self) -> &[u8]
         ensures { result.now ≡ self.now.image }
     {
@@ -111,7 +111,7 @@ impl Output {
         }
     }
 
-    /// The map of names, sections and segments; empty where the link has faults, or was made without a map.
+    /// The map of names, sections and segments; empty if the link has faults, or was made without a map.
     pub fn map(&self) -> &[u8]
         ensures { result.now ≡ self.now.map }
     {
@@ -121,7 +121,7 @@ impl Output {
         }
     }
 
-    /// The fault lines; empty where the link has none.
+    /// The fault lines; empty if the link has none.
     pub fn faults(&self) -> &[u8]
         ensures { result.now ≡ self.now.faults }
     {

@@ -65,7 +65,7 @@ pub(crate) fn check_names(context: PassContext<'_, '_>) -> Result<(), PassError>
 ///
 /// # Errors
 ///
-/// Where memory runs out.
+/// If memory runs out.
 fn orphan_faults(alloc: Global, orphans: &[SectionKey]) -> Result<Vec<Fault>, NoMemory>
     ensures { IfOk result (λ v. v.items ≡ map Orphan orphans.now) }
 {
@@ -109,6 +109,7 @@ pub(crate) fn assign_addresses(
     ensures counted { OnOk result
         (ArePlaced (project_of context.entry) (previous_of context.entry.previous) meter.old meter.new) }
 {
+    // for the prover: brings in the law that output sections contain the rows
     placed_are_rows();
     // for the prover: brings in that the count of pieces fits a u64
     let _pieces = meter.pieces();
@@ -190,8 +191,7 @@ pub(crate) fn compute_values<'a>(
     Ok(values)
 }
 
-/// Relocation: the fields of all relocations, except those in input sections that stayed whose symbols have the same
-/// values as before.
+/// Relocation: the fields of all relocations, except those of unchanged symbols in input sections that stayed.
 pub(crate) fn evaluate_relocations(
     context: PassContext<'_, '_>,
     stayed_sections: &StayedSections<'_>,
@@ -253,7 +253,7 @@ pub(crate) fn check_assertions(
     Ok(())
 }
 
-/// The image, written over that of the previous link. Where memory runs out, the canvas is as it was.
+/// The image, written over that of the previous link. If memory runs out, the canvas is as it was.
 pub(crate) fn draw_output(
     context: PassContext<'_, '_>,
     canvas: &mut Canvas,

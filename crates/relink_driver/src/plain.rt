@@ -51,7 +51,7 @@ impl Model for Plain {
 ///
 /// # Errors
 ///
-/// Where memory runs out.
+/// If memory runs out.
 fn link_kept(alloc: Global, seed: RandomState, project: &Project) -> Result<Output, NoMemory>
     ensures { IfOk result (λ o. o ≡ link (held project.now)) }
 {
@@ -63,7 +63,7 @@ fn link_kept(alloc: Global, seed: RandomState, project: &Project) -> Result<Outp
 ///
 /// # Errors
 ///
-/// Where memory runs out.
+/// If memory runs out.
 fn link_next(
     alloc: Global,
     seed: RandomState,
@@ -84,7 +84,7 @@ impl Plain {
     ///
     /// # Errors
     ///
-    /// Where memory runs out.
+    /// If memory runs out.
     pub fn new(alloc: Global, seed: RandomState, options: Options) -> Result<Plain, NoMemory>
         ensures { IfOk result (λ session. session ≡ empty_project options) }
     {
@@ -98,7 +98,7 @@ impl Plain {
         })
     }
 
-    /// Stages an edit, links the next project, and only then takes both over.
+    /// Stages an edit and links the next project; takes both over only after that.
     fn apply_edit(&mut self, edit: Edit<'_>, meter: &mut Meter) -> Result<Linked, EditRefusal>
         ensures { Applied self.old (change_of edit.entry) self.new result }
     {

@@ -38,6 +38,7 @@ pub fn resume_point<'a>(
         → IsNext old.project project.now x
         → IfSome result (λ point. IsFirstChanged old.project project.now point.first_row) }
 {
+    // for the prover: brings in the law that output sections contain the rows
     placed_are_rows();
     let previous = previous?;
     if !previous.same_script {

@@ -131,7 +131,7 @@ fn find_changed(
     before.iter().zip(now).position(|(before, now)| !is_same_row(previous, project, before, now))
 }
 
-/// Like `find_changed`, but where no row differs, the number of the rows that both links have.
+/// Like `find_changed`, but if no row differs, the number of the rows that both links have.
 pub(crate) fn first_changed(
     previous: &PreviousView<'_>,
     project: &ProjectView<'_>,

@@ -18,7 +18,7 @@ fn find_section(object: &Object, number: SectionIndex) -> Option<LinkedIndex>
     object.section_at(number)
 }
 
-/// The name of a section of an object; no bytes where there is none.
+/// The name of a section of an object; no bytes if there is none.
 fn section_name(object: &Object, number: SectionIndex) -> &[u8]
     ensures { result.now ≡ section_name object.now number }
 {

@@ -108,6 +108,7 @@ impl<'a> StayedSections<'a> {
             → IsSound (range_of self.now) old link }
         ensures none { self.now.previous ≡ None → (key : SectionKey) → range_of self.now key ≡ None }
     {
+        // for the prover: brings in the laws of output sections in the file
         sections_in_file();
         files_in_order();
     }

@@ -22,7 +22,7 @@ use ldmodel_project::input::InputObject;
 use ldmodel_project::view::ProjectView;
 use std::alloc::Global;
 
-/// How many symbols these objects have, at most the greatest `usize`, for which no memory is granted.
+/// How many symbols these objects have, at most the greatest `usize`: for so many no memory is granted.
 fn count_symbols(inputs: &[InputObject<'_>]) -> usize {
     let mut count: usize = 0;
     for input in inputs {
@@ -57,7 +57,7 @@ fn add_object(
 ///
 /// # Errors
 ///
-/// Where memory runs out.
+/// If memory runs out.
 pub fn symbol_values(
     alloc: Global,
     project: &ProjectView<'_>,
