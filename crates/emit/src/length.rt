@@ -11,6 +11,7 @@ ghost use Rattle.ldscript.specs.statements.Numbering.{OutputSectionAt as Section
 ghost use Rattle.emit_values.specs.Values.{AreValues};
 ghost use Rattle.emit.specs.Sizes.{names_size};
 
+use emit_values::sizes::plus;
 use emit_values::values::Values;
 use ldmodel::memory::NoMemory;
 use ldmodel_project::view::ProjectView;
@@ -18,17 +19,10 @@ use ldscript::tree::OutputSectionAt;
 use place::LinkLayout;
 use place::length::{TailSizes, image_length as length_of};
 use place::sections::law::outputs_are_of_script;
-use std::alloc::{AllocError, Global};
+use std::alloc::Global;
 
 /// How many bytes the names of the tables' own headers have, each with a zero byte after it.
 const TABLE_NAMES: u64 = 26;
-
-/// The sum of two sizes. No memory holds 2^64 bytes.
-fn plus(size: u64, more: u64) -> Result<u64, NoMemory>
-    ensures { IfOk result (λ n. n ≡ size + more) }
-{
-    size.checked_add(more).ok_or(AllocError)
-}
 
 /// A number of bytes, and the bytes of a name with a zero byte after it.
 fn plus_name(bytes: u64, name: &[u8]) -> Result<u64, NoMemory>

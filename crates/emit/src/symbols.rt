@@ -68,7 +68,11 @@ pub(crate) fn symbol_tables(alloc: Global, values: &Values<'_>) -> Result<Symbol
         → AreTablesFor project layout (table_symbols project layout) t) }
 {
     let sizes = values.sizes;
-    let mut tables = SymbolTables::with_capacity(alloc, sizes.count as usize, sizes.names as usize)?;
+    let mut tables = SymbolTables::with_capacity(
+        alloc,
+        sizes.count as usize,
+        sizes.names as usize,
+    )?;
     for symbol in &values.symbols {
         add_symbol(&mut tables, symbol)?;
     }

@@ -20,8 +20,12 @@ pub struct SymbolSizes {
 /// The sizes of no symbols.
 pub(crate) const NO_SYMBOLS: SymbolSizes = SymbolSizes { count: 0, names: 0 };
 
-/// The sum of two sizes. No memory holds 2^64 bytes.
-fn plus(size: u64, more: u64) -> Result<u64, NoMemory>
+/// The sum of two sizes of names.
+///
+/// # Errors
+///
+/// If it is 2^64 or more: no memory holds so many bytes.
+pub fn plus(size: u64, more: u64) -> Result<u64, NoMemory>
     ensures { IfOk result (λ n. n ≡ size + more) }
 {
     size.checked_add(more).ok_or(AllocError)
