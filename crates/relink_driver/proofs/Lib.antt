@@ -3,6 +3,7 @@ mod Inside
 mod Kept
 mod Standings
 mod Ranges
+mod Columns
 mod Symbols
 mod Unmarked
 mod FoundSections

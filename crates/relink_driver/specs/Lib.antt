@@ -2,6 +2,8 @@ pub mod Origins
 pub mod SectionLocation
 pub mod LinkSnapshot
 pub mod DirtyObjects
+pub mod PreviousLink
+pub mod StayedColumn
 pub mod StayedSections
 pub mod CleanObjects
 pub mod Resume

@@ -30,6 +30,7 @@ use crate::passes::{
     assign_addresses, check_assertions, check_names, compute_values, draw_output,
     evaluate_relocations, gather_inputs, index_layout,
 };
+use crate::stayed_column::StayedColumn;
 use crate::stayed_sections::{PreviousView, StayedSections};
 use crate::symbol_values::symbol_values;
 use emit::map_members::{MapMembers, PreviousNames};
@@ -148,10 +149,12 @@ fn run_passes(
     let values = compute_values(context, &indexed_layout.link_layout, &view, &given)?;
     let symbols = symbol_values(alloc, project, &view, &values.names)?;
     let dirty = dirty_objects(alloc, project, context.previous, &symbols)?;
+    let column = StayedColumn::of(alloc, context.previous, &indexed_layout)?;
     let stayed_sections = StayedSections {
         previous: context.previous,
         indexed_layout: &indexed_layout,
         dirty: &dirty,
+        column: &column,
     };
     let fields = evaluate_relocations(context, &stayed_sections, &view, &values, &symbols, meter)?;
     check_assertions(context, &stayed_sections, &values, &fields)?;

@@ -3,9 +3,9 @@
 //!
 //! - `driver` over `passes`, `context`, `pass_error`: all passes of a link, in their order, over resolved names,
 //!   matches, and the previous link;
-//! - `link_snapshot`: what is kept of a link; `stayed_sections`: which input sections stayed, as `emit_relocate` asks;
-//!   `resume` over `row_changes` and `section_names`: the first row that differs; `dirty`: objects with a symbol of
-//!   another value;
+//! - `link_snapshot`: what is kept of a link; `stayed_sections` over `stayed_column`: which input sections stayed, as
+//!   `emit_relocate` asks; `resume` over `row_changes` and `section_names`: the first row that differs; `dirty`: objects
+//!   with a symbol of another value;
 //! - `in_place` over `outline`, `located`: the fast path, for a link that differs from the previous one only in the
 //!   contents of one object's sections;
 //! - `name_faults`: the fault lines of names; a link may end with them;
@@ -37,6 +37,7 @@ pub mod resume;
 mod row_changes;
 mod section_location;
 mod section_names;
+mod stayed_column;
 pub mod stayed_sections;
 pub mod symbol_values;
 

@@ -43,7 +43,7 @@ fn range_from(section: &Placed, offset: u128, start: u64, size: u64) -> Option<F
 }
 
 /// The bytes in the file of the input section at this address; `None` if they begin past 2^64.
-fn range_at(link_layout: &LinkLayout, place: SectionAddress) -> Option<FileRange>
+pub(crate) fn range_at(link_layout: &LinkLayout, place: SectionAddress) -> Option<FileRange>
     ensures { result ≡ range_at link_layout.now place }
 {
     let number = place.section.0 as usize;

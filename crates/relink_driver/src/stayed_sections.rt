@@ -1,21 +1,22 @@
 //! Which input sections of a link stayed where the previous link has them.
 
-ghost use Rattle.std.specs.Prelude.{◌≡◌, IsSome, None, Option, slice_index_or, true};
+ghost use Rattle.std.specs.Prelude.{◌≡◌, IsSome, None, Option, is_some, slice_index_or, true};
 ghost use Rattle.emit.specs.Kept.{IsSound};
 ghost use Rattle.ldmodel.specs.Stayed.{GoodLink};
 ghost use Rattle.emit.specs.relocate.PreviousLinkInfo.{IsComplete};
 ghost use Rattle.emit.specs.relocate.KnownLink.{KnownLink};
-ghost use Rattle.relink_driver.specs.StayedSections.{AreStayedSections, previous_address, previous_state};
-ghost use Rattle.relink_driver.specs.StayedSections.{previous_value, range_of};
+ghost use Rattle.relink_driver.specs.PreviousLink.{previous_address, previous_of, previous_state, previous_value};
+ghost use Rattle.relink_driver.specs.StayedColumn.{IsStayedColumn};
 
 use crate::link_snapshot::LinkSnapshot;
-use crate::section_location::range_if_stayed;
+use crate::section_location::{range_at, range_if_stayed};
+use crate::stayed_column::StayedColumn;
 use elfobj::relocation::SymbolIndex;
 use elfobj::{Object, Symbol};
 use emit::relocate::previous_link_info::{FileRange, PreviousLinkInfo};
 use emit::relocate::value::SymbolValue;
 use ldmodel::names::ObjectPlace;
-use ldmodel::sections::SectionKey;
+use ldmodel::sections::{Part, SectionKey};
 use ldmodel_laws::segments::{files_in_order, sections_in_file};
 use place::indexed_layout::{IndexedLayout, SectionAddress};
 
@@ -88,14 +89,40 @@ pub struct StayedSections<'a> {
     /// For each object of the new link whether a symbol of it may have another value than in the previous one. An
     /// object past the end of the list counts as dirty.
     pub dirty: &'a [bool],
+    /// Which sections of objects stayed.
+    pub(crate) column: &'a StayedColumn,
+    ghost found: { IsStayedColumn (previous_of previous) indexed_layout.now column.now },
 }
 
 impl<'a> StayedSections<'a> {
+    ghost use Rattle.relink_driver.specs.StayedSections.{AreStayedSections, range_of};
+
     /// Whether an object is dirty; one past the end of the list is.
     fn dirty_bit(&self, object: ObjectPlace) -> bool
         ensures { result ≡ slice_index_or self.now.dirty.now object.0 true }
     {
         self.dirty.get(object.0).copied().unwrap_or(true)
+    }
+
+    /// The bytes in the file of an input section that stayed, by what both links have of it.
+    fn find_range(&self, section: SectionKey) -> Option<FileRange>
+        ensures { result ≡ range_of self.now section }
+    {
+        let previous = self.previous?;
+        let before = previous.section_address(section)?;
+        let now = self.indexed_layout.find(section)?;
+        let layout_before = &previous.snapshot.indexed_layout.link_layout;
+        range_if_stayed(layout_before, before, &self.indexed_layout.link_layout, now)
+    }
+
+    /// Whether an input section stayed. For a section of an object this is read from the column.
+    fn is_known(&self, section: SectionKey) -> bool
+        ensures { result ≡ is_some (range_of self.now section) }
+    {
+        match section.part {
+            Part::InTable(number) => self.column.has_stayed(section.object, number),
+            Part::InCommon(_) => self.find_range(section).is_some(),
+        }
     }
 
     /// `stayed` finds only input sections that stayed and, if there is a previous link, all of them. The call does
@@ -126,11 +153,11 @@ impl<'a> PreviousLinkInfo for StayedSections<'a> {
     }
 
     fn stayed(&self, section: SectionKey) -> Option<FileRange> {
-        let previous = self.previous?;
-        let before = previous.section_address(section)?;
+        if !self.is_known(section) {
+            return None;
+        }
         let now = self.indexed_layout.find(section)?;
-        let layout_before = &previous.snapshot.indexed_layout.link_layout;
-        range_if_stayed(layout_before, before, &self.indexed_layout.link_layout, now)
+        range_at(&self.indexed_layout.link_layout, now)
     }
 
     fn is_dirty(&self, object: ObjectPlace) -> bool {

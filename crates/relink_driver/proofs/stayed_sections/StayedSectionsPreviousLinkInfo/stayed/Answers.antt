@@ -1,38 +1,34 @@
 use Rattle.std.proofs.Common.{◌∙◌, ap, sym}
+use Rattle.std.specs.Option.{option_and_then}
 use Rattle.emit.specs.relocate.KnownLink.{KnownLink}
-use Rattle.relink_driver.specs.StayedSections.{previous_of}
-use Rattle.relink_driver.proofs.Ranges.{both, if_known, none_before, none_known, none_now, sound}
+use Rattle.relink_driver.specs.PreviousLink.{previous_of}
+use Rattle.relink_driver.specs.SectionLocation.{range_at}
+use Rattle.relink_driver.proofs.Columns.{not_found, range_found}
+use Rattle.relink_driver.proofs.Ranges.{if_known, sound}
 use Rattle.relink_driver.proofs.stayed_sections.StayedSectionsPreviousLinkInfo.stayed.Goals as goal
 
-pub returns-in_err-previous-clause-range : goal.returns-in_err-previous-clause-range
-returns-in_err-previous-clause-range c =
-    c.from_residual.ensures
-    ∙ sym (none_known (previous_of c.args.self.now.previous) c.args.self.now.indexed_layout.now
-    c.args.section (ap previous_of c.in_err-previous.was))
-
-pub returns-in_err-before-clause-range : goal.returns-in_err-before-clause-range
-returns-in_err-before-clause-range c =
-    c.from_residual-in_err-before.ensures
-    ∙ none_before c.args.self.now.previous c.in_ok-previous.previous c.in_ok-previous.was
-    c.args.self.now.indexed_layout.now
-    c.args.section c.in_err-before.ensures
+pub returns-then-not-is_known-clause-range : goal.returns-then-not-is_known-clause-range
+returns-then-not-is_known-clause-range c = not_found _ (sym c.is_known.ensures ∙ c.if-not-is_known.true)
 
 pub returns-in_err-now-clause-range : goal.returns-in_err-now-clause-range
 returns-in_err-now-clause-range c =
-    c.from_residual-in_err-now.ensures
-    ∙ none_now c.args.self.now.previous c.in_ok-previous.previous c.in_ok-previous.was
-    c.args.self.now.indexed_layout.now
-    c.args.section c.in_ok-before.before c.in_ok-before.ensures c.in_err-now.ensures.is
+    let s = c.args.self.now in
+    c.from_residual.ensures
+    ∙ ap (option_and_then (range_at s.indexed_layout.now.link_layout)) c.in_err-now.ensures.is
+    ∙ range_found (previous_of s.previous) s.indexed_layout.now c.args.section
+    (sym c.is_known.ensures ∙ c.if-not-is_known.false)
 
 pub returns-clause-range : goal.returns-clause-range
 returns-clause-range c =
-    c.range_if_stayed.ensures
-    ∙ both c.args.self.now.previous c.in_ok-previous.previous c.in_ok-previous.was c.args.self.now.indexed_layout.now
-    c.args.section c.in_ok-before.before c.in_ok-before.ensures c.in_ok-now.now c.in_ok-now.ensures.is
+    let s = c.args.self.now in
+    c.range_at.ensures
+    ∙ ap (option_and_then (range_at s.indexed_layout.now.link_layout)) c.in_ok-now.ensures.is
+    ∙ range_found (previous_of s.previous) s.indexed_layout.now c.args.section
+    (sym c.is_known.ensures ∙ c.if-not-is_known.false)
 
 pub returns-clause-stayed : goal.returns-clause-stayed
 returns-clause-stayed c = λ old l h.
-    if_known old l c.args.section c.range_if_stayed.result (λ r e.
+    if_known old l c.args.section c.range_at.result (λ r e.
     sound old l (λ k. ap (λ (m : KnownLink). m.number k) h.link) h.names c.args.self.now.indexed_layout.now
     h.indexed_layout (previous_of c.args.self.now.previous) h.previous c.args.section r
     (sym (returns-clause-range c) ∙ e))

@@ -1,0 +1,173 @@
+//! Which sections of the objects of a link stayed where the previous link has them: found once, for all of them.
+
+ghost use Rattle.std.specs.Prelude.{◌≡◌, IfOk, None, OnOk, Some, is_some, slice_index_or};
+ghost use Rattle.relink_driver.specs.PreviousLink.{previous_of, previous_state};
+ghost use Rattle.relink_driver.specs.StayedColumn.{IsRowAdded, IsStayedColumn, flag_of, kept_between, kept_number};
+ghost use Rattle.relink_driver.specs.StayedColumn.{stays_in};
+
+use crate::section_location::range_if_stayed;
+use crate::stayed_sections::PreviousView;
+use elfobj::section::SectionIndex;
+use ldmodel::memory::NoMemory;
+use ldmodel::names::ObjectPlace;
+use place::LinkLayout;
+use place::indexed_layout::{IndexedLayout, SectionAddress};
+use std::alloc::Global;
+
+/// Where the flags of an object lie.
+#[derive(Clone, Copy)]
+struct FlagRow {
+    /// The first one.
+    begin: usize,
+    /// How many there are: those of the header numbers up to that of the last linked section, or none.
+    count: usize,
+}
+
+/// For each section of each object of a link whether it stayed where the previous link has it, by the object's place
+/// and the section's header number.
+#[derive(Drop)]
+pub(crate) struct StayedColumn {
+    /// Under the place of each object where its flags lie.
+    rows: Vec<FlagRow>,
+    /// The flags, one object after another.
+    flags: Vec<bool>,
+}
+
+/// Whether an input section that is at `now` and was at `before` in the previous link stayed, if it was in both.
+fn is_stayed(
+    previous: &LinkLayout,
+    before: Option<SectionAddress>,
+    link_layout: &LinkLayout,
+    now: Option<SectionAddress>,
+) -> bool
+    ensures { result ≡ is_some (kept_between previous.now before link_layout.now now) }
+{
+    let Some(before) = before else {
+        return false;
+    };
+    let Some(now) = now else {
+        return false;
+    };
+    range_if_stayed(previous, before, link_layout, now).is_some()
+}
+
+/// The address of a section by its header number; none past the end of the list.
+fn address_at(addresses: &[Option<SectionAddress>], number: usize) -> Option<SectionAddress>
+    ensures { result ≡ slice_index_or addresses.now number None }
+{
+    addresses.get(number).copied().unwrap_or(None)
+}
+
+/// Adds the flags of the sections of an object, which are at `now` and were at `before`. Fails where memory runs out.
+fn add_flags(
+    previous: &LinkLayout,
+    before: &[Option<SectionAddress>],
+    link_layout: &LinkLayout,
+    now: &[Option<SectionAddress>],
+    flags: &mut Vec<bool>,
+) -> Result<(), NoMemory>
+    ensures { OnOk result (IsRowAdded (λ k. is_some (kept_between previous.now (slice_index_or before.now k None)
+        link_layout.now (slice_index_or now.now k None))) flags.old.items flags.new.items) }
+{
+    for number in 0..now.len() {
+        let stood = address_at(before, number);
+        let lies = address_at(now, number);
+        flags.push(is_stayed(previous, stood, link_layout, lies))?;
+    }
+    Ok(())
+}
+
+/// Adds the flags of the sections of an object; none where the previous link does not have it. Fails where memory runs
+/// out.
+fn add_object(
+    previous: &PreviousView<'_>,
+    indexed_layout: &IndexedLayout,
+    object: ObjectPlace,
+    flags: &mut Vec<bool>,
+) -> Result<(), NoMemory>
+    ensures { OnOk result (IsRowAdded (kept_number (previous_state previous.now) indexed_layout.now object.0)
+        flags.old.items flags.new.items) }
+{
+    let Some(from) = previous.place(object) else {
+        return Ok(());
+    };
+    let stood = &previous.snapshot.indexed_layout;
+    let before = stood.addresses_of(ObjectPlace(from));
+    let now = indexed_layout.addresses_of(object);
+    add_flags(
+        &stood.link_layout,
+        before,
+        &indexed_layout.link_layout,
+        now,
+        flags,
+    )?;
+    Ok(())
+}
+
+/// The column beside a previous link. Fails where memory runs out.
+fn column_beside(
+    alloc: Global,
+    previous: &PreviousView<'_>,
+    indexed_layout: &IndexedLayout,
+) -> Result<StayedColumn, NoMemory>
+    ensures { IfOk result (IsStayedColumn (Some (previous_state previous.now)) indexed_layout.now) }
+{
+    let objects = previous.from.len();
+    let mut rows = Vec::with_capacity(alloc, objects)?;
+    let mut flags = Vec::new(alloc);
+    for place in 0..objects {
+        let begin = flags.len();
+        add_object(previous, indexed_layout, ObjectPlace(place), &mut flags)?;
+        let count = flags.len() - begin;
+        rows.push(FlagRow { begin, count })?;
+    }
+    Ok(StayedColumn { rows, flags })
+}
+
+impl StayedColumn {
+    /// Which sections of the objects of the link of this layout stayed. Without a previous link none has.
+    ///
+    /// # Errors
+    ///
+    /// If memory runs out.
+    pub(crate) fn of(
+        alloc: Global,
+        previous: Option<PreviousView<'_>>,
+        indexed_layout: &IndexedLayout,
+    ) -> Result<StayedColumn, NoMemory>
+        ensures { IfOk result (IsStayedColumn (previous_of previous.entry) indexed_layout.now) }
+    {
+        match previous {
+            None => Ok(StayedColumn {
+                rows: Vec::new(alloc),
+                flags: Vec::new(alloc),
+            }),
+            Some(previous) => column_beside(alloc, &previous, indexed_layout),
+        }
+    }
+
+    /// The flag at a place in the row of an object.
+    #[inline]
+    fn flag(&self, row: FlagRow, number: usize) -> bool
+        ensures { result ≡ flag_of self.now.flags.items row number }
+    {
+        if number >= row.count {
+            return false;
+        }
+        match row.begin.checked_add(number) {
+            None => false,
+            Some(at) => self.flags.get(at).copied().unwrap_or(false),
+        }
+    }
+
+    /// Whether a section of an object stayed.
+    #[inline]
+    pub(crate) fn has_stayed(&self, object: ObjectPlace, section: SectionIndex) -> bool
+        ensures { result ≡ stays_in self.now object.0 section.0 }
+    {
+        match self.rows.get(object.0) {
+            None => false,
+            Some(row) => self.flag(*row, usize::from(section.0)),
+        }
+    }
+}
