@@ -185,13 +185,11 @@ fn add_entry<'a, E: PreviousLinkInfo>(
         → (y : Drawn) × IsRowPiece link.project link.layout (λ k. is_some (E.range previous.now k)) w y
         × StandFor (whole ++ y ∷ []) pieces.new.items) }
 {
-    match previous.stayed(piece.section) {
-        Some(_) => add_kept(pieces, piece.size, start),
-        None => {
-            let drawn = drawn_piece(project, relocated, indexed_layout, piece, start, likely);
-            add_drawn(pieces, drawn)
-        }
+    if previous.has_stayed(piece.section) {
+        return add_kept(pieces, piece.size, start);
     }
+    let drawn = drawn_piece(project, relocated, indexed_layout, piece, start, likely);
+    add_drawn(pieces, drawn)
 }
 
 /// Adds an entry of a row at an address, as `add_entry` does, unless it is empty: nothing of it lies in the image.

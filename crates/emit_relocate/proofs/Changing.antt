@@ -1,10 +1,11 @@
 -- What was evaluated of input sections, one after another.
 use Rattle.std.proofs.Common.{◌≡◌, ◌<◌, ◌≤◌, ◌^◌, ℕ, ◌+◌, List, [], ◌∷◌, ◌++◌, length, map, take, Option, Some, None}
 use Rattle.std.proofs.Common.{refl, ap, sym, ◌∙◌, arith, add-one, append-nil, append_assoc, length-append, subst}
-use Rattle.std.proofs.Common.{filter, take-suc}
-use Rattle.std.specs.Prelude.{flat_map, is_some, slice_get}
+use Rattle.std.proofs.Common.{false, filter, take-suc}
+use Rattle.std.specs.Prelude.{IfSome, IsSome, flat_map, is_some, slice_get}
 use Rattle.std.specs.List.{AllZip, filter_map}
 use Rattle.std.proofs.Math.Seq.{take-length}
+use Rattle.std.proofs.lemmas.Bool.{false≢true}
 use Rattle.std.proofs.lemmas.Grind.{flat_map-append}
 use Rattle.std.proofs.lemmas.List.{map-append}
 use Rattle.std.proofs.lemmas.Option.{get_or_from_slice_get, slice_get_within}
@@ -22,6 +23,7 @@ use Rattle.emit_relocate.specs.PreviousLinkInfo.{HasStayedAt, IsKept, has_moved}
 use Rattle.emit_relocate.specs.Fields.{IsCounted, faults_of}
 use Rattle.emit_relocate.specs.Filled.{IsOrder, ObjectSection, ends_of, sections_in, sections_of}
 use Rattle.emit_relocate.specs.KnownLink.{KnownLink, named_object}
+use Rattle.emit_relocate.specs.Links.{IsKeptAt, IsKnownAt}
 use Rattle.emit_relocate.specs.declared.previous_link_info.FileRange.{FileRange}
 use Rattle.emit_relocate.proofs.Added.{counted_more, raise_none}
 use Rattle.emit_relocate.proofs.Filling.{as_many}
@@ -44,6 +46,10 @@ flat_runs (c ∷ cs) = ap (λ r. c.run ++ r) (flat_runs cs)
 pub kept_by : (range : SectionKey → Option FileRange) (key : SectionKey) (r : FileRange) → Some r ≡ range key
     → IsKept range key.object
 kept_by range key r e = (key.part, ap is_some (sym e))
+
+pub not_some : (known : Option FileRange) → is_some known ≡ false → None ≡ known
+not_some None e = refl
+not_some (Some r) e = absurd (false≢true (sym e))
 
 module _ (old : GoodLink) (l : KnownLink) (range : SectionKey → Option FileRange) where
   -- those sites of a section that stayed were evaluated whose symbol has another value
@@ -78,6 +84,20 @@ module _ (old : GoodLink) (l : KnownLink) (range : SectionKey → Option FileRan
     patches = h.patches;
     counts = h.counts;
   }
+
+  -- beside what is known to have stayed
+  pub retained_as : (s : ObjectSection) (key : ObjectPlace) → named_object l key ≡ Some s.object
+      → IsKnownAt old l range (section_key key s) → (a b : Results)
+      → ((r : FileRange) → IsKeptAt old l range (section_key key s) r
+      → Adds l (IsRetained old l (section_key key s) r s) a b)
+      → Adds l (IsEvaluatedOf old l range s) a b
+  retained_as s key named h a b each = go (range (section_key key s)) refl h.known h.stayed
+    where
+      go : (known : Option FileRange) → known ≡ range (section_key key s) → IsSome known
+          → IfSome known (HasStayedAt old l (section_key key s)) → Adds l (IsEvaluatedOf old l range s) a b
+      go None e some stayed = absurd (false≢true some)
+      go (Some r) e some stayed =
+          known_as s key named (Some r) e a b (each r (record { known = e; stayed = stayed }))
 
   -- lists of input sections
 

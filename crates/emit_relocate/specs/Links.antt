@@ -1,6 +1,6 @@
 -- What the code has at hand where it goes over the input sections of a link: the link and a previous one, and an input
 -- section, before its place in the output is known, in its place, and beside the previous link.
-use Rattle.std.specs.Prelude.{◌≡◌, List, Option, None, Some, slice_get}
+use Rattle.std.specs.Prelude.{◌≡◌, IfSome, IsSome, List, Option, None, Some, slice_get}
 use Rattle.elfobj.specs.declared.relocation.Relocation.{Relocation}
 use Rattle.ldmodel.specs.Layout.{PlacedPiece}
 use Rattle.ldmodel.specs.Relocations.{Site}
@@ -73,6 +73,14 @@ pub record IsKeptAt (old : GoodLink) (link : KnownLink) (range : SectionKey → 
   pub known : Some r ≡ range key
   -- and is so
   pub stayed : HasStayedAt old link key r
+
+-- the input section of a key stayed, as is known and is so
+pub record IsKnownAt (old : GoodLink) (link : KnownLink) (range : SectionKey → Option FileRange) (key : SectionKey)
+    : Type 0 where
+  -- what is known
+  pub known : IsSome (range key)
+  -- and is so
+  pub stayed : IfSome (range key) (HasStayedAt old link key)
 
 -- an input section is that at hand, and its symbols may have other values than in the previous link
 pub record IsStayedAt {E : Type 0} (knows_both : E → GoodLink → KnownLink → Type 0)

@@ -8,7 +8,7 @@ ghost use Rattle.emit_relocate.specs.Changes.{Adds, AreChanged, IsEvaluatedOf, I
 ghost use Rattle.emit_relocate.specs.Changes.{results_of, section_key};
 ghost use Rattle.emit_relocate.specs.Filled.{EndBelow, IsOrder, ObjectSection, sections_in, sections_of};
 ghost use Rattle.emit_relocate.specs.KnownLink.{KnownLink, named_object};
-ghost use Rattle.emit_relocate.specs.Links.{AreLinks, IsAtHand, IsKeptAt};
+ghost use Rattle.emit_relocate.specs.Links.{AreLinks, IsAtHand, IsKeptAt, IsKnownAt};
 ghost use Rattle.emit_relocate.specs.SymbolValues.{HasSymbolValues};
 
 use crate::fields::add_fields;
@@ -82,9 +82,8 @@ impl<'a, L: LinkInfo, E: PreviousLinkInfo> Links<'a, L, E> {
         }
     }
 
-    /// Adds what changes in a section that stayed: the fields whose symbol has another value. There are none, where no
-    /// symbol of the object has.
-    fn add_retained(
+    /// Adds the fields of a section that stayed whose symbol has another value.
+    fn add_moved(
         &self,
         section: &InputSection<'_>,
         range: FileRange,
@@ -99,9 +98,6 @@ impl<'a, L: LinkInfo, E: PreviousLinkInfo> Links<'a, L, E> {
     {
         // for the prover: brings in that the count of fields fits a u64
         let _fields = meter.fields();
-        if !self.previous.is_dirty(section.key) {
-            return Ok(());
-        }
         match section.placed(self.link) {
             None => Ok(()),
             Some(section) => {
@@ -111,6 +107,35 @@ impl<'a, L: LinkInfo, E: PreviousLinkInfo> Links<'a, L, E> {
                     range,
                 };
                 section.add_moved(&mut fields.retargeted, &mut fields.faults, meter)?;
+                Ok(())
+            }
+        }
+    }
+
+    /// Adds what changes in a section that is known to have stayed: the fields whose symbol has another value. There
+    /// are none, where no symbol of the object has.
+    fn add_retained(
+        &self,
+        section: &InputSection<'_>,
+        fields: &mut ChangedFields,
+        meter: &mut Meter,
+    ) -> Result<(), NoMemory>
+        ensures { OnOk result ((old : GoodLink) (link : KnownLink) (s : ObjectSection)
+            → AreLinks L.knows E.knows self.now old link → IsAtHand link section.now s
+            → IsKnownAt old link (E.range self.now.previous.now) (section_key section.now.key s)
+            → Adds link (IsEvaluatedOf old link (E.range self.now.previous.now) s) (results_of fields.old meter.old)
+            (results_of fields.new meter.new)) }
+    {
+        // for the prover: brings in that the count of fields fits a u64
+        let _fields = meter.fields();
+        if !self.previous.is_dirty(section.key) {
+            return Ok(());
+        }
+        match self.previous.stayed(section.section_key()) {
+            // not so of a section that stayed
+            None => Ok(()),
+            Some(range) => {
+                self.add_moved(section, range, fields, meter)?;
                 Ok(())
             }
         }
@@ -134,16 +159,12 @@ impl<'a, L: LinkInfo, E: PreviousLinkInfo> Links<'a, L, E> {
         if section.object.relocations(section.index).is_empty() {
             return Ok(());
         }
-        match self.previous.stayed(section.section_key()) {
-            None => {
-                self.add_renewed(alloc, section, fields, meter)?;
-                Ok(())
-            }
-            Some(range) => {
-                self.add_retained(section, range, fields, meter)?;
-                Ok(())
-            }
+        if self.previous.has_stayed(section.section_key()) {
+            self.add_retained(section, fields, meter)?;
+            return Ok(());
         }
+        self.add_renewed(alloc, section, fields, meter)?;
+        Ok(())
     }
 
     /// Adds what there is to evaluate of a section, and the end of its fields.

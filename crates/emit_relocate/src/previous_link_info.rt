@@ -1,6 +1,6 @@
 //! What a linker knows of a previous link when it evaluates relocations of a new one.
 
-ghost use Rattle.std.specs.Prelude.{◌≡◌, Option, IfSome, None, false};
+ghost use Rattle.std.specs.Prelude.{◌≡◌, Option, IfSome, None, false, is_some};
 ghost use Rattle.elfobj.specs.Symbols.{NamedSymbol};
 ghost use Rattle.ldmodel.specs.Project.{NamedObject};
 ghost use Rattle.ldmodel.specs.Stayed.{GoodLink};
@@ -45,6 +45,12 @@ pub trait PreviousLinkInfo {
         ensures stayed { (old : GoodLink) (link : KnownLink) → knows self.now old link
             → IfSome result (HasStayedAt old link section) };
 
+    /// Whether an input section stayed, as far as is known. It costs less than `stayed`.
+    fn has_stayed(&self, section: SectionKey) -> bool
+        ensures is { result ≡ is_some (range self.now section) }
+        ensures sound { (old : GoodLink) (link : KnownLink) → knows self.now old link
+            → IfSome (range self.now section) (HasStayedAt old link section) };
+
     /// Whether a symbol of this object, of which a section stayed, may have another value than in the previous link. If
     /// the answer is no, none has.
     fn is_dirty(&self, object: ObjectPlace) -> bool
@@ -75,6 +81,10 @@ impl PreviousLinkInfo for NoPreviousLink {
 
     fn stayed(&self, _section: SectionKey) -> Option<FileRange> {
         None
+    }
+
+    fn has_stayed(&self, _section: SectionKey) -> bool {
+        false
     }
 
     fn is_dirty(&self, _object: ObjectPlace) -> bool {

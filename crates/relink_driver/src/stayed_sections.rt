@@ -160,6 +160,10 @@ impl<'a> PreviousLinkInfo for StayedSections<'a> {
         range_at(&self.indexed_layout.link_layout, now)
     }
 
+    fn has_stayed(&self, section: SectionKey) -> bool {
+        self.is_known(section)
+    }
+
     fn is_dirty(&self, object: ObjectPlace) -> bool {
         self.dirty_bit(object)
     }

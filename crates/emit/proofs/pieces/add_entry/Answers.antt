@@ -1,5 +1,5 @@
 -- By what the previous link says.
-use Rattle.std.proofs.Common.{Bool, ap, subst, sym}
+use Rattle.std.proofs.Common.{◌∙◌, Bool, subst, sym}
 use Rattle.std.specs.Prelude.{is_some}
 use Rattle.ldmodel.specs.declared.sections.SectionKey.{SectionKey}
 use Rattle.emit.proofs.Lists.{on_ok}
@@ -7,8 +7,8 @@ use Rattle.emit.proofs.OfRows.{row_drawn, row_kept}
 use Rattle.emit.proofs.pieces.add_entry.Goals as goal
 use Rattle.emit.specs.Pieces.{IsDrawnPiece, IsRowPiece}
 
-pub returns-in-Some : goal.returns-in-Some
-returns-in-Some g c =
+pub returns-then-has_stayed : goal.returns-then-has_stayed
+returns-then-has_stayed g c =
     let p = c.args.project.now in
     let stays : SectionKey → Bool = λ k. is_some (g.E.PreviousLinkInfo.range c.args.previous.now k) in
     on_ok _ _ c.add_kept.result
@@ -17,16 +17,16 @@ returns-in-Some g c =
       kept.0,
       subst (λ pr. IsRowPiece pr l.layout stays w kept.0) (sym same)
           (row_kept p l.layout stays c.args.piece.now c.args.start w kept.0 at
-          (ap is_some (sym c.in-Some.ensures.range)) kept.1),
+          (sym c.has_stayed.ensures.is ∙ c.if-has_stayed.true) kept.1),
       kept.2,
     ))
     c.add_kept.ensures
 
-pub returns-in-None : goal.returns-in-None
-returns-in-None g c =
+pub returns : goal.returns
+returns g c =
     let p = c.args.project.now in
     let stays : SectionKey → Bool = λ k. is_some (g.E.PreviousLinkInfo.range c.args.previous.now k) in
-    let new = ap is_some (sym c.in-None.ensures.range) in
+    let new = sym c.has_stayed.ensures.is ∙ c.if-has_stayed.false in
     let y = c.drawn_piece-drawn.result in
     on_ok _ _ c.add_drawn.result
     (λ h l w whole same sources at stand.

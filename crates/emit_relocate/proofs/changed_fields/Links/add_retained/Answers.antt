@@ -1,38 +1,37 @@
-use Rattle.std.proofs.Common.{arith, refl, subst, sym}
+use Rattle.std.proofs.Common.{Some, ◌∙◌, ap, arith, refl, subst}
+use Rattle.std.proofs.lemmas.Bool.{false≢true}
+use Rattle.std.specs.Prelude.{is_some}
 use Rattle.emit_relocate.specs.Changes.{results_of}
-use Rattle.emit_relocate.specs.PreviousLinkInfo.{IsKept}
-use Rattle.emit_relocate.proofs.Changing.{kept_by, retained}
-use Rattle.emit_relocate.proofs.Moving.{moved_in_none, moved_placed, moved_unplaced}
+use Rattle.emit_relocate.specs.PreviousLinkInfo.{HasStayedAt}
+use Rattle.emit_relocate.proofs.Changing.{known_as, retained, retained_as}
+use Rattle.emit_relocate.proofs.Moving.{moved_in_none}
 use Rattle.emit_relocate.proofs.changed_fields.Links.add_retained.Goals as goal
 
 pub returns-then-not-is_dirty : goal.returns-then-not-is_dirty
 returns-then-not-is_dirty g c =
-    λ old l s k h kept.
-    let of_object = kept_by (g.E.PreviousLinkInfo.range c.args.self.now.previous.now) _ _ kept.known in
+    λ old l s k h is.
+    let range = g.E.PreviousLinkInfo.range c.args.self.now.previous.now in
     let a = results_of c.args.fields.now c.args.meter.now in
-    retained old l (g.E.PreviousLinkInfo.range c.args.self.now.previous.now) s _ c.args.range a a kept.stayed refl refl
+    retained_as old l range s c.args.section.now.key h.object_is is a a (λ r kept.
+    retained old l range s _ r a a kept.stayed refl refl
     (moved_in_none old l s c.args.section.now.key h.object_is
-    (c.is_dirty.ensures old l k.previous of_object c.if-not-is_dirty.true) c.args.range a.patches a.faults a.counts
-    (omega (arith, c.fields-fields.type_inv, c.fields-fields.ensures)))
+    (c.is_dirty.ensures old l k.previous (_, is.known) c.if-not-is_dirty.true) r a.patches a.faults a.counts
+    (omega (arith, c.fields-fields.type_inv, c.fields-fields.ensures))))
 
 pub returns-in-None : goal.returns-in-None
 returns-in-None g c =
-    λ old l s k h kept.
-    let a = results_of c.args.fields.now c.args.meter.now in
-    retained old l (g.E.PreviousLinkInfo.range c.args.self.now.previous.now) s _ c.args.range a a kept.stayed refl refl
-    (moved_unplaced old l c.args.range s (c.in-None.ensures.place l s k.link k.below h) a.patches a.faults a.counts
-    (omega (arith, c.fields-fields.type_inv, c.fields-fields.ensures)))
+    λ old l s k h is.
+    let range = g.E.PreviousLinkInfo.range c.args.self.now.previous.now in
+    absurd (false≢true (ap is_some (c.in-None.ensures.range ∙ ap range (c.section_key.ensures l s h)) ∙ is.known))
 
 pub returns-in_ok-add_moved-in-Some : goal.returns-in_ok-add_moved-in-Some
 returns-in_ok-add_moved-in-Some g c =
-    λ old l s k h kept.
+    λ old l s k h is.
     let range = g.E.PreviousLinkInfo.range c.args.self.now.previous.now in
-    let of_object = kept_by range _ _ kept.known in
-    let place = c.in-Some.ensures.place l s k.link k.below h in
-    retained old l range s _ c.args.range _ _ kept.stayed refl refl
-    (moved_placed old l c.args.range s c.in-Some.section place _ _ _ _ _ _
-    (c.in_ok-add_moved-in-Some.ensures old l s (record {
-      links = k.previous;
-      kept = subst (IsKept range) (sym c.in-Some.ensures.key) of_object;
-      section_is = place.section_is;
-    })))
+    let same = c.section_key.ensures l s h in
+    let known = c.in-Some.ensures.range ∙ ap range same in
+    known_as old l range s c.args.section.now.key h.object_is (Some c.in-Some.range) known _ _
+    (c.in_ok-add_moved-in-Some.ensures old l s k h (record {
+      known = known;
+      stayed = subst (λ q. HasStayedAt old l q c.in-Some.range) same (c.in-Some.ensures.stayed old l k.previous);
+    }))

@@ -1,0 +1,28 @@
+use Rattle.std.proofs.Common.{arith, refl, subst, sym}
+use Rattle.emit_relocate.specs.Changes.{results_of}
+use Rattle.emit_relocate.specs.PreviousLinkInfo.{IsKept}
+use Rattle.emit_relocate.proofs.Changing.{kept_by, retained}
+use Rattle.emit_relocate.proofs.Moving.{moved_placed, moved_unplaced}
+use Rattle.emit_relocate.proofs.changed_fields.Links.add_moved.Goals as goal
+
+pub returns-in-None : goal.returns-in-None
+returns-in-None g c =
+    λ old l s k h kept.
+    let a = results_of c.args.fields.now c.args.meter.now in
+    retained old l (g.E.PreviousLinkInfo.range c.args.self.now.previous.now) s _ c.args.range a a kept.stayed refl refl
+    (moved_unplaced old l c.args.range s (c.in-None.ensures.place l s k.link k.below h) a.patches a.faults a.counts
+    (omega (arith, c.fields-fields.type_inv, c.fields-fields.ensures)))
+
+pub returns-in_ok-add_moved-in-Some : goal.returns-in_ok-add_moved-in-Some
+returns-in_ok-add_moved-in-Some g c =
+    λ old l s k h kept.
+    let range = g.E.PreviousLinkInfo.range c.args.self.now.previous.now in
+    let of_object = kept_by range _ _ kept.known in
+    let place = c.in-Some.ensures.place l s k.link k.below h in
+    retained old l range s _ c.args.range _ _ kept.stayed refl refl
+    (moved_placed old l c.args.range s c.in-Some.section place _ _ _ _ _ _
+    (c.in_ok-add_moved-in-Some.ensures old l s (record {
+      links = k.previous;
+      kept = subst (IsKept range) (sym c.in-Some.ensures.key) of_object;
+      section_is = place.section_is;
+    })))
