@@ -2,7 +2,6 @@
 use Rattle.std.proofs.Common.{◌≡◌, ℕ, suc, List, [], ◌∷◌, Option, Some, None, Result, Ok, Err, refl, subst}
 use Rattle.ldscript_tokens.specs.Tokens as token
 use Rattle.ldscript_tokens.specs.Tokens.{Token, Lexeme, lexeme}
-use Rattle.ldscript_tokens.specs.CodeTokens.{spelled_token}
 use Rattle.ldscript_tokens.specs.declared.token.Mark.{Mark}
 use Rattle.ldscript_tokens.specs.declared.token.Mark.TheVariants.{OpenParenthesis, CloseParenthesis, Comma, Question}
 use Rattle.ldscript_tokens.specs.declared.token.Mark.TheVariants.{Colon}

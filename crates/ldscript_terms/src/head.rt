@@ -33,7 +33,7 @@ pub enum Head<'a> {
     Group,
 }
 
-/// The beginning of a primary expression that a name is, or `None` for a reserved word that begins none.
+/// The primary expression that a name begins, or `None` for a reserved word that begins none.
 #[tactic(auto, unfolding(crate::specs::Grammar::word_of))]
 fn word<'a>(name: &'a [u8]) -> Option<Head<'a>>
     ensures { MatchOption result (word_of name.now ≡ Reserved) (λ h. IsWord h (word_of name.now)) }
@@ -63,22 +63,10 @@ fn word<'a>(name: &'a [u8]) -> Option<Head<'a>>
 pub fn read_head<'a>(tokens: &Cursor<'a>) -> Option<(Head<'a>, Cursor<'a>)>
     ensures { MatchOption result (NoReading Primary tokens.now) (λ x. HasHead tokens.now x.0 x.1) }
 {
-    let Some((kind, bytes, _, rest)) = tokens.copy().next() else {
-        return None;
-    };
+    let (kind, bytes, _, rest) = tokens.copy().next()?;
     match kind {
-        TokenKind::Number => {
-            let Some(value) = number_value(bytes) else {
-                return None;
-            };
-            Some((Head::Number(value), rest))
-        }
-        TokenKind::Name => {
-            let Some(head) = word(bytes) else {
-                return None;
-            };
-            Some((head, rest))
-        }
+        TokenKind::Number => Some((Head::Number(number_value(bytes)?), rest)),
+        TokenKind::Name => Some((word(bytes)?, rest)),
         TokenKind::Punctuation(mark) => {
             if mark == Mark::OpenParenthesis {
                 Some((Head::Group, rest))
@@ -95,9 +83,7 @@ pub fn sign<'a>(tokens: &Cursor<'a>) -> Option<(Mark, Cursor<'a>)>
     ensures { MatchOption result ((mark : Mark) (rest : List Lexeme) → Begins tokens.now (Sign mark) rest → ⊥)
         (λ x. Begins tokens.now (Sign x.0) x.1) }
 {
-    let Some((kind, _, _, rest)) = tokens.copy().next() else {
-        return None;
-    };
+    let (kind, _, _, rest) = tokens.copy().next()?;
     match kind {
         TokenKind::Punctuation(mark) => Some((mark, rest)),
         _ => None,
@@ -109,9 +95,7 @@ pub fn after<'a>(tokens: &Cursor<'a>, wanted: Mark) -> Option<Cursor<'a>>
     ensures { MatchOption result ((rest : List Lexeme) → Begins tokens.now (Sign wanted) rest → ⊥)
         (λ rest. Begins tokens.now (Sign wanted) rest) }
 {
-    let Some((mark, rest)) = sign(tokens) else {
-        return None;
-    };
+    let (mark, rest) = sign(tokens)?;
     if mark == wanted { Some(rest) } else { None }
 }
 
@@ -121,13 +105,8 @@ pub fn unary_ahead<'a>(tokens: &Cursor<'a>) -> Option<(UnaryOperator, Cursor<'a>
         ((operator : UnaryOperator) (rest : List Lexeme) → BeginsUnary tokens.now operator rest → ⊥)
         (λ x. BeginsUnary tokens.now x.0 x.1) }
 {
-    let Some((mark, rest)) = sign(tokens) else {
-        return None;
-    };
-    match unary_operator(mark) {
-        Some(operator) => Some((operator, rest)),
-        None => None,
-    }
+    let (mark, rest) = sign(tokens)?;
+    Some((unary_operator(mark)?, rest))
 }
 
 /// The binary operator of the level above `below` that comes next, and the cursor after it.
@@ -137,12 +116,8 @@ pub fn binary_ahead<'a>(below: u8, tokens: &Cursor<'a>) -> Option<(BinaryOperato
         ((operator : BinaryOperator) (rest : List Lexeme) → BeginsBinary (suc below) tokens.now operator rest → ⊥)
         (λ x. BeginsBinary (suc below) tokens.now x.0 x.1) }
 {
-    let Some((mark, rest)) = sign(tokens) else {
-        return None;
-    };
-    let Some(operator) = binary_operator(mark) else {
-        return None;
-    };
+    let (mark, rest) = sign(tokens)?;
+    let operator = binary_operator(mark)?;
     if operator.level() == below + 1 {
         Some((operator, rest))
     } else {
@@ -155,9 +130,7 @@ fn free_name<'a>(tokens: &Cursor<'a>) -> Option<(&'a [u8], Cursor<'a>)>
     ensures { MatchOption result ((n : List ℕ) (r : List Lexeme) → Begins tokens.now (Worded (Free n)) r → ⊥)
         (λ x. Begins tokens.now (Worded (Free x.0.now)) x.1) }
 {
-    let Some((head, rest)) = read_head(tokens) else {
-        return None;
-    };
+    let (head, rest) = read_head(tokens)?;
     match head {
         Head::Name(name) => Some((name, rest)),
         _ => None,
@@ -169,14 +142,8 @@ pub fn name_in_parentheses<'a>(tokens: &Cursor<'a>) -> Option<(&'a [u8], Cursor<
     ensures { MatchOption result ((name : List ℕ) (rest : List Lexeme) → BeginsNamed tokens.now name rest → ⊥)
         (λ x. BeginsNamed tokens.now x.0.now x.1) }
 {
-    let Some(inner) = after(tokens, Mark::OpenParenthesis) else {
-        return None;
-    };
-    let Some((name, outer)) = free_name(&inner) else {
-        return None;
-    };
-    match after(&outer, Mark::CloseParenthesis) {
-        Some(rest) => Some((name, rest)),
-        None => None,
-    }
+    let inner = after(tokens, Mark::OpenParenthesis)?;
+    let (name, outer) = free_name(&inner)?;
+    let rest = after(&outer, Mark::CloseParenthesis)?;
+    Some((name, rest))
 }

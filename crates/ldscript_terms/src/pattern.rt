@@ -14,7 +14,8 @@ use ldscript_tokens::name::ScriptName;
 use std::alloc::{AllocError, Global};
 use std::marker::Model;
 
-/// What is kept of a pattern. A script may have half a million, so its parts are read anew for each match.
+/// What is kept of a pattern: a word or a name, and no list of parts, since a script may have half a million patterns.
+/// The parts of a word are read again for each match.
 #[derive(Drop)]
 enum Form {
     /// The one name that it matches, as it has no wildcard.

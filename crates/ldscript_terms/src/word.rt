@@ -27,10 +27,8 @@ pub fn first_part(word: &[u8]) -> Option<(CodePart, &[u8])>
     if word.is_empty() {
         return None;
     }
-    match front(word) {
-        Some(spelled) => Some((spelled.part, word_from(word, spelled.count))),
-        None => None,
-    }
+    let spelled = front(word)?;
+    Some((spelled.part, word_from(word, spelled.count)))
 }
 
 /// Whether a word has ended.

@@ -1,11 +1,13 @@
 use Rattle.ldscript_terms.proofs.Refusals.{unnamed, name_unclosed}
 use Rattle.ldscript_terms.proofs.head.name_in_parentheses.Goals as goal
 
-pub returns-in_default : goal.returns-in_default
-returns-in_default c = λ n rest b. c.in_default.ensures b.inner b.opens
+pub returns-in_err-inner : goal.returns-in_err-inner
+returns-in_err-inner c = rw c.from_residual.ensures (λ n rest b. c.in_err-inner.ensures b.inner b.opens)
 
-pub returns-in_default-free_name : goal.returns-in_default-free_name
-returns-in_default-free_name c = unnamed c.in-Some.ensures c.in_default-free_name.ensures
+pub returns-in_err-name : goal.returns-in_err-name
+returns-in_err-name c = rw c.from_residual-in_err-name.ensures (unnamed c.in_ok-inner.ensures c.in_err-name.ensures)
 
-pub returns-in-None : goal.returns-in-None
-returns-in-None c = name_unclosed c.in-Some.ensures c.in-Some-free_name.ensures c.in-None.ensures
+pub returns-in_err-rest : goal.returns-in_err-rest
+returns-in_err-rest c =
+    rw c.from_residual-in_err-rest.ensures
+    (name_unclosed c.in_ok-inner.ensures c.in_ok-name.ensures c.in_err-rest.ensures)
