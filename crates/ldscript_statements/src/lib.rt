@@ -27,3 +27,5 @@ pub mod sequence;
 pub mod statement;
 pub mod symbols;
 pub mod tables;
+
+pub use crate::mention::NoRoom;

@@ -63,7 +63,7 @@ fn add_items<'a>(list: &mut Vec<&'a Item>, these: &'a [Item]) -> Result<(), Allo
     Ok(())
 }
 
-/// Adds the statements of `SECTIONS`, if a command is that.
+/// Adds the statements of a command if it is `SECTIONS`.
 fn add_command_items<'a>(list: &mut Vec<&'a Item>, command: &'a Command) -> Result<(), AllocError>
     ensures { OnOk result (AddsItems list.old.items list.new.items (items_of command.now)) }
 {
@@ -84,7 +84,7 @@ fn items<'a>(alloc: Global, statements: &'a [Statement]) -> Result<Vec<&'a Item>
     Ok(list)
 }
 
-/// Adds the output section that a statement of `SECTIONS` is, if it is one.
+/// Adds a statement of `SECTIONS` if it is an output section.
 fn add_section<'a>(list: &mut Vec<OutputSectionAt<'a>>, item: &'a Item) -> Result<(), AllocError>
     ensures { OnOk result (AddsSections list.old.items list.new.items (item_sections item.now.line item.now.command)) }
 {
@@ -124,7 +124,7 @@ pub fn output_sections<'a>(
     sections_of_items(alloc, &items)
 }
 
-/// Adds the input statement that a statement of an output section is, if it is one.
+/// Adds a statement of an output section if it is an input statement.
 fn add_input<'a>(
     list: &mut Vec<InputStatementAt<'a>>,
     place: InputPlace,
@@ -174,7 +174,7 @@ fn add_discarded<'a>(
     Ok(())
 }
 
-/// The input statements of a statement of `SECTIONS`, where `number` is that of the next output section.
+/// The input statements of a statement of `SECTIONS`; `number` is that of the next output section.
 fn add_item_inputs<'a>(
     list: &mut Vec<InputStatementAt<'a>>,
     number: usize,
@@ -244,7 +244,7 @@ fn add_directive<'a>(
     Ok(())
 }
 
-/// Adds the directive that a statement of an output section is, if it is one.
+/// Adds a statement of an output section if it is a directive.
 fn add_body_directive<'a>(
     list: &mut Vec<DirectiveAt<'a>>,
     statement: &'a BodyStatement,
@@ -339,7 +339,7 @@ fn add_regions<'a>(list: &mut Vec<&'a Region>, these: &'a [Region]) -> Result<()
     Ok(())
 }
 
-/// Adds the memory regions of `MEMORY`, if a command is that.
+/// Adds the memory regions of a command if it is `MEMORY`.
 fn add_command_regions<'a>(
     list: &mut Vec<&'a Region>,
     command: &'a Command,

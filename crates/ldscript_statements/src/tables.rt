@@ -144,10 +144,7 @@ impl Tables {
     {
         match self.assigned.number(name) {
             Some(number) => Some(Given::Assigned(number)),
-            None => match self.provided.number(name) {
-                Some(number) => Some(Given::Provided(number)),
-                None => None,
-            },
+            None => Some(Given::Provided(self.provided.number(name)?)),
         }
     }
 
