@@ -1,14 +1,12 @@
 //! An object: its bytes, and what was read of them.
 
-ghost use Rattle.std.specs.Prelude.{◌≡◌, ◌≢◌, ◌<◌, ◌^◌, ◌⊎◌, IfErr, IfNone, IfOk, IfSome, None, OnOk, Some, find};
-ghost use Rattle.std.specs.Prelude.{length, map, unwrap_or, []};
+ghost use Rattle.std.specs.Prelude.{◌≡◌, ◌≢◌, ◌<◌, ◌^◌, ◌⊎◌, IfErr, IfNone, IfOk, IfSome, None, Some, find};
+ghost use Rattle.std.specs.Prelude.{length, map};
 ghost use Rattle.std.specs.List.{All, AllPairs, slice_get};
-ghost use Rattle.std.specs.List.Sorted.{IsNonDecreasingBy, IsPermutation};
 ghost use Rattle.elfobj.specs.Raised.{raised};
 ghost use Rattle.elfobj.specs.declared.meter.Count.TheVariants.{Objects};
 ghost use Rattle.elfobj_file.specs.declared.refusal.ObjectRefusal.TheVariants.{NoMemory};
 
-use crate::field::put_in_order;
 use crate::meter::{Count, Meter};
 use crate::place::Place;
 use crate::refusal::ObjectRefusal;
@@ -17,7 +15,7 @@ use crate::section::{LinkedIndex, Section, SectionIndex, find_number};
 use crate::section_table::{Parts, read_parts};
 use crate::span::Span;
 use crate::symbol::Symbol;
-use std::alloc::{AllocError, Global};
+use std::alloc::Global;
 use std::marker::Model;
 
 /// A relocatable ELF-64 object for x86-64, which only `Object::read` makes. It owns the bytes that it was read from,
@@ -182,28 +180,5 @@ impl Object {
     {
         let span = self.places[section.0].relocations;
         &self.relocations[span.start..span.end]
-    }
-
-    /// Fills `room` with the relocations of this section in the order of their offsets. They are copied if the table
-    /// has that order, as assemblers write it, and else sorted.
-    ///
-    /// No second order is kept: tables may overlap in the file, so that the orders of all could take far more memory
-    /// than the object.
-    ///
-    /// # Errors
-    ///
-    /// If there is no memory for the copy.
-    pub fn relocations_by_offset(
-        &self,
-        section: LinkedIndex,
-        room: &mut Vec<Relocation>,
-    ) -> Result<(), AllocError>
-        requires { section.0 < length self.now.sections }
-        ensures same { OnOk result
-            (IsPermutation (unwrap_or (slice_get (map (λ entry. entry.relocations) self.now.sections) section.0) [])
-            room.new.items) }
-        ensures order { OnOk result (IsNonDecreasingBy (λ relocation. relocation.offset) room.new.items) }
-    {
-        put_in_order(self.relocations(section), room)
     }
 }

@@ -1,6 +1,6 @@
 //! Options of a link.
 
-ghost use Rattle.std.specs.Prelude.{◌≡◌, ◌↔◌, IsTrue, option_map};
+ghost use Rattle.std.specs.Prelude.{◌≡◌, option_map};
 
 use std::marker::Model;
 
@@ -43,8 +43,6 @@ impl Default for Options {
 }
 
 impl Options {
-    ghost use Rattle.ldmodel.specs.Options.{default_options};
-
     /// Options: with `gc`, sections that the program cannot reach are discarded; `entry`, if any, is the entry symbol
     /// in place of that of the script's ENTRY; `orphans` is the handling of orphans.
     pub fn new(gc: bool, entry: Option<Vec<u8>>, orphans: Orphans) -> Options
@@ -75,12 +73,5 @@ impl Options {
         ensures { result ≡ self.now.orphans }
     {
         self.orphans
-    }
-
-    /// Whether these are the default options.
-    pub fn is_default(&self) -> bool
-        ensures { IsTrue result ↔ (self.now ≡ default_options) }
-    {
-        !self.gc && self.entry.is_none() && self.orphans == Orphans::Error
     }
 }
