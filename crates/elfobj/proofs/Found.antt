@@ -1,3 +1,4 @@
+-- A header that a search finds passes its test, and its table lies in the file.
 use Rattle.std.proofs.Common.{◌≡◌, ℕ, ◌+◌, ◌≤◌, List, [], ◌∷◌, Bool, true, false, cond, ◌||◌, ap, sym, ◌∙◌, ⊎_elim}
 use Rattle.std.proofs.Common.{find, Some, nat_lt, eqb}
 use Rattle.std.specs.List.{list_any}
@@ -8,14 +9,13 @@ use Rattle.elfobj_file.specs.Relocations.{is_relocation_section}
 use Rattle.elfobj_file.specs.Symbols.{is_symbol_table}
 use Rattle.elfobj_file.specs.declared.section_header.SectionHeader.{SectionHeader}
 
--- a header that is found passes the test, and none that no header passes
-pub found_is : (p : SectionHeader → Bool) (hs : List SectionHeader) (h : SectionHeader)
-    → find p hs ≡ Some h → p h ≡ true
-found_is p [] h e = absurd (none-some h e)
-found_is p (x ∷ xs) h e = ⊎_elim
-    (λ a. ap p (sym (same_Some x h (sym (ap (λ b. cond b (Some x) (find p xs)) a) ∙ e))) ∙ a)
-    (λ a. found_is p xs h (sym (ap (λ b. cond b (Some x) (find p xs)) a) ∙ e))
-    (cases_Bool (p x))
+-- what is found passes the test, and none that no member passes
+pub found_is : {X : Type 0} (p : X → Bool) (xs : List X) (x : X) → find p xs ≡ Some x → p x ≡ true
+found_is p [] x e = absurd (none-some x e)
+found_is p (y ∷ xs) x e = ⊎_elim
+    (λ a. ap p (sym (same_Some y x (sym (ap (λ b. cond b (Some y) (find p xs)) a) ∙ e))) ∙ a)
+    (λ a. found_is p xs x (sym (ap (λ b. cond b (Some y) (find p xs)) a) ∙ e))
+    (cases_Bool (p y))
 
 pub found_not : (p q : SectionHeader → Bool) (hs : List SectionHeader) (h : SectionHeader) → find p hs ≡ Some h
     → list_any q hs ≡ false → q h ≡ false

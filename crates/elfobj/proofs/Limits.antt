@@ -1,3 +1,4 @@
+-- Each linked section of an object that is not refused is within the profile.
 use Rattle.std.proofs.Common.{◌≡◌, ℕ, zero, suc, ◌+◌, ◌-◌, ◌<◌, ◌≤◌, ◌⊎◌, List, [], Bool, true, false, cond, not, ◌||◌}
 use Rattle.std.proofs.Common.{◌&&◌, length, drop, refl, ap, inl, inr, ⊎_elim, arith, Option, Some, None, nat_lt, eqb}
 use Rattle.std.specs.Prelude.{IsTrue}

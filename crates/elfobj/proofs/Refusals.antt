@@ -1,8 +1,8 @@
-use Rattle.std.proofs.Common.{◌≡◌, ◌⊎◌, ℕ, List, Bool, true, false, cond, refl, ap, ◌∙◌, Option, Some, None, sym, ◌∷◌}
-use Rattle.std.proofs.Common.{[], ◌++◌, inl, inr, ⊎_elim}
+-- The lowest refusal of a file: the first that its header, sections, symbols and relocations give, in this order.
+use Rattle.std.proofs.Common.{◌≡◌, ◌⊎◌, ℕ, List, Bool, true, false, refl, ap, ◌∙◌, Option, Some, None, sym, ◌++◌, inl}
+use Rattle.std.proofs.Common.{inr, ⊎_elim}
 use Rattle.std.specs.List.{find, list_any}
 use Rattle.std.specs.Option.{option_or}
-use Rattle.std.proofs.lemmas.Option.{none-some, same_Some}
 use Rattle.std.proofs.lemmas.Bool.{false≢true}
 use Rattle.std.proofs.lemmas.List.Folds.{find-append}
 use Rattle.elfobj_file.specs.ElfHeader.{e_shstrndx}
@@ -14,6 +14,7 @@ use Rattle.elfobj_file.specs.Refusal.{relocation_refusals, object_refusal}
 use Rattle.elfobj_file.specs.declared.refusal.ObjectRefusal.{ObjectRefusal}
 use Rattle.elfobj_file.specs.declared.refusal.ObjectRefusal.TheVariants.{NoMemory, SectionBounds, SectionProfile}
 use Rattle.elfobj_file.specs.declared.section_header.SectionHeader.{SectionHeader}
+use Rattle.elfobj.proofs.Found.{found_is}
 
 -- the ELF header is refused
 pub refused_by_header : (bytes : List ℕ) (r : ObjectRefusal) → find (holds bytes) header_refusals ≡ Some r
@@ -80,20 +81,11 @@ pub tables_told : (bytes : List ℕ) (e : ObjectRefusal) → find (holds bytes) 
     → (e ≡ NoMemory) ⊎ (object_refusal bytes ≡ Some e)
 tables_told bytes e n t h = ⊎_elim (λ a. inl a) (λ a. inr (refused_by_tables bytes (Some e) n t a)) h
 
-found_or_later : (b : Bool) (q : ObjectRefusal) (o : Option ObjectRefusal) (r : ObjectRefusal)
-    (p : ObjectRefusal → Bool) → p q ≡ b → cond b (Some q) o ≡ Some r → (o ≡ Some r → p r ≡ true) → p r ≡ true
-found_or_later true q o r p e h k = ap p (sym (same_Some q r h)) ∙ e
-found_or_later false q o r p e h k = k h
-
-find_passes : (p : ObjectRefusal → Bool) (rs : List ObjectRefusal) (r : ObjectRefusal) → find p rs ≡ Some r → p r ≡ true
-find_passes p [] r h = absurd (none-some r h)
-find_passes p (q ∷ rs) r h = found_or_later (p q) q (find p rs) r p refl h (find_passes p rs r)
-
 -- out of memory is no refusal of the bytes
 pub no_memory_found : (bytes : List ℕ) (rs : List ObjectRefusal) (r : ObjectRefusal) → find (holds bytes) rs ≡ Some r
     → r ≡ NoMemory → find (holds bytes) rs ≡ None
 unfolding holds
-no_memory_found bytes rs r h e = absurd (false≢true (find_passes (holds bytes) rs NoMemory (h ∙ ap (λ x. Some x) e)))
+no_memory_found bytes rs r h e = absurd (false≢true (found_is (holds bytes) rs NoMemory (h ∙ ap (λ x. Some x) e)))
 
 -- the refusals that section headers give
 pub bounds_refused : (bytes : List ℕ) → holds bytes SectionBounds ≡ true

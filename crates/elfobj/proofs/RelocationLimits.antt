@@ -1,3 +1,4 @@
+-- The relocations of each linked section of an object that is not refused are within the profile.
 use Rattle.std.proofs.Common.{◌≡◌, ℕ, zero, suc, ◌<◌, ◌≤◌, List, [], ◌∷◌, Bool, false, length, map, get_or, refl, ap}
 use Rattle.std.proofs.Common.{sym, ◌∙◌, subst, arith, Option, Some, None}
 use Rattle.std.specs.List.{All, list_any}

@@ -1,3 +1,4 @@
+-- The relocations that are read are those of the linked sections; and the lowest refusal that their entries give.
 use Rattle.std.proofs.Common.{◌≡◌, ℕ, zero, suc, ◌+◌, ◌*◌, ◌<◌, ◌≤◌, List, [], ◌∷◌, ◌++◌, Bool, true, false, ◌||◌, ◌⊎◌}
 use Rattle.std.proofs.Common.{get_or, length, map, take, refl, ap, sym, ◌∙◌, subst, arith, inl, inr, ⊎_elim, find}
 use Rattle.std.proofs.Common.{Option, Some, None}

@@ -1,3 +1,4 @@
+-- One pass over the headers finds the relocation section of each section, or a header that is refused.
 use Rattle.std.proofs.Common.{◌≡◌, ℕ, zero, suc, ◌+◌, ◌<◌, ◌≤◌, List, [], ◌∷◌, Bool, true, false, cond, ◌||◌, ◌&&◌}
 use Rattle.std.proofs.Common.{get_or, set, length, refl, ap, sym, ◌∙◌, arith, add-one, ◌≢◌, ⊎_elim, find, is_some}
 use Rattle.std.proofs.Common.{replicate, Option, Some, None, nat_le, eqb}

@@ -1,3 +1,4 @@
+-- One pass over the headers reads the linked sections and their places, in order.
 use Rattle.std.proofs.Common.{◌≡◌, ℕ, ◌+◌, ◌<◌, ◌≤◌, List, [], ◌∷◌, ◌++◌, Bool, true, false, not, ◌&&◌, ◌||◌, cond}
 use Rattle.std.proofs.Common.{length, map, refl, ap, sym, ◌∙◌, subst, ⊎_elim, add-one, append-nil, Option, Some, None}
 use Rattle.std.proofs.Common.{nat_lt, eqb}

@@ -1,3 +1,4 @@
+-- Each symbol of an object that is not refused is within the profile, and there are fewer than 2^32.
 use Rattle.std.proofs.Common.{◌≡◌, ℕ, ◌/◌, ◌<◌, List, [], ◌∷◌, Bool, true, false, cond, not, ◌&&◌, length, map, drop}
 use Rattle.std.proofs.Common.{refl, ap, sym, ◌∙◌, arith, ⊎_elim, Option, Some, None, eqb, nat_lt}
 use Rattle.std.specs.Prelude.{IsTrue}

@@ -1,3 +1,4 @@
+-- The symbols that are read are those of the symbol table, which lies in the file; or the table is refused.
 use Rattle.std.proofs.Common.{◌≡◌, ℕ, zero, suc, ◌+◌, ◌*◌, ◌/◌, ◌%◌, ◌<◌, ◌≤◌, List, [], ◌∷◌, ◌++◌, Bool, true, false}
 use Rattle.std.proofs.Common.{get_or, length, map, take, drop, refl, ap, sym, ◌∙◌, subst, arith, find, Option, Some}
 use Rattle.std.proofs.Common.{None, nat_lt, eqb}
@@ -86,7 +87,7 @@ strings_in_file bytes k h p l e t =
     (ap (is_out_of_bounds (length bytes)) e
     ∙ none_at (is_out_of_bounds (length bytes)) bytes k (or_parts _ _ p.bounds).1 l)
 
--- the first n bytes of a wrong symbol are wrong in more ways than its name
+-- if no symbol is wrong, none that is not local has a wrong name
 pub names_right : (n : ℕ) (strings : List ℕ) (es : List SymbolEntry) → list_any (is_wrong_symbol n strings) es ≡ false
     → list_any (is_wrong_non_local strings) es ≡ false
 names_right n strings [] h = refl
@@ -145,9 +146,6 @@ symbol_refused bytes h k = rw (h, k) refl
 pub symbols_pass : (bytes : List ℕ) → holds bytes SymbolTable ≡ false → holds bytes WrongSymbol ≡ false
     → find (holds bytes) symbol_refusals ≡ None
 symbols_pass bytes h k = rw (h, k) refl
-
-several : List ℕ → Bool
-several bytes = nat_lt 1 (count_by is_symbol_table (headers bytes))
 
 pub wrong_several : (bytes : List ℕ) → nat_lt 1 (count_by is_symbol_table (headers bytes)) ≡ true
     → holds bytes SymbolTable ≡ true

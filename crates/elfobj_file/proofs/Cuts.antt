@@ -1,3 +1,4 @@
+-- A part of a part of a list is a part of the list; so a name in a table is a part of the file.
 use Rattle.std.proofs.Common.{◌≡◌, ℕ, ◌+◌, ◌-◌, ◌≤◌, List, [], length, take, drop, ap, sym, ◌∙◌, subst, arith, Option}
 use Rattle.std.proofs.Common.{Some}
 use Rattle.std.specs.List.{slice_range}

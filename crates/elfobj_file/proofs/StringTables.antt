@@ -1,3 +1,4 @@
+-- A pass from the last byte of a string table to the first finds the length of the name at each offset.
 use Rattle.std.proofs.Common.{◌≡◌, ℕ, zero, suc, ◌+◌, ◌<◌, ◌≤◌, List, [], ◌∷◌, Bool, true, false, cond, not, ◌&&◌, ◌||◌}
 use Rattle.std.proofs.Common.{get_or, set, length, take, drop, refl, ap, sym, ◌∙◌, arith, ⊎_elim, Option, Some, None}
 use Rattle.std.proofs.Common.{nat_lt, nat_le, eqb, ◌==◌}
