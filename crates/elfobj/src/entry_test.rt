@@ -30,8 +30,8 @@ pub fn none_passed(alloc: Global, count: usize) -> Result<Vec<usize>, AllocError
     Ok(past)
 }
 
-/// The number that `past` has for this entry. For the next walk the entry gets the number of the entry that it leads
-/// to.
+/// The number that `past` has for this entry. The entry then gets the number of the entry at that place, so that the
+/// next walk is shorter.
 fn step_over(past: &mut [usize], entry: usize) -> usize
     requires { entry < length past.old }
     ensures value { result ≡ get_or past.old entry 0 }

@@ -61,8 +61,8 @@ fn leave(all: &[Relocation], marks: &mut [bool], from: usize, start: usize, unti
     }
 }
 
-/// Adds relocations up to `end` to the window, up to the first that shares a byte with one that is there. Returns
-/// whether there is such a one.
+/// Adds the relocations before `end` to the window. It stops, and returns `true`, at the first that shares a byte with
+/// one in the window.
 fn enter(all: &[Relocation], marks: &mut [bool], from: usize, until: usize, end: usize) -> bool
     requires window { IsWindow all.now from until marks.old }
     requires order { until ≤ end }
@@ -82,8 +82,8 @@ fn enter(all: &[Relocation], marks: &mut [bool], from: usize, until: usize, end:
     false
 }
 
-/// Whether two relocations of one of these spans, which come in the order of their starts, share a byte. All fields end
-/// within `marks`, which has no mark.
+/// Whether two relocations of one span share a byte. The spans come in the order of their starts. All fields end within
+/// `marks`, in which no byte is marked.
 fn is_any_met(all: &[Relocation], spans: &[Span], marks: &mut [bool]) -> bool
     requires within { All (IsInside (length all.now)) spans.now }
     requires order { IsNonDecreasingBy (λ s. s.start) spans.now }
@@ -107,8 +107,8 @@ fn is_any_met(all: &[Relocation], spans: &[Span], marks: &mut [bool]) -> bool
     false
 }
 
-/// Whether two relocations of one of these spans, which come in the order of their starts, share a byte. All fields end
-/// at `size` or before.
+/// Whether two relocations of one span share a byte. The spans come in the order of their starts. All fields end at
+/// `size` or before.
 pub fn is_any_shared(
     alloc: Global,
     all: &[Relocation],

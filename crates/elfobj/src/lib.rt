@@ -2,13 +2,13 @@
 //! slices of them, or the bytes and the lowest refusal whose condition holds.
 //!
 //! - `object`: reading, and what a caller gets; `section`, `symbol`, `relocation`, `refusal`: its types;
-//! - `symbols`, `ordered_table`: a table of symbols, or of fields in the order of their offsets, that passes all its
-//!   tests is read in the pass that tests it;
+//! - `symbols`, `ordered_table`: one pass tests and reads a table of symbols, or relocations in the order of their
+//!   offsets, and gives up if a test fails;
 //! - `section_table`, `symbol_table`, `relocation_table`: the tests of all headers and entries, in their order;
-//! - `relocation_fault` over `entry_test` and `field_marks`: entries tested before any is kept; whether fields share a
-//!   byte;
+//! - `relocation_fault` over `entry_test`: the tests of entries, before any is kept;
+//! - `field_marks`: whether fields share a byte;
 //! - `field`, `relocation_run`, `linked`, `place`, `span`: what an object keeps of its sections and relocations;
-//! - `meter`, `memory`: shared by all crates: the counts of work, and the error for refused memory;
+//! - `meter`, `memory`: the counts of work and the error for refused memory, for all crates;
 //! - the part `file`: the tables and entries of a file. Other families name this crate alone.
 #![tactic(auto)]
 

@@ -1,5 +1,5 @@
-//! Tables as compilers write them: their entries are all within the profile, and their fields come one after another.
-//! One pass tests and decodes such tables, and gives up on others.
+//! Tables of relocations as compilers write them: all entries are within the profile, and the fields come one after
+//! another. One pass tests and decodes such tables, and gives up on others.
 
 ghost use Rattle.std.specs.Prelude.{◌≡◌, ◌≤◌, ◌+◌, ◌*◌, ◌++◌, IfOk, IfSome, false, length, map, true};
 ghost use Rattle.std.specs.List.{All, list_any};

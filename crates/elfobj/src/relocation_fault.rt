@@ -52,7 +52,7 @@ impl SectionTable {
     ghost use Rattle.elfobj.specs.EntryTests.{field_ends};
 
     /// The number of offsets at which a field may end in its section: 0 to its size, and none in a section without
-    /// bytes in the file. An entry whose field lies in a section lies in all sections that have no fewer.
+    /// bytes in the file. A field that lies in a section also lies in each section that has no fewer.
     fn field_ends(&self) -> u128
         ensures { result ≡ field_ends self.now.section }
     {
@@ -71,7 +71,7 @@ impl SectionTable {
     }
 }
 
-/// These tables, those of the smallest sections first.
+/// These tables in the order of their sections' sizes, the smallest first.
 pub fn smallest_first(
     alloc: Global,
     tables: &[SectionTable],
@@ -84,8 +84,9 @@ pub fn smallest_first(
     Ok(sorted)
 }
 
-/// Whether an entry of the tables of a class is outside the profile in this way; in `past` none has passed yet.
-/// Each entry that passes is tested once, since the tables come in the order of their sections' sizes.
+/// Whether an entry of the tables of a class is outside the profile in this way. At first `past` says
+/// that none has passed. Each entry that passes is tested once, since the tables come in the order of their sections'
+/// sizes.
 fn is_refused_among(
     bytes: &[u8],
     tables: &[SectionTable],
@@ -138,8 +139,8 @@ fn is_class_refused(
     Ok(is_refused_among(bytes, tables, class, low, &mut past, fault, symbols))
 }
 
-/// Whether an entry of one of these tables, those of the smallest sections first, is outside the profile in this way.
-/// It stops at the first one.
+/// Whether an entry of one of these tables is outside the profile in this way. The tables of the smallest sections come
+/// first. It stops at the first such entry.
 pub fn is_any_refused(
     alloc: Global,
     bytes: &[u8],

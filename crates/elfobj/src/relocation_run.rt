@@ -47,8 +47,8 @@ pub struct Relocations {
     pub spans: Vec<Span>,
 }
 
-/// The numbers of a class's entries: that of the first that a table has, and the one past the last. `24 ≤ len`: the
-/// file is no shorter than one `Elf64_Rela`.
+/// The numbers of the first entry of a class that a table has, and of the one past the last. `24 ≤ len`: the file is no
+/// shorter than one `Elf64_Rela`.
 pub fn class_range(tables: &[SectionTable], class: usize, len: usize) -> (usize, usize)
     requires class { class < 24 }
     requires long { 24 ≤ len }

@@ -56,9 +56,8 @@ fn is_wrong_table(table: &SectionHeader, symtab: Option<usize>) -> bool
         || !is_of_symtab
 }
 
-/// Refusal 10, for what the header of a relocation section says: whether it is for no section, or for a linked one and
-/// outside the profile. `tables` has under each section number the first relocation section before this one that is for
-/// it.
+/// Refusal 10, as far as the header of a relocation section shows it: whether it is for no section, or for a linked one
+/// and outside the profile. For each section number, `tables` has the first relocation section for it before this one.
 fn is_wrong_section(
     headers: &[SectionHeader],
     tables: &[Option<SectionHeader>],
@@ -97,8 +96,8 @@ fn no_tables(alloc: Global, count: usize) -> Result<Vec<Option<SectionHeader>>, 
     Ok(tables)
 }
 
-/// Under each section number its relocation section; or `RelocationSection`, if the header of one is outside the
-/// profile.
+/// For each section number its relocation section; or the refusal `RelocationSection`, if the header of one is outside
+/// the profile.
 fn changing_tables(
     alloc: Global,
     bytes: &[u8],
@@ -249,20 +248,15 @@ fn read_tested(
         (λ r. AreRelocated (map (λ s. s.relocations) (sections_of bytes.now)) r.all.items r.spans.items) }
     ensures refused { IfErr result (λ e. (e ≡ NoMemory) ⊎ (find (holds bytes.now) relocation_refusals ≡ Some e)) }
 {
-    let Ok(refusal) = entry_refusal(alloc, bytes, tables, symbols) else {
-        return Err(ObjectRefusal::NoMemory);
-    };
+    let refusal = entry_refusal(alloc, bytes, tables, symbols)?;
     if let Some(refusal) = refusal {
         return Err(refusal);
     }
-    let Ok(relocations) = read_tables(alloc, bytes, tables) else {
-        return Err(ObjectRefusal::NoMemory);
-    };
-    match is_any_overlap(alloc, &relocations, largest_size(tables) as usize) {
-        Ok(false) => Ok(relocations),
-        Ok(true) => Err(ObjectRefusal::FieldOverlap),
-        Err(_) => Err(ObjectRefusal::NoMemory),
+    let relocations = read_tables(alloc, bytes, tables)?;
+    if is_any_overlap(alloc, &relocations, largest_size(tables) as usize)? {
+        return Err(ObjectRefusal::FieldOverlap);
     }
+    Ok(relocations)
 }
 
 /// Reads the relocations of the linked sections of a file whose section headers and symbols have passed their tests, or
@@ -287,14 +281,11 @@ pub fn read_relocations(
         (λ refusal. (refusal ≡ NoMemory) ⊎ (find (holds bytes.now) relocation_refusals ≡ Some refusal)) }
 {
     let changing = changing_tables(alloc, bytes, headers)?;
-    let Ok(tables) = section_tables(alloc, bytes, sections, &changing) else {
-        return Err(ObjectRefusal::NoMemory);
-    };
+    let tables = section_tables(alloc, bytes, sections, &changing)?;
     // from here on memory is taken
     drop(changing);
-    match read_ordered(alloc, bytes, &tables, symbols) {
-        Ok(Some(relocations)) => Ok(relocations),
-        Ok(None) => read_tested(alloc, bytes, &tables, symbols),
-        Err(_) => Err(ObjectRefusal::NoMemory),
+    match read_ordered(alloc, bytes, &tables, symbols)? {
+        Some(relocations) => Ok(relocations),
+        None => read_tested(alloc, bytes, &tables, symbols),
     }
 }

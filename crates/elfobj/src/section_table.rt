@@ -82,16 +82,11 @@ fn looked_sections(
     ensures refused { IfErr result (λ e. (e ≡ NoMemory)
         ⊎ ((holds bytes.now SectionProfile ≡ true) × (e ≡ SectionProfile))) }
 {
-    let Ok(table) = StringTable::of_header(alloc, bytes, names) else {
-        return Err(ObjectRefusal::NoMemory);
-    };
+    let table = StringTable::of_header(alloc, bytes, names)?;
     if is_any_outside_profile(headers, &table) {
         return Err(ObjectRefusal::SectionProfile);
     }
-    match linked_sections(alloc, bytes, &table, headers) {
-        Ok(linked) => Ok(linked),
-        Err(_) => Err(ObjectRefusal::NoMemory),
-    }
+    Ok(linked_sections(alloc, bytes, &table, headers)?)
 }
 
 /// The linked sections of a file whose section headers are in bounds, or `SectionProfile` if one of them is outside the
@@ -111,10 +106,9 @@ fn read_sections(
     ensures refused { IfErr result (λ e. (e ≡ NoMemory)
         ⊎ ((holds bytes.now SectionProfile ≡ true) × (e ≡ SectionProfile))) }
 {
-    match passing_sections(alloc, bytes, names, headers) {
-        Ok(Some(linked)) => Ok(linked),
-        Ok(None) => looked_sections(alloc, bytes, names, headers),
-        Err(_) => Err(ObjectRefusal::NoMemory),
+    match passing_sections(alloc, bytes, names, headers)? {
+        Some(linked) => Ok(linked),
+        None => looked_sections(alloc, bytes, names, headers),
     }
 }
 
@@ -176,15 +170,11 @@ pub fn read_parts(alloc: Global, bytes: &[u8]) -> Result<Parts, ObjectRefusal>
     if let Some(refusal) = header_refusal(bytes) {
         return Err(refusal);
     }
-    let Ok(headers) = read_headers(alloc, bytes) else {
-        return Err(ObjectRefusal::NoMemory);
-    };
+    let headers = read_headers(alloc, bytes)?;
     let names = name_table_header(bytes, &headers);
     if has_wrong_bounds(bytes, &names, &headers) {
         return Err(ObjectRefusal::SectionBounds);
     }
-    match read_sections(alloc, bytes, &names, &headers) {
-        Ok(linked) => read_tables(alloc, bytes, linked, &headers),
-        Err(refusal) => Err(refusal),
-    }
+    let linked = read_sections(alloc, bytes, &names, &headers)?;
+    read_tables(alloc, bytes, linked, &headers)
 }

@@ -184,24 +184,17 @@ fn read_tested(
     ensures symbols { IfOk result (λ s. AreNamed bytes.now (symbols_of bytes.now) s.symbols.items s.names.items) }
     ensures refused { IfErr result (λ e. (e ≡ NoMemory) ⊎ (find (holds bytes.now) symbol_refusals ≡ Some e)) }
 {
-    let Ok(entries) = read_entries(alloc, bytes, table) else {
-        return Err(ObjectRefusal::NoMemory);
-    };
+    let entries = read_entries(alloc, bytes, table)?;
     if has_misplaced_entry(table, &entries) {
         return Err(ObjectRefusal::SymbolTable);
     }
     let strings = headers[table.sh_link as usize];
-    let Ok(names) = StringTable::of_header(alloc, bytes, &strings) else {
-        return Err(ObjectRefusal::NoMemory);
-    };
+    let names = StringTable::of_header(alloc, bytes, &strings)?;
     let count = headers.len() as u16;
     if is_any_wrong(&entries, count, &names) {
         return Err(ObjectRefusal::Symbol);
     }
-    match named_symbols(alloc, &names, &entries) {
-        Ok(symbols) => Ok(symbols),
-        Err(_) => Err(ObjectRefusal::NoMemory),
-    }
+    Ok(named_symbols(alloc, &names, &entries)?)
 }
 
 /// Reads the symbols of a file whose section headers have passed their tests, or returns its refusal.
@@ -233,9 +226,8 @@ pub fn read_symbols(
     }
     let strings = headers[table.sh_link as usize];
     let count = headers.len() as u16;
-    match read_passing(alloc, bytes, &table, &strings, count) {
-        Ok(Some(symbols)) => Ok(symbols),
-        Ok(None) => read_tested(alloc, bytes, headers, &table),
-        Err(_) => Err(ObjectRefusal::NoMemory),
+    match read_passing(alloc, bytes, &table, &strings, count)? {
+        Some(symbols) => Ok(symbols),
+        None => read_tested(alloc, bytes, headers, &table),
     }
 }

@@ -65,7 +65,7 @@ fn name_lengths(alloc: Global, table: &[u8]) -> Result<Vec<u16>, AllocError>
     Ok(lengths)
 }
 
-/// The length of the run of bytes at the front of a table that may occur in a name, if the first `known` of them do.
+/// The number of bytes at the front of a table, up to the first that may not occur in a name. The first `known` may.
 fn graphic_past(bytes: &[u8], known: usize) -> usize
     requires within { known ≤ length bytes.now }
     requires graphic { (k : ℕ) → k < known → is_graphic (get_or bytes.now k 0) ≡ true }
@@ -79,8 +79,8 @@ fn graphic_past(bytes: &[u8], known: usize) -> usize
     count
 }
 
-/// The length of the run of bytes at the front of a table that may occur in a name. They are tested many at a time, and
-/// one by one at the end of the table.
+/// The number of bytes at the front of a table, up to the first that may not occur in a name. They are tested many at a
+/// time, and one by one at the end of the table.
 fn graphic_count(bytes: &[u8]) -> usize
     ensures within { result ≤ length bytes.now }
     ensures graphic { (k : ℕ) → k < result → is_graphic (get_or bytes.now k 0) ≡ true }

@@ -1,5 +1,7 @@
 //! Why bytes are no object of the profile.
 
+use std::alloc::AllocError;
+
 /// Why `Object::read` refuses. 1 to 13 are conditions on the bytes, in the order of the tests: the lowest one that
 /// holds is answered. `NoMemory` may replace any answer but 1 to 5, which the ELF header alone gives.
 #[derive(Clone, Copy, Debug, PartialEq, Eq)]
@@ -34,6 +36,17 @@ pub enum ObjectRefusal {
     FieldOverlap,
     /// 14: out of memory.
     NoMemory,
+}
+
+impl From<AllocError> for ObjectRefusal {
+    ghost use Rattle.std.specs.Prelude.{◌≡◌};
+    ghost use Rattle.elfobj_file.specs.declared.refusal.ObjectRefusal.TheVariants.{NoMemory};
+
+    ghost from_gives = { λ _ e. e ≡ NoMemory };
+
+    fn from(_failed: AllocError) -> ObjectRefusal {
+        ObjectRefusal::NoMemory
+    }
 }
 
 impl ObjectRefusal {

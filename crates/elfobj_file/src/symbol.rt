@@ -80,7 +80,7 @@ pub enum SymbolPlace {
     Undefined,
     /// `SHN_ABS`: absolute; its value is a number.
     Absolute,
-    /// `SHN_COMMON`: in a common block that the linker makes, whatever its type is.
+    /// `SHN_COMMON`: in a common block that the linker makes, whatever the type of the symbol.
     Common,
     /// In the section with this index.
     Section(SectionIndex),

@@ -5,8 +5,8 @@ use Rattle.elfobj.proofs.section_table.looked_sections.Goals as goal
 pub returns-then-is_any_outside_profile-clause-refused : goal.returns-then-is_any_outside_profile-clause-refused
 returns-then-is_any_outside_profile-clause-refused c =
     inr (
-      profile_told c.args.bytes.now c.in-Ok.table.file.now c.in-Ok.table.header c.args.headers.now
-          c.is_any_outside_profile.result true c.in-Ok.ensures.file (c.in-Ok.ensures.header ∙ c.requires.names.header)
+      profile_told c.args.bytes.now c.in_ok-table.table.file.now c.in_ok-table.table.header c.args.headers.now
+          c.is_any_outside_profile.result true c.in_ok-table.ensures.file (c.in_ok-table.ensures.header ∙ c.requires.names.header)
           c.requires.headers c.is_any_outside_profile.ensures c.if-is_any_outside_profile.true,
       refl,
     )
@@ -14,13 +14,13 @@ returns-then-is_any_outside_profile-clause-refused c =
 pub linked_sections-requires-clause-tests : goal.linked_sections-requires-clause-tests
 linked_sections-requires-clause-tests c = record {
   bounds = c.requires.bounds;
-  profile = profile_told c.args.bytes.now c.in-Ok.table.file.now c.in-Ok.table.header c.args.headers.now
-      c.is_any_outside_profile.result false c.in-Ok.ensures.file (c.in-Ok.ensures.header ∙ c.requires.names.header)
+  profile = profile_told c.args.bytes.now c.in_ok-table.table.file.now c.in_ok-table.table.header c.args.headers.now
+      c.is_any_outside_profile.result false c.in_ok-table.ensures.file (c.in_ok-table.ensures.header ∙ c.requires.names.header)
       c.requires.headers c.is_any_outside_profile.ensures c.if-is_any_outside_profile.false;
 }
 
-pub returns-in-Ok-linked_sections-clause-passes : goal.returns-in-Ok-linked_sections-clause-passes
-returns-in-Ok-linked_sections-clause-passes c =
-    profile_told c.args.bytes.now c.in-Ok.table.file.now c.in-Ok.table.header c.args.headers.now
-    c.is_any_outside_profile.result false c.in-Ok.ensures.file (c.in-Ok.ensures.header ∙ c.requires.names.header)
+pub returns-clause-passes : goal.returns-clause-passes
+returns-clause-passes c =
+    profile_told c.args.bytes.now c.in_ok-table.table.file.now c.in_ok-table.table.header c.args.headers.now
+    c.is_any_outside_profile.result false c.in_ok-table.ensures.file (c.in_ok-table.ensures.header ∙ c.requires.names.header)
     c.requires.headers c.is_any_outside_profile.ensures c.if-is_any_outside_profile.false

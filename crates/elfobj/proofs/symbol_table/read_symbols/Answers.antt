@@ -75,8 +75,8 @@ read_tested-requires-clause-found c =
     table_told c.args.bytes.now c.args.headers.now c.symbol_table_header.result
     (Some c.in-Some.table) c.requires.headers c.symbol_table_header.ensures c.in-Some.is
 
-pub returns-in-Ok-Some-clause-ok : goal.returns-in-Ok-Some-clause-ok
-returns-in-Ok-Some-clause-ok c =
+pub returns-in-Some-2-clause-ok : goal.returns-in-Some-2-clause-ok
+returns-in-Some-2-clause-ok c =
     let right = sym c.has_wrong_header.ensures ∙ c.if-has_wrong_header.false in
     let below = string_table_below c.args.headers.now c.in-Some.table.sh_link
     (right_header c.args.headers.now c.in-Some.table right).strings in
@@ -88,11 +88,11 @@ returns-in-Ok-Some-clause-ok c =
     (Some c.in-Some.table) c.requires.headers c.symbol_table_header.ensures c.in-Some.is) right
     (count_of c.args.bytes.now c.args.headers.now c.requires.headers)
     (header_of c.args.bytes.now c.args.headers.now c.in-Some.table.sh_link null_header c.requires.headers below)
-    (told _ _ c.in-Ok-Some.symbols c.in-Ok-Some.field-0-is c.in-Ok-Some.ensures.placed)
-    (told _ _ c.in-Ok-Some.symbols c.in-Ok-Some.field-0-is c.in-Ok-Some.ensures.right)
+    (told _ _ c.in-Some-2.symbols c.in-Some-2.is c.in_ok-symbols.ensures.placed)
+    (told _ _ c.in-Some-2.symbols c.in-Some-2.is c.in_ok-symbols.ensures.right)
 
-pub returns-in-Ok-Some-clause-symbols : goal.returns-in-Ok-Some-clause-symbols
-returns-in-Ok-Some-clause-symbols c =
+pub returns-in-Some-2-clause-symbols : goal.returns-in-Some-2-clause-symbols
+returns-in-Some-2-clause-symbols c =
     let right = sym c.has_wrong_header.ensures ∙ c.if-has_wrong_header.false in
     let below = string_table_below c.args.headers.now c.in-Some.table.sh_link
     (right_header c.args.headers.now c.in-Some.table right).strings in
@@ -100,4 +100,4 @@ returns-in-Ok-Some-clause-symbols c =
     (table_told c.args.bytes.now c.args.headers.now c.symbol_table_header.result
     (Some c.in-Some.table) c.requires.headers c.symbol_table_header.ensures c.in-Some.is)
     (header_of c.args.bytes.now c.args.headers.now c.in-Some.table.sh_link null_header c.requires.headers below) refl
-    (told _ _ c.in-Ok-Some.symbols c.in-Ok-Some.field-0-is c.in-Ok-Some.ensures.symbols)
+    (told _ _ c.in-Some-2.symbols c.in-Some-2.is c.in_ok-symbols.ensures.symbols)

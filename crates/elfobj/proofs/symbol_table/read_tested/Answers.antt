@@ -15,7 +15,7 @@ pub has_misplaced_entry-requires-clause-within : goal.has_misplaced_entry-requir
 has_misplaced_entry-requires-clause-within c =
     let right = (right_header c.args.headers.now c.args.table.now c.requires.right) in
     let count = count_told c.args.bytes.now c.args.table.now c.deref.result.now
-    (c.deref.ensures.value ∙ c.in-Ok.ensures) in
+    (c.deref.ensures.value ∙ c.in_ok-entries.ensures) in
     omega (arith, right.high)
 
 pub returns-then-has_misplaced_entry-clause-refused : goal.returns-then-has_misplaced_entry-clause-refused
@@ -24,7 +24,7 @@ returns-then-has_misplaced_entry-clause-refused c =
     (wrong_table c.args.bytes.now c.args.table.now true
     (several_told c.args.bytes.now c.args.headers.now _ false c.requires.headers refl c.requires.one)
     c.requires.found
-    (wrong_by_entries c.args.bytes.now c.args.table.now c.deref.result.now (c.deref.ensures.value ∙ c.in-Ok.ensures)
+    (wrong_by_entries c.args.bytes.now c.args.table.now c.deref.result.now (c.deref.ensures.value ∙ c.in_ok-entries.ensures)
     (sym c.has_misplaced_entry.ensures ∙ c.if-has_misplaced_entry.true))))
 
 pub bounds-headers-table : goal.bounds-headers-table
@@ -52,7 +52,7 @@ pub is_any_wrong-requires : goal.is_any_wrong-requires
 is_any_wrong-requires c =
     let right = (right_header c.args.headers.now c.args.table.now c.requires.right) in
     let count = count_told c.args.bytes.now c.args.table.now c.deref-2.result.now
-    (c.deref-2.ensures.value ∙ c.in-Ok.ensures) in
+    (c.deref-2.ensures.value ∙ c.in_ok-entries.ensures) in
     omega (arith, right.some)
 
 pub returns-then-is_any_wrong-clause-refused : goal.returns-then-is_any_wrong-clause-refused
@@ -64,34 +64,34 @@ returns-then-is_any_wrong-clause-refused c =
     (several_told c.args.bytes.now c.args.headers.now _ false c.requires.headers refl c.requires.one)
     c.requires.found
     (right_table c.args.bytes.now c.args.headers.now c.args.table.now c.deref.result.now c.requires.headers
-    (c.deref.ensures.value ∙ c.in-Ok.ensures) c.requires.right
+    (c.deref.ensures.value ∙ c.in_ok-entries.ensures) c.requires.right
     (sym c.has_misplaced_entry.ensures ∙ c.if-has_misplaced_entry.false)))
     (wrong_symbol c.args.bytes.now c.args.table.now true c.requires.found
     (entry_told c.args.bytes.now c.args.table.now (get_or c.args.headers.now c.args.table.now.sh_link null_header)
-    (length c.args.headers.now) (table_of c.in-Ok-of_header.names) c.deref-2.result.now true
+    (length c.args.headers.now) (table_of c.in_ok-names.names) c.deref-2.result.now true
     (count_of c.args.bytes.now c.args.headers.now c.requires.headers)
     (header_of c.args.bytes.now c.args.headers.now c.args.table.now.sh_link null_header c.requires.headers below)
-    (table_same c.args.bytes.now c.in-Ok-of_header.names.file.now c.in-Ok-of_header.names.header
-    (get_or c.args.headers.now c.args.table.now.sh_link null_header) c.in-Ok-of_header.ensures.file
-    c.in-Ok-of_header.ensures.header)
-    (c.deref-2.ensures.value ∙ c.in-Ok.ensures) (sym c.is_any_wrong.ensures ∙ c.if-is_any_wrong.true))))
+    (table_same c.args.bytes.now c.in_ok-names.names.file.now c.in_ok-names.names.header
+    (get_or c.args.headers.now c.args.table.now.sh_link null_header) c.in_ok-names.ensures.file
+    c.in_ok-names.ensures.header)
+    (c.deref-2.ensures.value ∙ c.in_ok-entries.ensures) (sym c.is_any_wrong.ensures ∙ c.if-is_any_wrong.true))))
 
 pub named_symbols-requires-clause-some : goal.named_symbols-requires-clause-some
 named_symbols-requires-clause-some c =
     let right = (right_header c.args.headers.now c.args.table.now c.requires.right) in
     let count = count_told c.args.bytes.now c.args.table.now c.deref-3.result.now
-    (c.deref-3.ensures.value ∙ c.in-Ok.ensures) in
+    (c.deref-3.ensures.value ∙ c.in_ok-entries.ensures) in
     omega (arith, right.some)
 
 pub named_symbols-requires-clause-names : goal.named_symbols-requires-clause-names
 named_symbols-requires-clause-names c =
-    names_told (length c.args.headers.now) (table_of c.in-Ok-of_header.names)
-    (table_of c.in-Ok-of_header.names) c.deref-2.result.now c.deref-3.result.now refl
+    names_told (length c.args.headers.now) (table_of c.in_ok-names.names)
+    (table_of c.in_ok-names.names) c.deref-2.result.now c.deref-3.result.now refl
     (c.deref-2.ensures.value ∙ sym c.deref-3.ensures.value)
     (sym c.is_any_wrong.ensures ∙ c.if-is_any_wrong.false)
 
-pub returns-in-Ok-named_symbols-clause-ok : goal.returns-in-Ok-named_symbols-clause-ok
-returns-in-Ok-named_symbols-clause-ok c =
+pub returns-clause-ok : goal.returns-clause-ok
+returns-clause-ok c =
     let below = string_table_below c.args.headers.now c.args.table.now.sh_link
     (right_header c.args.headers.now c.args.table.now c.requires.right).strings in
     symbols_pass c.args.bytes.now
@@ -99,26 +99,26 @@ returns-in-Ok-named_symbols-clause-ok c =
     (several_told c.args.bytes.now c.args.headers.now _ false c.requires.headers refl c.requires.one)
     c.requires.found
     (right_table c.args.bytes.now c.args.headers.now c.args.table.now c.deref.result.now c.requires.headers
-    (c.deref.ensures.value ∙ c.in-Ok.ensures) c.requires.right
+    (c.deref.ensures.value ∙ c.in_ok-entries.ensures) c.requires.right
     (sym c.has_misplaced_entry.ensures ∙ c.if-has_misplaced_entry.false)))
     (wrong_symbol c.args.bytes.now c.args.table.now false c.requires.found
     (entry_told c.args.bytes.now c.args.table.now (get_or c.args.headers.now c.args.table.now.sh_link null_header)
-    (length c.args.headers.now) (table_of c.in-Ok-of_header.names) c.deref-2.result.now false
+    (length c.args.headers.now) (table_of c.in_ok-names.names) c.deref-2.result.now false
     (count_of c.args.bytes.now c.args.headers.now c.requires.headers)
     (header_of c.args.bytes.now c.args.headers.now c.args.table.now.sh_link null_header c.requires.headers below)
-    (table_same c.args.bytes.now c.in-Ok-of_header.names.file.now c.in-Ok-of_header.names.header
-    (get_or c.args.headers.now c.args.table.now.sh_link null_header) c.in-Ok-of_header.ensures.file
-    c.in-Ok-of_header.ensures.header)
-    (c.deref-2.ensures.value ∙ c.in-Ok.ensures) (sym c.is_any_wrong.ensures ∙ c.if-is_any_wrong.false)))
+    (table_same c.args.bytes.now c.in_ok-names.names.file.now c.in_ok-names.names.header
+    (get_or c.args.headers.now c.args.table.now.sh_link null_header) c.in_ok-names.ensures.file
+    c.in_ok-names.ensures.header)
+    (c.deref-2.ensures.value ∙ c.in_ok-entries.ensures) (sym c.is_any_wrong.ensures ∙ c.if-is_any_wrong.false)))
 
-pub returns-in-Ok-named_symbols-clause-symbols : goal.returns-in-Ok-named_symbols-clause-symbols
-returns-in-Ok-named_symbols-clause-symbols c =
+pub returns-clause-symbols : goal.returns-clause-symbols
+returns-clause-symbols c =
     let below = string_table_below c.args.headers.now c.args.table.now.sh_link
     (right_header c.args.headers.now c.args.table.now c.requires.right).strings in
     named_all c.args.bytes.now c.args.table.now
     (get_or c.args.headers.now c.args.table.now.sh_link null_header) c.deref-3.result.now _ _ c.requires.found
     (header_of c.args.bytes.now c.args.headers.now c.args.table.now.sh_link null_header c.requires.headers below)
-    (c.deref-3.ensures.value ∙ c.in-Ok.ensures)
-    (named_same c.args.bytes.now c.in-Ok-of_header.names.file.now c.in-Ok-of_header.names.header
+    (c.deref-3.ensures.value ∙ c.in_ok-entries.ensures)
+    (named_same c.args.bytes.now c.in_ok-names.names.file.now c.in_ok-names.names.header
     (get_or c.args.headers.now c.args.table.now.sh_link null_header) c.deref-3.result.now _ _
-    c.in-Ok-of_header.ensures.file c.in-Ok-of_header.ensures.header c.in-Ok-named_symbols.ensures)
+    c.in_ok-names.ensures.file c.in_ok-names.ensures.header c.in_ok-named_symbols.ensures)
