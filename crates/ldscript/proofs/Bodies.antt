@@ -4,8 +4,9 @@ use Rattle.std.specs.Prelude.{codes, bytes_eq, if◌then◌else◌}
 use Rattle.ldscript_tokens.specs.Tokens.{Lexeme, Word}
 use Rattle.ldscript_tokens.specs.Words.{is_free_name, is_free_word, is_reserved}
 use Rattle.ldscript_tokens.specs.declared.token.Mark.{Mark}
-use Rattle.ldscript_tokens.specs.declared.token.Mark.TheVariants.{OpenParenthesis, CloseBrace, Semicolon, Assign}
+use Rattle.ldscript_tokens.specs.declared.token.Mark.TheVariants.{OpenParenthesis, CloseBrace, Assign}
 use Rattle.ldscript_tokens.specs.declared.token.Mark.TheVariants.{AddAssign}
+use Rattle.ldscript_tokens.specs.declared.token.Mode.{Mode}
 use Rattle.ldscript_tokens.specs.declared.token.Mode.TheVariants.{Pattern}
 use Rattle.ldscript_terms.specs.Expressions.{Expr}
 use Rattle.ldscript.specs.Steps.{◌▸◌, mark, token, key, statements}
@@ -29,9 +30,10 @@ use Rattle.ldscript_statements.specs.declared.section.Width.TheVariants.{Byte, S
 use Rattle.ldscript_statements.specs.declared.section.BodyCommand.{BodyCommand}
 use Rattle.ldscript_statements.specs.declared.section.BodyCommand.TheVariants as body
 use Rattle.ldscript_statements.specs.declared.section.BodyStatement.{BodyStatement}
-use Rattle.ldscript.proofs.Singles.{Single, tokens_same, words_same, mark_fixed, pair_single, behind_tree, keys_differ}
-use Rattle.ldscript.proofs.Singles.{name_no_key, directive_single, dot_command_single, in_parentheses_single}
-use Rattle.ldscript.proofs.Inputs.{pattern_no_key, word_no_mark, input_single, input_no_mark, marks_apart, kept_cases}
+use Rattle.ldscript.proofs.Singles.{Single, tokens_same, words_same, pair_single, behind_tree, keys_differ}
+use Rattle.ldscript.proofs.Singles.{name_no_key, directive_single, dot_command_single, in_parentheses_single, marks_differ}
+use Rattle.ldscript.proofs.Inputs.{pattern_no_key, word_no_mark, input_single, input_no_mark, kept_cases}
+use Rattle.ldscript.proofs.Inputs.{listed_to_brace}
 use Rattle.ldscript.proofs.Lists.{Listed, closing_single}
 
 -- the width that a word names
@@ -65,7 +67,7 @@ width_no_word Short = refl
 width_no_word Long = refl
 width_no_word Quad = refl
 
-dot_no_name : is_free_name (codes ".") ≡ false
+pub dot_no_name : is_free_name (codes ".") ≡ false
 unfolding is_free_name is_reserved
 dot_no_name = refl
 
@@ -105,18 +107,18 @@ word_no_input : (w : List ℕ) (m : Mark) → (m ≡ OpenParenthesis → ⊥) �
 word_no_input w m d e k i ts us r s x h y = elim (kept_cases i.keep i ts s y) [
   | inl p ↦
       let same = (tokens_same (Word p.1.0) (Word w) ts p.0 us p.1.3 x).1 in
-      marks_apart m OpenParenthesis us r p.2.0 d h (subst (λ l. mark OpenParenthesis l p.2.0) same p.2.1)
+      marks_differ m OpenParenthesis us r p.2.0 d h (subst (λ l. mark OpenParenthesis l p.2.0) same p.2.1)
   | inr p ↦ keys_differ Pattern w (codes "KEEP") e k ts us p.0 x p.1
 ]
 
-dot_no_directive : (a : DotCommand) (b : Directive) (ts r s : List Lexeme) → dot_command Pattern a ts r
-    → directive Pattern b ts s → ⊥
-dot_no_directive a (directives.Assign b) ts r s x y = name_no_key Pattern b.name (codes ".") dot_no_name ts y.0 x.0 y.1
-    x.1
-dot_no_directive a (directives.Provide b) ts r s x y =
-    keys_differ Pattern (codes ".") (codes "PROVIDE") refl refl ts x.0 y.0 x.1 y.1
-dot_no_directive a (directives.Assert b) ts r s x y =
-    keys_differ Pattern (codes ".") (codes "ASSERT") refl refl ts x.0 y.0 x.1 y.1
+pub dot_no_directive : (mode : Mode) (a : DotCommand) (b : Directive) (ts r s : List Lexeme) → dot_command mode a ts r
+    → directive mode b ts s → ⊥
+dot_no_directive mode a (directives.Assign b) ts r s x y = name_no_key mode b.name (codes ".") dot_no_name ts y.0 x.0
+    y.1 x.1
+dot_no_directive mode a (directives.Provide b) ts r s x y =
+    keys_differ mode (codes ".") (codes "PROVIDE") refl refl ts x.0 y.0 x.1 y.1
+dot_no_directive mode a (directives.Assert b) ts r s x y =
+    keys_differ mode (codes ".") (codes "ASSERT") refl refl ts x.0 y.0 x.1 y.1
 
 dot_no_data : (a : DotCommand) (w : Width) (e : Expr) (ts r s : List Lexeme) → dot_command Pattern a ts r
     → data_part (w, e) ts s → ⊥
@@ -139,7 +141,7 @@ directive_no_input : (a : Directive) (i : Input) (ts r s : List Lexeme) → dire
 directive_no_input (directives.Assign a) i ts r s x y = elim (kept_cases i.keep i ts s y) [
   | inl p ↦
       let same = (tokens_same (Word p.1.0) (Word a.name) ts p.0 x.0 p.1.3 x.1.1).1 in
-      marks_apart Assign OpenParenthesis x.0 x.2.0 p.2.0 (λ q. cc) x.2.1
+      marks_differ Assign OpenParenthesis x.0 x.2.0 p.2.0 (λ q. cc) x.2.1
       (subst (λ l. mark OpenParenthesis l p.2.0) same p.2.1)
   | inr p ↦ name_no_key Pattern a.name (codes "KEEP") keep_no_name ts x.0 p.0 x.1 p.1
 ]
@@ -168,10 +170,10 @@ body_command_single ts r s (body.Data v e) (body.Data w f) x y =
     (data_same v w e f h.0 h.1, h.2)
 body_command_single ts r s (body.Input a) (body.Input b) x y = let e = input_single ts r s a b x y in
     (ap body.Input e.0, e.1)
-body_command_single ts r s (body.Dot a) (body.Directive b) x y = absurd (dot_no_directive a b ts r s x y)
+body_command_single ts r s (body.Dot a) (body.Directive b) x y = absurd (dot_no_directive Pattern a b ts r s x y)
 body_command_single ts r s (body.Dot a) (body.Data w e) x y = absurd (dot_no_data a w e ts r s x y)
 body_command_single ts r s (body.Dot a) (body.Input b) x y = absurd (dot_no_input a b ts r s x y)
-body_command_single ts r s (body.Directive a) (body.Dot b) x y = absurd (dot_no_directive b a ts s r y x)
+body_command_single ts r s (body.Directive a) (body.Dot b) x y = absurd (dot_no_directive Pattern b a ts s r y x)
 body_command_single ts r s (body.Directive a) (body.Data w e) x y = absurd (directive_no_data a w e ts r s x y)
 body_command_single ts r s (body.Directive a) (body.Input b) x y = absurd (directive_no_input a b ts r s x y)
 body_command_single ts r s (body.Data w e) (body.Dot b) x y = absurd (dot_no_data b w e ts s r y x)
@@ -200,16 +202,8 @@ body_no_mark m (body.Data w e) ts r s x y = word_no_mark (width_word w) m ts x.0
 body_no_mark m (body.Input i) ts r s x y = input_no_mark m i ts r s x y
 
 pub body_listed : Listed (λ ts. Unit {0}) (mark CloseBrace) body_statement
-body_listed = record {
-  single = λ ts r s a b x y h k. body_statement_single ts r s a b x y;
-  closes = mark_fixed CloseBrace;
-  no_close = λ x ts r s d e. body_no_mark CloseBrace x.command ts r s d.1 e;
-  no_semicolon = λ x ts r s d e. body_no_mark Semicolon x.command ts r s d.1 e;
-  apart = λ ts r s d e. marks_apart CloseBrace Semicolon ts r s (λ q. cc) d e;
-  at_close = λ ts r d. tt;
-  at_semicolon = λ ts r d. tt;
-  at_start = λ x ts r d. tt;
-}
+body_listed = listed_to_brace body_statement body_statement_single
+    (λ m x ts r s d e. body_no_mark m x.command ts r s d.1 e)
 
 pub closed_body_single : Single (λ ss. statements body_statement ss ▸ mark CloseBrace)
 closed_body_single ts r s a b x y = closing_single body_listed a b ts r s x y

@@ -1,6 +1,7 @@
 -- Lists without `;`, up to what closes them.
 use Rattle.std.proofs.Common.{◌≡◌, ◌∙◌, refl, sym, ap, subst, List, [], ◌∷◌, ◌++◌, length, ◌<◌, ◌≤◌, arith}
 use Rattle.std.proofs.Common.{append_assoc}
+use Rattle.std.proofs.lemmas.List.{append-nil}
 use Rattle.ldscript_tokens.specs.Tokens.{Lexeme}
 use Rattle.ldscript.specs.Steps.{Rule, ◌▸◌, each, some}
 use Rattle.ldscript.specs.Readings.{Takes, NoneAt}
@@ -63,10 +64,6 @@ pub some_none : {A : Type 0} (c : Rule) (p : A → Rule) (ts : List Lexeme) → 
 some_none c p ts n [] more d = d.1
 some_none c p ts n (x ∷ xs) more d = n (x ∷ xs) more d
 
-append_nil : {A : Type 0} (xs : List A) → xs ++ [] ≡ xs
-append_nil [] = refl
-append_nil (x ∷ xs) = ap (λ ys. x ∷ ys) (append_nil xs)
-
 -- the members read so far: what completes the rest completes the whole, and the other way round
 pub record EachSoFar {A : Type 0} (c : Rule) (p : A → Rule) (ts : List Lexeme) (xs : List A)
     (rest : List Lexeme) : Type 0 where
@@ -92,7 +89,7 @@ pub each_so_far_closed : {A : Type 0} (c : Rule) (p : A → Rule) (ts : List Lex
     → EachSoFar c p ts xs rest → c rest us → length us < length rest
     → Takes (λ ys. each p ys ▸ c) ts xs us
 each_so_far_closed c p ts xs rest us s m h = record {
-  spells = (rest, subst (λ zs. each p zs ts rest) (append_nil xs) (s.forth [] rest refl), m);
+  spells = (rest, subst (λ zs. each p zs ts rest) (append-nil xs) (s.forth [] rest refl), m);
   shorter = omega (arith, s.shorter);
 }
 

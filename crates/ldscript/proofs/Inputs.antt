@@ -21,17 +21,14 @@ use Rattle.ldscript_statements.specs.declared.input.SectionWord.{SectionWord}
 use Rattle.ldscript_statements.specs.declared.input.Input.{Input}
 use Rattle.ldscript_statements.specs.declared.input.InputStatement.{InputStatement}
 use Rattle.ldscript.proofs.Singles.{Single, tokens_same, mark_fixed, key_fixed, skip_single, pair_single, keys_differ}
-use Rattle.ldscript.proofs.Singles.{behind, behind_tree}
+use Rattle.ldscript.proofs.Singles.{behind, behind_tree, marks_differ, same_words}
 use Rattle.ldscript.proofs.Each.{EachListed, some_single}
 use Rattle.ldscript.proofs.Lists.{Listed, closing_single}
-
-same_words : (v w : List ℕ) → Word v ≡ Word w → v ≡ w
-same_words v w e = cc
 
 pub pattern_single : Single pattern
 pattern_single ts r s a b x y =
     let e = tokens_same (Word x.0) (Word y.0) ts r s x.3 y.3 in
-    let w = same_words x.0 y.0 e.0 in
+    let w = same_words Pattern x.0 y.0 e.0 in
     (one_pattern a b x.0 x.2 (subst (λ v. SpellsPattern b v) (sym w) y.2), e.1)
 
 -- a word of the language is no pattern
@@ -39,7 +36,7 @@ pub pattern_no_key : (w : List ℕ) → is_free_word w ≡ false → (p : List p
     → pattern p ts r → key Pattern w ts s → ⊥
 pattern_no_key w k p ts r s x y =
     let e = tokens_same (Word x.0) (Word w) ts r s x.3 y in
-    false≢true (sym k ∙ sym (ap is_free_word (same_words x.0 w e.0)) ∙ x.1)
+    false≢true (sym k ∙ sym (ap is_free_word (same_words Pattern x.0 w e.0)) ∙ x.1)
 
 pub word_no_mark : (w : List ℕ) (m : Mark) (ts r s : List Lexeme) → token (Word w) ts r → mark m ts s → ⊥
 word_no_mark w m ts r s x y = let e = (tokens_same (Word w) (Punctuation m) ts r s x y).0 in cc
@@ -261,22 +258,24 @@ input_statement_single ts r s a b x y =
     let e = input_single ts r s a.input b.input x.1 y.1 in
     (input_statements_same a b (x.0 ∙ sym y.0) e.0, e.1)
 
-pub marks_apart : (m n : Mark) (ts r s : List Lexeme) → (m ≡ n → ⊥) → mark m ts r → mark n ts s → ⊥
-marks_apart m n ts r s d x y = d (same (tokens_same (Punctuation m) (Punctuation n) ts r s x y).0) where
-  same : Punctuation m ≡ Punctuation n → m ≡ n
-  same e = cc
-
-pub inputs_listed : Listed (λ ts. Unit {0}) (mark CloseBrace) input_statement
-inputs_listed = record {
-  single = λ ts r s a b x y h k. input_statement_single ts r s a b x y;
+-- statements of which none begins with a mark, up to a `}`
+pub listed_to_brace : {A : Type 0} (p : A → Rule) → Single p
+    → ((m : Mark) (x : A) (ts r s : List Lexeme) → p x ts r → mark m ts s → ⊥)
+    → Listed (λ ts. Unit {0}) (mark CloseBrace) p
+listed_to_brace p one_tree no_mark = record {
+  single = λ ts r s a b x y h k. one_tree ts r s a b x y;
   closes = mark_fixed CloseBrace;
-  no_close = λ x ts r s d e. input_no_mark CloseBrace x.input ts r s d.1 e;
-  no_semicolon = λ x ts r s d e. input_no_mark Semicolon x.input ts r s d.1 e;
-  apart = λ ts r s d e. marks_apart CloseBrace Semicolon ts r s (λ q. cc) d e;
+  no_close = no_mark CloseBrace;
+  no_semicolon = no_mark Semicolon;
+  apart = λ ts r s d e. marks_differ CloseBrace Semicolon ts r s (λ q. cc) d e;
   at_close = λ ts r d. tt;
   at_semicolon = λ ts r d. tt;
   at_start = λ x ts r d. tt;
 }
+
+pub inputs_listed : Listed (λ ts. Unit {0}) (mark CloseBrace) input_statement
+inputs_listed = listed_to_brace input_statement input_statement_single
+    (λ m x ts r s d e. input_no_mark m x.input ts r s d.1 e)
 
 pub closed_inputs_single : Single (λ is. statements input_statement is ▸ mark CloseBrace)
 closed_inputs_single ts r s a b x y = closing_single inputs_listed a b ts r s x y

@@ -49,9 +49,9 @@ use Rattle.ldscript.proofs.Singles.{
 }
 use Rattle.ldscript.proofs.Singles.{marks_differ}
 use Rattle.ldscript.proofs.Starts.{starts}
-use Rattle.ldscript.proofs.Tails.{NoTail, tails_same, tails_single}
+use Rattle.ldscript.proofs.Tails.{NoTail, key_no_mark, tails_same, tails_single}
 use Rattle.ldscript.proofs.Inputs.{closed_inputs_single}
-use Rattle.ldscript.proofs.Bodies.{closed_body_single}
+use Rattle.ldscript.proofs.Bodies.{closed_body_single, dot_no_directive, dot_no_name}
 use Rattle.ldscript.proofs.Lists.{Listed, closing_single}
 
 no_colon_first : (e : Expr) (ts us r s : List Lexeme) → expression e ts us → mark Colon ts s → ⊥
@@ -67,9 +67,6 @@ pub address_none : (ts : List Lexeme) → ((us : List Lexeme) → mark Colon ts 
     → NoneAt stated_address ts
 address_none ts c n None more d = c more d
 address_none ts c n (Some e) more d = n e more d
-
-key_no_mark : (w : List ℕ) (m : Mark) (ts r s : List Lexeme) → key Expression w ts r → mark m ts s → ⊥
-key_no_mark w m ts r s x y = let e = (tokens_same (Name w) (Punctuation m) ts r s x y).0 in cc
 
 alignment_single : Single alignment
 alignment_single = skip_single (key Expression (codes "ALIGN")) in_parentheses
@@ -358,10 +355,6 @@ discard_single = skip_single (token Discard) discarded (token_fixed Discard)
     (skip_single (mark OpenBrace) (λ is. statements input_statement is ▸ mark CloseBrace)
     (mark_fixed OpenBrace) closed_inputs_single))
 
-dot_no_name : is_free_name (codes ".") ≡ false
-unfolding is_free_name is_reserved
-dot_no_name = refl
-
 provide_no_name : is_free_name (codes "PROVIDE") ≡ false
 unfolding is_free_name is_reserved
 provide_no_name = refl
@@ -369,15 +362,6 @@ provide_no_name = refl
 assert_no_name : is_free_name (codes "ASSERT") ≡ false
 unfolding is_free_name is_reserved
 assert_no_name = refl
-
-dot_no_directive : (a : DotCommand) (b : Directive) (ts r s : List Lexeme) → dot_command Expression a ts r
-    → directive Expression b ts s → ⊥
-dot_no_directive a (directives.Assign b) ts r s x y = name_no_key Expression b.name (codes ".") dot_no_name ts y.0 x.0
-    y.1 x.1
-dot_no_directive a (directives.Provide b) ts r s x y =
-    keys_differ Expression (codes ".") (codes "PROVIDE") refl refl ts x.0 y.0 x.1 y.1
-dot_no_directive a (directives.Assert b) ts r s x y =
-    keys_differ Expression (codes ".") (codes "ASSERT") refl refl ts x.0 y.0 x.1 y.1
 
 dot_no_section : (a : DotCommand) (b : OutputSection) (ts r s : List Lexeme) → dot_command Expression a ts r
     → section b ts s → ⊥
@@ -409,14 +393,14 @@ directive_no_discard (directives.Assert a) ts r s x y = name_no_discard (codes "
 dot_only : (ts r s : List Lexeme) (a : DotCommand) (b : ItemCommand) → dot_command Expression a ts r
     → item_command b ts s → (b ≡ item.Dot a) × (s ≡ r)
 dot_only ts r s a (item.Dot b) x y = let e = dot_command_single Expression ts s r b a y x in (ap item.Dot e.0, e.1)
-dot_only ts r s a (item.Directive b) x y = absurd (dot_no_directive a b ts r s x y)
+dot_only ts r s a (item.Directive b) x y = absurd (dot_no_directive Expression a b ts r s x y)
 dot_only ts r s a (item.Section b) x y = absurd (dot_no_section a b ts r s x y)
 dot_only ts r s a (item.Discard b) x y = absurd (name_no_discard (codes ".") ts x.0 y.0 x.1 y.1)
 
 directive_only : (ts r s : List Lexeme) (a : Directive) (b : ItemCommand) → directive Expression a ts r
     → item_command b ts s
     → (b ≡ item.Directive a) × (s ≡ r)
-directive_only ts r s a (item.Dot b) x y = absurd (dot_no_directive b a ts s r y x)
+directive_only ts r s a (item.Dot b) x y = absurd (dot_no_directive Expression b a ts s r y x)
 directive_only ts r s a (item.Directive b) x y = let e = directive_single Expression ts s r b a y x in (
   ap
       item.Directive e.0,

@@ -1,6 +1,7 @@
 -- Lists of statements up to what closes them.
 use Rattle.std.proofs.Common.{◌≡◌, ◌∙◌, refl, sym, ap, subst, List, [], ◌∷◌, ◌++◌, length, ◌<◌, ◌≤◌, ◌⊎◌, inl, inr}
 use Rattle.std.proofs.Common.{arith, append_assoc}
+use Rattle.std.proofs.lemmas.List.{append-nil}
 use Rattle.ldscript_tokens.specs.Tokens.{Lexeme}
 use Rattle.ldscript_tokens.specs.declared.token.Mark.TheVariants.{Semicolon}
 use Rattle.ldscript.specs.Steps.{Rule, ◌▸◌, mark, Semicolons, none, one, statements}
@@ -102,10 +103,6 @@ pub with_semicolon : {A : Type 0} (p : A → Rule) (ts us : List Lexeme) → mar
 with_semicolon p ts us m [] r d = one m d
 with_semicolon p ts us m (y ∷ ys) r d = (d.0, one m d.1, d.2)
 
-pub append_nil : {A : Type 0} (xs : List A) → xs ++ [] ≡ xs
-append_nil [] = refl
-append_nil (x ∷ xs) = ap (λ ys. x ∷ ys) (append_nil xs)
-
 -- the statements read so far: what completes the rest completes the whole, and the other way round
 pub record SoFar {A : Type 0} (c : Rule) (p : A → Rule) (ts : List Lexeme) (xs : List A)
     (rest : List Lexeme) : Type 0 where
@@ -141,7 +138,7 @@ pub so_far_closed : {A : Type 0} (c : Rule) (p : A → Rule) (ts : List Lexeme) 
     → SoFar c p ts xs rest → c rest us → length us < length rest
     → Takes (λ ys. statements p ys ▸ c) ts xs us
 so_far_closed c p ts xs rest us s m h = record {
-  spells = (rest, subst (λ zs. statements p zs ts rest) (append_nil xs) (s.forth [] rest none), m);
+  spells = (rest, subst (λ zs. statements p zs ts rest) (append-nil xs) (s.forth [] rest none), m);
   shorter = omega (arith, s.shorter);
 }
 

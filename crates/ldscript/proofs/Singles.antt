@@ -83,7 +83,7 @@ pair_single {A} {B} p q f g ts r s a a' b b' x y =
     (e.0, h.0, h.1)
 
 -- words
-same_words : (mode : Mode) (v w : List ℕ) → word_in mode v ≡ word_in mode w → v ≡ w
+pub same_words : (mode : Mode) (v w : List ℕ) → word_in mode v ≡ word_in mode w → v ≡ w
 same_words Expression v w e = cc
 same_words Pattern v w e = cc
 

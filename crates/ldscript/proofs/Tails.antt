@@ -81,7 +81,7 @@ module _ {A B : Type 0} (f : Rule) (p : A → Rule) (q : B → Rule) where
   optional_stuck skip ts us h n None y more d e = skip y ts more us (subst (λ l. q y l more) (sym d.1) d.2) e h
   optional_stuck skip ts us h n (Some x) y more d e = n x d.0 d.1
 
-key_no_mark : (w : List ℕ) (m : Mark) (ts r s : List Lexeme) → key Expression w ts r → mark m ts s → ⊥
+pub key_no_mark : (w : List ℕ) (m : Mark) (ts r s : List Lexeme) → key Expression w ts r → mark m ts s → ⊥
 key_no_mark w m ts r s x y = let e = (tokens_same (Name w) (Punctuation m) ts r s x y).0 in cc
 
 region_first : (x : List ℕ) (ts r : List Lexeme) → in_region x ts r → (us : List Lexeme) × mark Greater ts us

@@ -1,6 +1,7 @@
 -- The statements of a script, and the law that no text has two trees.
 use Rattle.std.proofs.Common.{◌≡◌, ◌∙◌, refl, sym, ap, subst, ℕ, List, [], ◌∷◌, true, false}
 use Rattle.std.specs.Prelude.{codes, bytes_eq}
+use Rattle.std.proofs.lemmas.List.{append-nil}
 use Rattle.ldscript_tokens.specs.Tokens.{Lexeme, lexeme, first_line, Name, Punctuation}
 use Rattle.ldscript_tokens.specs.Words.{is_free_name, is_reserved}
 use Rattle.ldscript_tokens.specs.Modes.{IsCut}
@@ -31,7 +32,7 @@ use Rattle.ldscript.proofs.Singles.{Single, tokens_same, mark_fixed, key_fixed, 
 use Rattle.ldscript.proofs.Singles.{name_no_key, name_single, directive_single}
 use Rattle.ldscript.proofs.Regions.{closed_regions_single}
 use Rattle.ldscript.proofs.Items.{closed_items_single}
-use Rattle.ldscript.proofs.Lists.{Listed, SoFar, append_nil, closing_single, so_far_stuck}
+use Rattle.ldscript.proofs.Lists.{Listed, SoFar, closing_single, so_far_stuck}
 
 pub named_in_parentheses_single : Single (λ n. mark OpenParenthesis ▸ name n ▸ mark CloseParenthesis)
 named_in_parentheses_single = skip_single (mark OpenParenthesis) (λ n. name n ▸ mark CloseParenthesis)
@@ -170,7 +171,7 @@ top_none ts a b c d (top.Directive y) more k = d y more k
 -- the tokens end behind the statements read so far
 pub whole_script : (ts rest : List Lexeme) (xs : List Statement) → SoFar at_end top_statement ts xs rest → rest ≡ []
     → script xs ts
-whole_script ts rest xs s e = subst (λ ys. script ys ts) (append_nil xs)
+whole_script ts rest xs s e = subst (λ ys. script ys ts) (append-nil xs)
     (s.forth [] [] (subst (λ l. Semicolons l []) (sym e) none))
 
 pub no_script : (ts rest : List Lexeme) (xs : List Statement) → SoFar at_end top_statement ts xs rest → (rest ≡ [] → ⊥)
