@@ -155,7 +155,7 @@ fn tail<'a>(alloc: Global, tokens: Cursor<'a>) -> Parsed<'a, SectionTail>
     Ok(Some((SectionTail { region, load, fill }, rest)))
 }
 
-/// The load address of an output section, unless its head and its tail both give one.
+/// The load address (LMA) of an output section, unless its head and its tail both give one.
 fn load_of(head: Option<Formula>, tail: Option<ScriptName>) -> Option<Load>
     ensures { MatchOption result ((l : Load) → load_in_head l ≡ head → load_in_tail l ≡ tail → ⊥)
         (λ l. (load_in_head l ≡ head) × (load_in_tail l ≡ tail)) }
@@ -180,11 +180,11 @@ fn section_of(
         (λ s. IsOfParts s name address head body tail) }
 {
     let SectionHead {
-        load: address_given,
+        load: load_given,
         alignment,
     } = head;
     let SectionTail { region, load, fill } = tail;
-    match load_of(address_given, load) {
+    match load_of(load_given, load) {
         None => None,
         Some(load) => Some(OutputSection {
             name,

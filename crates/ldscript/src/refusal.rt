@@ -1,5 +1,8 @@
 //! Why a text is no script of the profile.
 
+use ldscript_statements::NoRoom;
+use std::alloc::AllocError;
+
 /// Why `Script::read` refuses. A text of more than 2^20 bytes is `Limit`; else the refusals are tested in the order
 /// `NotTokens`, `Limit`, `NotAScript`, `Repeated`, `MisplacedDot`, and the first that applies is answered. `NoMemory`
 /// says nothing about the text.
@@ -17,6 +20,28 @@ pub enum ScriptRefusal {
     Limit,
     /// 6: out of memory.
     NoMemory,
+}
+
+impl From<AllocError> for ScriptRefusal {
+    ghost use Rattle.std.specs.Prelude.{◌≡◌};
+    ghost use Rattle.ldscript.specs.declared.refusal.ScriptRefusal.TheVariants.{NoMemory};
+
+    ghost from_gives = { λ _ e. e ≡ NoMemory };
+
+    fn from(_failed: AllocError) -> ScriptRefusal {
+        ScriptRefusal::NoMemory
+    }
+}
+
+impl From<NoRoom> for ScriptRefusal {
+    ghost use Rattle.std.specs.Prelude.{◌≡◌};
+    ghost use Rattle.ldscript.specs.declared.refusal.ScriptRefusal.TheVariants.{NoMemory};
+
+    ghost from_gives = { λ _ e. e ≡ NoMemory };
+
+    fn from(_failed: NoRoom) -> ScriptRefusal {
+        ScriptRefusal::NoMemory
+    }
 }
 
 impl ScriptRefusal {

@@ -61,10 +61,9 @@ fn read_tree(alloc: Global, text: &[u8]) -> Result<Sequence<Statement>, ScriptRe
         Err(TokenRefusal::Limit) => return Err(ScriptRefusal::Limit),
         Err(TokenRefusal::NoMemory) => return Err(ScriptRefusal::NoMemory),
     };
-    match statements_of(alloc, Cursor::new(text, &tokens)) {
-        Ok(Some(statements)) => Ok(statements),
-        Ok(None) => Err(ScriptRefusal::NotAScript),
-        Err(_) => Err(ScriptRefusal::NoMemory),
+    match statements_of(alloc, Cursor::new(text, &tokens))? {
+        Some(statements) => Ok(statements),
+        None => Err(ScriptRefusal::NotAScript),
     }
 }
 
@@ -155,17 +154,13 @@ impl Script {
         ensures refused { IfErr result (λ refusal. IsRefusal text.now refusal) }
     {
         let statements = read_tree(alloc, text)?;
-        match has_clash(alloc, statements.as_slice()) {
-            Ok(false) => {}
-            Ok(true) => return Err(ScriptRefusal::Repeated),
-            Err(_) => return Err(ScriptRefusal::NoMemory),
+        if has_clash(alloc, statements.as_slice())? {
+            return Err(ScriptRefusal::Repeated);
         }
         if has_misplaced_dot(statements.as_slice()) {
             return Err(ScriptRefusal::MisplacedDot);
         }
-        match Tables::of(alloc, statements.as_slice()) {
-            Ok(tables) => Ok(Script { statements, tables }),
-            Err(_) => Err(ScriptRefusal::NoMemory),
-        }
+        let tables = Tables::of(alloc, statements.as_slice())?;
+        Ok(Script { statements, tables })
     }
 }

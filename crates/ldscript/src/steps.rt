@@ -107,7 +107,7 @@ pub fn name_in_parentheses<'a>(tokens: Cursor<'a>) -> Option<(&'a [u8], Cursor<'
     Some((name, rest))
 }
 
-/// An expression and a mark after it that cannot continue an expression.
+/// An expression, and after it a mark that cannot continue it.
 pub fn ended<'a>(alloc: Global, tokens: Cursor<'a>, mark: Mark) -> Parsed<'a, Formula>
     requires { StopsAt Whole (Sign mark) }
     ensures { Reads (ended_part mark) tokens.entry (λ x. x.0) (λ x. x.1) result }
