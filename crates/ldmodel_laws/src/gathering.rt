@@ -29,9 +29,9 @@ pub fn first_match_by_splitting()
     match_by_splitting();
 }
 
-/// With garbage collection a section is live exactly if a path of sections that are not discarded leads to it from a
-/// root, each the target of a relocation of the one before; without it, if it is not discarded. Live sections are in
-/// the order of all input sections.
+/// With garbage collection, the live sections are those to which a path leads from a root: each section on the path is
+/// the target of a relocation of the one before, and none is discarded. Without it, they are those that are not
+/// discarded. Live sections are in the order of all input sections.
 pub fn live_by_path()
     ensures collected { (project : Project) (section : InputSection) → project.options.gc ≡ true
         → Contains (live project) section ↔ Path (is_root project) (refers_to project) (candidates project) section }

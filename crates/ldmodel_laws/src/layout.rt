@@ -20,11 +20,11 @@ ghost use Rattle.ldmodel_laws.specs.Placed.{IsFirstFault, IsPlacement};
 ghost use Rattle.ldmodel_laws.specs.Spread.{IsSpread, Notes, dots_in, dots_of, entries_in};
 ghost use Rattle.ldmodel_laws.specs.Traces.{Trace};
 
-/// A layout is that of a script exactly if the statements lead to it, each from the state that the one before it left:
-/// the statements of the script, those of SECTIONS, those of the body of each output section, the regions of MEMORY,
-/// and the entries of each input statement, of which each starts at the least multiple of its alignment not below `.`
-/// and moves `.` to its end. A fault is the first exactly if the statements, regions or entries before one, at any
-/// depth, lead to a state in which that one has it.
+/// The layout of a script is the one to which its statements lead, each from the state that the one before it left: the
+/// statements of the script, those of SECTIONS, those of the body of each output section, the regions of MEMORY, and
+/// the entries of each input statement. An entry starts at the least multiple of its alignment not below `.`, and moves
+/// `.` to its end. The first fault is that of a statement, region or entry, at any depth, in the state to which those
+/// before it lead.
 pub fn placement_by_steps()
     ensures placed { (script : List Statement) (rows : List (List Piece)) (provided : List (List ℕ)) (layout : Layout)
         → (placement script rows provided ≡ Ok layout) ↔ IsPlacement script rows provided layout }
@@ -60,7 +60,7 @@ pub fn dots_by_statement()
         → body_step provided body statement ≡ Ok next → next.layout.dots ≡ body.layout.dots ++ body.layout.dot ∷ [] }
 {}
 
-/// An output section has file bytes exactly if its load size is not 0.
+/// An output section has file bytes if its load size is not 0, and none if it is.
 pub fn loaded_with_file_bytes()
     ensures { (section : OutputSection) (head : Head) (body : Body)
         → (placed_section section head body).has_file_bytes ≡ not ((placed_section section head body).load_size == 0) }

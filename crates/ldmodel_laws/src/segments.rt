@@ -7,9 +7,9 @@ ghost use Rattle.ldmodel.specs.Segments.{SectionInFile, Segment, file_offset, in
 ghost use Rattle.ldmodel_laws.specs.FileOrder.{AreInFileOrder};
 ghost use Rattle.ldmodel_laws.specs.ImageBytes.{AreNamed};
 
-/// The segments of output sections are their one file layout: two neighbours of nonzero size share a segment exactly if
-/// the test holds, and each segment begins at the lowest file offset past the file bytes before it that is congruent to
-/// its address modulo the page size.
+/// The segments of output sections are their one file layout: two neighbours of nonzero size share a segment if the
+/// test holds, and else they do not. Each segment begins at the lowest file offset that is past the file bytes before
+/// it, and congruent to its address modulo the page size.
 pub fn segments_by_neighbours()
     ensures is { (sections : List PlacedOutput) → IsFileLayout sections (segments sections) }
     ensures one { (sections : List PlacedOutput) (placed : List Segment)

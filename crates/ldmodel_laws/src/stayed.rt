@@ -92,9 +92,9 @@ pub fn unmoved_sites()
         → HasField new site }
 {}
 
-/// The sites in input sections that stayed are retargeted exactly if their symbols have other values, compared as
-/// values and not as numbers: 0 is also the number of a symbol that nothing defines and of one whose section is not in
-/// the output. So a filter by unequal values keeps the retargeted sites, in their order.
+/// Of the sites in input sections that stayed, the retargeted ones are those whose symbols have other values. Not their
+/// numbers are compared: 0 is also the number of a symbol that nothing defines, and of one whose section is not in the
+/// output. So a filter by unequal values keeps the retargeted sites, in their order.
 pub fn moved_by_value()
     ensures one { (old new : GoodLink) → IsGood old → IsGood new → (piece : LinkedPiece) (site : Site)
         → Contains (stayed old new) piece → Contains (sites_in new.project piece) site
@@ -119,9 +119,9 @@ pub fn sites_by_piece()
     ensures faultless { (link : GoodLink) → IsFaultless link → IsPlacedOnce link.project link.layout }
 {}
 
-/// Whether a site lies in an input section that stayed follows from the object and the number of its section: an input
-/// section stayed exactly if its part of its object is among those that did. So one pass over the sites in the order of
-/// the objects finds those that are retargeted, by a test of values too, and those outside of what stayed.
+/// Whether a site lies in an input section that stayed follows from the object and the number of its section: the input
+/// sections that stayed are those whose part of their object is among the parts that did. So one pass over the sites in
+/// the order of the objects finds those that are retargeted, by a test of values too, and those outside of what stayed.
 pub fn stayed_by_part()
     ensures piece { (old new : GoodLink) → IsPlacedOnce new.project new.layout → (piece : LinkedPiece)
         → Contains (link_pieces new) piece → has_part_stayed old new piece.object piece.part ≡ has_stayed old piece }
