@@ -10,7 +10,7 @@ use std::io::ErrorKind;
 const REFUSED: u8 = 2;
 /// The status after a device failed.
 const DEVICE: u8 = 3;
-/// The status where memory runs out.
+/// The status if memory runs out.
 const NO_MEMORY: u8 = 4;
 
 /// Why a file that a command line names is not shown.
@@ -68,12 +68,12 @@ impl FileFault {
         }
     }
 
-    /// Reports the fault on standard error, and gives the status that a program ends with. Where the words are refused,
+    /// Reports the fault on standard error, and gives the status that a program ends with. If the words are refused,
     /// `usage` is what is reported.
     pub fn report(&self, rt: &impl Eprint, usage: &str) -> u8
         ensures { result ≡ exit_status self.now }
     {
-        // where standard error cannot be written either, the status alone says it
+        // if standard error cannot be written either, the status alone says it
         let _ = match self {
             FileFault::Words => eprintln!(rt; "{usage}"),
             FileFault::Unread(name, error) => eprintln!(rt; "{name}: cannot be read: {error}"),

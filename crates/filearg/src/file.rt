@@ -32,12 +32,12 @@ impl NamedFile {
     }
 }
 
-/// The bytes that a reader has left, the first `most` of them where there are more, in a buffer that has room for
-/// `room` bytes from the beginning.
+/// The bytes that a reader has left, or the first `most` of them if there are more. The buffer has room for `room`
+/// bytes from the beginning.
 ///
 /// # Errors
 ///
-/// Where the reader fails; of kind `OutOfMemory` where memory runs out.
+/// If the reader fails; of kind `OutOfMemory` if memory runs out.
 pub fn read_bytes<R: Read + Drop>(
     alloc: Global,
     reader: R,
@@ -51,12 +51,12 @@ pub fn read_bytes<R: Read + Drop>(
     Ok(bytes)
 }
 
-/// The bytes of a file, in a buffer of its size; one more than `MAX_FILE` where it has more, so that a file which is
-/// too long is seen to be, and one without an end is not read for ever.
+/// The bytes of a file, in a buffer of its size, or the first `MAX_FILE` + 1 of them if it has more: so a file that is
+/// too long is recognized, and one without an end is not read for ever.
 ///
 /// # Errors
 ///
-/// Where the file cannot be read; of kind `OutOfMemory` where memory runs out.
+/// If the file cannot be read; of kind `OutOfMemory` if memory runs out.
 pub fn read_file<R: Files + AllocGlobal>(rt: &R, name: &str) -> io::Result<Vec<u8>> {
     let most = MAX_FILE + 1;
     let file = File::open(rt, name)?;
@@ -77,11 +77,11 @@ fn read_named<R: Files + AllocGlobal>(rt: &R, name: &str) -> io::Result<NamedFil
     Ok(NamedFile { name, bytes })
 }
 
-/// The file that the program's command line names; `None` where it has no word.
+/// The file that the program's command line names; `None` if it has no word.
 ///
 /// # Errors
 ///
-/// Where there are more words, where one is not UTF-8, where the file cannot be read, and where memory runs out.
+/// If there are more words, or one is not UTF-8; if the file cannot be read; if memory runs out.
 pub fn named_file<R: Files + Env + AllocGlobal>(rt: &R) -> Result<Option<NamedFile>, FileFault> {
     let args = match arguments(rt) {
         Ok(args) => args,

@@ -6,11 +6,11 @@ ghost use Rattle.filearg.specs.declared.fault.FileFault.TheVariants.{Words};
 
 use crate::fault::FileFault;
 
-/// The file that these words name, of which the first is the program's name; `None` where there is no other.
+/// The file that these words name; `None` if there is no word after the first, which is the program's name.
 ///
 /// # Errors
 ///
-/// `Words` where there are more.
+/// `Words` if there are more than two.
 pub fn file_word(args: &[String]) -> Result<Option<&String>, FileFault>
     ensures none { result ≡ Ok None ↔ length args.now ≤ 1 }
     ensures named { IfOk result (λ file. IfSome file (λ name. (program : List ℕ)

@@ -14,7 +14,7 @@
 //! fault, and N the status that `ldi` ends with after it. Help and the version are printed before their line; of other
 //! faults, `clap`'s text goes to standard error.
 //!
-//! It ends with status 1 where a device failed or memory ran out.
+//! It ends with status 1 if a device fails or memory runs out.
 #![tactic(auto)]
 
 use ldi_words::call::Call;
