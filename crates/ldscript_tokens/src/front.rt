@@ -24,7 +24,7 @@ const DISCARD: &[u8] = b"/DISCARD/";
 pub struct FrontToken {
     /// What it is.
     pub kind: TokenKind,
-    /// The index of its first byte; of a text in double quotes, of the first byte between them.
+    /// The index of its first byte; for a text in double quotes, that of the first byte between them.
     pub start: usize,
     /// The index after its last byte, and at least `start`.
     pub end: usize,

@@ -17,7 +17,7 @@ use std::alloc::Global;
 pub const MAX_TEXT: usize = 1 << 20;
 
 impl FrontToken {
-    /// The token of the whole text, in which it begins `before` bytes later, on this line.
+    /// The same token in the whole text, where it begins `before` bytes further on, on this line.
     fn behind(self, before: usize, line: u32) -> CodeToken
         requires room { before + self.end ≤ 2 ^ 20 }
         requires order { self.start ≤ self.end }

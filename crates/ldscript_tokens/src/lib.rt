@@ -7,10 +7,10 @@
 
 pub mod bytes;
 pub mod cursor;
-mod front;
+pub mod front;
 pub mod laws;
 pub mod lexer;
-mod limits;
+pub mod limits;
 mod marks;
 mod modes;
 pub mod name;

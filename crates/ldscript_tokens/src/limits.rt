@@ -10,13 +10,13 @@ use super::number::number_value;
 use super::token::{CodeToken, ExpressionStretch, LexState, Mark, Mode, TokenKind};
 
 /// The greatest length of a name or word, in bytes.
-const MAX_WORD: usize = 255;
+pub const MAX_WORD: usize = 255;
 
 /// The greatest number of `{` in a text.
-const MAX_BRACES: usize = 4096;
+pub const MAX_BRACES: usize = 4096;
 
 /// The greatest number of signs in a run.
-const MAX_SIGNS: usize = 64;
+pub const MAX_SIGNS: usize = 64;
 
 /// Whether a number token is below 2^64, and a name or word no longer than the limit.
 fn has_short_spelling(kind: TokenKind, spelled: &[u8]) -> bool
@@ -56,7 +56,7 @@ fn open_braces(text: &[u8], tokens: &[CodeToken]) -> usize
 }
 
 /// The mode in which a token counts: the `(` that begins a stretch counts in expression mode.
-fn counted_mode(state: LexState, kind: TokenKind, spelled: &[u8]) -> Mode
+pub fn counted_mode(state: LexState, kind: TokenKind, spelled: &[u8]) -> Mode
     ensures { result ≡ counted_mode state (spelled_token kind spelled.now) }
 {
     match (state.stretch, kind) {
@@ -67,7 +67,7 @@ fn counted_mode(state: LexState, kind: TokenKind, spelled: &[u8]) -> Mode
 }
 
 /// Whether a token that counts in this mode belongs to no run.
-fn is_break(mode: Mode, kind: TokenKind, spelled: &[u8]) -> bool
+pub fn is_break(mode: Mode, kind: TokenKind, spelled: &[u8]) -> bool
     ensures { result ≡ is_break mode (spelled_token kind spelled.now) }
 {
     match (mode, kind) {
@@ -80,7 +80,7 @@ fn is_break(mode: Mode, kind: TokenKind, spelled: &[u8]) -> bool
 }
 
 /// Whether a mark is a sign: `(`, or an operator other than an assignment.
-fn is_sign_mark(mark: Mark) -> bool
+pub fn is_sign_mark(mark: Mark) -> bool
     ensures { result ≡ is_sign_mark mark }
 {
     !matches!(
@@ -132,7 +132,7 @@ fn have_short_runs(text: &[u8], tokens: &[CodeToken]) -> bool
 }
 
 /// Whether the tokens of a text are within the limits.
-pub fn are_within_limits(text: &[u8], tokens: &[CodeToken]) -> bool
+pub(crate) fn are_within_limits(text: &[u8], tokens: &[CodeToken]) -> bool
     requires few { length tokens.now ≤ 2 ^ 20 }
     requires places { All (IsPlace (length text.now)) tokens.now }
     ensures { IsTrue result ↔ IsWithinLimits (map (token_of text.now) tokens.now) }

@@ -97,7 +97,7 @@ pub enum TokenKind {
 pub struct CodeToken {
     /// What it is.
     pub kind: TokenKind,
-    /// The index of its first byte; of a text in double quotes, of the first byte between them.
+    /// The index of its first byte; for a text in double quotes, that of the first byte between them.
     pub start: u32,
     /// The index after its last byte, and at least `start`.
     pub end: u32,

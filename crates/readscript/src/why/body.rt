@@ -2,24 +2,12 @@
 
 use crate::why::reason::Stop;
 use crate::why::walk::Walk;
-use ldscript::tokens::token::{Mark, Mode};
+use ldscript::tokens::token::Mode;
 
 /// The words before data.
 const WIDTHS: [&[u8]; 4] = [b"BYTE", b"SHORT", b"LONG", b"QUAD"];
 
 impl<'a> Walk<'a> {
-    /// Whether an assignment, `PROVIDE` or `ASSERT` comes next.
-    fn begins_directive_in_body(&self) -> bool {
-        match self.tokens.copy().word() {
-            Some((word, rest)) => {
-                word == b"PROVIDE".as_slice()
-                    || word == b"ASSERT".as_slice()
-                    || rest.mark(Mark::Assign).is_some()
-            }
-            None => false,
-        }
-    }
-
     /// `.`, data, an assignment, `PROVIDE`, `ASSERT` or an input statement
     pub fn pass_body_statement(&mut self) -> Result<(), Stop> {
         let line = self.tokens.line();
@@ -40,7 +28,7 @@ impl<'a> Walk<'a> {
                 return Ok(());
             }
         }
-        if self.begins_directive_in_body() {
+        if self.begins_directive(Mode::Pattern) {
             return self.pass_directive(Mode::Pattern, false);
         }
         self.pass_input()

@@ -1,14 +1,10 @@
 //! Counts of the tokens of a text, and their limits.
 
+use ldscript::tokens::limits::{
+    MAX_BRACES, MAX_SIGNS, MAX_WORD, counted_mode, is_break, is_sign_mark,
+};
 use ldscript::tokens::number::number_value;
-use ldscript::tokens::token::{ExpressionStretch, LexState, Mark, Mode, TokenKind};
-
-/// The greatest length of a name or word, in bytes.
-const MAX_WORD: usize = 255;
-/// The greatest number of `{` in a text.
-const MAX_BRACES: usize = 4096;
-/// The greatest number of signs in a run.
-const MAX_SIGNS: usize = 64;
+use ldscript::tokens::token::{LexState, Mark, TokenKind};
 
 /// Counts from the beginning of the text on.
 #[derive(Drop)]
@@ -17,32 +13,6 @@ pub struct Counts {
     braces: usize,
     /// The signs of the current run: operators and `(`.
     signs: usize,
-}
-
-/// Whether it is `(`, or an operator other than an assignment.
-fn is_sign(mark: Mark) -> bool {
-    !matches!(
-        mark,
-        Mark::CloseParenthesis
-            | Mark::OpenBrace
-            | Mark::CloseBrace
-            | Mark::Semicolon
-            | Mark::Colon
-            | Mark::Comma
-            | Mark::Assign
-            | Mark::AddAssign
-    )
-}
-
-/// Whether a token belongs to a run of signs: the `(` after `BYTE` and the like does.
-fn is_in_run(state: LexState, kind: TokenKind) -> bool {
-    let is_first = state.stretch == ExpressionStretch::Awaited
-        && kind == TokenKind::Punctuation(Mark::OpenParenthesis);
-    let ends = matches!(
-        kind,
-        TokenKind::Punctuation(Mark::Semicolon | Mark::OpenBrace | Mark::CloseBrace)
-    );
-    (is_first || state.mode() == Mode::Expression) && !ends
 }
 
 impl Counts {
@@ -61,7 +31,8 @@ impl Counts {
         kind: TokenKind,
         spelled: &[u8],
     ) -> Option<&'static str> {
-        if !is_in_run(state, kind) {
+        let is_break = is_break(counted_mode(state, kind, spelled), kind, spelled);
+        if is_break {
             self.signs = 0;
         }
         match kind {
@@ -77,7 +48,7 @@ impl Counts {
                     "over a limit: this is `{` number 4,097 of the text",
                 )
             }
-            TokenKind::Punctuation(mark) if is_sign(mark) && is_in_run(state, kind) => {
+            TokenKind::Punctuation(mark) if is_sign_mark(mark) && !is_break => {
                 self.signs = self.signs.saturating_add(1);
                 (self.signs == MAX_SIGNS + 1).then_some(
                     "over a limit: more than 64 operators and `(` with no `;`, `{` or `}` between them",

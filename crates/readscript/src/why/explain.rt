@@ -85,7 +85,7 @@ fn token_stop(alloc: Global, text: &[u8]) -> Result<Option<Explanation>, AllocEr
     }
 }
 
-/// The first of these places, ordered by their lines, that is where a statement stops.
+/// The first of these places, in the order of their lines, at which a statement stops.
 fn place_of<'a>(found: &[Finding<'a>], stopped: &Stopped) -> Option<Finding<'a>> {
     let last = stopped.explanation.line.unwrap_or(0);
     let mut below: usize = 0;

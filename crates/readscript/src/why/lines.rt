@@ -2,8 +2,9 @@
 //! text is tokenized once more, by the same rules.
 
 use crate::why::counts::Counts;
-use crate::why::front::{Ahead, front};
+use crate::why::front::no_token;
 use crate::why::reason::Explanation;
+use ldscript::tokens::front::{Ahead, front};
 use ldscript::tokens::refusal::TokenRefusal;
 use ldscript::tokens::token::{ExpressionStretch, LexState, TokenKind};
 
@@ -43,16 +44,16 @@ pub fn explain_tokens(text: &[u8], refusal: TokenRefusal) -> Explanation {
     for _ in 0..=text.len() {
         let length = match front(state.mode(), rest) {
             Ahead::Finished => break,
-            Ahead::Nothing(reason) => return Explanation::on_line(line, reason),
+            Ahead::Unknown => return Explanation::on_line(line, no_token(state.mode(), rest)),
             Ahead::Space(length) => length,
-            Ahead::Token(kind, length) => {
+            Ahead::Found(token, length) => {
                 let spelled = rest.get(..length).unwrap_or(rest);
-                let passed = counts.passed_limit(state, kind, spelled);
+                let passed = counts.passed_limit(state, token.kind, spelled);
                 // a text without tokens is refused as such, whatever limit it passes before
                 if let (TokenRefusal::Limit, Some(reason)) = (refusal, passed) {
                     return Explanation::on_line(line, reason);
                 }
-                state = after(state, kind, spelled);
+                state = after(state, token.kind, spelled);
                 length
             }
         };

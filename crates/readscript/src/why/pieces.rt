@@ -2,9 +2,10 @@
 //! too, and the next one follows it.
 
 use crate::why::counts::Counts;
-use crate::why::front::{Ahead, front};
+use crate::why::front::no_token;
 use crate::why::lines::{after, line_after};
 use ldscript::tokens::bytes::is_name_byte;
+use ldscript::tokens::front::{Ahead, front};
 use ldscript::tokens::token::{ExpressionStretch, LexState, Mode, TokenKind};
 use std::alloc::{AllocError, Global};
 
@@ -131,7 +132,8 @@ impl<'a> Pieces<'a> {
                 Ahead::Space(length) => {
                     let _ = self.advance(length);
                 }
-                Ahead::Nothing(reason) => {
+                Ahead::Unknown => {
+                    let reason = no_token(self.state.mode(), self.rest);
                     let length = strange_length(self.state.mode(), self.rest);
                     return Piece {
                         kind: PieceKind::Strange(reason),
@@ -141,12 +143,12 @@ impl<'a> Pieces<'a> {
                         passed: None,
                     };
                 }
-                Ahead::Token(kind, length) => {
+                Ahead::Found(token, length) => {
                     let bytes = self.advance(length);
-                    let passed = self.counts.passed_limit(self.state, kind, bytes);
-                    self.pass(kind, bytes);
+                    let passed = self.counts.passed_limit(self.state, token.kind, bytes);
+                    self.pass(token.kind, bytes);
                     return Piece {
-                        kind: PieceKind::Token(kind),
+                        kind: PieceKind::Token(token.kind),
                         bytes,
                         start,
                         line,

@@ -59,7 +59,7 @@ fn is_call(tokens: &Cursor<'_>) -> bool {
 }
 
 impl<'a> Walk<'a> {
-    /// Notes where a statement stops that begins on a line.
+    /// Notes where a statement stops; `from` is the line on which it begins.
     pub fn note_stop(&mut self, from: u32, stop: Stop) -> Result<(), Stop> {
         match stop {
             Stop::NoMemory => Err(Stop::NoMemory),
@@ -123,7 +123,7 @@ impl<'a> Walk<'a> {
         }
     }
 
-    /// Goes to the braces of an output section whose head begins on a line and stops here.
+    /// Goes to the braces of an output section. Its head begins on a line, and stops here.
     ///
     /// # Errors
     ///

@@ -39,10 +39,7 @@ fn is_word(piece: &Piece<'_>) -> bool {
 
 /// A word of GNU ld alone.
 fn word_of(word: Option<&'static str>, table: Table) -> Outside {
-    match word {
-        Some(word) => Some((Foreign::Word(word), table)),
-        None => None,
-    }
+    Some((Foreign::Word(word?), table))
 }
 
 /// The message on a construct that is no word.
@@ -88,10 +85,8 @@ fn called_name(context: &Context<'_>, word: &Piece<'_>) -> Outside {
     if is(word, "BLOCK") && context.is_in_head() {
         return Some((Foreign::Word("BLOCK"), Table::OutputSections));
     }
-    match call(word.bytes) {
-        Some((word, table)) => Some((Foreign::Word(word), table)),
-        None => None,
-    }
+    let (word, table) = call(word.bytes)?;
+    Some((Foreign::Word(word), table))
 }
 
 /// A word that `(` follows, in patterns.

@@ -2,20 +2,8 @@
 
 use crate::why::reason::Stop;
 use crate::why::walk::{Use, Walk};
+use ldscript::statements::fill::Fill;
 use ldscript::tokens::token::{Mark, Mode, TokenKind};
-
-/// Whether a number is spelled as a fill: `0x` and an even number of 2 to 16 hexadecimal digits.
-fn is_fill(spelled: &[u8]) -> bool {
-    match spelled.strip_prefix(b"0x") {
-        Some(digits) => {
-            let count = digits.len();
-            (2..=16).contains(&count)
-                && count % 2 == 0
-                && digits.iter().all(|b| b.is_ascii_hexdigit())
-        }
-        None => false,
-    }
-}
 
 impl<'a> Walk<'a> {
     /// Whether `/DISCARD/` comes next.
@@ -100,13 +88,13 @@ impl<'a> Walk<'a> {
 
     /// The fill after `=`
     fn pass_fill(&mut self) -> Result<(), Stop> {
-        match self.tokens.copy().number() {
-            Some((spelled, rest)) if is_fill(spelled) => {
+        if let Some((spelled, rest)) = self.tokens.copy().number() {
+            if Fill::read(self.alloc, spelled)?.is_some() {
                 self.tokens = rest;
-                Ok(())
+                return Ok(());
             }
-            _ => Err(self.wrong("a fill is `0x` and an even number of 2 to 16 hexadecimal digits")),
         }
+        Err(self.wrong("a fill is `0x` and an even number of 2 to 16 hexadecimal digits"))
     }
 
     /// An output section

@@ -5,7 +5,7 @@ use crate::why::walk::{Use, Walk};
 use ldscript::Expr;
 use ldscript::tokens::token::{Mark, Mode};
 
-/// The name under which `ENTRY`, `MEMORY` and `SECTIONS` are noted, which a script has once at most.
+/// The commands that a script has once at most, by the names under which they are noted.
 const COMMANDS: [&[u8]; 3] = [b"ENTRY", b"MEMORY", b"SECTIONS"];
 
 /// What is wrong after the name of a region.
@@ -234,15 +234,15 @@ impl<'a> Walk<'a> {
         if self.is_discard() {
             return self.pass_discard();
         }
-        if self.begins_directive() {
+        if self.begins_directive(Mode::Expression) {
             return self.pass_directive(Mode::Expression, false);
         }
         self.pass_section()
     }
 
-    /// Whether an assignment, `PROVIDE` or `ASSERT` comes next.
-    fn begins_directive(&self) -> bool {
-        match self.tokens.copy().name() {
+    /// Whether an assignment, `PROVIDE` or `ASSERT` comes next in a mode.
+    pub fn begins_directive(&self, mode: Mode) -> bool {
+        match self.front(mode) {
             Some((word, rest)) => {
                 word == b"PROVIDE".as_slice()
                     || word == b"ASSERT".as_slice()

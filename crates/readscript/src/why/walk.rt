@@ -140,16 +140,17 @@ impl<'a> Walk<'a> {
         }
     }
 
-    /// The next token's bytes if it is a name, or in the other mode a word.
-    pub fn front_word(&self, mode: Mode) -> Option<&'a [u8]> {
-        let found = match mode {
+    /// The next token's bytes, if it is a name, or in pattern mode a word; and the tokens after it.
+    pub fn front(&self, mode: Mode) -> Option<(&'a [u8], Cursor<'a>)> {
+        match mode {
             Mode::Expression => self.tokens.copy().name(),
             Mode::Pattern => self.tokens.copy().word(),
-        };
-        match found {
-            Some((word, _)) => Some(word),
-            None => None,
         }
+    }
+
+    /// The next token's bytes, if it is a name, or in pattern mode a word.
+    pub fn front_word(&self, mode: Mode) -> Option<&'a [u8]> {
+        Some(self.front(mode)?.0)
     }
 
     /// Passes the next token, if there is one.
