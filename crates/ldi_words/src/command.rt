@@ -13,6 +13,19 @@ use std::alloc::{AllocError, Global};
 /// What `ldi --version` prints after the name.
 const VERSION: &str = "0.2.0";
 
+/// An example of `ldi link`, and what it writes to standard error, with the exit status of each.
+const LINK_HELP: &str = "\
+Example: ldi link -T image.ld -o image --Map image.map start.o main.o
+
+Standard error, and the exit status:
+  F12 main.o .text 0000000000000001 f  the link has faults; each has a line (1)
+  main.o: refused 4 M                  not an object that ldi takes; `readobj main.o` says why (2)
+  script: refused 5 M                  not a script that ldi takes; `readscript image.ld` says why (2)
+  main.o: refused 1 0                  the object is named twice (2)
+  main.o: refused 6 0                  over a limit: name, size or number of objects (2)
+  device                               a file cannot be read or written, or there is no seed for hash tables (3)
+  memory                               out of memory (4)";
+
 /// The values of `--orphan-handling`.
 static ORPHANS: [&str; 2] = ["error", "discard"];
 
@@ -130,7 +143,7 @@ fn link_command<'a>(alloc: Global, orphan_values: &'a [&'a str]) -> Result<Comma
 {
     let link = Command::new(alloc, "link")
         .about("Links objects once, from files to files")
-        .after_help("Example: ldi link -T image.ld -o image --Map image.map start.o main.o")
+        .after_help(LINK_HELP)
         .arg(script_arg(alloc))?
         .arg(image_arg(alloc))?
         .arg(map_arg(alloc))?;
