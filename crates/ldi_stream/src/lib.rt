@@ -1,4 +1,7 @@
 //! The command stream: commands are read, edits made, and each command answered in turn, over any linker.
+//!
+//! - the root has `run`; `serve`: one command; `line`, `head`, `payload`: how it is read; `answer`: how it is answered;
+//! - `devices`: the reader and the writer, with counts of their failed calls; `fault`: what a failed call gives.
 #![tactic(auto)]
 
 ghost use Rattle.std.specs.Prelude.{List, ℕ, IfOk, IfSome};
