@@ -20,19 +20,21 @@ use std::alloc::{AllocError, Global};
 use symres::Names;
 
 /// The name of the object.
-const FILE: &[u8] = b"a.o";
-/// The name of a section.
-const SECTION: &[u8] = b".text";
-/// The first section of an object.
-const FIRST: LinkedIndex = LinkedIndex(0);
+const OBJECT_NAME: &[u8] = b"a.o";
+/// The name of the section that a statement is looked for.
+const SECTION_NAME: &[u8] = b".text";
 /// The name that is resolved.
-const NAME: &[u8] = b"f";
-/// The value of the symbol where a field is evaluated, and the place of the field.
-const VALUE: u64 = 0x40_1010;
+const SYMBOL_NAME: &[u8] = b"f";
+/// The first section of the object.
+const FIRST_SECTION: LinkedIndex = LinkedIndex(0);
+/// The value of the symbol that a relocation refers to (S).
+const SYMBOL_VALUE: u64 = 0x40_1010;
+/// The address of its field (P).
+const FIELD_ADDRESS: u64 = 0x40_1001;
+/// The entry point in the ELF header.
+const ENTRY_POINT: u64 = 0x40_1001;
 
-const PLACE: u64 = 0x40_1001;
-
-/// Prints bytes as numbers.
+/// Prints bytes as hex numbers.
 fn print_numbers(bytes: &[u8], out: &mut String) -> Result<(), AllocError> {
     for byte in bytes {
         write!(out, " {byte:02x}")?;
@@ -46,20 +48,24 @@ fn print_object(object: &Object, out: &mut String) -> Result<(), AllocError> {
     if object.sections().is_empty() || symbols == 0 {
         return out.push_str("nothing to see\n");
     }
-    print_bytes(out, object.section_name(FIRST), IN_LINE)?;
-    print_numbers(object.section_bytes(FIRST), out)?;
+    print_bytes(out, object.section_name(FIRST_SECTION), IN_LINE)?;
+    print_numbers(object.section_bytes(FIRST_SECTION), out)?;
     print_bytes(out, object.name_of(SymbolIndex(symbols - 1)), IN_LINE)?;
     writeln!(out, " is symbol {}", symbols - 1)
 }
 
-/// `matches` and `Matcher`: whether the files of the input statements match the name of the object, and which statement
-/// takes a section.
+/// `matches` and `Matcher`: whether the file pattern of each input statement matches the name of the object, and which
+/// statement takes the section.
 fn print_matches(alloc: Global, script: &Script, out: &mut String) -> Result<(), AllocError> {
     for statement in script.input_statements(alloc)? {
-        writeln!(out, "matches {}", matches(&statement.input.file, FILE))?;
+        writeln!(
+            out,
+            "matches {}",
+            matches(&statement.input.file, OBJECT_NAME)
+        )?;
     }
     let matcher = Matcher::new(alloc, script)?;
-    match matcher.first_match(FILE, SECTION) {
+    match matcher.first_match(OBJECT_NAME, SECTION_NAME) {
         Some(InputIndex(number)) => writeln!(out, "taken by {number}"),
         None => out.push_str("taken by none\n"),
     }
@@ -78,11 +84,11 @@ fn print_decisions(
     if !names.contains(key) {
         names.enter(key, 0, object);
     }
-    let entered = names.decide(script, NAME, meter);
+    let entered = names.decide(script, SYMBOL_NAME, meter);
     if names.contains(key) {
         names.withdraw(key);
     }
-    let withdrawn = names.decide(script, NAME, meter);
+    let withdrawn = names.decide(script, SYMBOL_NAME, meter);
     names.forget();
     writeln!(out, "{:?}\n{:?}", entered.case(), withdrawn.case())?;
     writeln!(out, "known {}", names.known())
@@ -130,7 +136,7 @@ fn print_placement(
         writeln!(out, "placed {start:x} {size:x} {load:x}")?;
     }
     let segments = segments(alloc, placement.view())?;
-    let headers = headers(alloc, PLACE, &segments, 0, 1)?;
+    let headers = headers(alloc, ENTRY_POINT, &segments, 0, 1)?;
     print_numbers(&headers, out)
 }
 
@@ -150,12 +156,12 @@ fn print_layout(
     }
 }
 
-/// The first relocation of the first section.
+/// The first relocation of the first section, if there is one.
 fn first_relocation(object: &Object) -> Option<&Relocation> {
     if object.sections().is_empty() {
         return None;
     }
-    object.relocations(FIRST).first()
+    object.relocations(FIRST_SECTION).first()
 }
 
 /// `field`: the bytes of a relocation, written into a `Canvas`.
@@ -168,7 +174,7 @@ fn print_field(
     if relocation.kind == RelocationKind::None {
         return out.push_str("no field\n");
     }
-    let Ok(found) = field(relocation, VALUE, PLACE, meter) else {
+    let Ok(found) = field(relocation, SYMBOL_VALUE, FIELD_ADDRESS, meter) else {
         return out.push_str("overflow\n");
     };
     let bytes = found.bytes();
@@ -179,7 +185,7 @@ fn print_field(
     print_numbers(canvas.bytes(), out)
 }
 
-/// `Index`: whether a target has a site while an object's are in it, and after.
+/// `Index`: whether a target has a site while the object's sites are in it, and after they are dropped.
 fn print_index(alloc: Global, out: &mut String) -> Result<(), AllocError> {
     let object = ObjectPlace(0);
     let target = TargetIndex(2);
