@@ -48,7 +48,7 @@ def outline(script: bytes) -> Outline:
             result.memory.append(token.text)
     try:
         result.sections.extend(_sections(found))
-    except (IndexError, StopIteration):
+    except IndexError:
         pass
     return result
 
@@ -61,7 +61,9 @@ def _sections(found: list[ProfileToken]) -> Iterator[Head]:
         if found[at].text in (b";", b"}"):
             at += 1
         elif found[at + 1].text in (b"=", b"+="):
-            at = next(index for index in range(at, len(found)) if found[index].text == b";") + 1
+            while found[at].text != b";":
+                at += 1
+            at += 1
         elif found[at].text in (b"PROVIDE", b"ASSERT"):
             at = _closing(found, at + 1) + 1
         else:

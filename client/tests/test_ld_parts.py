@@ -21,6 +21,7 @@ from client.ld.beside import beside
 from client.ld.inputs import Object
 from client.ld.link import Opened, Streamed
 from client.ld.linkage import read_linkage
+from client.ld.script_text import outline
 from client.process import Process
 from client.protocol import Options
 from client.record import NamedTuple, dataclass, field, replace
@@ -64,6 +65,13 @@ class PlainTest(unittest.TestCase):
             known = mock.Mock(wraps=Objects({}))
             known.definition = lambda name: mock.Mock(number=1) if name == "there" else None
             self.assertEqual(names_others((reading.source, reading.nodes), known), expected, text)
+
+    def test_outline_of_a_torn_script(self) -> None:
+        """A text that ends within a statement has the output sections before it."""
+        begin = b"SECTIONS { .a : { *(.a) } >ram "
+        for end in (b"a = 1", b". = ALIGN(", b"PROVIDE(a", b".b : {", b".b", b""):
+            found = [(head.name, head.region) for head in outline(begin + end).sections]
+            self.assertEqual(found, [(b".a", b"ram")], end)
 
     def test_patterns(self) -> None:
         """A name, the front of one and `*`, and others are matched as by the regular expression."""
