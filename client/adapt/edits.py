@@ -2,6 +2,8 @@
 from __future__ import annotations
 
 import re
+from collections.abc import Iterator
+from contextlib import contextmanager
 
 from client.adapt.source import Source
 
@@ -41,6 +43,15 @@ class Edits:
     def remove(self, at: int, text: str) -> None:
         """Takes back an inserted text."""
         self._inserts[at] = [entry for entry in self._inserts.get(at, []) if entry[2] != text]
+
+    @contextmanager
+    def trial(self) -> Iterator[None]:
+        """Within this, no text is inserted yet; what is inserted then is forgotten at its end."""
+        inserts, self._inserts = self._inserts, {}
+        try:
+            yield
+        finally:
+            self._inserts = inserts
 
     def move(self, start: int, end: int, to: int, order: int = 0) -> None:
         """A span with its own changes to another place; nothing stays where it was."""

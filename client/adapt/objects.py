@@ -61,7 +61,7 @@ class Objects:
                 with open(path, "rb") as file:
                     self._files[path] = file.read()
         self.names = list(self._files)
-        self._tables: list[_Tables] | None = None
+        self._tables: list[Tables] | None = None
         self._sections: list[InputSection] | None = None
         self._unloaded: dict[str, list[InputSection]] | None = None
         self._definitions: dict[str, Definition] = {}
@@ -88,7 +88,7 @@ class Objects:
     def take_tables(self, other: Objects | None) -> None:
         """Takes what another one has read of objects that are the same bytes here."""
         known = {} if other is None or other._tables is None else {tables.name: tables for tables in other._tables}
-        self._tables = [known[name] if name in known and known[name].data is data else _Tables(name, data)
+        self._tables = [known[name] if name in known and known[name].data is data else Tables(name, data)
                         for name, data in self._files.items()]
         self._look_up(set() if other is None else other._words)
 
@@ -108,17 +108,17 @@ class Objects:
                 else:
                     self._referred.add(name)
 
-    def _read_tables(self) -> list[_Tables]:
+    def tables(self) -> list[Tables]:
         """The tables of the objects, read once."""
         if self._tables is None:
-            self._tables = [_Tables(name, data) for name, data in self._files.items()]
+            self._tables = [Tables(name, data) for name, data in self._files.items()]
         return self._tables
 
     def sections(self) -> list[InputSection]:
         """The linked sections with ALLOC, and the common blocks."""
         if self._sections is None:
             self._sections = []
-            for tables in self._read_tables():
+            for tables in self.tables():
                 self._sections.extend(section for section in tables.sections.values() if section.flags & ALLOC)
                 self._sections.extend(tables.commons())
         return self._sections
@@ -127,7 +127,7 @@ class Objects:
         """By name: sections with contents and without ALLOC, but for symbol tables and relocations."""
         if self._unloaded is None:
             self._unloaded = {}
-            for tables in self._read_tables():
+            for tables in self.tables():
                 for section in tables.sections.values():
                     if not section.flags & ALLOC and section.size:
                         self._unloaded.setdefault(section.name, []).append(section)
@@ -149,7 +149,7 @@ class Objects:
         else:
             numbers = [number for number, linkage in enumerate(linkages) if linkage.get(key, 0) > 1]
         for number in numbers:
-            tables = self._read_tables()[number]
+            tables = self.tables()[number]
             self._enter(tables, [entry for entry in tables.symbols() if entry[0] == name])
 
     def refers(self, name: str) -> bool:
@@ -171,10 +171,10 @@ class Objects:
         if self._read:
             return
         self._read = True
-        for tables in self._read_tables():
+        for tables in self.tables():
             self._enter(tables, tables.symbols())
 
-    def _enter(self, tables: _Tables, entries: Iterable[tuple[str, int, int, bool]]) -> None:
+    def _enter(self, tables: Tables, entries: Iterable[tuple[str, int, int, bool]]) -> None:
         """Takes entries of an object's symbol table."""
         definitions = self._definitions
         for symbol, shndx, value, weak in entries:
@@ -187,7 +187,7 @@ class Objects:
                                                  shndx)
 
 
-class _Tables:
+class Tables:
     """The section headers and the symbol table of an object; of another file they are empty."""
 
     __slots__ = ("name", "data", "sections", "_table", "_names")
@@ -238,12 +238,18 @@ class _Tables:
         for name, info, _, shndx, value, _ in SYMBOL.iter_unpack(self._table):
             yield _text(data, names + name), shndx, value, info >> 4 == WEAK
 
-    def commons(self) -> list[InputSection]:
-        """The common blocks as sections."""
+    def blocks(self) -> list[tuple[str, int, int]]:
+        """The common blocks: name, size, alignment."""
         if COMMON_BYTES not in self._table:
             return []
-        return [InputSection(self.name, "COMMON", NOBITS, ALLOC | WRITABLE, size, max(value, 1))
-                for _, _, _, shndx, value, size in SYMBOL.iter_unpack(self._table) if shndx == COMMON]
+        data, names = self.data, self._names
+        return [(_text(data, names + name), size, max(value, 1))
+                for name, _, _, shndx, value, size in SYMBOL.iter_unpack(self._table) if shndx == COMMON]
+
+    def commons(self) -> list[InputSection]:
+        """The common blocks as sections."""
+        return [InputSection(self.name, "COMMON", NOBITS, ALLOC | WRITABLE, size, align)
+                for _, size, align in self.blocks()]
 
 
 def _key(name: str) -> bytes:

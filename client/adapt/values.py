@@ -125,12 +125,12 @@ class Translator:
             if definition.busy:
                 return (ABSOLUTE, None)
             definition.busy = True
-            starts, inserts = dict(self.model.starts), self.model.edits._inserts
-            self.model.edits._inserts = {}
+            starts = dict(self.model.starts)
             try:
-                place = Place(definition.step.index, definition.section, at=1e9)
-                expr = definition.step.expr
-                value = self.value(expr, place) if expr is not None else Value(ABSOLUTE, ex.number(0))
+                with self.model.edits.trial():
+                    place = Place(definition.step.index, definition.section, at=1e9)
+                    expr = definition.step.expr
+                    value = self.value(expr, place) if expr is not None else Value(ABSOLUTE, ex.number(0))
                 kind = (value.kind, value.section)
                 if value.cases:
                     kind = (value.cases[1].kind, value.cases[1].section)
@@ -138,7 +138,7 @@ class Translator:
             except Left:
                 kind = (ABSOLUTE, None)
             finally:
-                self.model.starts, self.model.edits._inserts = starts, inserts
+                self.model.starts = starts
                 definition.busy = False
             if kind[0] == NUMBER:
                 kind = (ABSOLUTE, None) if definition.section is None else (RELATIVE, definition.section)

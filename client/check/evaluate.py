@@ -14,7 +14,6 @@ from client.check.state import (COMMON, DEFINED, DEFINED_WEAK, MASK, NUMBERS, RE
                                 UNDEFINED_WEAK, Item, Settings, Stopped, Symbol, Unknown)
 from client.object_file import ABSOLUTE
 from client.object_file import COMMON as COMMON_NUMBER
-from client.object_file import SYMBOL
 
 BUCKETS = 4051
 """The entries of GNU ld's table of symbols, while it has at most three quarters as many symbols."""
@@ -159,17 +158,13 @@ class Evaluation:
         if not owners:
             return
         found: dict[str, tuple[str, int, int, int]] = {}
-        for tables in self.objects._read_tables():
+        for tables in self.objects.tables():
             if tables.name not in owners:
                 continue
-            for name_at, _, _, shndx, value, size in SYMBOL.iter_unpack(tables._table):
-                if shndx != COMMON_NUMBER:
-                    continue
-                at = tables._names + name_at
-                name = tables.data[at:tables.data.find(b"\0", at)].decode("latin-1")
+            for name, size, align in tables.blocks():
                 old = found.get(name)
                 if old is None or size > old[1]:
-                    found[name] = (tables.name, size, max(value, 1), len(found) if old is None else old[3])
+                    found[name] = (tables.name, size, align, len(found) if old is None else old[3])
         blocks: dict[str, list[tuple[str, int, int]]] = {}
         for name in sorted(found, key=lambda name: (_bucket(name), -found[name][3])):
             owner, size, align, _ = found[name]

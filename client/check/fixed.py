@@ -51,21 +51,22 @@ class Fixed:
                 key = item.object, item.name
                 self.counts[key] = self.counts.get(key, 0) + 1
         self._entry()
-        self._line("SECTIONS {", -1)
+        self.add_line("SECTIONS {", -1)
         for output in self.evaluated.statements.outputs:
             place = output.place
             if place is not None and not place.gone and place.flags & ALLOC:
                 self._output(output)
         self._discarded(items)
         self._empty(items)
-        self._line("}", -1)
+        self.add_line("}", -1)
         self._symbols()
         text = "".join(f"{line}\n" for line, _ in self.lines)
         if len(text) > 1 << 20:
             raise NotFixed("it would be too long")
         return text.encode("latin-1"), [offset for _, offset in self.lines] + [-1]
 
-    def _line(self, text: str, offset: int) -> None:
+    def add_line(self, text: str, offset: int) -> None:
+        """Adds a line, which came from the statement at an offset; -1 if from none."""
         self.lines.append((text, offset))
 
     def _entry(self) -> None:
@@ -75,20 +76,20 @@ class Fixed:
             return
         name = evaluated.entry_name
         if evaluated.value(name) == evaluated.entry and is_name(name):
-            self._line(f"ENTRY({name})", -1)
+            self.add_line(f"ENTRY({name})", -1)
         else:
-            self._line(f"ENTRY({ENTRY}) {ENTRY} = {evaluated.entry:#x};", -1)
+            self.add_line(f"ENTRY({ENTRY}) {ENTRY} = {evaluated.entry:#x};", -1)
 
     def _symbols(self) -> None:
         evaluated = self.evaluated
         for name, value in evaluated.symbols.items():
             if not is_name(name):
                 raise NotFixed(f"{name} is no name of the profile")
-            self._line(f"{name} = {value:#x};", evaluated.assigned.get(name, -1))
+            self.add_line(f"{name} = {value:#x};", evaluated.assigned.get(name, -1))
         for symbol, _, _ in evaluated.started:
             started = evaluated.value(symbol.name)
             if symbol.name not in evaluated.symbols and started is not None:
-                self._line(f"{symbol.name} = {started:#x};", -1)
+                self.add_line(f"{symbol.name} = {started:#x};", -1)
 
     def _name(self, output: Output) -> str:
         name = self.names.get(id(output.node), output.name) if output.node is not None else output.name
@@ -105,7 +106,7 @@ class Fixed:
         assert place is not None
         at = output.node.start if output.node is not None else -1
         load = f" AT({place.load:#x})" if place.load != place.address else f" AT({place.address:#x})"
-        self._line(f"{self._name(output)} {place.address:#x} :{load} {{", at)
+        self.add_line(f"{self._name(output)} {place.address:#x} :{load} {{", at)
         body = _Body(self, output, has_bits(place), bool(place.flags & CODE))
         for statement in output.body:
             if statement.kind == INPUT:
@@ -121,7 +122,7 @@ class Fixed:
             if id(item) not in taken:
                 body.item(item, at, {})
         body.end(place.size, at)
-        self._line("}", at)
+        self.add_line("}", at)
 
     def pattern(self, item: Item) -> str:
         """The statement that takes one input section."""
@@ -133,7 +134,7 @@ class Fixed:
         found = {self.pattern(item) for item in items if item.out is NUMBERS and item.flags & ALLOC}
         if found:
             plain = {text[5:-1] if self.keep else text for text in found}
-            self._line(f"/DISCARD/ : {{ {' '.join(sorted(plain))} }}", -1)
+            self.add_line(f"/DISCARD/ : {{ {' '.join(sorted(plain))} }}", -1)
 
     def _empty(self, items: list[Item]) -> None:
         """Empty input sections of output sections that GNU ld drops: symbols may be in them."""
@@ -144,7 +145,7 @@ class Fixed:
             if item.size:
                 raise NotFixed(f"{item.name} of {item.object} has no place")
             name = self._fresh("ldi.empty")
-            self._line(f"{name} {out.address:#x} : {{ {self.pattern(item)} }}", -1)
+            self.add_line(f"{name} {out.address:#x} : {{ {self.pattern(item)} }}", -1)
 
     def _fresh(self, wish: str) -> str:
         count = 1
@@ -185,7 +186,7 @@ class _Body:
             if item.offset != self.at:
                 size, fill = gaps.get(self.at, (item.offset - self.at & MASK, None))
                 self.gap(self.at, item.offset - self.at & MASK, fill if size == item.offset - self.at else None, offset)
-            self.fixed._line(self.fixed.pattern(item), offset)
+            self.fixed.add_line(self.fixed.pattern(item), offset)
             self.left = self.fixed.counts[key] - 1 if item.name != "COMMON" else 0
             self.before = key
         self.at = item.offset + item.size
@@ -195,7 +196,7 @@ class _Body:
         if start != self.at:
             raise NotFixed(f"a gap of {self.output.name} is not where it should be")
         if not self.bits or not any(fill or b""):
-            self.fixed._line(f". = {start + size:#x};", offset)
+            self.fixed.add_line(f". = {start + size:#x};", offset)
         elif size > 1 << 16:
             raise NotFixed(f"a gap of {self.output.name} is too large to be filled")
         else:
@@ -203,14 +204,14 @@ class _Body:
             words = [f"QUAD(0x{contents[i:i + 8][::-1].hex()})" for i in range(0, size - 7, 8)]
             words += [f"BYTE({byte:#x})" for byte in contents[size - size % 8:]]
             for i in range(0, len(words), 8):
-                self.fixed._line(" ".join(words[i:i + 8]), offset)
+                self.fixed.add_line(" ".join(words[i:i + 8]), offset)
         self.at = start + size
 
     def data(self, start: int, size: int, value: int, offset: int) -> None:
         if start != self.at:
             raise NotFixed(f"data of {self.output.name} are not where they should be")
         word = {1: "BYTE", 2: "SHORT", 4: "LONG", 8: "QUAD"}[size]
-        self.fixed._line(f"{word}({value & (1 << 8 * size) - 1:#x})", offset)
+        self.fixed.add_line(f"{word}({value & (1 << 8 * size) - 1:#x})", offset)
         self.at = start + size
 
     def end(self, size: int, offset: int) -> None:

@@ -15,7 +15,7 @@ from client.check.compare import Comparison, Difference, pieces_of
 from client.check.evaluate import Evaluated, evaluate
 from client.check.fixed import NotFixed, fixed_script
 from client.check.merged import ONCE, merged
-from client.check.state import ALLOC, CREATED, EXCLUDE, Settings, Stopped, Unknown
+from client.check.state import ALLOC, Settings, Stopped, Unknown
 from client.object_file import ABSOLUTE
 
 TYPE_CHECKING = False
@@ -65,7 +65,7 @@ def script_is_first(command: Command) -> bool:
 def wants_map(adapted: Adapted | None, known: Objects, command: Command) -> bool:
     """Whether the places of input sections are compared, by the map: in links that are not large, and where a statement
     is more than files and names."""
-    if command.gc_sections or sum(len(tables.sections) for tables in known._read_tables()) <= SMALL:
+    if command.gc_sections or sum(len(tables.sections) for tables in known.tables()) <= SMALL:
         return True
     assert adapted is not None and adapted.tree is not None
     return any(_is_special(node) for section in all_sections(adapted.tree[1]) for node in section.body
@@ -292,7 +292,7 @@ class _Live:
     def __init__(self, known: Objects, map_text: bytes) -> None:
         kept = Counter((owner, name, size) for _, size, owner, name in pieces_of(map_text))
         self._live: set[tuple[str, int]] = set()
-        for tables in known._read_tables():
+        for tables in known.tables():
             same = Counter((section.name, section.size) for section in tables.sections.values())
             for number, section in tables.sections.items():
                 count = kept[(tables.name, section.name, section.size)]

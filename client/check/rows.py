@@ -54,7 +54,7 @@ class Rows:
         self.objects = objects
         flags: dict[tuple[int, int], int] = {}
         live = self.live = settings.live
-        for tables in objects._read_tables():
+        for tables in objects.tables():
             own: dict[int, Item] = {}
             owner = tables.name
             for number, section in tables.sections.items():
@@ -92,7 +92,7 @@ class Rows:
         """The flags in the section header; 0 of a section that has none."""
         if item.number < 0:
             return 0
-        tables = next(tables for tables in self.objects._read_tables() if tables.name == item.object)
+        tables = next(tables for tables in self.objects.tables() if tables.name == item.object)
         return tables.sections[item.number].flags
 
 
@@ -382,7 +382,7 @@ def _sorted(node: Input, found: list[tuple[Item, Pattern | None]]) -> list[tuple
         return sorted(found, key=lambda entry: [_key(key, entry[0]) for key in keys])  # as the tree, but in less time
     tree = Tree()
     for entry in found:
-        item, pattern = entry
+        _, pattern = entry
         sort = _sort(pattern.sorts) if pattern is not None else ""
         tree.add(entry, sort, by_file)
     return tree.listed()
