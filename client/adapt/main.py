@@ -24,7 +24,7 @@ dropped, rewritten, changed, left. Status 0: nothing is changed or left; 1: chan
 """
 
 
-class Words(Exception):
+class WordsRefused(Exception):
     """Words of the command line that are refused."""
 
 
@@ -41,36 +41,39 @@ class Call:
         while rest:
             self._word(rest)
         if not self.script:
-            raise Words("no SCRIPT is given")
+            raise WordsRefused("no SCRIPT is given")
 
     def _word(self, rest: list[str]) -> None:
         word = rest.pop(0)
-        if word == "-o" or word == "-L":
-            value = self._value(word, rest)
-            self.out, self.folders = (value, self.folders) if word == "-o" else (self.out, [*self.folders, value])
-        elif word.startswith("-L") and len(word) > 2:
-            self.folders.append(word[2:])
-        elif word == "--defsym" or word.startswith("--defsym="):
-            self._defsym(word[9:] if "=" in word else self._value(word, rest))
+        if word == "-o":
+            self.out = self._value(word, rest)
+        elif word == "-L":
+            self.folders.append(self._value(word, rest))
+        elif word.startswith("-L"):
+            self.folders.append(word.removeprefix("-L"))
+        elif word == "--defsym":
+            self._defsym(self._value(word, rest))
+        elif word.startswith("--defsym="):
+            self._defsym(word.removeprefix("--defsym="))
         elif word == "--objects":
             self._list(rest)
         elif word.startswith("-") and word != "-":
-            raise Words(f"{word} is no option")
+            raise WordsRefused(f"{word} is no option")
         elif self.script:
-            raise Words(f"{word} is a word too many")
+            raise WordsRefused(f"{word} is a word too many")
         else:
             self.script = word
 
     @staticmethod
     def _value(option: str, rest: list[str]) -> str:
         if not rest:
-            raise Words(f"{option} has no value")
+            raise WordsRefused(f"{option} has no value")
         return rest.pop(0)
 
     def _defsym(self, text: str) -> None:
         name, equals, value = text.partition("=")
         if not name or not equals or not value.strip():
-            raise Words(f"--defsym {text}: SYMBOL=EXPRESSION is expected")
+            raise WordsRefused(f"--defsym {text}: SYMBOL=EXPRESSION is expected")
         self.defsyms.append((name.strip(), value.strip()))
 
     def _list(self, rest: list[str]) -> None:
@@ -91,7 +94,7 @@ def main(words: list[str]) -> int:
         return 0
     try:
         return _run(Call(words))
-    except Words as fault:
+    except WordsRefused as fault:
         sys.stderr.write(f"ldi-adapt: {fault}\n{USAGE}")
         return 2
     except OSError as fault:
