@@ -206,7 +206,7 @@ class Folder(Generic[One]):
             return [one for one in self.inputs if not one.is_same()]
         if len(self._calls) != len(self.inputs):
             self._prepare()
-        failed = any([_statx(*call) for call in self._calls])
+        failed = any([_statx(*call) for call in self._calls])  # a list, since each call writes what it found
         stamps = [one.stamp for one in self.inputs]
         if failed or self._found.raw != self._same or stamps != self._stamps:
             return self._compared(failed, stamps)

@@ -5,7 +5,7 @@ takes for its modules.
 """
 from __future__ import annotations
 
-import _signal
+import _signal  # without what `signal` imports
 import io
 import os
 import select

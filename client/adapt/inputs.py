@@ -142,7 +142,7 @@ class Rewriter:
     @staticmethod
     def _spellings(word: str) -> list[list[str]]:
         """What may be written for a file pattern."""
-        archive, colon, name = word.rpartition(":")
+        archive, _, name = word.rpartition(":")
         own = word_of(name or "*")[0]
         if archive:
             return [[f"{word_of(archive)[0]}\\({own}\\)"]]

@@ -432,7 +432,7 @@ class Parser:
         else:
             node = Input(self._pattern(), token.start)
             if lexer.accept(WILD, "("):
-                node.patterns = self._patterns(node, ")")
+                node.patterns = self._patterns(")")
         node.keep, node.flags = keep, [flag for flag in flags if flag != "&"]
         if keep:
             lexer.expect(WILD, ")")
@@ -444,10 +444,10 @@ class Parser:
         token = self.lexer.take(WILD)
         node = Input(Pattern("*", [], [], token.start, token.end, False), start)
         node.bare = True
-        node.patterns = self._patterns(node, "]")
+        node.patterns = self._patterns("]")
         return node
 
-    def _patterns(self, node: Input, close: str) -> list[Pattern]:
+    def _patterns(self, close: str) -> list[Pattern]:
         lexer = self.lexer
         patterns: list[Pattern] = []
         while not (lexer.peek(WILD).kind == "mark" and lexer.accept(WILD, close)):

@@ -9,7 +9,7 @@ from client.adapt.model import Definition, Model, Step
 from client.adapt.notes import CHANGED, DROPPED, LEFT, REWRITTEN, Left
 from client.adapt.patterns import is_name
 from client.adapt.symbols import expressions_of
-from client.adapt.tree import Assert, Assign, Block, Data, Expr, Node, Region, Section
+from client.adapt.tree import Assert, Assign, Block, Data, Expr, Node, Region
 from client.adapt.values import NUMBER, Place, Translator, Value
 
 _GLUED = re.compile(r"(?<![A-Za-z0-9_.$])(?!\.-)[A-Za-z_.$][A-Za-z0-9_.$]*-")

@@ -78,9 +78,7 @@ class Orphans:
         add_to(output, item, self.expand)
 
     def _place(self, item: Item) -> None:
-        name, moved = item.name, False
-        if item.kind == RELA:
-            name, moved = ".rela.dyn", True
+        name = ".rela.dyn" if item.kind == RELA else item.name
         special = unused = None
         for output in self.statements.by_name.get(name, ()):
             if output.constraint == "no":

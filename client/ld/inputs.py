@@ -202,7 +202,7 @@ class Loader:
     def _group(self, items: Sequence[Input]) -> None:
         """Takes inputs, and goes through their archives until nothing new is needed."""
         archives = [archive for item in items for archive in self._input(item)]
-        while any([self._scan(archive) for archive in archives]):
+        while any([self._scan(archive) for archive in archives]):  # a list, since each archive is scanned
             pass
 
     def _commands(self, commands: Commands, flags: Flags, beside: str | None = None) -> list[Archive]:

@@ -193,7 +193,7 @@ class Keeps:
     def _with_equals(self, row: list[Section], parts: Set[Part]) -> set[Part]:
         """What of a row is kept: of an object with two sections of one name, one kept, all that the row has of it."""
         kept = {one.part for one in row if one.part in parts}
-        for number, group in groupby(sorted(row, key=lambda one: one.part.object), key=lambda one: one.part.object):
+        for _, group in groupby(sorted(row, key=lambda one: one.part.object), key=lambda one: one.part.object):
             of_object = list(group)
             doubled = len({one.name for one in of_object}) < len(of_object)
             mine = [one.part for one in of_object if one.part not in kept]

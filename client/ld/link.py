@@ -7,7 +7,6 @@ from collections.abc import Sequence
 from client.atomic_file import MOST_PIECES
 from client.ld.command import Command
 from client.ld.inputs import Object
-from client.ld.script import Script
 from client.protocol import GREATEST_PAYLOAD, Answer, Options, Refused, Session, SessionEnded
 from client.watch.quick import SCRIPT_WITHOUT_LINK
 

@@ -1,7 +1,7 @@
 """`ld.ldi`: GNU ld's command line in front of `ldi session`, for Makefiles."""
 from __future__ import annotations
 
-import _signal
+import _signal  # without what `signal` imports
 import os
 import sys
 from collections.abc import Mapping

@@ -176,7 +176,7 @@ class References:
                 data = tables.data[header.offset : header.offset + header.size]
                 relocations = dict(tables.relocations(index))
                 for code, others in _entries(data, relocations):
-                    _, info, _, shndx, _, _ = tables.symbols[code]
+                    _, _, _, shndx, _, _ = tables.symbols[code]
                     targets = [self._target(number, other) for other in others]
                     if targets and shndx not in (UNDEFINED, ABSOLUTE, COMMON):
                         found.setdefault(shndx, []).extend(targets)

@@ -126,9 +126,9 @@ def _read(command: Command, found: Sequence[tuple[str, str]]) -> Source:
         return Source(path, text, True, reading, [commands_of(reading.nodes)])
     parts = []
     lines = []
-    for number, (one, its_text) in enumerate(found):
+    for index, (one, its_text) in enumerate(found):
         parts.append(commands_of(read_text(Command(folders=command.folders), one, its_text, 1).nodes))
-        defsyms = command.defsyms(number) if number else []
+        defsyms = command.defsyms(index) if index else []
         between = "".join(f" {name} = {value};" for name, value in assignments(defsyms))
         lines.append(f'{between} INCLUDE "{one}"')
     reading = read_text(command, path, "\n".join(lines), len(found))

@@ -5,7 +5,7 @@ that the server is busy, and a call that hears nothing knows that the server is 
 """
 from __future__ import annotations
 
-import _socket
+import _socket  # without what `socket` imports
 import gc
 import marshal
 import os

@@ -1,7 +1,7 @@
 """Lets the process of a good link go on as a server: apart from the terminal and the build, with its own socket."""
 from __future__ import annotations
 
-import _socket
+import _socket  # without what `socket` imports
 import fcntl
 import os
 import sys

@@ -1,7 +1,7 @@
 """`ld.ldi --server-status` and `--server-stop`: the servers of this user, or that of the output of `-o`."""
 from __future__ import annotations
 
-import _socket
+import _socket  # without what `socket` imports
 import marshal
 import os
 import sys

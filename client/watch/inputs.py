@@ -182,7 +182,7 @@ class Inputs:
 
     def are_dirty(self) -> bool:
         """Whether there is something to search for."""
-        return self._is_other or bool(self.writers) or any([one.dirty for one in self._all])
+        return self._is_other or bool(self.writers) or any(one.dirty for one in self._all)
 
     # what the system says
 
@@ -229,7 +229,7 @@ class Inputs:
 
     def changed(self) -> list[Input]:
         """The inputs whose files are not what was last read of them; looks for the files that were not there, too."""
-        self._is_other = self._is_other or any([os.path.exists(path) for path in self._absent])
+        self._is_other = self._is_other or any(os.path.exists(path) for path in self._absent)
         return self._looks.changed(self._all)
 
     def mark(self, inputs: Iterable[Input]) -> None:

@@ -114,7 +114,7 @@ class Making:
 
     def _watch_below(self, top: str) -> bool:
         """Watches a folder and those below it; says whether a source there is another than was known."""
-        return any([self.changed(path) for path in self.sources.watch_below(top)])
+        return any([self.changed(path) for path in self.sources.watch_below(top)])  # a list: each digest is taken
 
 
 def digest_of(path: str) -> int | None:

@@ -9,7 +9,7 @@ from functools import cached_property
 from . import elf, scripts, tree
 from .elf import align_up
 from .expressions import MODULUS, BadOperand, NotReady, power_of_two, value
-from .gathering import InputStatement, Piece
+from .gathering import Piece
 from .names import Case
 
 

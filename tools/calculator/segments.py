@@ -6,7 +6,6 @@ from dataclasses import dataclass
 from functools import cached_property
 
 from . import elf
-from .elf import align_up
 
 PAGE = 4_096
 
