@@ -12,10 +12,10 @@ pub struct InputIndex(pub u32);
 pub struct Piece {
     /// The input statement that takes it.
     pub statement: InputIndex,
+    /// Its kind; `Nobits` for a common block. It is beside the other short field, since fields lie in this order.
+    pub kind: SectionKind,
     /// The input section.
     pub section: SectionKey,
-    /// Its kind; `Nobits` for a common block.
-    pub kind: SectionKind,
     /// `sh_flags`; `SHF_ALLOC` and `SHF_WRITE` for a common block.
     pub flags: u64,
     /// How many bytes it takes in memory, at most 2^31.
