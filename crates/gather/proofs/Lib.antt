@@ -14,9 +14,7 @@ pub mod Ascending
 pub mod Seen
 pub mod Lists
 pub mod Owners
-pub mod Merging
 pub mod Owning
-pub mod Collecting
 pub mod ByNumber
 pub mod Named
 pub mod Preparing

@@ -1,18 +1,18 @@
--- The owner of a common block is an entry of its name that isn't local.
+-- The owner of a common block is the entry of a common symbol that isn't local.
 use Rattle.std.proofs.Common.{◌≡◌, ◌∙◌, ℕ, Bool, true, false, cond, not, List, [], ◌∷◌}
 use Rattle.std.proofs.Common.{filter, get_or, ap, sym, subst, refl, Option, Some, None}
 use Rattle.std.specs.Prelude.{slice_get, option_and_then}
 use Rattle.std.specs.List.{All, enumerate_from}
 use Rattle.std.proofs.lemmas.Bool.{not-true}
 use Rattle.std.proofs.lemmas.List.Elements.{All-filter, All-head, All-map, filter_passes}
-use Rattle.std.proofs.lemmas.Slice.Eq.{bytes_eq-Decides}
 use Rattle.std.proofs.lemmas.Option.{same_Some, slice_get-map}
 use Rattle.elfobj.specs.Symbols.{NamedSymbol}
 use Rattle.ldmodel.specs.Live.{symbol_at}
 use Rattle.ldmodel.specs.Names.{Decision, Declaration, Duplicate, Entry, Strong, Script, Common, Weak, Provided}
 use Rattle.ldmodel.specs.Names.{Undefined}
 use Rattle.ldmodel.specs.Names.{all_entries, decided, decision, declaration, declarations, declarations_in}
-use Rattle.ldmodel.specs.Names.{declarations_of, entries, for_first, is_common, is_local, is_of_name, symbol_tables}
+use Rattle.ldmodel.specs.Names.{declarations_of, entries, for_first, is_common, is_common_place, is_local, is_of_name}
+use Rattle.ldmodel.specs.Names.{symbol_tables}
 use Rattle.ldmodel.specs.Project.{NamedObject, Project}
 use Rattle.gather.proofs.Lists.{all_flat_map, all_numbered}
 
@@ -50,26 +50,32 @@ module _ (owner : Entry) (size al : ℕ) where
   none_is_not true h = cc
   none_is_not false h = cc
 
-  -- the owner of a decided block is the entry of one of the declarations
+  -- the owner of a decided block is the entry of one of the declarations, a common one
   pub owner_of : (P : Declaration → Type 0) (a b : Bool) (ds : List Declaration) → All P ds
-      → decided a b ds ≡ Common owner size al → (d : Declaration) × P d × (d.entry ≡ owner)
+      → decided a b ds ≡ Common owner size al
+      → (d : Declaration) × (P d × (is_common d ≡ true)) × (d.entry ≡ owner)
   unfolding decided
   owner_of P a b ds all h =
-      first_common P (filter is_common ds) _ _ _ (All-filter is_common P ds all)
+      first_common (λ (d : Declaration). P d × (is_common d ≡ true)) (filter is_common ds) _ _ _
+      (λ k d low. (All-filter is_common P ds all k d low, filter_passes is_common ds k d low))
       (λ e. none_is_not _ (past _ Weak _ weak_is_not e))
       (not_this a Script _ script_is_not
       (past _ Strong _ strong_is_not
       (not_this _ Duplicate _ duplicate_is_not h)))
 
--- the entry of a declaration is a symbol of its name, and not local
-pub record IsDeclared (p : Project) (word : List ℕ) (entry : Entry) : Type 0 where
+-- an entry is that of a common symbol that isn't local
+pub record IsDeclared (p : Project) (entry : Entry) : Type 0 where
   pub symbol : NamedSymbol
   pub at : symbol_at p entry.object entry.symbol ≡ Some symbol
-  pub name : symbol.name ≡ word
   pub seen : is_local symbol.symbol.binding ≡ false
+  pub common : is_common_place symbol.symbol.place ≡ true
 
-abbrev Declares : Project → Declaration → Type 0
-Declares p d = IsDeclared p d.name d.entry
+-- a declaration is made by a symbol of its object
+record Declares (p : Project) (d : Declaration) : Type 0 where
+  symbol : NamedSymbol
+  at : symbol_at p d.entry.object d.entry.symbol ≡ Some symbol
+  is : symbol.symbol ≡ d.symbol
+  seen : is_local d.symbol.binding ≡ false
 
 pub symbol_in : (p : Project) (i n : ℕ) (o : NamedObject) → slice_get p.objects i ≡ Some o → symbol_at p i n
     ≡ slice_get o.object.symbols n
@@ -78,7 +84,6 @@ symbol_in p i n o e = ap (λ m. option_and_then (λ (o : NamedObject). slice_get
 record IsSymbolOf (p : Project) (d : Declaration) : Type 0 where
   symbol : NamedSymbol
   at : symbol_at p d.entry.object d.entry.symbol ≡ Some symbol
-  name : symbol.name ≡ d.name
   is : symbol.symbol ≡ d.symbol
 
 in_table : (p : Project) (i : ℕ) (o : NamedObject) → slice_get p.objects i ≡ Some o
@@ -88,9 +93,8 @@ in_table p i o e = λ k d low.
     record {
       symbol = same.symbol;
       at = same.at;
-      name = same.name;
-      seen = ap (λ x. is_local x.binding) same.is
-          ∙ not-true _ (filter_passes (λ (d : Declaration). not (is_local d.symbol.binding))
+      is = same.is;
+      seen = not-true _ (filter_passes (λ (d : Declaration). not (is_local d.symbol.binding))
           (all_entries (i, o.object.symbols)) k d low);
     }
   where
@@ -99,7 +103,7 @@ in_table p i o e = λ k d low.
         (all_entries (i, o.object.symbols))
         (All-map (IsSymbolOf p) (declaration i) (enumerate_from 0 o.object.symbols)
         (all_numbered (λ x. IsSymbolOf p (declaration i x)) o.object.symbols
-        (λ n x at. record { symbol = x; at = symbol_in p i n o e ∙ at; name = refl; is = refl })))
+        (λ n x at. record { symbol = x; at = symbol_in p i n o e ∙ at; is = refl })))
 
 all_declared : (p : Project) → All (Declares p) (declarations p.objects)
 unfolding declarations_of
@@ -121,14 +125,16 @@ all_declared p =
             (same_Some o.object.symbols ss h) (in_table p n o is)
 
 pub owner_is : (p : Project) (name : List ℕ) (owner : Entry) (size al : ℕ) → decision p name ≡ Common owner size al
-    → IsDeclared p name owner
+    → IsDeclared p owner
 unfolding decision
 owner_is p name owner size al h =
-    let all : All (λ (d : Declaration). IsDeclared p name d.entry) (entries p.objects name) =
-    λ k d low.
-    let one = All-filter (is_of_name name) (Declares p) (declarations p.objects) (all_declared p) k d low in
-    let named = (bytes_eq-Decides name _).0 (filter_passes (is_of_name name) (declarations p.objects) k d low) in
-    record { symbol = one.symbol; at = one.at; name = one.name ∙ sym named; seen = one.seen } in
-    let found = owner_of owner size al (λ (d : Declaration). IsDeclared p name d.entry) _ _ (entries p.objects name)
-    all h in
-    subst (IsDeclared p name) found.2 found.1
+    let all : All (Declares p) (entries p.objects name) =
+    All-filter (is_of_name name) (Declares p) (declarations p.objects) (all_declared p) in
+    let found = owner_of owner size al (Declares p) _ _ (entries p.objects name) all h in
+    let own : Declares p found.0 = found.1.0 in
+    subst (IsDeclared p) found.2 (record {
+      symbol = own.symbol;
+      at = own.at;
+      seen = ap (λ x. is_local x.binding) own.is ∙ own.seen;
+      common = ap (λ x. is_common_place x.place) own.is ∙ found.1.1;
+    })

@@ -11,7 +11,7 @@ use Rattle.std.proofs.lemmas.List.FromFn.{length-enumerate_from}
 use Rattle.std.proofs.lemmas.Option.{get_or_from_slice_get, slice_get-get_or, slice_get_within}
 use Rattle.std.proofs.lemmas.Slice.Zip.{AllZip-long}
 use Rattle.gather.specs.Apart.{IsAscending}
-use Rattle.gather.specs.Blocks.{AreBlocks, AreBlocksOf, blocks_at}
+use Rattle.gather.specs.Blocks.{AreBlocks, AreBlocksOf}
 use Rattle.gather.specs.GatheredSections.{AddsFacts, AreGathered, facts, shown_facts}
 use Rattle.gather.specs.ProjectMatches.{AreMatched, IsMatched}
 use Rattle.gather.specs.declared.blocks.CommonBlock.{CommonBlock}
@@ -50,16 +50,28 @@ more_matched p n o xs new x at is pushed h =
 abbrev AreBlocksAt : Project → ℕ × NamedObject → Vec CommonBlock Global → Type 0
 AreBlocksAt p o x = AreBlocksOf p o.0 o.1 x.items
 
-pub all_blocks : (p : Project) (xs : List (Vec CommonBlock Global)) → length xs ≡ length p.objects
-    → ((i : ℕ) (o : NamedObject) → slice_get p.objects i ≡ Some o → AreBlocksOf p i o (blocks_at xs i))
-    → AreBlocks p xs
-all_blocks p xs long each =
-    zip_from (AreBlocksAt p) 0 p.objects xs long
-    (λ i o d at.
-    let from_0 : 0 + i ≡ i = omega arith in
-    let low : i < length xs = omega (arith, long, slice_get_within p.objects i o at) in
-    subst (λ (m : ℕ). AreBlocksOf p m o (get_or xs i d).items) (sym from_0)
-    (subst (AreBlocksOf p i o) (get_or-map (λ (v : Vec CommonBlock Global). v.items) xs i d [] low) (each i o at)))
+-- those of the objects so far
+abbrev pub BlocksBefore : Project → ℕ → List (Vec CommonBlock Global) → Type 0
+BlocksBefore p n xs = AllZip (AreBlocksAt p) (take n (enumerate_from 0 p.objects)) xs
+
+pub more_blocks : (p : Project) (n : ℕ) (o : NamedObject) (xs new : List (Vec CommonBlock Global))
+    (x : Vec CommonBlock Global) → slice_get p.objects n ≡ Some o → AreBlocksOf p n o x.items → new ≡ xs ++ x ∷ []
+    → BlocksBefore p n xs → BlocksBefore p (n + 1) new
+more_blocks p n o xs new x at is pushed h =
+    let t : ℕ × NamedObject = (n, o) in
+    let within : n < length (enumerate_from 0 p.objects) =
+    omega (arith, slice_get_within p.objects n o at, length-enumerate_from 0 p.objects) in
+    let here : slice_get (enumerate_from 0 p.objects) n ≡ Some t =
+    slice_get-get_or (enumerate_from 0 p.objects) n t within
+    ∙ ap (λ (y : ℕ × NamedObject). Some y) (numbered p.objects n o t at) in
+    subst (BlocksBefore p (n + 1)) (sym pushed)
+    (zip_next (AreBlocksAt p) (enumerate_from 0 p.objects) xs n t x here is h)
+
+pub all_blocks : (p : Project) (n : ℕ) (xs : List (Vec CommonBlock Global)) → length p.objects ≤ n
+    → BlocksBefore p n xs → AreBlocks p xs
+all_blocks p n xs past h =
+    subst (λ (l : List (ℕ × NamedObject)). AllZip (AreBlocksAt p) l xs)
+    (take_all n (enumerate_from 0 p.objects) (omega (arith, past, length-enumerate_from 0 p.objects))) h
 
 -- one for each object
 pub as_many_matched : (p : Project) (xs : List (Bor Matches)) → AreMatched p (map (λ (x : Bor Matches). x.now) xs)

@@ -1,39 +1,19 @@
 -- The common blocks of the objects of a project.
-use Rattle.std.specs.Prelude.{◌≡◌, ◌==◌, ℕ, List, [], map, Option, Some, None, Vec, if◌then◌else◌, slice_index_or}
-use Rattle.std.specs.Prelude.{Bool, true}
+use Rattle.std.specs.Prelude.{◌≡◌, ℕ, List, map, Vec, Bool, true}
 use Rattle.std.specs.Global.{Global}
 use Rattle.std.specs.List.{AllZip, enumerate_from}
-use Rattle.std.specs.List.Sorted.{IsNonDecreasingBy, IsPermutation}
 use Rattle.gather.specs.declared.blocks.CommonBlock.{CommonBlock}
 use Rattle.ldmodel.specs.InputSections as model
 use Rattle.ldmodel.specs.Project.{NamedObject, Project}
 use Rattle.ldmodel.specs.Sections.{InputSection}
-use Rattle.ldmodel.specs.declared.names.Case.{Case}
-use Rattle.ldmodel.specs.declared.names.Case.TheVariants as case
 
 -- the block as the definition has it, owned by object number i of this name
 abbrev pub block_of : ℕ → List ℕ → CommonBlock → InputSection
 block_of i name b = model.common_block name (record { object = i; symbol = b.symbol.0 }) b.size b.alignment
 
--- the common block that a name stands for, if object number i owns it
-abbrev pub block_here : ℕ → Option Case → Option CommonBlock
-block_here i (Some (case.Common owner size align)) =
-    if owner.key == i then Some (record { symbol = record { 0 = owner.symbol }; size = size; alignment = align })
-    else None
-block_here i _ = None
-
--- the blocks of object number i
-abbrev pub blocks_at : List (Vec CommonBlock Global) → ℕ → List CommonBlock
-blocks_at all i = slice_index_or (map (λ (v : Vec CommonBlock Global). v.items) all) i []
-
 -- where a block of object number i comes among all parts of objects
 abbrev pub block_rank : ℕ → CommonBlock → ℕ × Bool × ℕ
 block_rank i b = (i, true, b.symbol.0)
-
--- the same blocks in the order of their symbols
-pub record IsInOrder (old new : List CommonBlock) : Type 0 where
-  pub same : IsPermutation old new
-  pub order : IsNonDecreasingBy (λ (b : CommonBlock). b.symbol.0) new
 
 -- the common blocks of object number i
 abbrev pub AreBlocksOf : Project → ℕ → NamedObject → List CommonBlock → Type 0

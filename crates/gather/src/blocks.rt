@@ -1,16 +1,24 @@
 //! The common blocks of objects.
 
-ghost use Rattle.std.specs.Prelude.{◌≡◌, ◌<◌, ◌++◌, ℕ, [], IfOk, OnOk, length, map, option_to_list};
-ghost use Rattle.std.specs.List.{filter_map};
-ghost use Rattle.gather.specs.Blocks.{AreBlocks, IsInOrder, block_here, block_rank, blocks_at};
+ghost use Rattle.std.specs.Prelude.{◌≡◌, ◌<◌, ◌++◌, ℕ, List, IfOk, OnOk, length, map, option_to_list, slice_index_or};
+ghost use Rattle.std.specs.Option.{option_map};
+ghost use Rattle.elfobj.specs.Symbols.{NamedSymbol};
+ghost use Rattle.gather.specs.Blocks.{AreBlocks, AreBlocksOf, block_of, block_rank};
+ghost use Rattle.gather.specs.Symbols.{IsObjectAt};
+ghost use Rattle.gather_sections.specs.SectionTable.{AreBlockRanks};
+ghost use Rattle.ldmodel.specs.HandedOver.{decision_of};
+ghost use Rattle.ldmodel.specs.InputSections as inputs;
+ghost use Rattle.ldmodel.specs.Names.{is_common_place};
 ghost use Rattle.ldmodel.specs.Project.{Project};
 ghost use Rattle.symres.specs.SymbolTable.{IsSymbolTable};
-ghost use Rattle.gather_sections.specs.SectionTable.{AreBlockRanks};
 
+use crate::cases::case_of_symbol;
+use elfobj::Object;
 use elfobj::relocation::SymbolIndex;
+use elfobj::symbol::{Symbol, SymbolPlace};
 use gather_sections::rank::Rank;
 use ldmodel::memory::NoMemory;
-use ldmodel::names::{Case, NameKey};
+use ldmodel::names::Case;
 use ldmodel_project::view::ProjectView;
 use std::alloc::Global;
 use symres::SymbolTable;
@@ -26,89 +34,94 @@ pub(crate) struct CommonBlock {
     pub(crate) alignment: u64,
 }
 
-/// No common blocks, of this many objects.
-fn no_blocks(alloc: Global, count: usize) -> Result<Vec<Vec<CommonBlock>>, NoMemory>
-    ensures len { IfOk result (λ all. length all.items ≡ count) }
-    ensures none { IfOk result (λ all. (i : ℕ) → blocks_at all.items i ≡ []) }
+/// Whether a symbol is a common one.
+fn is_common(symbol: &Symbol) -> bool
+    ensures { result ≡ is_common_place symbol.now.place }
 {
-    let mut all = Vec::with_capacity(alloc, count)?;
-    for _ in 0..count {
-        all.push(Vec::new(alloc))?;
-    }
-    Ok(all)
+    matches!(symbol.place, SymbolPlace::Common)
 }
 
-/// Adds the common block of a name, if it has one, to those of the object that owns it.
-fn add_block(all: &mut Vec<Vec<CommonBlock>>, case: Case) -> Result<(), NoMemory>
-    ensures len { length all.new.items ≡ length all.old.items }
-    ensures added { OnOk result ((i : ℕ) → i < length all.old.items → blocks_at all.new.items i
-        ≡ blocks_at all.old.items i ++ option_to_list (block_here i (Some case))) }
+/// The common block that a name is resolved to, if the symbol of this number of the object at a place owns it.
+fn block_of_case(place: usize, number: u32, case: Case) -> Option<CommonBlock>
+    ensures { (name : List ℕ) → option_map (block_of place name) result
+        ≡ inputs.block_of name (record { object = place; symbol = number }) (decision_of (λ key. key) case) }
 {
     match case {
         Case::Common { owner, size, align } => {
-            if owner.key >= all.len() {
-                return Ok(());
+            if owner.key != place || owner.symbol != number {
+                return None;
             }
-            all[owner.key].push(CommonBlock {
+            Some(CommonBlock {
                 symbol: SymbolIndex(owner.symbol),
                 size,
                 alignment: align,
-            })?;
-            Ok(())
+            })
         }
-        _ => Ok(()),
+        _ => None,
     }
 }
 
-/// Adds the common block of a case, if there is a case and it is common.
-fn add_if_named(all: &mut Vec<Vec<CommonBlock>>, case: Option<Case>) -> Result<(), NoMemory>
-    ensures len { length all.new.items ≡ length all.old.items }
-    ensures added { OnOk result ((i : ℕ) → i < length all.old.items → blocks_at all.new.items i
-        ≡ blocks_at all.old.items i ++ option_to_list (block_here i case)) }
+/// The common block that a symbol of the object at a place owns, if it owns one. Only a common symbol does, so the
+/// names of others are not looked up.
+fn block_of_symbol(
+    project: &ProjectView<'_>,
+    symbol_table: &SymbolTable,
+    place: usize,
+    object: &Object,
+    number: usize,
+) -> Option<CommonBlock>
+    requires symbol_table { IsSymbolTable project.now symbol_table.now }
+    requires object { IsObjectAt project.now place object.now }
+    requires number { number < length object.now.symbols }
+    ensures { (name : List ℕ) (d : NamedSymbol) → option_map (block_of place name) result
+        ≡ inputs.block_at project.now place (record { name = name; object = object.now })
+        (number, slice_index_or object.now.symbols number d) }
 {
-    match case {
-        Some(case) => add_block(all, case),
+    if !is_common(&object.symbols()[number]) {
+        return None;
+    }
+    match case_of_symbol(project, symbol_table, place, object, number) {
+        Some(case) => block_of_case(place, number as u32, case),
+        None => None,
+    }
+}
+
+/// Adds a common block, if there is one.
+fn add_block(blocks: &mut Vec<CommonBlock>, block: Option<CommonBlock>) -> Result<(), NoMemory>
+    ensures { OnOk result (blocks.new.items ≡ blocks.old.items ++ option_to_list block) }
+{
+    match block {
+        Some(block) => {
+            blocks.push(block)?;
+            Ok(())
+        }
         None => Ok(()),
     }
 }
 
-/// The common blocks of names, each with the object that owns it, of this many objects.
-fn collected(
+/// The common blocks that the object at a place owns, in the order of its symbol table.
+fn blocks_of(
     alloc: Global,
+    project: &ProjectView<'_>,
     symbol_table: &SymbolTable,
-    count: usize,
-) -> Result<Vec<Vec<CommonBlock>>, NoMemory>
-    ensures len { IfOk result (λ all. length all.items ≡ count) }
-    ensures blocks { IfOk result (λ all. (i : ℕ) → i < count → blocks_at all.items i
-        ≡ filter_map (block_here i) symbol_table.now.cases) }
+    place: usize,
+    object: &Object,
+) -> Result<Vec<CommonBlock>, NoMemory>
+    requires symbol_table { IsSymbolTable project.now symbol_table.now }
+    requires object { IsObjectAt project.now place object.now }
+    ensures { IfOk result (λ blocks. (name : List ℕ)
+        → AreBlocksOf project.now place (record { name = name; object = object.now }) blocks.items) }
 {
-    let mut all = no_blocks(alloc, count)?;
-    for key in 0..symbol_table.limit() {
-        add_if_named(&mut all, symbol_table.case_of(NameKey(key)))?;
+    let mut blocks = Vec::new(alloc);
+    for number in 0..object.symbols().len() {
+        let block = block_of_symbol(project, symbol_table, place, object, number);
+        add_block(&mut blocks, block)?;
     }
-    Ok(all)
-}
-
-/// Puts blocks of an object in the order of its symbol table.
-fn sort(blocks: &mut Vec<CommonBlock>)
-    ensures { IsInOrder blocks.old.items blocks.new.items }
-{
-    blocks.sort_unstable_by_key(|block| block.symbol.0);
-}
-
-/// Puts the blocks of each object in the order of its symbol table.
-fn sort_all(all: &mut Vec<Vec<CommonBlock>>)
-    ensures len { length all.new.items ≡ length all.old.items }
-    ensures sorted { (i : ℕ) → i < length all.old.items
-        → IsInOrder (blocks_at all.old.items i) (blocks_at all.new.items i) }
-{
-    for place in 0..all.len() {
-        sort(&mut all[place]);
-    }
+    Ok(blocks)
 }
 
 /// The common blocks of each object of a project, by the resolutions of its names. The time grows with the number of
-/// names.
+/// symbols.
 ///
 /// # Errors
 ///
@@ -121,9 +134,17 @@ pub(crate) fn common_blocks(
     requires { IsSymbolTable project.now symbol_table.now }
     ensures { IfOk result (λ all. AreBlocks project.now all.items) }
 {
-    let mut all = collected(alloc, symbol_table, project.inputs().len())?;
-    sort_all(&mut all);
-    symbol_table.all_keyed();
+    let inputs = project.inputs();
+    let mut all = Vec::with_capacity(alloc, inputs.len())?;
+    for (place, input) in inputs.iter().enumerate() {
+        all.push(blocks_of(
+            alloc,
+            project,
+            symbol_table,
+            place,
+            input.object,
+        )?)?;
+    }
     Ok(all)
 }
 

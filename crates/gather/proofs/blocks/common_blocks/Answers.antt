@@ -1,28 +1,23 @@
-use Rattle.std.proofs.Common.{◌≡◌, ◌∙◌, ◌<◌, arith, subst}
-use Rattle.std.specs.Prelude.{length}
-use Rattle.std.specs.List.Sorted.{IsPermutation}
-use Rattle.std.proofs.lemmas.Option.{slice_get_within}
-use Rattle.gather.specs.Blocks.{IsInOrder, blocks_at}
-use Rattle.gather.proofs.Owning.{blocks_are}
-use Rattle.gather.proofs.Preparing.{all_blocks, as_many}
+use Rattle.std.proofs.Common.{◌≡◌, ◌≤◌, arith, sym, Some, length}
+use Rattle.std.specs.Prelude.{slice_get}
+use Rattle.ldmodel_project.specs.Inputs.{shown_input}
+use Rattle.gather.proofs.Preparing.{all_blocks, as_many, more_blocks, object_here}
 use Rattle.gather.proofs.blocks.common_blocks.Goals as goal
+
+pub loop-place-preserved : goal.loop-place-preserved
+loop-place-preserved c =
+    let p = c.args.project.now in
+    let n = c.loop-place.place in
+    let x = c.index-inputs-place.result in
+    let at : slice_get p.objects n ≡ Some (shown_input x) =
+    object_here p c.inputs-inputs.result.now n x c.inputs-inputs.ensures.same
+    (omega (arith, c.loop-place-test.true)) (sym c.index-inputs-place.is) in
+    more_blocks p n (shown_input x) c.loop-place.all.items c.push.new.self.items c.in_ok-blocks_of.field-0 at
+    (c.in_ok-blocks_of.ensures x.name.now) c.in_ok-push.ensures.items c.loop-place.invariant
 
 pub returns : goal.returns
 returns c =
     let p = c.args.project.now in
-    let found = c.in_ok-all.all.items in
-    let sorted = c.sort_all.new.all.items in
-    let many : length found ≡ length p.objects =
-    omega (
-      arith,
-      c.in_ok-all.ensures.len,
-      as_many p c.inputs.result.now c.inputs.ensures.same,
-    ) in
-    let long : length sorted ≡ length p.objects = c.sort_all.ensures.len ∙ many in
-    all_blocks p sorted long
-    (λ i o at.
-    let low : i < length found = omega (arith, many, slice_get_within p.objects i o at) in
-    let below : i < length c.inputs.result.now = omega (arith, low, c.in_ok-all.ensures.len) in
-    let own : IsInOrder (blocks_at found i) (blocks_at sorted i) = c.sort_all.ensures.sorted i low in
-    blocks_are p c.args.symbol_table.now i o c.requires c.all_keyed.ensures at (blocks_at sorted i)
-    (subst (λ l. IsPermutation l (blocks_at sorted i)) (c.in_ok-all.ensures.blocks i below) own.same) own.order)
+    let past : length p.objects ≤ c.loop-place.place =
+    omega (arith, c.loop-place-test.false, as_many p c.inputs-inputs.result.now c.inputs-inputs.ensures.same) in
+    all_blocks p c.loop-place.place c.loop-place.all.items past c.loop-place.invariant
