@@ -285,15 +285,15 @@ pub record Taken (xs : List GatheredSection) (marks : List Bool) (i count : ℕ)
   pub rest : done ++ taken_in (drop i marks) (drop i xs) ≡ taken_in marks xs
 
 -- a live section that a statement takes is put as its piece
-pub taken_one : {T E : Type 0} (r : Result T E) (x : GatheredSection) (b : Bool) (n : InputIndex) (piece : code.Piece)
-    (old new : List (Vec code.Piece Global)) → b ≡ true → x.statement ≡ Some n → piece ≡ as_piece x n
-    → OnOk r ((xs : List code.Piece) (count : ℕ) → AreBuckets xs count old → AreBuckets (xs ++ piece ∷ []) count new)
+pub taken_one : {T E : Type 0} (r : Result T E) (x : GatheredSection) (b : Bool) (n : InputIndex)
+    (old new : List (Vec code.Piece Global)) → b ≡ true → x.statement ≡ Some n
+    → OnOk r ((xs : List code.Piece) (count : ℕ) → AreBuckets xs count old
+    → AreBuckets (xs ++ as_piece x n ∷ []) count new)
     → OnOk r ((xs : List code.Piece) (count : ℕ) → AreBuckets xs count old
     → AreBuckets (xs ++ filter_map own_piece (cond b (x ∷ []) [])) count new)
-taken_one (Err e) x b n piece old new live at is h = tt
-taken_one (Ok u) x b n piece old new live at is h = λ xs count are.
-    let same : piece ∷ [] ≡ filter_map own_piece (cond b (x ∷ []) []) =
-    ap (λ y. y ∷ []) is
-    ∙ sym (ap (λ c. filter_map own_piece (cond c (x ∷ []) [])) live
+taken_one (Err e) x b n old new live at h = tt
+taken_one (Ok u) x b n old new live at h = λ xs count are.
+    let same : as_piece x n ∷ [] ≡ filter_map own_piece (cond b (x ∷ []) []) =
+    sym (ap (λ c. filter_map own_piece (cond c (x ∷ []) [])) live
     ∙ ap (λ o. cons_option (option_map (as_piece x) o) []) at) in
     subst (λ l. AreBuckets (xs ++ l) count new) same (h xs count are)

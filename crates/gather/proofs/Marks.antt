@@ -1,3 +1,4 @@
+-- What a search from the roots has marked so far, and how a step keeps that.
 use Rattle.std.proofs.Common.{◌≡◌, ℕ, ◌+◌, ◌<◌, Bool, true, false, cond, not, ◌||◌, List, [], ◌∷◌, ◌++◌, length, get_or}
 use Rattle.std.proofs.Common.{set, refl, sym, ◌∙◌, ◌⊎◌, inl, inr, ⊎_elim, arith, subst, get_or-set_same}
 use Rattle.std.proofs.Common.{get_or-set_other, length-append, ◌↔◌}

@@ -2,7 +2,7 @@
 
 ghost use Rattle.std.specs.Prelude.{◌≡◌, ◌++◌, ◌∷◌, [], ℕ, IfOk, List, OnOk, if◌then◌else◌, length, map};
 ghost use Rattle.std.specs.List.{filter_map};
-ghost use Rattle.gather.specs.GatheredSections.{AreGathered, own_piece, taken_in};
+ghost use Rattle.gather.specs.GatheredSections.{AreGathered, as_piece, own_piece, taken_in};
 ghost use Rattle.gather.specs.LiveMarks.{marked};
 ghost use Rattle.gather.specs.RowPieces.{AddsTo, AreBuckets, AreEmpty, taken_piece};
 ghost use Rattle.ldmodel.specs.InputSections.{input_sections};
@@ -18,7 +18,7 @@ use crate::live_sections::is_marked;
 use crate::rooms::{count_taken, empty_buckets};
 use crate::sorting::order;
 use ldmodel::memory::NoMemory;
-use ldmodel::rows::Piece;
+use ldmodel::rows::{InputIndex, Piece};
 use ldmodel_project::view::ProjectView;
 use ldscript::tree::{InputPlace, InputStatementAt, Sort};
 use std::alloc::Global;
@@ -64,15 +64,20 @@ fn push_piece(list: &mut Vec<Piece>, piece: Piece) -> Result<(), NoMemory>
     Ok(())
 }
 
-/// Adds a piece to those of its statement.
+/// Adds a section to those of the statement that takes it. Its piece is made here, right where it is to stand, and is
+/// copied nowhere.
 #[inline(always)]
-pub(crate) fn add_piece(buckets: &mut Vec<Vec<Piece>>, piece: Piece) -> Result<(), NoMemory>
+pub(crate) fn add_section(
+    buckets: &mut Vec<Vec<Piece>>,
+    section: &GatheredSection,
+    statement: InputIndex,
+) -> Result<(), NoMemory>
     ensures { OnOk result ((xs : List Piece) (count : ℕ) → AreBuckets xs count buckets.old.items
-        → AreBuckets (xs ++ piece ∷ []) count buckets.new.items) }
+        → AreBuckets (xs ++ as_piece section.now statement ∷ []) count buckets.new.items) }
 {
-    let number = piece.statement.0 as usize;
+    let number = statement.0 as usize;
     if number < buckets.len() {
-        push_piece(&mut buckets[number], piece)?;
+        push_piece(&mut buckets[number], section.piece(statement))?;
     }
     Ok(())
 }
@@ -88,7 +93,7 @@ fn add_taken(
         buckets.new.items) }
 {
     match section.statement {
-        Some(statement) if is_live => add_piece(buckets, section.piece(statement)),
+        Some(statement) if is_live => add_section(buckets, section, statement),
         _ => Ok(()),
     }
 }

@@ -19,7 +19,7 @@ use crate::discarded_sections::is_discarded;
 use crate::gathered_section::{GatheredSection, block, linked_at};
 use crate::matches::Matches;
 use crate::rooms::buckets_for;
-use crate::rows::add_piece;
+use crate::rows::add_section;
 use elfobj::Object;
 use ldmodel::memory::NoMemory;
 use ldmodel::names::ObjectPlace;
@@ -54,7 +54,7 @@ fn take_section(
         return Ok(());
     }
     match section.statement {
-        Some(statement) => add_piece(&mut taken.buckets, section.piece(statement)),
+        Some(statement) => add_section(&mut taken.buckets, section, statement),
         None => {
             taken.orphans.push(section.section)?;
             Ok(())

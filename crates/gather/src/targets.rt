@@ -19,12 +19,12 @@ use ldmodel_project::view::ProjectView;
 use symres::SymbolTable;
 
 /// The section that a symbol of the object at a place is defined in, if it is in one.
-fn section_at(place: usize, at: SymbolPlace) -> Option<SectionKey>
-    ensures { option_map (section_id (λ key. key)) result ≡ section_of_place place at }
+fn section_at(place: ObjectPlace, at: SymbolPlace) -> Option<SectionKey>
+    ensures { option_map (section_id (λ key. key)) result ≡ section_of_place place.0 at }
 {
     match at {
         SymbolPlace::Section(number) => Some(SectionKey {
-            object: ObjectPlace(place),
+            object: place,
             part: Part::InTable(number),
         }),
         SymbolPlace::Undefined | SymbolPlace::Absolute | SymbolPlace::Common => None,
@@ -47,7 +47,7 @@ fn section_of_entry(project: &ProjectView<'_>, entry: Entry) -> Option<SectionKe
         ≡ section_of_entry project.now (entry_of (λ key. key) entry) }
 {
     let at = place_of(project, entry)?;
-    section_at(entry.key, at)
+    section_at(ObjectPlace(entry.key), at)
 }
 
 /// The section that a name is defined in, by its resolution; `None` for a number.
@@ -85,7 +85,7 @@ pub(crate) fn target_section(
     }
     match case_of_symbol(project, symbol_table, place, object, number) {
         Some(case) => section_of_case(project, case),
-        None => section_at(place, symbols[number].place),
+        None => section_at(ObjectPlace(place), symbols[number].place),
     }
 }
 
