@@ -35,7 +35,7 @@ pub struct Gathering {
     pub orphans: Vec<SectionKey>,
 }
 
-/// Gathers what is live, where sections are collected. `blocks` has the common blocks of each object.
+/// Gathers what is live, for a link with `--gc-sections`. `blocks` has the common blocks of each object.
 fn gather_live(
     alloc: Global,
     project: &ProjectView<'_>,
@@ -65,7 +65,8 @@ fn gather_live(
     })
 }
 
-/// Gathers all that is not discarded, where no sections are collected. `blocks` has the common blocks of each object.
+/// Gathers all that is not discarded, for a link without `--gc-sections`. `blocks` has the common blocks of each
+/// object.
 fn gather_all(
     alloc: Global,
     project: &ProjectView<'_>,

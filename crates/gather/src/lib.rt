@@ -7,8 +7,8 @@
 //! - `gathered_section`, `blocks`, `cases`: the input sections, common blocks among them; `discarded_sections`;
 //! - `roots`, `marking`, `references`, and of a project `live`, `referring`, `targets`, `places`: which sections are
 //!   live;
-//! - `rows` over `rooms`, `sorting`, `shared_start`, `section_names`: rows; `live_sections`: orphans; `taking`: both,
-//!   where nothing is collected; `gathering`: all of it, for a project; `law`;
+//! - `rows` over `rooms`, `sorting`, `shared_start`, `section_names`: the rows; `live_sections`: the orphans; `taking`:
+//!   rows and orphans of a link without `--gc-sections`; `gathering`: all of this, for a project; `law`;
 //! - the part `sections`: the table of input sections. Other families name this crate alone.
 #![tactic(auto)]
 

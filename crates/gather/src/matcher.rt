@@ -68,7 +68,7 @@ impl<'a> Matcher<'a> {
     ///
     /// # Errors
     ///
-    /// If memory runs out, or where it has more than 2^32 input statements, which no script that was read has.
+    /// If memory runs out, or if it has more than 2^32 input statements, which no script that was read has.
     pub fn new(alloc: Global, script: &'a Script) -> Result<Matcher<'a>, NoMemory>
         ensures { IfOk result (λ m. m ≡ script.now) }
     {

@@ -51,7 +51,7 @@ fn add_length(lengths: &mut Vec<usize>, place: InputPlace, count: usize) {
     }
 }
 
-/// How long each row becomes, where its statements take these many sections.
+/// How long each row becomes, if its statements take these numbers of sections.
 fn row_lengths(
     alloc: Global,
     statements: &[InputStatementAt<'_>],
@@ -79,8 +79,8 @@ fn room(lengths: &mut Vec<usize>, place: InputPlace, count: usize) -> usize {
     }
 }
 
-/// An empty bucket for each statement, which has room for the pieces that come into it: for these many of its own, and
-/// where it begins a row for those of the whole row. The script has this many output sections.
+/// An empty bucket for each statement, with room for the pieces that come into it: for its own, whose number is in
+/// `counts`, and in the first bucket of a row for those of the whole row. The script has this many output sections.
 ///
 /// # Errors
 ///

@@ -190,7 +190,7 @@ pub(crate) fn join_buckets(
 }
 
 /// The row of each output section, in the order of the script: statement by statement the live sections that the
-/// statement takes, in object order and then section order or, where the statement has a sort, as this orders them.
+/// statement takes, in object order and then section order or, if the statement has a sort, in the order of that.
 /// `marks` says of each section whether it is live.
 ///
 /// # Errors

@@ -11,7 +11,7 @@ use elfobj::section::SectionIndex;
 use ldmodel::sections::{Part, SectionKey};
 use ldmodel_project::view::ProjectView;
 
-/// The name of the section of this header number; no bytes where it is no linked one.
+/// The name of the section of this header number; no bytes if it is no linked one.
 fn name_at(object: &Object, number: SectionIndex) -> &[u8]
     ensures { result.now ≡ option_map_or (λ (section : LinkedSection). section.name)
         (find (λ (section : LinkedSection). section.number.0 == number.0) object.now.sections) [] }

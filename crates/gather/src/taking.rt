@@ -1,5 +1,5 @@
-//! The pieces and the orphans of a project of which nothing is collected, object by object: no list of all its input
-//! sections is made.
+//! The pieces and the orphans of a link without `--gc-sections`, object by object. No list of all its input sections is
+//! made.
 
 ghost use Rattle.std.specs.Prelude.{◌≡◌, ◌<◌, ◌∷◌, [], IfOk, OnOk, false, length, map};
 ghost use Rattle.gather.specs.Apart.{IsAscending};
@@ -130,9 +130,9 @@ fn take_object(
     take_blocks(taken, statements, orphans, key, matches.common, blocks)
 }
 
-/// The pieces and the orphans of a project of which nothing is collected: all its input sections but those that are
-/// discarded. `statements` are the input statements of its script, which has this many output sections. `blocks` has
-/// the common blocks of each object, in object order.
+/// The pieces and the orphans of a link without `--gc-sections`: all its input sections but those that are discarded.
+/// `statements` are the input statements of its script, which has this many output sections. `blocks` has the common
+/// blocks of each object, in object order.
 ///
 /// # Errors
 ///
