@@ -1,6 +1,6 @@
 //! Why a script has no layout.
 
-ghost use Rattle.std.specs.Prelude.{◌≡◌, IfSome, Some, slice_get};
+ghost use Rattle.std.specs.Prelude.{◌≡◌, IfOk, Some, slice_get};
 ghost use Rattle.ldmodel.specs.Fault.{NotReady, RegionFull};
 ghost use Rattle.ldmodel.specs.Mentioned.{mentioned_names};
 ghost use Rattle.place_sections.specs.Outcomes.{Reports};
@@ -10,6 +10,7 @@ ghost use Rattle.place_sections.specs.declared.fault.PlaceFault.TheVariants.{NoM
 
 use crate::stop::LayoutStop;
 use ldmodel::fault::{Fault, MentionIndex};
+use ldmodel::impossible::impossible;
 use ldscript::Script;
 use place_terms::mentioned::{mention_of, mentioned_names};
 use place_terms::named::{output_named, region_named};
@@ -37,13 +38,19 @@ impl From<AllocError> for PlaceFault {
     }
 }
 
-/// A mention of a name in the script.
-fn mention(alloc: Global, script: &Script, name: &[u8]) -> Option<MentionIndex>
-    ensures { IfSome result (λ m. slice_get (mentioned_names script.now) m.0 ≡ Some name.now) }
+/// The first mention of a name in the script.
+///
+/// # Errors
+///
+/// If memory runs out.
+fn mention(alloc: Global, script: &Script, name: &[u8]) -> Result<MentionIndex, AllocError>
+    ensures { IfOk result (λ m. slice_get (mentioned_names script.now) m.0 ≡ Some name.now) }
 {
-    match mentioned_names(alloc, script.statements()) {
-        Ok(names) => mention_of(&names, name),
-        Err(_) => None,
+    let names = mentioned_names(alloc, script.statements())?;
+    match mention_of(&names, name) {
+        Some(mention) => Ok(mention),
+        // A layout stops only at names that the script mentions, and 2^32 mentions do not fit into a script
+        None => Err(impossible()),
     }
 }
 
@@ -51,8 +58,8 @@ fn not_ready(alloc: Global, script: &Script, line: u32, name: &[u8]) -> PlaceFau
     ensures { Reports script.now (NotReady line name.now) result }
 {
     match mention(alloc, script, name) {
-        Some(name) => PlaceFault::First(Fault::NotReady { line, name }),
-        None => PlaceFault::NoMemory,
+        Ok(name) => PlaceFault::First(Fault::NotReady { line, name }),
+        Err(_) => PlaceFault::NoMemory,
     }
 }
 
