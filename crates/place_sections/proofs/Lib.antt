@@ -34,3 +34,4 @@ pub mod Keeping
 pub mod Options
 pub mod Alongside
 pub mod AlongsideItems
+pub mod Multiples

@@ -1,6 +1,7 @@
 //! The body of an output section.
 
-ghost use Rattle.std.specs.Prelude.{◌≤◌, ◌<◌, ◌≡◌, ◌+◌, ◌^◌, length, drop, OnErr, OnOk, IfSome};
+ghost use Rattle.std.specs.Int.{next_multiple_of};
+ghost use Rattle.std.specs.Prelude.{◌≤◌, ◌<◌, ◌≡◌, ◌+◌, ◌%◌, ◌^◌, length, drop, OnErr, OnOk, IfSome, SomeIff};
 ghost use Rattle.ldscript.specs.terms.DotForms.{dot_form};
 ghost use Rattle.ldscript.specs.terms.CodeTerms.{expr_of};
 ghost use Rattle.ldmodel.specs.Placement.{advanced, body_command_step, body_step, data_step, input_step, moved_on};
@@ -17,6 +18,33 @@ use ldmodel::rows::Piece;
 use ldmodel_laws::layout::steps_stay_alike;
 use ldscript::tree::{BodyCommand, BodyStatement, DotCommand, DotForm, Expr, Formula, Width};
 use place_terms::sections::{DataAt, PieceAt};
+
+/// How far an address lies past the last multiple of an alignment. Alignments are powers of two, for which nothing is
+/// divided.
+fn past_multiple(address: u64, alignment: u64) -> u64
+    requires { 0 < alignment }
+    ensures value { result ≡ address % alignment }
+    ensures less { result < alignment }
+{
+    let power = alignment.trailing_zeros();
+    if power < 64 && 1_u64 << power == alignment {
+        address & (alignment - 1)
+    } else {
+        address % alignment
+    }
+}
+
+/// The first multiple of an alignment that is not below an address, if it is below 2^64.
+fn next_multiple(address: u64, alignment: u64) -> Option<u64>
+    requires { 0 < alignment }
+    ensures { SomeIff result (next_multiple_of address alignment < 2 ^ 64) (next_multiple_of address alignment) }
+{
+    let past = past_multiple(address, alignment);
+    if past == 0 {
+        return Some(address);
+    }
+    address.checked_add(alignment - past)
+}
 
 impl<'d, 'a> CurrentOutput<'d, 'a> {
     /// Places the next entry of the row at `start`.
@@ -72,7 +100,7 @@ impl<'d, 'a> CurrentOutput<'d, 'a> {
             (length here.new.pieces.items) }
         ensures few { length here.new.pieces.items ≤ length here.old.pieces.items + 1 }
     {
-        let Some(start) = here.dot.checked_next_multiple_of(piece.alignment.max(1)) else {
+        let Some(start) = next_multiple(here.dot, piece.alignment.max(1)) else {
             return Err(LayoutStop::PastAddressSpace { line });
         };
         self.put_piece(here, line, piece, start)?;
