@@ -116,7 +116,7 @@ impl<'a> PlacedOutputs<'a> {
     }
 }
 
-/// A size, where a condition holds; else 0.
+/// A size if a condition holds, else 0.
 fn size_if(condition: bool, size: u64) -> u64
     ensures { result ≡ (if condition then size else 0) }
 {

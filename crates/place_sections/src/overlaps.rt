@@ -79,7 +79,7 @@ fn are_in_order(space: Space, sections: &[Placed]) -> bool
     true
 }
 
-/// The fault of a section, where the first that it meets is an earlier one.
+/// The fault of a section, if the first that it meets is an earlier one.
 fn push_meeting(
     faults: &mut Vec<Fault>,
     space: Space,

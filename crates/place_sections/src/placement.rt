@@ -82,7 +82,7 @@ impl Placement {
         &self.sections
     }
 
-    /// What is kept of the placement where rows are as they were before a number, and these PROVIDEs are in force now.
+    /// What is kept of the placement if the rows before a number are as they were, and these PROVIDEs are in force now.
     pub(crate) fn reusable(
         &self,
         first: usize,

@@ -1,4 +1,4 @@
-//! Expressions where they stand.
+//! Values of expressions, at the place of the layout where they stand.
 
 ghost use Rattle.std.specs.Prelude.{◌≡◌};
 ghost use Rattle.ldscript.specs.terms.CodeTerms.{expr_of};

@@ -26,7 +26,7 @@ pub(crate) struct ReusablePlacement<'k> {
 }
 
 impl<'k> ReusablePlacement<'k> {
-    /// What is kept of a previous placement before its first row that differs, where these PROVIDEs are in force; or
+    /// What is kept of a previous placement before its first row that differs, if these PROVIDEs are in force; or
     /// nothing.
     pub fn new(kept: Option<ResumePoint<'k>>, provided: &[DirectiveIndex]) -> ReusablePlacement<'k>
         ensures some { IfSome kept.entry (λ k. Keeps k.placement.now k.first_row provided.now result) }

@@ -114,7 +114,7 @@ impl<'i, 'a> Input<'i, 'a> {
     }
 
     /// Takes over the output sections before the first whose row differs, with all statements of SECTIONS up to that
-    /// one; none of them where other PROVIDEs were in force.
+    /// one; none of them if other PROVIDEs were in force.
     ///
     /// # Errors
     ///
