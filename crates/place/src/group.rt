@@ -64,7 +64,7 @@ fn begin(number: OutputIndex, section: &Placed) -> Group
     }
 }
 
-/// The size in the file up to this section: `reach` where it has bytes in the file, else as before.
+/// The size in the file up to this section: `reach` if it has bytes in the file, else as before.
 fn size_in_file(section: &Placed, reach: u64, before: u64) -> u64
     ensures { result ≡ cond section.now.has_file_bytes reach before }
 {
@@ -140,7 +140,7 @@ impl Grouping {
     }
 }
 
-/// Output sections of nonzero size, cut where two neighbours share no segment.
+/// Output sections of nonzero size, in groups: two neighbours are in one if they share a segment.
 pub(crate) fn groups(alloc: Global, sections: &[Placed]) -> Result<Vec<Group>, NoMemory>
     requires { Ends sections.now }
     ensures { IfOk result (λ v. AreGroups sections.now v.items) }

@@ -40,7 +40,7 @@ struct FilePlace {
 }
 
 /// Where an output section begins in the file. `number` is that of its segment, if it is not empty; an empty one begins
-/// at 0, and so would one past all segments, where none of nonzero size is.
+/// at 0, and so would one past all segments; only empty ones are there.
 fn step(segments: &[Segment], number: usize, section: &Placed) -> FilePlace
     requires { HaveRoom segments.now }
     ensures { (qs : List Placed) → offsets_in (section.now ∷ qs) (drop number segments.now)

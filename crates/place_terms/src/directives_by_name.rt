@@ -11,7 +11,7 @@ use std::alloc::{AllocError, Global};
 use std::marker::Model;
 
 /// The directives of a script, found by the names of the symbols that they give values. A look-up compares the
-/// name with that of the command that is guessed for it; where the guess is wrong it takes the time of a look-up in the
+/// name with that of the command that is guessed for it; if the guess is wrong it takes the time of a look-up in the
 /// script's table.
 #[derive(Drop)]
 pub struct DirectivesByName<'a> {

@@ -24,7 +24,7 @@ impl Slot {
         self.0 == 0
     }
 
-    /// The number, where this is a guess at a name of this hash.
+    /// The number, if this is a guess at a name of this hash.
     fn number(self, hash: u64) -> Option<usize> {
         if self.0 >> 32 != tag_of(hash) {
             return None;
@@ -40,7 +40,7 @@ fn tag_of(hash: u64) -> u64 {
 }
 
 /// Guesses at the numbers of names: at most one at a name, and it may be the number of another name. The caller
-/// compares the names, and looks the name up elsewhere where the guess is wrong or there is none. So a name that shares
+/// compares the names, and looks the name up elsewhere if the guess is wrong or there is none. So a name that shares
 /// its hash with others costs no more than that look-up, whoever has picked the names.
 #[derive(Drop)]
 pub struct Guesses {
@@ -73,7 +73,7 @@ impl Guesses {
         (hash.wrapping_add(step) as usize) & self.slots.len().saturating_sub(1)
     }
 
-    /// Notes the number of a name, where a slot is free for it.
+    /// Notes the number of a name, if a slot is free for it.
     pub fn put(&mut self, name: &[u8], number: usize) {
         let hash = hash_of(name);
         let Some(guess) = Slot::new(hash, number) else {

@@ -68,7 +68,7 @@ fn shift_right(x: u64, y: u64) -> u64
     if y < 64 { x >> y } else { 0 }
 }
 
-/// The least multiple of a power of two that is not below `x`, modulo 2^64; `None` where `to` is no power of two.
+/// The least multiple of a power of two that is not below `x`, modulo 2^64; `None` if `to` is no power of two.
 pub(crate) fn align(x: u64, to: u64) -> Option<u64>
     ensures { value_if_any result ≡ aligned x to }
 {

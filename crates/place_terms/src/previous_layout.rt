@@ -38,7 +38,7 @@ pub struct ReusedOutput<'a> {
     pub data_commands: &'a [PlacedData],
 }
 
-/// The first elements of a list, or all where there are no more.
+/// The first elements of a list, or all if there are no more.
 pub fn first<T>(list: &[T], count: usize) -> &[T]
     ensures { result.now ≡ take count list.now }
 {
@@ -82,7 +82,7 @@ impl<'a> PreviousLayout<'a> {
         part(self.starts, from, count)
     }
 
-    /// The output section of a number, where none was placed anew so far: its data commands are those from a number to
+    /// The output section of a number, if none was placed anew so far: its data commands are those from a number to
     /// another, and its input sections those from this one on, the first entries of its row. `None` if the layout has
     /// no such output section.
     pub(crate) fn next_section(

@@ -41,7 +41,7 @@ impl<'a> Model for Provided<'a> {
         × (shown_names p.names.items ≡ provided_names p.script.now p.numbers.now) };
 }
 
-/// The name that a command of these gives a value; no bytes where it gives none.
+/// The name that a command of these gives a value; no bytes if it gives none.
 pub fn name_of<'a>(commands: &[DirectiveAt<'a>], number: DirectiveIndex) -> &'a [u8]
     ensures { result.now ≡ name_in (shown_directives commands.now) number.0 }
 {

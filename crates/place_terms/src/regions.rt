@@ -50,7 +50,7 @@ impl<'a> Model for Regions<'a> {
         → AreInOrder (region_number s.script.now) (region_names (map region_of s.list.items)) };
 }
 
-/// The region of a name, where each stands under its number.
+/// The region of a name, if each stands under its number.
 #[tactic(auto, using(crate::proofs::Found::region_past, crate::proofs::Found::region_unknown))]
 fn numbered<'a>(script: &Script, list: &[RegionState<'a>], name: &[u8]) -> Option<RegionState<'a>>
     requires { AreInOrder (region_number script.now) (region_names (map region_of list.now)) }

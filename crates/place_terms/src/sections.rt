@@ -360,7 +360,7 @@ impl<'a> Sections<'a> {
     }
 
     /// Adds the next output section of the script, which is taken over: its input sections are the first entries of its
-    /// row, and with its own data commands there are as many as `data_end`. `false`, and none is added, where the
+    /// row, and with its own data commands there are as many as `data_end`. `false`, and none is added, if the
     /// previous layout has no such output section.
     ///
     /// # Errors

@@ -123,7 +123,7 @@ impl<'a> AssignedSymbols<'a> {
         value_given(&self.list, number)
     }
 
-    /// The number of the command that gives a symbol its value, where it comes after those of all symbols so far.
+    /// The number of the command that gives a symbol its value, if it comes after those of all symbols so far.
     fn next_number(&self, name: &[u8]) -> Option<DirectiveIndex>
         ensures is { IfSome result (λ k. symbol_number self.now.script name.now ≡ Some k.0) }
         ensures after { IfSome result (λ k. ComesAfter self.now.list k.0) }

@@ -100,7 +100,7 @@ fn value_of_region<'e, S: Scope>(
 /// # Errors
 ///
 /// The first name, from left to right among those that are evaluated, that is not in scope; or a division by 0, or an
-/// `ALIGN` to no power of two, where that comes first.
+/// `ALIGN` to no power of two, if that comes first.
 #[tactic(auto, unfolding(ldmodel::specs::Value::value))]
 pub fn value<'e, S: Scope>(e: &'e Expr, scope: &S, dot: u64) -> Result<u64, ValueFault<'e>>
     requires { S.can_look_up scope.now }
