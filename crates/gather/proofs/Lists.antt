@@ -1,6 +1,6 @@
 -- Lists of objects and of symbols with their numbers.
 use Rattle.std.proofs.Common.{◌≡◌, ◌∙◌, ℕ, zero, suc, ◌+◌, ◌<◌, List, [], ◌∷◌, ◌++◌, length, get_or, take, ap}
-use Rattle.std.proofs.Common.{sym, subst, arith, refl, add-zero}
+use Rattle.std.proofs.Common.{sym, subst, arith, refl}
 use Rattle.std.specs.Prelude.{Option, Some, None, slice_get, flat_map, option_to_list}
 use Rattle.std.specs.List.{All, AllZip, cons_option, enumerate_from, filter_map}
 use Rattle.std.proofs.Math.Seq.{take-suc}
@@ -29,21 +29,6 @@ numbered {X} xs n x d e =
     get_or-enumerate_from 0 xs n d (slice_get_within xs n x e)
     ∙ (ap (λ (k : ℕ). let y : ℕ × X = (k, get_or xs n d.1) in y) from_0
     ∙ ap (λ (v : X). let y : ℕ × X = (n, v) in y) (get_or_from_slice_get xs n x d.1 e))
-
--- of each member, what belongs to it
-pub zip_from : {X Y : Type 0} (R : ℕ × X → Y → Type 0) (a : ℕ) (os : List X) (xs : List Y) → length xs ≡ length os
-    → ((n : ℕ) (o : X) (d : Y) → slice_get os n ≡ Some o → R (a + n, o) (get_or xs n d))
-    → AllZip R (enumerate_from a os) xs
-zip_from R a [] [] long each = tt
-zip_from R a [] (x ∷ xs) long each = absurd (omega (arith, long))
-zip_from R a (o ∷ os) [] long each = absurd (omega (arith, long))
-zip_from R a (o ∷ os) (x ∷ xs) long each = (
-  subst (λ (m : ℕ). R (m, o) x) (add-zero a) (each zero o x refl),
-  zip_from R (a + 1) os xs (omega (arith, long))
-      (λ n y d at.
-      let shift : a + suc n ≡ a + 1 + n = omega arith in
-      subst (λ (m : ℕ). R (m, y) (get_or xs n d)) shift (each (suc n) y d at)),
-)
 
 zip_get : {A B : Type 0} (R : A → B → Type 0) (xs : List A) (ys : List B) (k : ℕ) (d : A) (e : B) → AllZip R xs ys
     → k < length xs → R (get_or xs k d) (get_or ys k e)

@@ -74,8 +74,7 @@ module _ (p : Project) (i n : ℕ) (object : ObjectData) (d : NamedSymbol) (at :
       same_Some declared.symbol symbol
       (sym declared.at
       ∙ (symbol_in p i n o.0 o.1
-      ∙ (ap (λ (x : ObjectData). slice_get x.symbols n) o.2 ∙ slice_get-get_or object.symbols n d low))) in
-      (
+      ∙ (ap (λ (x : ObjectData). slice_get x.symbols n) o.2 ∙ slice_get-get_or object.symbols n d low))) in (
         ap (λ (x : NamedSymbol). is_local x.symbol.binding) (sym same) ∙ declared.seen,
         ap (λ (x : NamedSymbol). is_common_place x.symbol.place) (sym same) ∙ declared.common,
       )

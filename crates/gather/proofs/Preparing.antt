@@ -22,7 +22,7 @@ use Rattle.ldmodel.specs.Project.{NamedObject, Project}
 use Rattle.ldmodel.specs.Sections.{InputSection}
 use Rattle.ldmodel_project.specs.Inputs.{shown_input, shown_inputs}
 use Rattle.ldmodel_project.specs.declared.input.InputObject.{InputObject}
-use Rattle.gather.proofs.Lists.{numbered, zip_at, zip_from, zip_member, zip_next}
+use Rattle.gather.proofs.Lists.{numbered, zip_at, zip_member, zip_next}
 
 pub object_here : (p : Project) (inputs : List InputObject) (n : ℕ) (x : InputObject) → shown_inputs inputs ≡ p.objects
     → n < length inputs → get_or inputs n x ≡ x → slice_get p.objects n ≡ Some (shown_input x)

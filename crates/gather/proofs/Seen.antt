@@ -28,9 +28,6 @@ object_at p i object h = go (slice_get p.objects i) refl h
     go None e h = absurd (cc)
     go (Some o) e h = (o, e, same_Some o.object object h)
 
-pub object_is : (p : Project) (i : ℕ) (o : NamedObject) → slice_get p.objects i ≡ Some o → IsObjectAt p i o.object
-object_is p i o h = ap (option_map (λ (x : NamedObject). x.object)) h
-
 -- the symbol table of an object
 pub table_at : (p : Project) (a : SymbolTableState) (i : ℕ) (o : NamedObject) (t : Table) → IsSymbolTable p a
     → slice_get p.objects i ≡ Some o → get_or a.objects i t ≡ (i, o.object.symbols)

@@ -137,13 +137,7 @@ pub(crate) fn common_blocks(
     let inputs = project.inputs();
     let mut all = Vec::with_capacity(alloc, inputs.len())?;
     for (place, input) in inputs.iter().enumerate() {
-        all.push(blocks_of(
-            alloc,
-            project,
-            symbol_table,
-            place,
-            input.object,
-        )?)?;
+        all.push(blocks_of(alloc, project, symbol_table, place, input.object)?)?;
     }
     Ok(all)
 }
