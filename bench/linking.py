@@ -35,6 +35,11 @@ class Linker:
     command: list
     takes_scripts: bool = True
 
+    @property
+    def is_own(self):
+        """Whether it is `ldi link`."""
+        return self.command[1:] == ["link"]
+
     def words(self, image):
         """Its words, but for options and objects."""
         script = ["-T", SCRIPT_NAME] if self.takes_scripts else ["-static"]
@@ -63,6 +68,21 @@ def write(folder, name, data):
     """Makes a file, and gives its length."""
     with open(os.path.join(folder, name), "wb") as file:
         return file.write(data)
+
+
+def commands(found, project, folder):
+    """For each of these linkers that can link a project its name, its command and the folder that it runs in. The files
+    are written to this folder, under their names without folders."""
+    write(folder, SCRIPT_NAME, project.script)
+    names = [name.replace("/", "_") for name in project.objects]
+    for name, data in zip(names, project.objects.values()):
+        write(folder, name, data)
+    for linker in found:
+        if linker.is_own or project.other_link is None:
+            yield linker.name, [*linker.words("image"), *project.options * linker.is_own, *names], folder
+        elif linker.takes_scripts:
+            where, words = project.other_link
+            yield linker.name, [*linker.command, *words, "-o", os.path.join(folder, "image")], where
 
 
 class Link:

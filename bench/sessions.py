@@ -1,5 +1,5 @@
-"""A session of `ldi` through two pipes, the project that bench/session and bench/edits open, and the edits that they
-make in it."""
+"""A session of `ldi` through two pipes, the projects that bench/session and bench/edits open, and the edits that they
+make in them."""
 import subprocess
 import time
 from dataclasses import dataclass
@@ -35,6 +35,41 @@ class Session:
         self.process.wait()
 
 
+@dataclass(frozen=True)
+class Project:
+    """A project, and what is sent to edit it."""
+    title: str
+    script: bytes
+    objects: dict
+    """The objects by their names, in their order."""
+    edited: str
+    """The name of the object that is edited."""
+    variants: dict
+    """The objects that come in its place, by what is changed; the first one differs in bytes alone."""
+    leaf: bytes
+    """An object that no other refers to."""
+    other_script: bytes
+    """The script with another address."""
+    opening: list
+    """The line and the payload of each command that opens it."""
+    options: tuple = ()
+    """The words of the session's options."""
+    other_link: tuple | None = None
+    """The folder and the words of the link by other linkers, where that is not one of these objects and this script."""
+
+    @property
+    def size(self):
+        """The bytes of all input."""
+        return len(self.script) + sum(map(len, self.objects.values()))
+
+    def open(self, program):
+        """A session of its own in which the project is open, and what its opening took."""
+        session = Session(program, self.options)
+        opened = send(session, self.opening)
+        assert opened.answer[:2] == ["linked", "0"], opened.answer
+        return session, opened
+
+
 def opening(objects, script_first, entry_last):
     """The commands that open the project of these objects in their order; the first one has the entry symbol."""
     script = (f"script {len(SCRIPT)}", SCRIPT)
@@ -42,6 +77,24 @@ def opening(objects, script_first, entry_last):
     if entry_last:
         adds.reverse()
     return [script, *adds] if script_first else [*adds, script]
+
+
+def made_project(count):
+    """The project of so many objects of tools/calculator/projects.py."""
+    objects, middle = [project_object(number, count) for number in range(count)], count // 2
+    variants = {
+        "other bytes": project_object(middle, count, code=b"\xcc"),
+        "a symbol that moves": project_object(middle, count, other=VALUE),
+        "one longer function": project_object(middle, count, other=LONGER),
+        "ten longer functions": project_object(middle, count, 528),
+        "a call more": project_object(middle, count, other=CALL),
+        "a symbol more": project_object(middle, count, another=True),
+        "a function more": project_object(middle, count, other=FUNCTION),
+        "a section more": project_object(middle, count, other=SECTION),
+    }
+    return Project(f"{count} objects", SCRIPT, {f"o{number}.o": data for number, data in enumerate(objects)},
+                   f"o{middle}.o", variants, project_object(count, count), SCRIPT.replace(b"0x401000", b"0x403000"),
+                   opening(objects, True, True))
 
 
 @dataclass(frozen=True)
@@ -65,30 +118,27 @@ def send(session, commands):
     return Opened(answered, answer, time.perf_counter() - start, last)
 
 
-def edits_of(count, objects):
+def first_edits(project):
+    """The title, the line and the payload of the edits that come first: bytes alone, and back."""
+    changed = next(iter(project.variants.values()))
+    for title, data in ("other bytes, first", changed), ("other bytes, later", project.objects[project.edited]):
+        yield title, f"replace {project.edited} {len(data)}", data
+
+
+def edits_of(project):
     """The title, the line and the payload of each edit and query."""
-    middle = count // 2
-    name, before = f"o{middle}.o", objects[middle]
-    moved, leaf = SCRIPT.replace(b"0x401000", b"0x403000"), project_object(count, count)
-    yield "script", f"script {len(SCRIPT)}", SCRIPT
-    yield "script of another address", f"script {len(moved)}", moved
-    yield "script of the first address", f"script {len(SCRIPT)}", SCRIPT
-    for what, after in (
-        ("other bytes", project_object(middle, count, code=b"\xcc")),
-        ("a symbol that moves", project_object(middle, count, other=VALUE)),
-        ("one longer function", project_object(middle, count, other=LONGER)),
-        ("ten longer functions", project_object(middle, count, 528)),
-        ("a call more", project_object(middle, count, other=CALL)),
-        ("a symbol more", project_object(middle, count, another=True)),
-        ("a function more", project_object(middle, count, other=FUNCTION)),
-        ("a section more", project_object(middle, count, other=SECTION)),
-    ):
+    name, before = project.edited, project.objects[project.edited]
+    middle = list(project.objects).index(name)
+    yield "script", f"script {len(project.script)}", project.script
+    yield "script of another address", f"script {len(project.other_script)}", project.other_script
+    yield "script of the first address", f"script {len(project.script)}", project.script
+    for what, after in project.variants.items():
         yield f"replace: {what}", f"replace {name} {len(after)}", after
         yield f"back: {what}", f"replace {name} {len(before)}", before
     yield "replace by the same", f"replace {name} {len(before)}", before
     yield "move to the front", f"move {name} 0", b""
     yield "move back", f"move {name} {middle}", b""
-    yield "add, none refers to it", f"add leaf.o {middle} {len(leaf)}", leaf
+    yield "add, none refers to it", f"add leaf.o {middle} {len(project.leaf)}", project.leaf
     yield "remove, none refers to it", "remove leaf.o", b""
     yield "remove", f"remove {name}", b""
     yield "add again", f"add {name} {middle} {len(before)}", before
