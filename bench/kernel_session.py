@@ -79,26 +79,27 @@ def script_after(edits):
 
 def at_another_address(ldi, folder, words):
     """The script of the same link with another address."""
-    at = words.index("-T") + 1
-    with open(os.path.join(folder, words[at]), encoding="utf-8") as file:
+    path = next(word for word in words if word.endswith("vmlinux.lds")).removeprefix("--script=")
+    with open(os.path.join(folder, path), encoding="utf-8") as file:
         text = file.read()
     if ADDRESS not in text:
-        sys.exit(f"{words[at]}: no {ADDRESS}")
+        sys.exit(f"{path}: no {ADDRESS}")
     with tempfile.NamedTemporaryFile("w", suffix=".lds", encoding="utf-8") as other:
         other.write(text.replace(ADDRESS, OTHER_ADDRESS))
         other.flush()
-        _, edits = noted(ldi, folder, [*words[:at], other.name, *words[at + 1:]])
+        _, edits = noted(ldi, folder, [word.replace(path, other.name) for word in words])
         return script_after(edits)
 
 
 def edited(objects):
-    """The name of the object that is edited, the first from the middle on in which each edit can be made, and what the
-    edits make of it."""
+    """The name of the object that is edited, the first from the middle on in which each edit can be made; what the
+    edits make of it; and the function that it then calls."""
     names = list(objects)
     middle = len(names) // 2
     for name in names[middle:] + names[:middle]:
         try:
-            return name, object_edits.variants(objects[name])
+            called = object_edits.function_elsewhere(objects.values(), objects[name])
+            return name, object_edits.variants(objects[name], called), called.decode()
         except object_edits.Unsuited:
             pass
     sys.exit("no object for the edits")
@@ -112,12 +113,12 @@ def leaf(called):
 
 
 def kernel(ldi, folder):
-    """The project of the kernel's last link, which other linkers link by its own words."""
+    """The project of the kernel's last link, which other linkers link by its own words. Its first object stays first:
+    it has the start, whose address is a number in the script that is sent."""
     words = last_link(folder)
     options, opening = noted(ldi, folder, words)
     objects = objects_after(opening)
-    name, variants = edited(objects)
-    called = object_edits.function_of(objects[name])
+    name, variants, called = edited(objects)
     return Project(f"the kernel of {folder}, {len(objects)} objects, edits of {name}", script_after(opening), objects,
                    name, variants, leaf(called), at_another_address(ldi, folder, words), opening, tuple(options),
-                   (folder, words))
+                   (folder, words), 1)

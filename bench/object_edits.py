@@ -10,7 +10,8 @@ ROOT = os.path.realpath(os.path.join(os.path.dirname(os.path.abspath(__file__)),
 sys.path.insert(0, ROOT)
 
 from client.object_file import (  # noqa: E402
-    ABSOLUTE, ALLOC, FUNCTION, GLOBAL, HEADER, OBJECT, PROGBITS, RELA, SYMBOL, UNDEFINED, WRITABLE, ObjectFile, Symbol)
+    ABSOLUTE, ALLOC, FUNCTION, GLOBAL, HEADER, NOTYPE, OBJECT, PROGBITS, RELA, SYMBOL, UNDEFINED, WRITABLE, ObjectFile,
+    Symbol)
 
 NOP = b"\x90"
 RELOCATION = struct.Struct("<QQq")
@@ -73,15 +74,11 @@ class Growing:
     def _align(self):
         self.data += bytes(-len(self.data) % 64)
 
-    def symbols(self):
-        """The symbols, with their numbers and names."""
-        return [(number, name, symbol) for number, (name, symbol) in enumerate(self.file.symbols())]
-
     def defined(self, kinds):
-        """The number and the entry of the first global symbol of one of these kinds that a section has."""
-        for number, _, symbol in self.symbols():
+        """The number, the name and the entry of the first global symbol of one of these kinds that a section has."""
+        for number, (name, symbol) in enumerate(self.file.symbols()):
             if symbol.binding == GLOBAL and symbol.kind in kinds and UNDEFINED < symbol.section < ABSOLUTE:
-                return number, symbol
+                return number, name, symbol
         raise Unsuited("no global symbol of a section")
 
     def put_symbol(self, number, symbol):
@@ -90,13 +87,15 @@ class Growing:
         content = self.content(table)
         self.put(table, content[:24 * number] + SYMBOL.pack(*symbol) + content[24 * (number + 1):])
 
-    def add_symbol(self, name, section, value):
-        """One more global function."""
+    def add_symbol(self, name, section=UNDEFINED, value=0):
+        """One more global function, of a section or of another object; gives its number."""
         table = self.file.symbol_table()
-        names = self.headers[table].link
+        number, names = self.headers[table].size // SYMBOL.size, self.headers[table].link
         text = self.content(names)
         self.put(names, text + name + b"\0")
-        self.put_symbol(len(self.symbols()), Symbol(len(text), GLOBAL << 4 | FUNCTION, 0, section, value, 16))
+        kind, size = (NOTYPE, 0) if section == UNDEFINED else (FUNCTION, 16)
+        self.put_symbol(number, Symbol(len(text), GLOBAL << 4 | kind, 0, section, value, size))
+        return number
 
     def add_call(self, section, at, symbol):
         """One more relocation: a call at an offset."""
@@ -114,14 +113,25 @@ class Growing:
         raise Unsuited("no room for a field")
 
 
-def function_of(data):
-    """The name of a global function."""
-    one = Growing(data)
-    number, _ = one.defined((FUNCTION,))
-    return one.symbols()[number][1].decode()
+def names_in(data):
+    """The names of all symbols."""
+    return {name for name, _ in ObjectFile(data).symbols()}
 
 
-def other_bytes(data):
+def function_elsewhere(objects, data):
+    """A global function of one of these objects that another one does not name."""
+    known = names_in(data)
+    for other in objects:
+        try:
+            _, name, _ = Growing(other).defined((FUNCTION,))
+        except Unsuited:
+            continue
+        if name not in known:
+            return name
+    raise Unsuited("no function elsewhere")
+
+
+def other_bytes(data, _):
     """Another letter in a string."""
     one = Growing(data)
     strings = one.section(b".rodata.str1.1")
@@ -130,51 +140,49 @@ def other_bytes(data):
     return one.bytes()
 
 
-def moved_symbol(data):
+def moved_symbol(data, _):
     """A symbol that others may name, 8 bytes further in its section."""
     one = Growing(data)
-    number, symbol = one.defined((OBJECT, FUNCTION))
+    number, _, symbol = one.defined((OBJECT, FUNCTION))
     one.put_symbol(number, symbol._replace(value=symbol.value + 8))
     return one.bytes()
 
 
-def longer(data, size=16):
-    """Code that is longer at its end."""
+def longer(data, _):
+    """Code that is 16 bytes longer at its end."""
     one = Growing(data)
     text = one.section(b".text")
-    one.put(text, one.content(text) + NOP * size)
+    one.put(text, one.content(text) + NOP * 16)
     return one.bytes()
 
 
-def more_call(data):
-    """A call more."""
+def more_call(data, called):
+    """A call more, of a function that the object did not name."""
     one = Growing(data)
     text = one.section(b".text")
-    number, _ = one.defined((FUNCTION,))
-    one.add_call(text, one.free_field(text), number)
+    one.add_call(text, one.free_field(text), one.add_symbol(called))
     return one.bytes()
 
 
-def more_symbol(data):
+def more_symbol(data, _):
     """A symbol more."""
     one = Growing(data)
-    one.add_symbol(MORE, one.section(b".text"), 0)
+    one.add_symbol(MORE, one.section(b".text"))
     return one.bytes()
 
 
-def more_function(data):
-    """A function more, which calls another."""
+def more_function(data, called):
+    """A function more, with such a call."""
     one = Growing(data)
     text = one.section(b".text")
-    number, _ = one.defined((FUNCTION,))
-    end = one.headers[text].size
-    one.put(text, one.content(text) + NOP * (-end % 16 + 64))
-    one.add_symbol(MORE, text, end + -end % 16)
-    one.add_call(text, end + -end % 16 + 1, number)
+    end = one.headers[text].size + -one.headers[text].size % 16
+    one.put(text, one.content(text).ljust(end + 64, NOP))
+    one.add_symbol(MORE, text, end)
+    one.add_call(text, end + 1, one.add_symbol(called))
     return one.bytes()
 
 
-def more_section(data):
+def more_section(data, _):
     """Another section of data, with the name of the first."""
     one = Growing(data)
     first = next((header for index, header in enumerate(one.headers)
@@ -197,6 +205,6 @@ VARIANTS = {
 }
 
 
-def variants(data):
-    """The title of each edit and the object that it makes of this one."""
-    return {title: edit(data) for title, edit in VARIANTS.items()}
+def variants(data, called):
+    """The title of each edit and the object that it makes of this one; `called` is a function that it does not name."""
+    return {title: edit(data, called) for title, edit in VARIANTS.items()}

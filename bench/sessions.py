@@ -56,6 +56,8 @@ class Project:
     """The words of the session's options."""
     other_link: tuple | None = None
     """The folder and the words of the link by other linkers, where that is not one of these objects and this script."""
+    front: int = 0
+    """The first place to which an object is moved."""
 
     @property
     def size(self):
@@ -136,7 +138,7 @@ def edits_of(project):
         yield f"replace: {what}", f"replace {name} {len(after)}", after
         yield f"back: {what}", f"replace {name} {len(before)}", before
     yield "replace by the same", f"replace {name} {len(before)}", before
-    yield "move to the front", f"move {name} 0", b""
+    yield "move to the front", f"move {name} {project.front}", b""
     yield "move back", f"move {name} {middle}", b""
     yield "add, none refers to it", f"add leaf.o {middle} {len(project.leaf)}", project.leaf
     yield "remove, none refers to it", "remove leaf.o", b""
