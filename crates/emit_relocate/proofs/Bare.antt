@@ -24,7 +24,7 @@ use Rattle.emit_relocate.specs.declared.previous_link_info.FileRange.{FileRange}
 use Rattle.emit_relocate.specs.declared.input_section.InputSection.{InputSection}
 use Rattle.emit_relocate.proofs.Added.{tried_nothing}
 use Rattle.emit_relocate.proofs.Found.{relocations_of, there_of}
-use Rattle.emit_relocate.proofs.Lists.{none_in_nil}
+use Rattle.ldmodel_laws.proofs.Members.{none_in_nil}
 
 empty : {X : Type 0} (xs : List X) → length xs ≡ 0 → xs ≡ []
 empty [] e = refl
@@ -70,14 +70,14 @@ module _ (old : GoodLink) (l : KnownLink) (s : ObjectSection) (bare : s.section.
     sites = ap (filter (has_moved old l)) (sym no_sites);
   }
 
-  pub bare_added : (range : SectionKey → Option FileRange) (key : ObjectPlace) → named_object l key ≡ Some s.object
+  pub bare_added : (range : SectionKey → Option FileRange) (place : ObjectPlace) → named_object l place ≡ Some s.object
       → (a : Results) → a.counts.fields < 2 ^ 64 → Adds l (IsEvaluatedOf old l range s) a a
-  bare_added range key named a h = record {
+  bare_added range place named a h = record {
     evaluated = nothing;
     is_done = record {
-      key = key;
+      key = place;
       named = named;
-      outcome = bare_at (section_key key s) (range (section_key key s));
+      outcome = bare_at (section_key place s) (range (section_key place s));
     };
     fields = sym (append-nil a.fields);
     ends = refl;

@@ -9,7 +9,7 @@ use Rattle.ldmodel_laws.specs.Untouched.{HasField}
 use Rattle.emit_relocate.specs.PreviousLinkInfo.{good_link}
 use Rattle.emit_relocate.specs.Fields.{evaluations, work_of}
 use Rattle.emit_relocate.specs.KnownLink.{KnownLink}
-use Rattle.emit_relocate.proofs.Lists.{here, later}
+use Rattle.ldmodel_laws.proofs.Members.{here, later}
 
 module _ (l : KnownLink) where
   abbrev one_of : Site → ℕ

@@ -1,62 +1,10 @@
--- Members of lists, and what a test keeps of them.
-use Rattle.std.proofs.Common.{◌≡◌, ◌<◌, ◌⊎◌, inl, inr, ⊎_elim, ℕ, zero, suc, ◌+◌, Bool, true, false, cond, not, ◌&&◌}
-use Rattle.std.proofs.Common.{List, [], ◌∷◌, length, map, filter, flat_map, Option, None, Some, refl, sym, ap, ◌∙◌}
-use Rattle.std.proofs.Common.{subst, arith, get_or}
+-- What a test keeps of a list, and members of two lists that are related one by one.
+use Rattle.std.proofs.Common.{◌≡◌, ◌⊎◌, ⊎_elim, ◌+◌, Bool, true, false, cond, not, ◌&&◌}
+use Rattle.std.proofs.Common.{List, [], ◌∷◌, length, filter, Option, None, refl, sym, ap, ◌∙◌}
+use Rattle.std.proofs.Common.{subst, arith}
 use Rattle.std.specs.Prelude.{◌||◌}
 use Rattle.std.specs.List.{AllZip, Contains, cons_option, filter_map}
-use Rattle.std.proofs.lemmas.List.Elements.{Contains-append_cases, Contains-append_left, Contains-append_right}
-
-pub here : {X : Type 0} (x : X) (xs : List X) → Contains (x ∷ xs) x
-here x xs = (0, omega arith, refl)
-
-pub later : {X : Type 0} (y : X) (ys : List X) (x : X) → Contains ys x → Contains (y ∷ ys) x
-later y ys x c = (suc c.0, omega (arith, c.1), c.2)
-
-member_at : {X : Type 0} (y : X) (ys : List X) (x : X) (k : ℕ) → k < length (y ∷ ys) → get_or (y ∷ ys) k x ≡ x
-    → (y ≡ x) ⊎ Contains ys x
-member_at y ys x zero l e = inl e
-member_at y ys x (suc k) l e = inr (k, omega (arith, l), e)
-
-pub first_or_later : {X : Type 0} (y : X) (ys : List X) (x : X) → Contains (y ∷ ys) x → (y ≡ x) ⊎ Contains ys x
-first_or_later y ys x c = member_at y ys x c.0 c.1 c.2
-
-pub none_in_nil : {X : Type 0} (x : X) → Contains [] x → ⊥
-none_in_nil x c = omega (arith, c.1)
-
--- what a member of a list comes of that is joined of parts, or mapped
-pub record Origin {X Y : Type 0} (f : X → List Y) (xs : List X) (y : Y) : Type 0 where
-  pub origin : X
-  pub among : Contains xs origin
-  pub gives : Contains (f origin) y
-
-pub in_joined : {X Y : Type 0} (f : X → List Y) (xs : List X) (y : Y) → Contains (flat_map f xs) y → Origin f xs y
-in_joined f [] y c = absurd (none_in_nil y c)
-in_joined f (x ∷ xs) y c = ⊎_elim
-    (λ first. record { origin = x; among = here x xs; gives = first })
-    (λ rest. let h : Origin f xs y = in_joined f xs y rest in
-    record { origin = h.origin; among = later x xs h.origin h.among; gives = h.gives })
-    (Contains-append_cases (f x) (flat_map f xs) y c)
-
-pub joined_in : {X Y : Type 0} (f : X → List Y) (xs : List X) (x : X) (y : Y) → Contains xs x → Contains (f x) y
-    → Contains (flat_map f xs) y
-joined_in f [] x y c d = absurd (none_in_nil x c)
-joined_in f (z ∷ zs) x y c d = ⊎_elim
-    (λ same. Contains-append_left (f z) (flat_map f zs) y (subst (λ w. Contains (f w) y) (sym same) d))
-    (λ rest. Contains-append_right (f z) (flat_map f zs) y (joined_in f zs x y rest d))
-    (first_or_later z zs x c)
-
-pub record Source {X Y : Type 0} (f : X → Y) (xs : List X) (y : Y) : Type 0 where
-  pub source : X
-  pub among : Contains xs source
-  pub gives : f source ≡ y
-
-pub in_mapped : {X Y : Type 0} (f : X → Y) (xs : List X) (y : Y) → Contains (map f xs) y → Source f xs y
-in_mapped f [] y c = absurd (none_in_nil y c)
-in_mapped f (x ∷ xs) y c = ⊎_elim
-    (λ same. record { source = x; among = here x xs; gives = same })
-    (λ rest. let h : Source f xs y = in_mapped f xs y rest in
-    record { source = h.source; among = later x xs h.source h.among; gives = h.gives })
-    (first_or_later (f x) (map f xs) y c)
+use Rattle.ldmodel_laws.proofs.Members.{first_or_later, here, later, none_in_nil}
 
 -- what tests keep
 pub filter_where : {X : Type 0} (p q : X → Bool) (xs : List X) → ((x : X) → Contains xs x → p x ≡ q x)
@@ -111,68 +59,6 @@ count_either {X} p q (x ∷ xs) = go (p x) (q x) (count_either p q xs)
     go true true e = omega (arith, e)
     go true false e = e
     go false b e = omega (arith, e)
-
--- what a filter keeps is in the list and passes the test, and the other way round
-pub in_filter : {X : Type 0} (p : X → Bool) (xs : List X) (x : X) → Contains (filter p xs) x → Contains xs x
-    × (p x ≡ true)
-in_filter p [] x c = absurd (none_in_nil x c)
-in_filter {X} p (y ∷ ys) x c = go (p y) refl c (in_filter p ys x)
-  where
-    go : (b : Bool) → p y ≡ b → Contains (cond b (y ∷ filter p ys) (filter p ys)) x
-        → (Contains (filter p ys) x → Contains ys x × (p x ≡ true)) → Contains (y ∷ ys) x × (p x ≡ true)
-    go true e d rest = ⊎_elim
-        (λ same. (subst (λ z. Contains (y ∷ ys) z) same (here y ys), subst (λ z. p z ≡ true) same e))
-        (λ in_rest. (later y ys x (rest in_rest).0, (rest in_rest).1))
-        (first_or_later y (filter p ys) x d)
-    go false e d rest = (later y ys x (rest d).0, (rest d).1)
-
-pub filter_in : {X : Type 0} (p : X → Bool) (xs : List X) (x : X) → Contains xs x → p x ≡ true
-    → Contains (filter p xs) x
-filter_in p [] x c h = absurd (none_in_nil x c)
-filter_in {X} p (y ∷ ys) x c h = go (p y) refl (first_or_later y ys x c) (λ in_rest. filter_in p ys x in_rest h)
-  where
-    go : (b : Bool) → p y ≡ b → (y ≡ x) ⊎ Contains ys x → (Contains ys x → Contains (filter p ys) x)
-        → Contains (cond b (y ∷ filter p ys) (filter p ys)) x
-    go true e (inl same) rest = subst (λ z. Contains (y ∷ filter p ys) z) same (here y (filter p ys))
-    go true e (inr in_rest) rest = later y (filter p ys) x (rest in_rest)
-    go false e (inl same) rest = absurd (let no : ⊥ = (let f : true ≡ false = sym (ap p same ∙ h) ∙ e in cc) in no)
-    go false e (inr in_rest) rest = rest in_rest
-
--- what a member of a list comes of that a function gives of some members
-pub record Given {X Y : Type 0} (f : X → Option Y) (xs : List X) (y : Y) : Type 0 where
-  pub giver : X
-  pub among : Contains xs giver
-  pub gives : f giver ≡ Some y
-
-pub in_given : {X Y : Type 0} (f : X → Option Y) (xs : List X) (y : Y) → Contains (filter_map f xs) y → Given f xs y
-in_given f [] y c = absurd (none_in_nil y c)
-in_given {X} {Y} f (x ∷ xs) y c = go (f x) refl c (in_given f xs y)
-  where
-    go : (m : Option Y) → f x ≡ m → Contains (cons_option m (filter_map f xs)) y
-        → (Contains (filter_map f xs) y → Given f xs y) → Given f (x ∷ xs) y
-    go None e d rest =
-        let h : Given f xs y = rest d in
-        record { giver = h.giver; among = later x xs h.giver h.among; gives = h.gives }
-    go (Some z) e d rest = ⊎_elim
-        (λ same. record { giver = x; among = here x xs; gives = e ∙ ap Some same })
-        (λ in_rest. let h : Given f xs y = rest in_rest in
-        record { giver = h.giver; among = later x xs h.giver h.among; gives = h.gives })
-        (first_or_later z (filter_map f xs) y d)
-
-pub given_in : {X Y : Type 0} (f : X → Option Y) (xs : List X) (x : X) (y : Y) → Contains xs x → f x ≡ Some y
-    → Contains (filter_map f xs) y
-given_in f [] x y c e = absurd (none_in_nil x c)
-given_in {X} {Y} f (z ∷ zs) x y c e =
-    go (f z) refl (first_or_later z zs x c) (λ in_rest. given_in f zs x y in_rest e)
-  where
-    go : (m : Option Y) → f z ≡ m → (z ≡ x) ⊎ Contains zs x → (Contains zs x → Contains (filter_map f zs) y)
-        → Contains (cons_option m (filter_map f zs)) y
-    go None k (inl same) rest = absurd (let no : ⊥ = (let n : None ≡ Some y = sym k ∙ ap f same ∙ e in cc) in no)
-    go None k (inr in_rest) rest = rest in_rest
-    go (Some w) k (inl same) rest =
-        let is : w ≡ y = (let n : Some w ≡ Some y = sym k ∙ ap f same ∙ e in cc) in
-        subst (λ v. Contains (w ∷ filter_map f zs) v) is (here w (filter_map f zs))
-    go (Some w) k (inr in_rest) rest = later w (filter_map f zs) y (rest in_rest)
 
 -- members of two lists that are related one by one
 pub record Partner {X Y : Type 0} (R : X → Y → Type 0) (xs : List X) (y : Y) : Type 0 where

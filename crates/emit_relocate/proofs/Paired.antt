@@ -1,7 +1,7 @@
 -- Lists of sites and of a patch of each.
 use Rattle.std.proofs.Common.{◌≡◌, List, [], ◌∷◌, ◌++◌, Option, Some, subst, sym}
 use Rattle.std.specs.List.{AllZip, Contains, cons_option, filter_map}
-use Rattle.emit_relocate.proofs.Lists.{here, later}
+use Rattle.ldmodel_laws.proofs.Members.{here, later}
 
 pub zip_append : {X Y : Type 0} (R : X → Y → Type 0) (a b : List X) (c d : List Y) → AllZip R a c → AllZip R b d
     → AllZip R (a ++ b) (c ++ d)

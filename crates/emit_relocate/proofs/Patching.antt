@@ -35,8 +35,9 @@ use Rattle.emit_relocate.specs.Patched.{IsPatchOfSite, file_patch}
 use Rattle.emit_relocate.specs.declared.previous_link_info.FileRange.{FileRange}
 use Rattle.emit_relocate.proofs.Changing.{patches_of}
 use Rattle.emit_relocate.proofs.Paired.{all_given, zip_append}
-use Rattle.emit_relocate.proofs.Lists.{filter_in, filter_nothing, filter_where, given_in, here, in_filter, in_given}
-use Rattle.emit_relocate.proofs.Lists.{in_joined, in_mapped, joined_in, later, none_in_nil, partner_in, partner_of}
+use Rattle.ldmodel_laws.proofs.Finding.{filter_map_in, flat_map_in, in_filter_map, in_flat_map, in_map}
+use Rattle.ldmodel_laws.proofs.Members.{filter_in, here, in_filter, later, none_in_nil}
+use Rattle.emit_relocate.proofs.Lists.{filter_nothing, filter_where, partner_in, partner_of}
 use Rattle.emit_relocate.proofs.Settling.{Home, all_sites, belongs, home, keyed, lies, lies_as, own, same_where}
 
 -- a field that stands in its place in the file
@@ -85,16 +86,16 @@ module _ (l : KnownLink) where
 
   member : (s : ObjectSection) → Contains (sections_in l.project.objects) s → Member s
   member s c =
-      let found = in_joined (λ (o : NamedObject). map (λ x. record { object = o; section = x }) o.object.sections)
+      let found = in_flat_map (λ (o : NamedObject). map (λ x. record { object = o; section = x }) o.object.sections)
       l.project.objects s c in
-      let mapped = in_mapped (λ (x : LinkedSection). record { object = found.origin; section = x })
+      let mapped = in_map (λ (x : LinkedSection). record { object = found.origin; section = x })
       found.origin.object.sections s found.gives in
       let object : found.origin ≡ s.object = ap (λ (z : ObjectSection). z.object) mapped.gives in
-      let section : mapped.source ≡ s.section = ap (λ (z : ObjectSection). z.section) mapped.gives in
+      let section : mapped.origin ≡ s.section = ap (λ (z : ObjectSection). z.section) mapped.gives in
       record {
         object = subst (λ o. Contains l.project.objects o) object found.among;
         section = subst (λ x. Contains s.object.object.sections x) section
-            (subst (λ (o : NamedObject). Contains o.object.sections mapped.source) object mapped.among);
+            (subst (λ (o : NamedObject). Contains o.object.sections mapped.origin) object mapped.among);
       }
 
   module _ (old : GoodLink) (profile : AreOfProfile l.project) where
@@ -124,15 +125,15 @@ module _ (old : GoodLink) (l : KnownLink) (range : SectionKey → Option FileRan
   inside : (s : ObjectSection) (t : Site) → Contains (sections_in l.project.objects) s → Contains (own_sites l s) t
       → Contains (sites l.project l.layout) t
   inside s t c d =
-      subst (λ ts. Contains ts t) (all_sites l) (joined_in (own_sites l) (sections_in l.project.objects) s t c d)
+      subst (λ ts. Contains ts t) (all_sites l) (flat_map_in (own_sites l) (sections_in l.project.objects) s t c d)
 
   patch_at : (s : ObjectSection) (c : Evaluated) (r : Option FileRange) (h : IsEvaluatedOf old l range s c)
       → IsEvaluatedAt old l (section_key h.key s) r s c → Contains (sections_in l.project.objects) s → (q : Patch)
       → Contains c.patches q → IsPatchOfSite old (good_link l) q
   patch_at s c None h k among q d = absurd (none_in_nil q (subst (λ qs. Contains qs q) k.patches d))
   patch_at s c (Some r) h k among q d =
-      let given = in_given (file_patch_at l r) c.sites q (subst (λ qs. Contains qs q) k.patches d) in
-      let t : Site = given.giver in
+      let given = in_filter_map (file_patch_at l r) c.sites q (subst (λ qs. Contains qs q) k.patches d) in
+      let t : Site = given.origin in
       let kept = in_filter (has_moved old l) (own_sites l s) t (subst (λ ts. Contains ts t) k.sites given.among) in
       let at : Home old l t = home old l by_piece t (inside s t among kept.0) in
       let stays = k.stayed t kept.0 at.piece (keyed old l s h.key h.named t kept.0 at) in
@@ -159,7 +160,7 @@ module _ (old : GoodLink) (l : KnownLink) (range : SectionKey → Option FileRan
       → All (IsPatchOfSite old (good_link l)) b.patches
   each_patch a b none h =
       All-weaker (Contains b.patches) (IsPatchOfSite old (good_link l)) (λ q d.
-      let found = in_joined patches_of h.sections q
+      let found = in_flat_map patches_of h.sections q
       (subst (λ qs. Contains qs q) (h.patches ∙ ap (λ qs. qs ++ flat_map patches_of h.sections) none) d) in
       let s = partner_of (IsEvaluatedOf old l range) (sections_in l.project.objects) h.sections found.origin h.each
       found.among in
@@ -173,11 +174,11 @@ range_whole : (p : Project) (s : Layout) (x : LinkedPiece) → Contains (linked_
     → x.range.length ≡ x.size
 unfolding linked_pieces
 range_whole p s x c some =
-    let found = in_joined (λ (q : PlacedOutput). map (linked_piece p (segments s.sections) q) q.pieces) s.sections x c
+    let found = in_flat_map (λ (q : PlacedOutput). map (linked_piece p (segments s.sections) q) q.pieces) s.sections x c
     in
-    let mapped = in_mapped (linked_piece p (segments s.sections) found.origin) found.origin.pieces x found.gives in
-    whole found.origin mapped.source
-    (found.origin.has_file_bytes && not (mapped.source.piece.size == 0))
+    let mapped = in_map (linked_piece p (segments s.sections) found.origin) found.origin.pieces x found.gives in
+    whole found.origin mapped.origin
+    (found.origin.has_file_bytes && not (mapped.origin.piece.size == 0))
     (ap (λ (y : LinkedPiece). y.range.length) mapped.gives) (ap (λ (y : LinkedPiece). y.size) mapped.gives)
   where
     whole : (q : PlacedOutput) (z : PlacedPiece) (b : Bool)
@@ -243,7 +244,7 @@ module _ (old : GoodLink) (l : KnownLink) (range : SectionKey → Option FileRan
           let fits : t.relocation.offset + length f ≤ r.length =
           omega (arith, end, wide x t f within is, long, whole, size) in
           subst (λ qs. Contains qs (file_patch x t f)) (sym k.patches)
-          (given_in (file_patch_at l r) c.sites t (file_patch x t f)
+          (filter_map_in (file_patch_at l r) c.sites t (file_patch x t f)
           (subst (λ ts. Contains ts t) (sym k.sites) (filter_in (has_moved old l) (own_sites l s) t d moved))
           (gives l x t f r is at.1 fits))
 
@@ -253,15 +254,15 @@ module _ (old : GoodLink) (l : KnownLink) (range : SectionKey → Option FileRan
         let among : Contains (sites l.project l.layout) t =
         Contains-permutation (flat_map (sites_in l.project) (linked_pieces l.project l.layout))
         (sites l.project l.layout) t (IsPermutation-sym _ _ by_piece)
-        (joined_in (sites_in l.project) (linked_pieces l.project l.layout) x t (of_stayed x stays).0 within) in
-        let found = in_joined (own_sites l) (sections_in l.project.objects) t
+        (flat_map_in (sites_in l.project) (linked_pieces l.project l.layout) x t (of_stayed x stays).0 within) in
+        let found = in_flat_map (own_sites l) (sections_in l.project.objects) t
         (subst (λ ts. Contains ts t) (sym (all_sites l)) among) in
         let c = partner_in (IsEvaluatedOf old l range) (sections_in l.project.objects) h.sections found.origin h.each
         found.among in
         let patches : b.patches ≡ flat_map patches_of h.sections =
         h.patches ∙ ap (λ qs. qs ++ flat_map patches_of h.sections) none in
         subst (λ qs. Contains qs (file_patch x t f)) (sym patches)
-        (joined_in patches_of h.sections c.partner (file_patch x t f) c.among
+        (flat_map_in patches_of h.sections c.partner (file_patch x t f) c.among
         (all_at x t f stays some within (moved_of old l t (among_moved old (good_link l) t again)) is found.origin
         c.partner (range (section_key c.related.key found.origin)) c.related refl c.related.outcome found.among
         found.gives))
@@ -339,7 +340,7 @@ module _ (old : GoodLink) (l : KnownLink) (range : SectionKey → Option FileRan
           → AreOneEach old (good_link l) b.patches
       one_each a b none h permuted =
           let each = one_of_each (sections_in l.project.objects) h.sections h.each (λ s d. d) (λ s t d e.
-          subst (λ ts. Contains ts t) (all_sites l) (joined_in (own_sites l) (sections_in l.project.objects) s t d e))
+          subst (λ ts. Contains ts t) (all_sites l) (flat_map_in (own_sites l) (sections_in l.project.objects) s t d e))
           in
           let patches : b.patches ≡ flat_map patches_of h.sections =
           h.patches ∙ ap (λ qs. qs ++ flat_map patches_of h.sections) none in

@@ -35,8 +35,9 @@ use Rattle.emit_relocate.specs.Filled.{ObjectSection, sections_in, sections_of}
 use Rattle.emit_relocate.specs.KnownLink.{KnownLink, named_object}
 use Rattle.emit_relocate.specs.declared.previous_link_info.FileRange.{FileRange}
 use Rattle.emit_relocate.proofs.Changing.{sites_of}
-use Rattle.emit_relocate.proofs.Lists.{count_either, filter_map_kept, filter_where, filter_whole, here, in_filter}
-use Rattle.emit_relocate.proofs.Lists.{in_joined, in_mapped, joined_in, later, none_in_nil}
+use Rattle.ldmodel_laws.proofs.Finding.{flat_map_in, in_flat_map, in_map}
+use Rattle.ldmodel_laws.proofs.Members.{here, in_filter, later, none_in_nil}
+use Rattle.emit_relocate.proofs.Lists.{count_either, filter_map_kept, filter_where, filter_whole}
 use Rattle.emit_relocate.proofs.Moving.{unmoved}
 
 -- ---- the sites of all input sections are those of the link
@@ -83,7 +84,7 @@ module _ (p : Project) (x : LinkedPiece) (t : Site) where
       → object_named p x.object ≡ Some o → section_numbered o k ≡ y → Contains (sites_in_section o x y) t → Belongs x t
   in_section k o None part named is c = absurd (none_in_nil t c)
   in_section k o (Some y) part named is c =
-      let mapped = in_mapped (λ (r : Relocation). record { object = o; section = y; start = x.start; relocation = r })
+      let mapped = in_map (λ (r : Relocation). record { object = o; section = y; start = x.start; relocation = r })
       (filter (λ (r : Relocation). is_evaluated r.kind) y.relocations) t c in
       let object : o ≡ t.object = ap (λ (u : Site). u.object) mapped.gives in
       let section : y ≡ t.section = ap (λ (u : Site). u.section) mapped.gives in
@@ -146,7 +147,7 @@ module _ (old : GoodLink) (l : KnownLink) where
       (flat_map (sites_in l.project) (linked_pieces l.project l.layout))) where
     pub home : (t : Site) → Contains (sites l.project l.layout) t → Home t
     home t c =
-        let found = in_joined (sites_in l.project) (linked_pieces l.project l.layout) t
+        let found = in_flat_map (sites_in l.project) (linked_pieces l.project l.layout) t
         (Contains-permutation (sites l.project l.layout)
         (flat_map (sites_in l.project) (linked_pieces l.project l.layout)) t by_piece c) in
         record {
@@ -167,14 +168,14 @@ module _ (old : GoodLink) (l : KnownLink) where
         → Contains (option_map_or (λ (y : PlacedPiece). sites_at s.object s.section y.start) a []) t → Own t
     own_at None t c = absurd (none_in_nil t c)
     own_at (Some y) t c =
-        let mapped = in_mapped
+        let mapped = in_map
         (λ (r : Relocation). record { object = s.object; section = s.section; start = y.start; relocation = r })
         (filter (λ (r : Relocation). is_evaluated r.kind) s.section.relocations) t c in
         record {
           object = ap (λ (u : Site). u.object) (sym mapped.gives);
           section = ap (λ (u : Site). u.section) (sym mapped.gives);
           relocation = subst (λ r. Contains s.section.relocations r) (ap (λ (u : Site). u.relocation) mapped.gives)
-              ((in_filter (λ (r : Relocation). is_evaluated r.kind) s.section.relocations mapped.source
+              ((in_filter (λ (r : Relocation). is_evaluated r.kind) s.section.relocations mapped.origin
               mapped.among).0);
         }
 
@@ -231,7 +232,7 @@ module _ (old : GoodLink) (l : KnownLink) where
         → filter_map (fault_at l) (flat_map sites_of cs) ≡ filter_map (fault_at l) (sites l.project l.layout)
     faults_of_all cs h =
         faults_of_some (sections_in l.project.objects) cs h (λ s t d e.
-        subst (λ ts. Contains ts t) (all_sites l) (joined_in (own_sites l) (sections_in l.project.objects) s t d e))
+        subst (λ ts. Contains ts t) (all_sites l) (flat_map_in (own_sites l) (sections_in l.project.objects) s t d e))
         ∙ ap (filter_map (fault_at l)) (all_sites l)
 
   -- ---- which sites are evaluated
@@ -290,7 +291,7 @@ module _ (old : GoodLink) (l : KnownLink) where
         → flat_map sites_of cs ≡ filter is_due (sites l.project l.layout)
     due_of_all cs h =
         due_of_some (sections_in l.project.objects) cs h (λ s t d e.
-        subst (λ ts. Contains ts t) (all_sites l) (joined_in (own_sites l) (sections_in l.project.objects) s t d e))
+        subst (λ ts. Contains ts t) (all_sites l) (flat_map_in (own_sites l) (sections_in l.project.objects) s t d e))
         ∙ ap (filter is_due) (all_sites l)
 
     pub how_many : (cs : List Evaluated) → AllZip (IsEvaluatedOf old l range) (sections_in l.project.objects) cs

@@ -11,7 +11,7 @@ use Rattle.ldmodel.specs.WorkBound.{sites_outside}
 use Rattle.emit_relocate.specs.PreviousLinkInfo.{good_link, has_moved}
 use Rattle.emit_relocate.proofs.Changing.{sites_of}
 use Rattle.emit_relocate.proofs.Evaluations.{all_evaluated}
-use Rattle.emit_relocate.proofs.Lists.{in_filter}
+use Rattle.ldmodel_laws.proofs.Members.{in_filter}
 use Rattle.emit_relocate.proofs.Settling.{due_of_all, home, how_many, is_due, same_where}
 use Rattle.emit_relocate.proofs.law.due_sites_count.Goals as goal
 
