@@ -182,7 +182,7 @@ bare_byte p s o start i x h e =
 
 -- ---- the images
 
-module _ (p : Project) (l : KnownLink) (key : ObjectPlace) (o : NamedObject) (h : IsInPlaceRewrite p l key o)
+module _ (p : Project) (l : KnownLink) (place : ObjectPlace) (o : NamedObject) (h : IsInPlaceRewrite p l place o)
     (located : List LocatedSection) (has : HasLocatedSections l.project l.layout o located) (ws : List Written)
     (planned : AllZip (IsPlannedAt l o) located ws) (bare : All IsBare o.object.sections)
     (numbered : (j : ℕ) (x : LinkedSection) → slice_get o.object.sections j ≡ Some x
@@ -194,7 +194,7 @@ module _ (p : Project) (l : KnownLink) (key : ObjectPlace) (o : NamedObject) (h 
   s = l.layout
 
   abbrev i : ℕ
-  i = l.number key.0
+  i = l.number place.0
 
   -- ---- the object in both projects
 

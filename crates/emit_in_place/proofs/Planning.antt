@@ -40,7 +40,7 @@ use Rattle.emit_relocate.specs.declared.value.SymbolValue.{SymbolValue}
 use Rattle.emit_in_place.specs.Plan.{IsAtHand, IsFaultlessRun, IsNothing, IsPlanned, IsPlannedAt, IsRefused}
 use Rattle.emit_in_place.specs.Plan.{IsWhole, IsWithin, Written, count_of, sites_in_all, sites_there, written}
 use Rattle.emit_in_place.specs.Plan.{written_all}
-use Rattle.emit_in_place.specs.declared.plan.Rewrite.{Rewrite}
+use Rattle.emit_in_place.specs.declared.plan.PlannedSection.{PlannedSection}
 use Rattle.emit_in_place.specs.LocatedSections.{bytes_of}
 use Rattle.emit_in_place.specs.declared.located_section.LocatedSection.{LocatedSection}
 use Rattle.ldmodel_laws.proofs.EachOf.{zip_more}
@@ -142,11 +142,11 @@ order_of l o xs i start n x run bytes sections relocations is same h =
     subst (λ b. AreInOrder 0 (length b) run) (sym same) (h.is_run.order (length x.bytes) within)
 
 -- a section of an object of the link
-pub placed_of : (l : KnownLink) (key : ObjectPlace) (read : ObjectData) (values : List SymbolValue) (m : PlacedInput)
-    (o : NamedObject) (x : LinkedSection) → IsAtHand l key read values o → IsSectionOf read x key m
+pub placed_of : (l : KnownLink) (place : ObjectPlace) (read : ObjectData) (values : List SymbolValue) (m : PlacedInput)
+    (o : NamedObject) (x : LinkedSection) → IsAtHand l place read values o → IsSectionOf read x place m
     → m.values.now ≡ values → IsPlaced l m o x
-placed_of l key read values m o x h is same = record {
-  object_is = rw is.key_is h.named;
+placed_of l place read values m o x h is same = record {
+  object_is = rw is.place_is h.named;
   section_is = rw h.same is.number_is;
   symbols_are = rw h.same is.symbols_are;
   values_are = subst (IsRow l o) (sym same) h.row;
@@ -294,7 +294,7 @@ pub sites_at_spot : (o : NamedObject) (t : LocatedSection) (x : LinkedSection)
 sites_at_spot o t x is =
     sym (ap (λ m. option_map_or (λ (y : LinkedSection). sites_at o y t.start) m []) is)
 
-pub within_more : (limit : ℕ) (rs : List Rewrite) (r : Rewrite) → All (IsWithin limit) (written_all rs)
+pub within_more : (limit : ℕ) (rs : List PlannedSection) (r : PlannedSection) → All (IsWithin limit) (written_all rs)
     → IsWithin limit (written r) → All (IsWithin limit) (written_all (rs ++ r ∷ []))
 within_more limit rs r h k =
     subst (All (IsWithin limit)) (sym (map-append written rs (r ∷ [])))
@@ -305,7 +305,7 @@ within_more limit rs r h k =
     one own (suc j) d low = absurd (omega (arith, low))
 
 pub planned_more : (l : KnownLink) (o : NamedObject) (ts : List LocatedSection) (i : ℕ) (d : LocatedSection)
-    (rs : List Rewrite) (r : Rewrite) → i < length ts → AllZip (IsPlannedAt l o) (take i ts) (written_all rs)
+    (rs : List PlannedSection) (r : PlannedSection) → i < length ts → AllZip (IsPlannedAt l o) (take i ts) (written_all rs)
     → IsPlannedAt l o (get_or ts i d) (written r)
     → AllZip (IsPlannedAt l o) (take (i + 1) ts) (written_all (rs ++ r ∷ []))
 planned_more l o ts i d rs r low h k =

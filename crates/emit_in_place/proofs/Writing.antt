@@ -13,7 +13,7 @@ use Rattle.ldmodel.specs.Raised.{raised}
 use Rattle.elfobj.specs.declared.meter.Count.TheVariants.{Bytes}
 use Rattle.ldmodel_laws.proofs.Members.{first_or_later, here, none_in_nil}
 use Rattle.emit_in_place.specs.Plan.{AreWritten, ComesOf, IsKept, IsWithin, Written, count_of, written, written_all}
-use Rattle.emit_in_place.specs.declared.plan.Rewrite.{Rewrite}
+use Rattle.emit_in_place.specs.declared.plan.PlannedSection.{PlannedSection}
 
 -- what a write changes
 pub record IsStep (w : Written) (old new : List ℕ) : Type 0 where
@@ -69,7 +69,7 @@ module _ (ws : List Written) (w : Written) (a b c : List ℕ) (h : AreWritten ws
 
 -- ---- lists
 
-pub one_more : (rs : List Rewrite) (i : ℕ) (r : Rewrite) → i < length rs → r ≡ get_or rs i r
+pub one_more : (rs : List PlannedSection) (i : ℕ) (r : PlannedSection) → i < length rs → r ≡ get_or rs i r
     → written_all (take (i + 1) rs) ≡ written_all (take i rs) ++ written r ∷ []
 one_more rs i r low is =
     ap (λ n. written_all (take n rs)) (add-one i) ∙ ap written_all (take-suc rs i r low)
@@ -99,7 +99,7 @@ more_raised m ws w =
 
 -- ---- what is planned lies within the file
 
-pub each_within : (limit : ℕ) (rs : List Rewrite) (i : ℕ) (r : Rewrite) → i < length rs → r ≡ get_or rs i r
+pub each_within : (limit : ℕ) (rs : List PlannedSection) (i : ℕ) (r : PlannedSection) → i < length rs → r ≡ get_or rs i r
     → All (IsWithin limit) (written_all rs) → IsWithin limit (written r)
 each_within limit rs i r low is h =
     let many = length-map rs written in

@@ -22,12 +22,12 @@ pub record IsBare (section : LinkedSection) : Type 0 where
   pub bytes : section.kind ≡ Nobits → section.bytes ≡ []
   pub relocations : section.kind ≡ Nobits → section.relocations ≡ []
 
--- the link comes of one of another project, at the same layout, by what the sections of the object of a key hold
-pub record IsInPlaceRewrite (old : Project) (link : KnownLink) (key : ObjectPlace) (object : NamedObject) : Type 0 where
-  pub rewritten : DiffersInContents old link.project (link.number key.0)
+-- the link comes of one of another project, at the same layout, by what the sections of the object of a place hold
+pub record IsInPlaceRewrite (old : Project) (link : KnownLink) (place : ObjectPlace) (object : NamedObject) : Type 0 where
+  pub rewritten : DiffersInContents old link.project (link.number place.0)
   pub frame : HasSameFrame old link.project link.layout
-  pub object_is : named_object link key ≡ Some object
+  pub object_is : named_object link place ≡ Some object
   pub names : AreNamesDistinct link.project.objects
   pub spread : Each IsSpread link.layout.sections
   pub named : AreNamed link.layout.sections
-  pub bare : (a : NamedObject) → slice_get old.objects (link.number key.0) ≡ Some a → All IsBare a.object.sections
+  pub bare : (a : NamedObject) → slice_get old.objects (link.number place.0) ≡ Some a → All IsBare a.object.sections

@@ -20,7 +20,7 @@ use Rattle.emit_relocate.specs.KnownLink.{KnownLink, named_object}
 use Rattle.emit_relocate.specs.SymbolValues.{IsRow}
 use Rattle.emit_relocate.specs.declared.previous_link_info.FileRange.{FileRange}
 use Rattle.emit_relocate.specs.declared.value.SymbolValue.{SymbolValue}
-use Rattle.emit_in_place.specs.declared.plan.Rewrite.{Rewrite}
+use Rattle.emit_in_place.specs.declared.plan.PlannedSection.{PlannedSection}
 use Rattle.emit_in_place.specs.declared.located_section.LocatedSection.{LocatedSection}
 
 -- bytes, where they begin in the file, and the fields that lie in them
@@ -29,10 +29,10 @@ pub record Written : Type 0 where
   pub bytes : List ℕ
   pub run : List Patch
 
-abbrev pub written : Rewrite → Written
+abbrev pub written : PlannedSection → Written
 written r = record { at = r.at; bytes = r.bytes.now; run = r.fields.items }
 
-abbrev pub written_all : List Rewrite → List Written
+abbrev pub written_all : List PlannedSection → List Written
 written_all rs = map written rs
 
 abbrev pub count_of : Written → ℕ
@@ -79,9 +79,9 @@ abbrev pub IsPlanned : SectionKind → List ℕ → FileRange → List Patch →
 IsPlanned kind bytes r run w = IsNothing kind r w ⊎ IsWhole kind bytes r run w
 
 -- an object of a link, as the code has it at hand
-pub record IsAtHand (link : KnownLink) (key : ObjectPlace) (object : ObjectData) (values : List SymbolValue)
+pub record IsAtHand (link : KnownLink) (place : ObjectPlace) (object : ObjectData) (values : List SymbolValue)
     (o : NamedObject) : Type 0 where
-  pub named : named_object link key ≡ Some o
+  pub named : named_object link place ≡ Some o
   pub same : o.object ≡ object
   pub row : IsRow link o values
 

@@ -15,7 +15,7 @@ pub struct LocatedSection {
     pub index: LinkedIndex,
     /// The address that it starts at.
     pub start: u64,
-    /// Its bytes in the file: none, where its output section has none there.
+    /// Its bytes in the file; none if its output section has none there.
     pub range: FileRange,
 }
 

@@ -33,7 +33,7 @@ use std::alloc::Global;
 
 /// The bytes of a section, where they begin in the file, and the fields that lie in them.
 #[derive(Drop)]
-pub struct Rewrite<'a> {
+pub struct PlannedSection<'a> {
     /// Where they begin.
     pub at: usize,
     /// The bytes of the section itself.
@@ -95,11 +95,10 @@ fn are_in_order(fields: &[Patch], limit: usize) -> bool
     end <= limit
 }
 
-/// The fields of a section of an object that starts at an address; none where, and only where, a relocation has a
-/// fault.
+/// The fields of a section of an object that starts at an address; `None` exactly if a relocation has a fault.
 fn fields_of(
     alloc: Global,
-    key: ObjectPlace,
+    place: ObjectPlace,
     object: &Object,
     values: &[SymbolValue],
     index: LinkedIndex,
@@ -110,16 +109,16 @@ fn fields_of(
     requires end { (section : LinkedSection) → slice_get object.now.sections index.0 ≡ Some section
         → start + section.size < 2 ^ 64 }
     ensures some { IfOk result (λ r. IfSome r (λ run. (link : KnownLink) (o : NamedObject) (section : LinkedSection)
-        → IsAtHand link key object.now values.now o → slice_get o.object.sections index.0 ≡ Some section
+        → IsAtHand link place object.now values.now o → slice_get o.object.sections index.0 ≡ Some section
         → IsFaultlessRun link o section start run.items
         × (meter.new ≡ raised meter.old Fields (evaluations link (sites_at o section start))))) }
     ensures none { IfOk result (λ r. IfNone r ((link : KnownLink) (o : NamedObject) (section : LinkedSection)
-        → IsAtHand link key object.now values.now o → slice_get o.object.sections index.0 ≡ Some section
+        → IsAtHand link place object.now values.now o → slice_get o.object.sections index.0 ≡ Some section
         → IsRefused link (sites_at o section start) meter.old meter.new)) }
 {
     // for the prover: brings in that the count of fields fits a u64
     let _fields = meter.fields();
-    let section = PlacedInput::new(key, object, index, start, values);
+    let section = PlacedInput::new(place, object, index, start, values);
     let mut fields = Vec::new(alloc);
     let mut faults = Vec::new(alloc);
     add_fields(alloc, &section, &mut fields, &mut faults, meter)?;
@@ -131,10 +130,10 @@ fn fields_of(
 }
 
 /// Nothing at all.
-fn nothing<'a>(alloc: Global) -> Rewrite<'a>
+fn nothing<'a>(alloc: Global) -> PlannedSection<'a>
     ensures { written result ≡ record { at = 0; bytes = []; run = [] } }
 {
-    Rewrite {
+    PlannedSection {
         at: 0,
         bytes: &[],
         fields: Vec::new(alloc),
@@ -143,14 +142,14 @@ fn nothing<'a>(alloc: Global) -> Rewrite<'a>
 
 /// What is written of a section of this kind with these bytes and fields, if the fields are in order, as those of a
 /// link are; nothing else.
-fn rewrite_of<'a>(
+fn planned_section<'a>(
     alloc: Global,
     kind: SectionKind,
     bytes: &'a [u8],
     fields: Vec<Patch>,
     range: FileRange,
     limit: usize,
-) -> Rewrite<'a>
+) -> PlannedSection<'a>
     requires { HasBytes kind range → IsInFile limit bytes.now range }
     ensures within { IsWithin limit (written result) }
     ensures planned { AreInOrder 0 (length bytes.now) fields.items
@@ -160,30 +159,30 @@ fn rewrite_of<'a>(
         return nothing(alloc);
     }
     let at = range.offset as usize;
-    // No fields of a section meet, and each ends within the section's bytes; but `add_fields` says so only where the
+    // No fields of a section meet, and each ends within the section's bytes; but `add_fields` says so only if the
     // symbols have their values in a link
     if !are_in_order(&fields, bytes.len()) {
         return nothing(alloc);
     }
-    Rewrite { at, bytes, fields }
+    PlannedSection { at, bytes, fields }
 }
 
-/// What is written of a section of an object; none where, and only where, a relocation has a fault.
+/// What is written of a section of an object; `None` exactly if a relocation has a fault.
 fn plan_section<'a>(
     alloc: Global,
     limit: usize,
-    key: ObjectPlace,
+    place: ObjectPlace,
     object: &'a Object,
     values: &[SymbolValue],
     spot: LocatedSection,
     meter: &mut Meter,
-) -> Result<Option<Rewrite<'a>>, NoMemory>
+) -> Result<Option<PlannedSection<'a>>, NoMemory>
     ensures within { IfOk result (λ r. IfSome r (λ w. IsWithin limit (written w))) }
     ensures planned { IfOk result (λ r. IfSome r (λ w. (link : KnownLink) (o : NamedObject)
-        → IsAtHand link key object.now values.now o → IsPlannedAt link o spot (written w)
+        → IsAtHand link place object.now values.now o → IsPlannedAt link o spot (written w)
         × (meter.new ≡ raised meter.old Fields (evaluations link (sites_there o spot))))) }
     ensures none { IfOk result (λ r. IfNone r ((link : KnownLink) (o : NamedObject)
-        → IsAtHand link key object.now values.now o → IsRefused link (sites_there o spot) meter.old meter.new)) }
+        → IsAtHand link place object.now values.now o → IsRefused link (sites_there o spot) meter.old meter.new)) }
 {
     // for the prover: brings in that the count of fields fits a u64
     let _fields = meter.fields();
@@ -195,17 +194,17 @@ fn plan_section<'a>(
     let bytes = object.section_bytes(spot.index);
     // for the prover: brings in the invariant of `object`, of its relocations
     let _relocations = object.relocations(spot.index);
-    match fields_of(alloc, key, object, values, spot.index, spot.start, meter)? {
+    match fields_of(alloc, place, object, values, spot.index, spot.start, meter)? {
         None => Ok(None),
         Some(fields) => {
-            let rewrite = rewrite_of(alloc, kind, bytes, fields, spot.range, limit);
-            Ok(Some(rewrite))
+            let planned = planned_section(alloc, kind, bytes, fields, spot.range, limit);
+            Ok(Some(planned))
         }
     }
 }
 
-/// What is written of the sections of an object, onto a canvas of this length; none where, and only where, a relocation
-/// has a fault. Each relocation whose symbol has a value counts as one.
+/// What is written of the sections of an object, onto a canvas of length `limit`; `None` exactly if a relocation has a
+/// fault. Each relocation whose symbol has a value counts as one.
 ///
 /// # Errors
 ///
@@ -213,42 +212,42 @@ fn plan_section<'a>(
 pub(crate) fn plan<'a>(
     alloc: Global,
     limit: usize,
-    key: ObjectPlace,
+    place: ObjectPlace,
     object: &'a Object,
     values: &[SymbolValue],
     located: &[LocatedSection],
     meter: &mut Meter,
-) -> Result<Option<Vec<Rewrite<'a>>>, NoMemory>
+) -> Result<Option<Vec<PlannedSection<'a>>>, NoMemory>
     ensures within { IfOk result (λ r. IfSome r (λ ws. All (IsWithin limit) (written_all ws.items))) }
     ensures planned { IfOk result (λ r. IfSome r (λ ws. (link : KnownLink) (o : NamedObject)
-        → IsAtHand link key object.now values.now o → AllZip (IsPlannedAt link o) located.now (written_all ws.items)
+        → IsAtHand link place object.now values.now o → AllZip (IsPlannedAt link o) located.now (written_all ws.items)
         × (meter.new ≡ raised meter.old Fields (evaluations link (sites_in_all o located.now))))) }
     ensures none { IfOk result (λ r. IfNone r ((link : KnownLink) (o : NamedObject)
-        → IsAtHand link key object.now values.now o
+        → IsAtHand link place object.now values.now o
         → IsRefused link (sites_in_all o located.now) meter.old meter.new)) }
 {
     // for the prover: brings in that the count of fields fits a u64
     let _fields = meter.fields();
-    let mut rewrites = Vec::with_capacity(alloc, located.len())?;
+    let mut sections = Vec::with_capacity(alloc, located.len())?;
     for spot in located {
-        match plan_section(alloc, limit, key, object, values, *spot, meter)? {
+        match plan_section(alloc, limit, place, object, values, *spot, meter)? {
             None => return Ok(None),
-            Some(rewrite) => rewrites.push(rewrite)?,
+            Some(section) => sections.push(section)?,
         }
     }
-    Ok(Some(rewrites))
+    Ok(Some(sections))
 }
 
 /// Writes what was planned, each byte once. It takes no memory.
-pub(crate) fn commit(canvas: &mut Canvas, rewrites: &[Rewrite<'_>], meter: &mut Meter)
-    requires { All (IsWithin (length canvas.old.bytes)) (written_all rewrites.now) }
-    ensures written { AreWritten (written_all rewrites.now) canvas.old.bytes canvas.new.bytes }
+pub(crate) fn commit(canvas: &mut Canvas, sections: &[PlannedSection<'_>], meter: &mut Meter)
+    requires { All (IsWithin (length canvas.old.bytes)) (written_all sections.now) }
+    ensures written { AreWritten (written_all sections.now) canvas.old.bytes canvas.new.bytes }
     ensures room { canvas.new.room ≡ canvas.old.room }
-    ensures counted { meter.new ≡ raised meter.old Bytes (sum_by count_of (written_all rewrites.now)) }
+    ensures counted { meter.new ≡ raised meter.old Bytes (sum_by count_of (written_all sections.now)) }
 {
     // for the prover: brings in that the count of bytes fits a u64
     let _bytes = meter.bytes();
-    for rewrite in rewrites {
-        write_patched(canvas, rewrite.at, rewrite.bytes, &rewrite.fields, meter);
+    for section in sections {
+        write_patched(canvas, section.at, section.bytes, &section.fields, meter);
     }
 }

@@ -32,44 +32,44 @@ pub enum Rewrite {
     Faulty,
 }
 
-/// Writes the input sections of an object onto a canvas that holds the image of a link in which they had other
-/// contents. `values` are the values of the object's symbols, and `located` has each section that is in the output.
-/// `Faulty`, and only then, if a relocation has a fault; then the canvas is as it was.
+/// Writes the input sections of an object onto a canvas. The canvas holds the image of a link that differs only in the
+/// contents of these sections. `values` are the values of the object's symbols, and `located` has each section that is
+/// in the output. The answer is `Faulty` exactly if a relocation has a fault; the canvas is then as it was.
 ///
 /// Each relocation whose symbol has a value counts as one, and each byte of a section that has bytes in the file.
 ///
 /// # Errors
 ///
-/// If memory runs out; so does a location that no link has, as one past the end of the image. Then the canvas is as it
-/// was.
+/// If memory runs out. A location that no link has, such as one past the end of the image, counts as that. The canvas is
+/// then as it was.
 pub fn rewrite_in_place(
     alloc: Global,
     canvas: &mut Canvas,
-    key: ObjectPlace,
+    place: ObjectPlace,
     object: &Object,
     values: &[SymbolValue],
     located: &[LocatedSection],
     meter: &mut Meter,
 ) -> Result<Rewrite, NoMemory>
     ensures image { IfOk result (λ made. made ≡ Done → (old : Project) (link : KnownLink) (named : NamedObject)
-        → IsInPlaceRewrite old link key named → named.object ≡ object.now → IsRow link named values.now
+        → IsInPlaceRewrite old link place named → named.object ≡ object.now → IsRow link named values.now
         → HasLocatedSections link.project link.layout named located.now → canvas.old.bytes ≡ image old link.layout
         → canvas.new.bytes ≡ image link.project link.layout) }
     ensures faultless { IfOk result (λ made. made ≡ Done → (old : Project) (link : KnownLink) (named : NamedObject)
-        → IsInPlaceRewrite old link key named → named.object ≡ object.now → IsRow link named values.now
+        → IsInPlaceRewrite old link place named → named.object ≡ object.now → IsRow link named values.now
         → HasLocatedSections link.project link.layout named located.now → relocation_faults old link.layout ≡ []
         → relocation_faults link.project link.layout ≡ []) }
     ensures counted { IfOk result (λ made. made ≡ Done → (link : KnownLink) (named : NamedObject)
-        → named_object link key ≡ Some named → named.object ≡ object.now → IsRow link named values.now
+        → named_object link place ≡ Some named → named.object ≡ object.now → IsRow link named values.now
         → HasLocatedSections link.project link.layout named located.now
         → meter.new ≡ raised (raised meter.old Fields (evaluations link (sites_of link.layout named))) Bytes
         (sum_by (bytes_of object.now) located.now)) }
     ensures counted_refused { IfOk result (λ made. made ≡ Faulty → (link : KnownLink) (named : NamedObject)
-        → named_object link key ≡ Some named → named.object ≡ object.now → IsRow link named values.now
+        → named_object link place ≡ Some named → named.object ≡ object.now → IsRow link named values.now
         → HasLocatedSections link.project link.layout named located.now → (n : ℕ)
         × (meter.new ≡ raised meter.old Fields n)) }
     ensures refused_faulty { IfOk result (λ made. made ≡ Faulty → (link : KnownLink) (named : NamedObject)
-        → named_object link key ≡ Some named → named.object ≡ object.now → IsRow link named values.now
+        → named_object link place ≡ Some named → named.object ≡ object.now → IsRow link named values.now
         → HasLocatedSections link.project link.layout named located.now
         → relocation_faults link.project link.layout ≡ []
         → ⊥) }
@@ -81,7 +81,7 @@ pub fn rewrite_in_place(
     let _fields = meter.fields();
     nobits_are_bare(object);
     numbers_differ(object);
-    match plan(alloc, canvas.len(), key, object, values, located, meter)? {
+    match plan(alloc, canvas.len(), place, object, values, located, meter)? {
         None => Ok(Rewrite::Faulty),
         Some(plan) => {
             commit(canvas, &plan, meter);

@@ -69,15 +69,15 @@ module _ (old : GoodLink) (l : KnownLink) (range : SectionKey → Option FileRan
       }
 
   -- by what is known of the section
-  pub known_as : (s : ObjectSection) (key : ObjectPlace) → named_object l key ≡ Some s.object
-      → (r : Option FileRange) → r ≡ range (section_key key s) → (a b : Results)
-      → Adds l (λ c. IsEvaluatedAt old l (section_key key s) r s c) a b → Adds l (IsEvaluatedOf old l range s) a b
-  known_as s key named r e a b h = record {
+  pub known_as : (s : ObjectSection) (place : ObjectPlace) → named_object l place ≡ Some s.object
+      → (r : Option FileRange) → r ≡ range (section_key place s) → (a b : Results)
+      → Adds l (λ c. IsEvaluatedAt old l (section_key place s) r s c) a b → Adds l (IsEvaluatedOf old l range s) a b
+  known_as s place named r e a b h = record {
     evaluated = h.evaluated;
     is_done = record {
-      key = key;
+      key = place;
       named = named;
-      outcome = subst (λ q. IsEvaluatedAt old l (section_key key s) q s h.evaluated) e h.is_done;
+      outcome = subst (λ q. IsEvaluatedAt old l (section_key place s) q s h.evaluated) e h.is_done;
     };
     fields = h.fields;
     ends = h.ends;
@@ -86,18 +86,18 @@ module _ (old : GoodLink) (l : KnownLink) (range : SectionKey → Option FileRan
   }
 
   -- beside what is known to have stayed
-  pub retained_as : (s : ObjectSection) (key : ObjectPlace) → named_object l key ≡ Some s.object
-      → IsKnownAt old l range (section_key key s) → (a b : Results)
-      → ((r : FileRange) → IsKeptAt old l range (section_key key s) r
-      → Adds l (IsRetained old l (section_key key s) r s) a b)
+  pub retained_as : (s : ObjectSection) (place : ObjectPlace) → named_object l place ≡ Some s.object
+      → IsKnownAt old l range (section_key place s) → (a b : Results)
+      → ((r : FileRange) → IsKeptAt old l range (section_key place s) r
+      → Adds l (IsRetained old l (section_key place s) r s) a b)
       → Adds l (IsEvaluatedOf old l range s) a b
-  retained_as s key named h a b each = go (range (section_key key s)) refl h.known h.stayed
+  retained_as s place named h a b each = go (range (section_key place s)) refl h.known h.stayed
     where
-      go : (known : Option FileRange) → known ≡ range (section_key key s) → IsSome known
-          → IfSome known (HasStayedAt old l (section_key key s)) → Adds l (IsEvaluatedOf old l range s) a b
+      go : (known : Option FileRange) → known ≡ range (section_key place s) → IsSome known
+          → IfSome known (HasStayedAt old l (section_key place s)) → Adds l (IsEvaluatedOf old l range s) a b
       go None e some stayed = absurd (false≢true some)
       go (Some r) e some stayed =
-          known_as s key named (Some r) e a b (each r (record { known = e; stayed = stayed }))
+          known_as s place named (Some r) e a b (each r (record { known = e; stayed = stayed }))
 
   -- lists of input sections
 
@@ -222,11 +222,11 @@ module _ (old : GoodLink) (l : KnownLink) (range : SectionKey → Option FileRan
       subst (λ ys. AreChanged old l range (sections_of o ys) a b) (ap (λ n. take n xs) e ∙ take-length xs) h
 
   -- all objects
-  pub whole_link : (keys : List ObjectPlace) (i : ℕ) → IsOrder l keys → length keys ≤ i → i ≤ length keys
+  pub whole_link : (places : List ObjectPlace) (i : ℕ) → IsOrder l places → length places ≤ i → i ≤ length places
       → (a b : Results) → AreChanged old l range (sections_in (take i l.project.objects)) a b
       → AreChanged old l range (sections_in l.project.objects) a b
-  whole_link keys i order low high a b h =
-      let many = as_many l keys order in
+  whole_link places i order low high a b h =
+      let many = as_many l places order in
       let e : i ≡ length l.project.objects = omega (arith, many) in
       subst (λ os. AreChanged old l range (sections_in os) a b) (ap (λ n. take n l.project.objects) e
       ∙ take-length l.project.objects) h

@@ -37,9 +37,9 @@ module _ (l : KnownLink) (s : ObjectSection) where
   abbrev placed : Option PlacedPiece
   placed = placed_part l.layout s.object.name (InTable s.section.number)
 
-  pub start_is : (key : ObjectPlace) → named_object l key ≡ Some s.object
-      → start_of l (section_key key s) ≡ start_in (placed_part l.layout s.object.name (InTable s.section.number))
-  start_is key named =
+  pub start_is : (place : ObjectPlace) → named_object l place ≡ Some s.object
+      → start_of l (section_key place s) ≡ start_in (placed_part l.layout s.object.name (InTable s.section.number))
+  start_is place named =
       ap (λ n. start_in (placed_part l.layout n (InTable s.section.number)))
       (ap (λ (a : Option NamedObject). option_map_or (λ (y : NamedObject). y.name) a []) named)
 
@@ -79,36 +79,38 @@ module _ (l : KnownLink) (s : ObjectSection) where
   }
 
 -- no section in the output ends past the address space
-pub not_past : (l : KnownLink) (key : ObjectPlace) (s : ObjectSection) (y : PlacedPiece) (start size : ℕ) → EndBelow l
-    → named_object l key ≡ Some s.object → section_numbered s.object s.section.number ≡ Some s.section
+pub not_past : (l : KnownLink) (place : ObjectPlace) (s : ObjectSection) (y : PlacedPiece) (start size : ℕ) → EndBelow l
+    → named_object l place ≡ Some s.object → section_numbered s.object s.section.number ≡ Some s.section
     → placed_part l.layout s.object.name (InTable s.section.number) ≡ Some y → start ≡ y.start
     → size ≡ s.section.size → 18446744073709551615 - start < size → ⊥
-not_past l key s y start size below named numbered placed at is past =
-    let end = below key s.object s.section y named numbered placed in
+not_past l place s y start size below named numbered placed at is past =
+    let end = below place s.object s.section y named numbered placed in
     omega (arith, end, at, is, past)
 
 module _ (l : KnownLink) where
-  -- the object of a key, in its place
+  -- the object of a place, in its place
   some_there : (a : Option NamedObject) (b : Option NamedObject) → Some a ≡ option_map Some b → (o : NamedObject)
       × (a ≡ Some o) × (b ≡ Some o)
   some_there a None e = cc
   some_there a (Some o) e = (o, same_Some _ _ e, refl)
 
-  pub in_order : (keys : List ObjectPlace) (i : ℕ) (key : ObjectPlace) → IsOrder l keys → slice_get keys i ≡ Some key
-      → (o : NamedObject) × (named_object l key ≡ Some o) × (slice_get l.project.objects i ≡ Some o)
-  in_order keys i key order is =
-      some_there (named_object l key) (slice_get l.project.objects i)
-      (ap (λ a. option_map (named_object l) a) (sym is) ∙ sym (slice_get-map (named_object l) keys i)
+  pub in_order : (places : List ObjectPlace) (i : ℕ) (place : ObjectPlace) → IsOrder l places
+      → slice_get places i ≡ Some place
+      → (o : NamedObject) × (named_object l place ≡ Some o) × (slice_get l.project.objects i ≡ Some o)
+  in_order places i place order is =
+      some_there (named_object l place) (slice_get l.project.objects i)
+      (ap (λ a. option_map (named_object l) a) (sym is) ∙ sym (slice_get-map (named_object l) places i)
       ∙ ap (λ r. slice_get r i) order ∙ slice_get-map Some l.project.objects i)
 
-  pub as_many : (keys : List ObjectPlace) → IsOrder l keys → length keys ≡ length l.project.objects
-  as_many keys order = sym (length-map keys (named_object l)) ∙ ap length order ∙ length-map l.project.objects Some
+  pub as_many : (places : List ObjectPlace) → IsOrder l places → length places ≡ length l.project.objects
+  as_many places order = sym (length-map places (named_object l)) ∙ ap length order ∙ length-map l.project.objects Some
 
-  -- the object of a key, as it is lent
-  pub not_there : (key : ObjectPlace) (o : NamedObject) → None ≡ object_of l key → named_object l key ≡ Some o → ⊥
-  not_there key o h named = let e : None ≡ Some o.object = h
+  -- the object of a place, as it is lent
+  pub not_there : (place : ObjectPlace) (o : NamedObject) → None ≡ object_of l place → named_object l place ≡ Some o
+      → ⊥
+  not_there place o h named = let e : None ≡ Some o.object = h
       ∙ ap (λ a. option_map (λ (y : NamedObject). y.object) a) named in cc
 
-  pub lent : (key : ObjectPlace) (o : NamedObject) (read : ObjectData) → Some read ≡ object_of l key
-      → named_object l key ≡ Some o → o.object ≡ read
-  lent key o read h named = sym (same_Some _ _ (h ∙ ap (λ a. option_map (λ (y : NamedObject). y.object) a) named))
+  pub lent : (place : ObjectPlace) (o : NamedObject) (read : ObjectData) → Some read ≡ object_of l place
+      → named_object l place ≡ Some o → o.object ≡ read
+  lent place o read h named = sym (same_Some _ _ (h ∙ ap (λ a. option_map (λ (y : NamedObject). y.object) a) named))

@@ -107,10 +107,10 @@ module _ (l : KnownLink) (m : InputSection) (s : ObjectSection) (h : IsAtHand l 
   there_of = ap (λ (r : ObjectData). slice_get r.sections m.index.0) (sym h.read_is) ∙ h.section_is
 
   -- where it was placed
-  pub placed_of : (p : PlacedInput) → p.values.now ≡ m.values.now → IsSectionOf m.object.now s.section m.key p
+  pub placed_of : (p : PlacedInput) → p.values.now ≡ m.values.now → IsSectionOf m.object.now s.section m.place p
       → IsPlaced l p s.object s.section
   placed_of p values is = record {
-    object_is = rw is.key_is h.object_is;
+    object_is = rw is.place_is h.object_is;
     section_is = rw h.read_is is.number_is;
     symbols_are = rw h.read_is is.symbols_are;
     values_are = subst (IsRow l s.object) (sym values) h.values_are;

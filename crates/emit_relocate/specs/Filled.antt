@@ -39,12 +39,12 @@ ends_of n (run ∷ runs) = (n + length run) ∷ ends_of (n + length run) runs
 -- each input section in the output ends below 2^64, as a layout without faults has it
 abbrev pub EndBelow : KnownLink → Type 0
 EndBelow link =
-    (key : ObjectPlace) (object : NamedObject) (section : LinkedSection) (y : PlacedPiece) → named_object link key
+    (place : ObjectPlace) (object : NamedObject) (section : LinkedSection) (y : PlacedPiece) → named_object link place
     ≡ Some object
     → section_numbered object section.number ≡ Some section
     → placed_part link.layout object.name (InTable section.number) ≡ Some y
     → y.start + section.size < 2 ^ 64
 
--- these are the keys of the objects, in their order
+-- these are the places of the objects, in their order
 abbrev pub IsOrder : KnownLink → List ObjectPlace → Type 0
-IsOrder link keys = map (named_object link) keys ≡ map Some link.project.objects
+IsOrder link places = map (named_object link) places ≡ map Some link.project.objects

@@ -35,8 +35,8 @@ pub record AreLinks {L E : Type 0} (knows : L → KnownLink → Type 0) (knows_b
 
 -- an input section is that at hand
 pub record IsAtHand (link : KnownLink) (m : InputSection) (s : ObjectSection) : Type 0 where
-  -- the key is that of the section's object
-  pub object_is : named_object link m.key ≡ Some s.object
+  -- its place is that of the section's object
+  pub object_is : named_object link m.place ≡ Some s.object
   -- which was read
   pub read_is : s.object.object ≡ m.object.now
   -- the section has this place among those of its object

@@ -26,8 +26,8 @@ pub record IsPlaced (link : KnownLink) (m : PlacedInput) (object : NamedObject) 
   pub relocations_are : m.relocations.now ≡ section.relocations
 
 -- the same by what was read of the object
-pub record IsSectionOf (o : ObjectData) (section : LinkedSection) (key : ObjectPlace) (m : PlacedInput) : Type 0 where
-  pub key_is : m.object ≡ key
+pub record IsSectionOf (o : ObjectData) (section : LinkedSection) (place : ObjectPlace) (m : PlacedInput) : Type 0 where
+  pub place_is : m.object ≡ place
   pub number_is : find (λ (y : LinkedSection). y.number.0 == m.section.0) o.sections ≡ Some section
   pub symbols_are : m.symbols.now ≡ map (λ (y : NamedSymbol). y.symbol) o.symbols
   pub relocations_are : m.relocations.now ≡ section.relocations

@@ -1,4 +1,4 @@
-//! The sites of one target.
+//! The sites of one target in an `Index`.
 
 ghost use Rattle.std.specs.Prelude.{◌≡◌, ◌≤◌, ◌<◌, ◌+◌, ◌-◌, ◌^◌, [], None, OnOk, Some, length};
 ghost use Rattle.slab.specs.Slab.{HasRoomFor, Updates, get, slab_len};

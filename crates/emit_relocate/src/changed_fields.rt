@@ -53,7 +53,7 @@ struct Links<'a, L, E> {
 }
 
 impl<'a, L: LinkInfo, E: PreviousLinkInfo> Links<'a, L, E> {
-    /// Adds the fields of a section that did not stay: none, where it is not in the output.
+    /// Adds the fields of a section that did not stay; there are none if it is not in the output.
     fn add_renewed(
         &self,
         alloc: Global,
@@ -82,7 +82,7 @@ impl<'a, L: LinkInfo, E: PreviousLinkInfo> Links<'a, L, E> {
         }
     }
 
-    /// Adds the fields of a section that stayed whose symbol has another value.
+    /// Adds, of the fields of a section that stayed, those whose symbol has another value.
     fn add_moved(
         &self,
         section: &InputSection<'_>,
@@ -92,8 +92,8 @@ impl<'a, L: LinkInfo, E: PreviousLinkInfo> Links<'a, L, E> {
     ) -> Result<(), NoMemory>
         ensures { OnOk result ((old : GoodLink) (link : KnownLink) (s : ObjectSection)
             → AreLinks L.knows E.knows self.now old link → IsAtHand link section.now s
-            → IsKeptAt old link (E.range self.now.previous.now) (section_key section.now.key s) range
-            → Adds link (IsRetained old link (section_key section.now.key s) range s) (results_of fields.old meter.old)
+            → IsKeptAt old link (E.range self.now.previous.now) (section_key section.now.place s) range
+            → Adds link (IsRetained old link (section_key section.now.place s) range s) (results_of fields.old meter.old)
             (results_of fields.new meter.new)) }
     {
         // for the prover: brings in that the count of fields fits a u64
@@ -113,7 +113,7 @@ impl<'a, L: LinkInfo, E: PreviousLinkInfo> Links<'a, L, E> {
     }
 
     /// Adds what changes in a section that is known to have stayed: the fields whose symbol has another value. There
-    /// are none, where no symbol of the object has.
+    /// are none if no symbol of the object has another value.
     fn add_retained(
         &self,
         section: &InputSection<'_>,
@@ -122,13 +122,13 @@ impl<'a, L: LinkInfo, E: PreviousLinkInfo> Links<'a, L, E> {
     ) -> Result<(), NoMemory>
         ensures { OnOk result ((old : GoodLink) (link : KnownLink) (s : ObjectSection)
             → AreLinks L.knows E.knows self.now old link → IsAtHand link section.now s
-            → IsKnownAt old link (E.range self.now.previous.now) (section_key section.now.key s)
+            → IsKnownAt old link (E.range self.now.previous.now) (section_key section.now.place s)
             → Adds link (IsEvaluatedOf old link (E.range self.now.previous.now) s) (results_of fields.old meter.old)
             (results_of fields.new meter.new)) }
     {
         // for the prover: brings in that the count of fields fits a u64
         let _fields = meter.fields();
-        if !self.previous.is_dirty(section.key) {
+        if !self.previous.is_dirty(section.place) {
             return Ok(());
         }
         match self.previous.stayed(section.section_key()) {
@@ -141,7 +141,7 @@ impl<'a, L: LinkInfo, E: PreviousLinkInfo> Links<'a, L, E> {
         }
     }
 
-    /// Adds what there is to evaluate of a section: nothing, where it has no relocations.
+    /// Adds what there is to evaluate of a section: nothing if it has no relocations.
     fn add_evaluated(
         &self,
         alloc: Global,
@@ -190,43 +190,43 @@ impl<'a, L: LinkInfo, E: PreviousLinkInfo> Links<'a, L, E> {
     fn add_object(
         &self,
         alloc: Global,
-        key: ObjectPlace,
+        place: ObjectPlace,
         object: &Object,
         fields: &mut ChangedFields,
         meter: &mut Meter,
     ) -> Result<(), NoMemory>
         ensures { OnOk result ((old : GoodLink) (link : KnownLink) (o : NamedObject)
-            → AreLinks L.knows E.knows self.now old link → named_object link key ≡ Some o → o.object ≡ object.now
+            → AreLinks L.knows E.knows self.now old link → named_object link place ≡ Some o → o.object ≡ object.now
             → AreChanged old link (E.range self.now.previous.now) (sections_of o object.now.sections)
             (results_of fields.old meter.old) (results_of fields.new meter.new)) }
     {
         // for the prover: brings in that the count of fields fits a u64
         let _fields = meter.fields();
-        let values = self.symbols.row(key, object.symbols().len());
+        let values = self.symbols.row(place, object.symbols().len());
         for index in 0..object.sections().len() {
-            let section = InputSection::new(key, object, LinkedIndex(index), values);
+            let section = InputSection::new(place, object, LinkedIndex(index), values);
             self.add_section(alloc, &section, fields, meter)?;
         }
         Ok(())
     }
 
-    /// Adds what there is to evaluate of the object of a key.
-    fn add_of_key(
+    /// Adds what there is to evaluate of the object at a place.
+    fn add_object_at(
         &self,
         alloc: Global,
-        key: ObjectPlace,
+        place: ObjectPlace,
         fields: &mut ChangedFields,
         meter: &mut Meter,
     ) -> Result<(), NoMemory>
         ensures { OnOk result ((old : GoodLink) (link : KnownLink) (object : NamedObject)
-            → AreLinks L.knows E.knows self.now old link → named_object link key ≡ Some object
+            → AreLinks L.knows E.knows self.now old link → named_object link place ≡ Some object
             → AreChanged old link (E.range self.now.previous.now) (sections_of object object.object.sections)
             (results_of fields.old meter.old) (results_of fields.new meter.new)) }
     {
-        match self.link.object(key) {
+        match self.link.object(place) {
             None => Ok(()),
             Some(object) => {
-                self.add_object(alloc, key, object, fields, meter)?;
+                self.add_object(alloc, place, object, fields, meter)?;
                 Ok(())
             }
         }
@@ -234,12 +234,15 @@ impl<'a, L: LinkInfo, E: PreviousLinkInfo> Links<'a, L, E> {
 }
 
 /// How many relocations there are in those sections of an object that are in the output. Nearly all have a field.
-fn count_of_object<L: LinkInfo>(link: &L, key: ObjectPlace, object: &Object) -> usize {
+fn count_of_object<L: LinkInfo>(link: &L, place: ObjectPlace, object: &Object) -> usize {
     let mut count: usize = 0;
     for index in 0..object.sections().len() {
         let relocations = object.relocations(LinkedIndex(index));
         let part = Part::InTable(object.sections()[index].number);
-        let section = SectionKey { object: key, part };
+        let section = SectionKey {
+            object: place,
+            part,
+        };
         if !relocations.is_empty() && link.start(section).is_some() {
             count = count.saturating_add(relocations.len());
         }
@@ -247,8 +250,8 @@ fn count_of_object<L: LinkInfo>(link: &L, key: ObjectPlace, object: &Object) -> 
     count
 }
 
-/// How many fields there will be at most, where there is no previous link. Beside one it is 0: to know the number, each
-/// section would have to be asked once more whether it stayed, and the list may grow as well.
+/// How many fields there will be at most if there is no previous link. If there is one, the answer is 0: it would have
+/// to be asked twice of each section whether it stayed, and the list can grow instead.
 fn count_fields<L: LinkInfo, E: PreviousLinkInfo>(
     link: &L,
     previous: &E,
@@ -258,9 +261,9 @@ fn count_fields<L: LinkInfo, E: PreviousLinkInfo>(
         return 0;
     }
     let mut count: usize = 0;
-    for key in objects {
-        if let Some(object) = link.object(*key) {
-            count = count.saturating_add(count_of_object(link, *key, object));
+    for place in objects {
+        if let Some(object) = link.object(*place) {
+            count = count.saturating_add(count_of_object(link, *place, object));
         }
     }
     count
@@ -269,17 +272,17 @@ fn count_fields<L: LinkInfo, E: PreviousLinkInfo>(
 /// How many sections these objects have.
 fn count_sections<L: LinkInfo>(link: &L, objects: &[ObjectPlace]) -> usize {
     let mut count: usize = 0;
-    for key in objects {
-        if let Some(object) = link.object(*key) {
+    for place in objects {
+        if let Some(object) = link.object(*place) {
             count = count.saturating_add(object.sections().len());
         }
     }
     count
 }
 
-/// Evaluates the relocations of input sections in the output that did not stay, and those of sections that stayed whose
-/// symbol has another value than in the previous link. Each of these relocations counts as one; the other fields are as
-/// they were. `objects` are the keys of the objects, in their order, and `symbols` has the values of their symbols.
+/// Evaluates relocations of input sections in the output: of a section that did not stay, all; of one that stayed, those
+/// whose symbol has another value than in the previous link. Each of these counts as one. The other fields are as they
+/// were. `objects` are the places of the objects, in their order, and `symbols` has the values of their symbols.
 ///
 /// # Errors
 ///
@@ -312,8 +315,8 @@ pub fn changed_fields<L: LinkInfo, E: PreviousLinkInfo>(
         previous,
         symbols,
     };
-    for key in objects {
-        links.add_of_key(alloc, *key, &mut fields, meter)?;
+    for place in objects {
+        links.add_object_at(alloc, *place, &mut fields, meter)?;
     }
     Ok(fields)
 }

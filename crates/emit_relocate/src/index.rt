@@ -1,4 +1,5 @@
-//! Which relocations are against a target.
+//! Which relocations are against a target. No link keeps such an index: it is for callers that have no table of the
+//! values of symbols, from which a link sees what to evaluate anew (docs/DECISIONS.md).
 
 ghost use Rattle.std.specs.Prelude.{◌≡◌, ◌≢◌, ◌≤◌, ◌<◌, ◌+◌, ◌++◌, ℕ, [], ◌∷◌, List, All, OnOk, count_by, filter};
 ghost use Rattle.std.specs.Prelude.{length, map, not, slice_index};

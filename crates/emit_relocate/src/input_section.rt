@@ -18,8 +18,8 @@ use ldmodel::sections::{Part, SectionKey};
 /// A section of an object.
 #[derive(Clone, Copy)]
 pub struct InputSection<'a> {
-    /// The key of the object.
-    pub key: ObjectPlace,
+    /// The place of the object.
+    pub place: ObjectPlace,
     /// What was read of the object.
     pub object: &'a Object,
     /// The place of the section among those of the object.
@@ -36,20 +36,20 @@ impl<'a> InputSection<'a> {
 
     /// A section of an object. `values` are the values of the object's symbols.
     pub fn new(
-        key: ObjectPlace,
+        place: ObjectPlace,
         object: &'a Object,
         index: LinkedIndex,
         values: &'a [SymbolValue],
     ) -> InputSection<'a>
         requires { index.0 < length object.now.sections }
         ensures { (link : KnownLink) (named : NamedObject) (section : LinkedSection)
-            → named_object link key ≡ Some named
+            → named_object link place ≡ Some named
             → named.object ≡ object.now → slice_get named.object.sections index.0 ≡ Some section
             → IsRow link named values.now
             → IsAtHand link result (record { object = named; section = section }) }
     {
         InputSection {
-            key,
+            place,
             object,
             index,
             values,
@@ -59,18 +59,18 @@ impl<'a> InputSection<'a> {
     /// Its key.
     pub fn section_key(&self) -> SectionKey
         ensures { (link : KnownLink) (section : ObjectSection) → IsAtHand link self.now section → result
-            ≡ section_key self.now.key section }
+            ≡ section_key self.now.place section }
     {
         let section = self.object.sections()[self.index.0];
         SectionKey {
-            object: self.key,
+            object: self.place,
             part: Part::InTable(section.number),
         }
     }
 
     /// Where it is in the output, if it is there.
     pub fn placed<L: LinkInfo>(&self, link: &L) -> Option<PlacedInput<'a>>
-        ensures key { IfSome result (λ placed. placed.object ≡ self.now.key) }
+        ensures object { IfSome result (λ placed. placed.object ≡ self.now.place) }
         ensures apart { IfSome result (λ placed. AreApart placed.relocations.now) }
         ensures below { IfSome result
             (λ placed. All (λ relocation. placed.start + relocation.offset < 2 ^ 64) placed.relocations.now) }
@@ -86,7 +86,7 @@ impl<'a> InputSection<'a> {
                     // no layout has a section past the end of the address space
                     return None;
                 }
-                Some(PlacedInput::new(self.key, self.object, self.index, start, self.values))
+                Some(PlacedInput::new(self.place, self.object, self.index, start, self.values))
             }
         }
     }

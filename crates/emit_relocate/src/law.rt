@@ -69,8 +69,8 @@ pub fn patches_are_fields()
     stayed_in_both();
 }
 
-/// Where each section that stayed is known to have stayed, each site in one whose symbol has another value has a patch;
-/// between good links, where each section with sites has its bytes in the file, it has exactly one.
+/// If each section that stayed is known to have stayed, each site in one of them has a patch if its symbol has another
+/// value. It has exactly one if both links are good, and each section with sites has its bytes in the file.
 pub fn patches_are_those_retargeted()
     ensures all { (old : GoodLink) (link : KnownLink) (range : SectionKey → Option FileRange) (before after : Results)
         → AreChanged old link range (sections_in link.project.objects) before after → before.patches ≡ []

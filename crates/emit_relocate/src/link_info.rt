@@ -17,9 +17,9 @@ pub trait LinkInfo {
     /// The links that this may be about, with what the keys stand for.
     ghost knows: { Self → KnownLink → Type 0 };
 
-    /// The object of a key, if there is one.
-    fn object(&self, key: ObjectPlace) -> Option<&Object>
-        ensures { (link : KnownLink) → knows self.now link → option_copied result ≡ object_of link key };
+    /// The object at a place, if there is one.
+    fn object(&self, place: ObjectPlace) -> Option<&Object>
+        ensures { (link : KnownLink) → knows self.now link → option_copied result ≡ object_of link place };
 
     /// Where an input section starts, if it is in the output.
     fn start(&self, section: SectionKey) -> Option<u64>

@@ -44,7 +44,7 @@ pub struct PlacedInput<'a> {
 impl<'a> PlacedInput<'a> {
     /// A section of an object that starts at an address. `values` are the values of the object's symbols.
     pub fn new(
-        key: ObjectPlace,
+        place: ObjectPlace,
         object: &'a Object,
         index: LinkedIndex,
         start: u64,
@@ -54,14 +54,14 @@ impl<'a> PlacedInput<'a> {
         ensures start { result.start ≡ start }
         ensures values { result.values.now ≡ values.now }
         ensures section { (section : LinkedSection) → slice_get object.now.sections index.0 ≡ Some section
-            → IsSectionOf object.now section key result }
+            → IsSectionOf object.now section place result }
         ensures apart { AreApart result.relocations.now }
         ensures ends { (section : LinkedSection) → slice_get object.now.sections index.0 ≡ Some section
             → All (λ relocation. field_end relocation ≤ section.size) result.relocations.now }
     {
         let section = object.sections()[index.0];
         PlacedInput {
-            object: key,
+            object: place,
             section: section.number,
             start,
             symbols: object.symbols(),
@@ -138,7 +138,7 @@ fn field_with(
     }
 }
 
-/// The field of a relocation of number `entry`, in its place; or its fault. The call counts one relocation, where the
+/// The field of a relocation of number `entry`, in its place; or its fault. The call counts one relocation if the
 /// symbol has a value.
 #[inline(always)]
 pub fn evaluate(

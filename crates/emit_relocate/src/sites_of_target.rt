@@ -1,4 +1,4 @@
-//! A walk over the sites of a target.
+//! A walk over the sites of a target in an `Index`.
 
 ghost use Rattle.std.specs.Prelude.{◌≡◌, []};
 ghost use Rattle.std.specs.Iterator.{YieldsFirst, item_count};

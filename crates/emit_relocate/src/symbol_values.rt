@@ -29,7 +29,7 @@ fn rest(values: &[SymbolValue], from: usize) -> &[SymbolValue]
     }
 }
 
-/// The first values, or all where there are no more.
+/// The first values, or all if there are fewer.
 fn first(values: &[SymbolValue], count: usize) -> &[SymbolValue]
     ensures { result.now ≡ take count values.now }
 {
@@ -62,7 +62,7 @@ impl SymbolValues {
         }
     }
 
-    /// The values of the symbols of the object of a key, by their numbers. The object has `count` symbols.
+    /// The values of the symbols of the object at a place, by their numbers. The object has `count` symbols.
     pub fn row(&self, object: ObjectPlace, count: usize) -> &[SymbolValue]
         ensures { result.now ≡ row_at self.now object.0 count }
     {

@@ -63,7 +63,7 @@ fn value_under(values: &[SymbolValue], name: NameKey) -> SymbolValue
     }
 }
 
-/// The number of a target: the value of a name, where one without a number counts as 0, or the address of a section.
+/// The number of a target: the value of a name, which is 0 if it has no number, or the address of a section.
 /// `values` are the values of all names. While the number of a target stays the same, so do the fields of all
 /// relocations against it.
 pub fn target_number<L: LinkInfo>(link: &L, values: &[SymbolValue], target: Target) -> u64

@@ -5,9 +5,9 @@ use Rattle.elfobj.specs.declared.meter.Count.TheVariants.{Bytes}
 use Rattle.emit_in_place.specs.Plan.{AreWritten, count_of, written_all}
 use Rattle.emit_in_place.proofs.plan.commit.Given as goal
 
-abbrev pub invariant-loop-rewrite : goal.invariant-loop-rewrite
-invariant-loop-rewrite l = record {
-  over : AreWritten (written_all (take l.rewrite-index l.rewrites)) l.fn.canvas.bytes l.canvas.bytes;
+abbrev pub invariant-loop-section : goal.invariant-loop-section
+invariant-loop-section l = record {
+  over : AreWritten (written_all (take l.section-index l.sections)) l.fn.canvas.bytes l.canvas.bytes;
   room : l.canvas.room ≡ l.fn.canvas.room;
-  counted : l.meter ≡ raised l.fn.meter Bytes (sum_by count_of (written_all (take l.rewrite-index l.rewrites)));
+  counted : l.meter ≡ raised l.fn.meter Bytes (sum_by count_of (written_all (take l.section-index l.sections)));
 }

@@ -23,7 +23,7 @@ returns-then-is_empty-clause-some c = λ l o x h is.
     subst (λ n. IsAdded l o x n c.new-fields.result.items c.add_fields.new.fields.items c.new-faults.result.items
     c.add_fields.new.faults.items c.args.meter.now c.add_fields.new.meter) c.new-section.ensures.start
     (c.in_ok-add_fields.ensures l o x
-    (placed_of l c.args.key c.args.object.now c.args.values.now c.new-section.result o x h
+    (placed_of l c.args.place c.args.object.now c.args.values.now c.new-section.result o x h
     (c.new-section.ensures.section x there) c.new-section.ensures.values)) in (
       faultless l o x c.args.start c.new-fields.result.items c.add_fields.new.fields.items c.new-faults.result.items
           c.add_fields.new.faults.items c.args.meter.now c.add_fields.new.meter added c.new-fields.ensures.items
@@ -42,7 +42,7 @@ returns-else-is_empty-clause-none c = λ l o x h is.
     subst (λ n. IsAdded l o x n c.new-fields.result.items c.add_fields.new.fields.items c.new-faults.result.items
     c.add_fields.new.faults.items c.args.meter.now c.add_fields.new.meter) c.new-section.ensures.start
     (c.in_ok-add_fields.ensures l o x
-    (placed_of l c.args.key c.args.object.now c.args.values.now c.new-section.result o x h
+    (placed_of l c.args.place c.args.object.now c.args.values.now c.new-section.result o x h
     (c.new-section.ensures.section x there) c.new-section.ensures.values)) in
     refused l o x c.args.start c.new-fields.result.items c.add_fields.new.fields.items c.new-faults.result.items
     c.add_fields.new.faults.items c.args.meter.now c.add_fields.new.meter added c.new-faults.ensures.items

@@ -31,7 +31,7 @@ loop-spot-preserved c =
     let items = c.in_ok-push-in-Some.ensures.items in
     record {
       within = rw items
-          (within_more c.args.limit c.loop-spot.rewrites.items c.in-Some.rewrite c.loop-spot.invariant.within
+          (within_more c.args.limit c.loop-spot.sections.items c.in-Some.section c.loop-spot.invariant.within
           (rw c.in-Some.is at c.in_ok-plan_section.ensures.within));
       planned = λ k o h.
           let before = c.loop-spot.invariant.planned k o h in
@@ -39,8 +39,8 @@ loop-spot-preserved c =
           let low = c.loop-spot-test.true in (
             subst (λ rs. AllZip (IsPlannedAt k o) (take (c.loop-spot.spot-index + 1) c.args.located.now)
                 (written_all rs)) (sym items)
-                (planned_more k o c.args.located.now c.loop-spot.spot-index _ c.loop-spot.rewrites.items
-                c.in-Some.rewrite
+                (planned_more k o c.args.located.now c.loop-spot.spot-index _ c.loop-spot.sections.items
+                c.in-Some.section
                 low before.0 last.0),
             last.1
                 ∙ ap (λ (m : Counts). raised m Fields (evaluations k (sites_there o

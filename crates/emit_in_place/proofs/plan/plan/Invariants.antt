@@ -10,8 +10,8 @@ use Rattle.emit_in_place.proofs.plan.plan.Given as goal
 
 abbrev pub invariant-loop-spot : goal.invariant-loop-spot
 invariant-loop-spot l = record {
-  within : All (IsWithin l.limit) (written_all l.rewrites.items);
-  planned : (k : KnownLink) (o : NamedObject) → IsAtHand k l.key l.object l.values o
-      → AllZip (IsPlannedAt k o) (take l.spot-index l.located) (written_all l.rewrites.items)
+  within : All (IsWithin l.limit) (written_all l.sections.items);
+  planned : (k : KnownLink) (o : NamedObject) → IsAtHand k l.place l.object l.values o
+      → AllZip (IsPlannedAt k o) (take l.spot-index l.located) (written_all l.sections.items)
       × (l.meter ≡ raised l.fn.meter Fields (evaluations k (sites_in_all o (take l.spot-index l.located))));
 }

@@ -10,8 +10,8 @@ use Rattle.emit_in_place.specs.Plan.{HasBytes, IsInFile, IsRefused, written}
 use Rattle.emit_in_place.proofs.Planning.{at_index, bytes_at, has, order_of, planned_at, sites_at_spot}
 use Rattle.emit_in_place.proofs.plan.plan_section.Goals as goal
 
-pub rewrite_of-rewrite-requires : goal.rewrite_of-rewrite-requires
-rewrite_of-rewrite-requires c = λ has_bytes.
+pub planned_section-planned-requires : goal.planned_section-planned-requires
+planned_section-planned-requires c = λ has_bytes.
     let can = c.can_stand.ensures.stands c.if-not-can_stand.false in
     let sections = c.args.object.now.sections in
     let own = has sections c.args.spot.index.0 can.index in
@@ -48,8 +48,8 @@ returns-in-Some-clause-planned c = λ l o h.
           (at_index c.args.object.now.sections c.args.spot.index.0 d c.sections.result.now c.sections.ensures.value
           own.section there))
           bytes_are
-          (written c.rewrite_of-rewrite.result)
-          (c.rewrite_of-rewrite.ensures.planned
+          (written c.planned_section-planned.result)
+          (c.planned_section-planned.ensures.planned
           (order_of l o c.args.object.now.sections c.args.spot.index.0 c.args.spot.start
           (length c.args.object.now.symbols) own.section c.in-Some.fields.items c.section_bytes-bytes.result.now
           c.sections.ensures.limits c.relocations-relocations.ensures.limits there bytes_are run.0)),

@@ -27,7 +27,7 @@ returns-in-None-clause-refused_faulty c = λ done l o named same row has none.
     let h = (rw c.in-None.is at c.in_ok-plan.ensures.none) l o (record { named = named; same = same; row = row }) in
     h.faulty
     (ap (λ ts. filter_map (fault_at l) ts) (spots_have_sites l.project l.layout o c.args.located.now has)
-    ∙ none_of_object l.project l.layout (l.number c.args.key.0) o named none)
+    ∙ none_of_object l.project l.layout (l.number c.args.place.0) o named none)
 
 pub returns-in-Some-clause-image : goal.returns-in-Some-clause-image
 returns-in-Some-clause-image c = λ done old l o h same row has start.
@@ -39,7 +39,7 @@ returns-in-Some-clause-image c = λ done old l o h same row has start.
     subst (λ bytes. AreWritten (written_all c.in-Some.plan.items) bytes c.commit.new.canvas.bytes) start
     (subst (λ rs. AreWritten (written_all rs) c.args.canvas.now.bytes c.commit.new.canvas.bytes) c.deref.ensures.value
     c.commit.ensures.written) in
-    new_image old l c.args.key o h c.args.located.now has (written_all c.in-Some.plan.items) all.0 bare
+    new_image old l c.args.place o h c.args.located.now has (written_all c.in-Some.plan.items) all.0 bare
     (λ j x is. ap (λ (r : ObjectData). find (λ (y : LinkedSection). y.number.0 == x.number.0) r.sections) same
     ∙ c.numbers_differ.ensures j x (ap (λ (r : ObjectData). slice_get r.sections j) (sym same) ∙ is))
     c.commit.new.canvas.bytes over
@@ -48,7 +48,7 @@ pub returns-in-Some-clause-faultless : goal.returns-in-Some-clause-faultless
 returns-in-Some-clause-faultless c = λ done old l o h same row has none.
     let all = (rw c.in-Some.is at c.in_ok-plan.ensures.planned) l o
     (record { named = h.object_is; same = same; row = row }) in
-    still_none old l.project l.layout (l.number c.args.key.0) o h.rewritten h.frame h.object_is none
+    still_none old l.project l.layout (l.number c.args.place.0) o h.rewritten h.frame h.object_is none
     (no_fault l o c.args.located.now (written_all c.in-Some.plan.items) all.0 has)
 
 pub returns-in-Some-clause-counted : goal.returns-in-Some-clause-counted

@@ -13,7 +13,7 @@ returns-then-is_empty g c =
     bare_added old l s
     (bare_at_hand l c.args.section.now s c.relocations.result.now h c.relocations.ensures.value
     (grind (arith, c.if-is_empty.true, c.is_empty.ensures)))
-    (g.E.PreviousLinkInfo.range c.args.self.now.previous.now) c.args.section.now.key h.object_is
+    (g.E.PreviousLinkInfo.range c.args.self.now.previous.now) c.args.section.now.place h.object_is
     (results_of c.args.fields.now c.args.meter.now) (omega (arith, c.fields-fields.type_inv, c.fields-fields.ensures))
 
 pub returns-then-has_stayed : goal.returns-then-has_stayed
@@ -31,6 +31,6 @@ pub returns : goal.returns
 returns g c =
     λ old l s k h.
     let range = g.E.PreviousLinkInfo.range c.args.self.now.previous.now in
-    known_as old l range s c.args.section.now.key h.object_is None
+    known_as old l range s c.args.section.now.place h.object_is None
     (not_some _ (sym c.has_stayed.ensures.is ∙ c.if-has_stayed.false) ∙ ap range (c.section_key.ensures l s h)) _ _
     (c.in_ok-add_renewed.ensures old l s k h)

@@ -23,6 +23,6 @@ returns-in_ok-add_moved-in-Some g c =
     (moved_placed old l c.args.range s c.in-Some.section place _ _ _ _ _ _
     (c.in_ok-add_moved-in-Some.ensures old l s (record {
       links = k.previous;
-      kept = subst (IsKept range) (sym c.in-Some.ensures.key) of_object;
+      kept = subst (IsKept range) (sym c.in-Some.ensures.object) of_object;
       section_is = place.section_is;
     })))

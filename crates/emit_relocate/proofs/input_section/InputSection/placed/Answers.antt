@@ -14,24 +14,24 @@ none = record { number = record { 0 = 0 }; kind = Progbits; flags = 0; size = 0;
 pub returns-in-None-clause-place : goal.returns-in-None-clause-place
 returns-in-None-clause-place g c =
     λ l s k low h. none_in _ (c.in-None.ensures l k ∙ ap (start_of l) (c.section_key.ensures l s h)
-    ∙ start_is l s c.args.self.now.key h.object_is)
+    ∙ start_is l s c.args.self.now.place h.object_is)
 
 pub returns-then-start-section-clause-place : goal.returns-then-start-section-clause-place
 returns-then-start-section-clause-place g c =
     λ l s k low h.
     let at = piece_in _ c.in-Some.start (c.in-Some.ensures l k ∙ ap (start_of l) (c.section_key.ensures l s h)
-    ∙ start_is l s c.args.self.now.key h.object_is) in
-    absurd {A = IsPlaceOf l s None} (not_past l c.args.self.now.key s at.0 c.in-Some.start _ low h.object_is
+    ∙ start_is l s c.args.self.now.place h.object_is) in
+    absurd {A = IsPlaceOf l s None} (not_past l c.args.self.now.place s at.0 c.in-Some.start _ low h.object_is
     (numbered_as l c.args.self.now s h none c.sections.result.now c.sections.ensures.value
     c.sections.ensures.ascending) at.1 at.2
     (ap (λ (x : Section). x.size)
     (header_of l c.args.self.now s h _ c.sections.result.now c.sections.ensures.value))
     c.if-start-section.true)
 
-pub returns-else-start-section-clause-key : goal.returns-else-start-section-clause-key
-returns-else-start-section-clause-key g c =
+pub returns-else-start-section-clause-object : goal.returns-else-start-section-clause-object
+returns-else-start-section-clause-object g c =
     let x = some_at c.args.self.now.object.now.sections c.args.self.now.index.0 c.args.self.now.inside in
-    (c.new.ensures.section x.0 x.1).key_is
+    (c.new.ensures.section x.0 x.1).place_is
 
 pub returns-else-start-section-clause-below : goal.returns-else-start-section-clause-below
 returns-else-start-section-clause-below g c =
@@ -44,7 +44,7 @@ pub returns-else-start-section-clause-place : goal.returns-else-start-section-cl
 returns-else-start-section-clause-place g c =
     λ l s k low h.
     let at = piece_in _ c.in-Some.start (c.in-Some.ensures l k ∙ ap (start_of l) (c.section_key.ensures l s h)
-    ∙ start_is l s c.args.self.now.key h.object_is) in
+    ∙ start_is l s c.args.self.now.place h.object_is) in
     record {
       piece = at.0;
       piece_is = at.1;

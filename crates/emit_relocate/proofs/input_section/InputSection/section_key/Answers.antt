@@ -6,5 +6,5 @@ use Rattle.emit_relocate.proofs.input_section.InputSection.section_key.Goals as 
 
 pub returns : goal.returns
 returns c =
-    λ l s h. ap (λ (x : Section). record { object = c.args.self.now.key; part = InTable x.number })
+    λ l s h. ap (λ (x : Section). record { object = c.args.self.now.place; part = InTable x.number })
     (header_of l c.args.self.now s h _ c.sections.result.now c.sections.ensures.value)

@@ -4,7 +4,7 @@ use Rattle.emit_relocate.proofs.site.PlacedInput.new.Goals as goal
 
 pub returns-clause-section : goal.returns-clause-section
 returns-clause-section c = λ x is. record {
-  key_is = refl;
+  place_is = refl;
   number_is = numbered c.args.object.now.sections c.args.index.0 _ c.sections.result.now c.sections.ensures.value x is
       c.sections.ensures.ascending;
   symbols_are = c.symbols.ensures.value;
