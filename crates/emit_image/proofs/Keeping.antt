@@ -34,8 +34,9 @@ use Rattle.emit_image.specs.declared.section.Drawing.{Drawing}
 use Rattle.emit_image.specs.declared.section.ImagePart.{ImagePart}
 use Rattle.emit_image.specs.declared.section.ImagePiece.{ImagePiece}
 use Rattle.emit_image.specs.declared.section.ImageSection.{ImageSection}
-use Rattle.emit_image.proofs.Members.{Beside, any_member, beside, each_member, filter_member, map_member}
-use Rattle.emit_image.proofs.Members.{zip_both}
+use Rattle.ldmodel_laws.proofs.Finding.{map_in, member_of}
+use Rattle.ldmodel_laws.proofs.Members.{any_in, in_filter}
+use Rattle.emit_image.proofs.Members.{Beside, beside, zip_both}
 use Rattle.emit_image.proofs.OfLink.{covers-high, covers-low, drawing-same, end-same}
 
 -- the laws of links that are used
@@ -89,12 +90,12 @@ pub in_layout : Laws → (l : GoodLink) → IsGood l → (x : SectionInFile) →
     → InLayout l.layout x
 in_layout laws l good x c =
     let s : Layout = l.layout in
-    let k = filter_member (λ (y : SectionInFile). y.section.has_file_bytes) (in_file (segments s.sections)) x c in
+    let k = in_filter (λ (y : SectionInFile). y.section.has_file_bytes) (in_file (segments s.sections)) x c in
     record {
       bytes = k.1;
-      there = (filter_member (λ (q : PlacedOutput). not (q.size == 0)) s.sections x.section
+      there = (in_filter (λ (q : PlacedOutput). not (q.size == 0)) s.sections x.section
           (subst (λ qs. Contains qs x.section) (laws.all s.sections)
-          (map_member (λ (y : SectionInFile). y.section) (in_file (segments s.sections)) x k.0))).0;
+          (map_in (λ (y : SectionInFile). y.section) (in_file (segments s.sections)) x k.0))).0;
       offset = laws.offset s.sections good.named x k.0;
     }
 
@@ -133,8 +134,8 @@ module _ (laws : Laws) (old new : GoodLink) (good_old : IsGood old) (good_new : 
       let at : ℕ = y.start + (o - y.offset) - v.start in
       let under : at < u.piece.size = omega (arith, from, to, piece_is.size) in
       let range = full_range (segments s.sections) x.section u at k.bytes under in
-      let inside = each_member IsSpread s.sections x.section good_new.spread k.there in
-      let above : x.section.start ≤ u.start = (each_member (λ (z : PlacedPiece). (x.section.start ≤ z.start)
+      let inside = member_of IsSpread s.sections x.section good_new.spread k.there in
+      let above : x.section.start ≤ u.start = (member_of (λ (z : PlacedPiece). (x.section.start ≤ z.start)
       × (spread.piece_end z ≤ x.section.start + x.section.size)) x.section.pieces u inside.pieces_inside d).0 in
       record {
         piece = linked_in new x.section u;
@@ -211,7 +212,7 @@ module _ (laws : Laws) (old new : GoodLink) (good_old : IsGood old) (good_new : 
             | inl a ↦ inl a
             | inr a ↦ elim (cases_lt k.at (t.relocation.offset + width t.relocation.kind)) [
               | inl b ↦ absurd (true≢false
-                  (sym (any_member (λ (q : Patch). patches.patch_covers q o) ps (file_patch x t f.0) there
+                  (sym (any_in (λ (q : Patch). patches.patch_covers q o) ps (file_patch x t f.0) there
                   (covered_by (file_patch x t f.0) o (omega (arith, a, k.place)) (omega (arith, b, w, k.place))))
                   ∙ none))
               | inr b ↦ inr b

@@ -36,7 +36,8 @@ use Rattle.emit_image.specs.declared.section.ImageSection.{ImageSection}
 use Rattle.emit_image.proofs.Found.{covered, find-at, not_covered}
 use Rattle.emit_image.proofs.InDrawing.{in_section, sections-order}
 use Rattle.emit_image.proofs.InSection.{pieces-end, pieces-order}
-use Rattle.emit_image.proofs.Members.{here, later, zip_both}
+use Rattle.ldmodel_laws.proofs.Members.{here, later}
+use Rattle.emit_image.proofs.Members.{zip_both}
 use Rattle.emit_image.proofs.OfLink.{end-same}
 use Rattle.emit_image.proofs.Unstayed.{run, unless}
 
