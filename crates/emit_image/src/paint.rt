@@ -17,10 +17,10 @@ use emit_fields::patch::Patch;
 use emit_fields::run::write_run;
 use ldmodel::placed::PlacedData;
 
-/// What lies between output sections, and where an input section has no bytes.
+/// What lies between output sections, and in place of an input section without bytes.
 pub(crate) const ZERO: [u8; 1] = [0];
 
-/// The bytes of a span.
+/// What the bytes of a span are.
 #[derive(Clone, Copy)]
 pub enum Content<'a> {
     /// A pattern of 1 to 8 bytes, over and over.
@@ -31,7 +31,20 @@ pub enum Content<'a> {
     Bytes(&'a [u8], &'a [Patch]),
 }
 
-/// How long a gap is at most that is written from a ready run of its byte.
+/// A span of the image.
+#[derive(Clone, Copy)]
+pub struct Span<'a> {
+    /// The offset of its first byte.
+    pub from: usize,
+    /// The offset past its last byte.
+    pub end: usize,
+    /// Whether its bytes stay as they are on the canvas.
+    pub stays: bool,
+    /// Its bytes.
+    pub content: Content<'a>,
+}
+
+/// The greatest length of a gap that is written at once, from a run of its byte.
 const SHORT: usize = 32;
 
 /// A run of one value.
@@ -130,31 +143,28 @@ pub(crate) fn grow_to(canvas: &mut Canvas, least: usize, most: usize)
     }
 }
 
-/// Writes the bytes from `from` up to `end`, unless they stay. The canvas grows with them, up to `limit`.
+/// Writes a span, unless it stays. The canvas grows with it, up to `limit`.
 #[inline(always)]
 pub(crate) fn paint(
     canvas: &mut Canvas,
     desk: &mut [u8; BUFFER_SIZE],
     limit: usize,
-    from: usize,
-    end: usize,
-    stays: bool,
-    content: &Content<'_>,
+    span: &Span<'_>,
     meter: &mut Meter,
 )
     requires ready { IsReady limit canvas.old }
-    requires order { from ≤ end }
-    requires within { end ≤ limit }
-    requires fills { Fills (end - from) content.now }
+    requires order { span.now.from ≤ span.now.end }
+    requires within { span.now.end ≤ limit }
+    requires fills { Fills (span.now.end - span.now.from) span.now.content }
     ensures ready { IsReady limit canvas.new }
-    ensures painted { IsPainted canvas.old.bytes canvas.new.bytes meter.old meter.new from end (λ o.
-        record { byte = content_byte content.now (o - from); stays = stays }) }
+    ensures painted { IsPainted canvas.old.bytes canvas.new.bytes meter.old meter.new span.now.from span.now.end (λ o.
+        record { byte = content_byte span.now.content (o - span.now.from); stays = span.now.stays }) }
 {
-    grow_to(canvas, end, limit);
-    if stays {
+    grow_to(canvas, span.end, limit);
+    if span.stays {
         return;
     }
-    write_content(canvas, desk, from, end, content, meter);
+    write_content(canvas, desk, span.from, span.end, &span.content, meter);
 }
 
 /// Writes a run of a pattern up to `end`; nothing if it is empty.
@@ -179,8 +189,13 @@ pub(crate) fn paint_fill(
     if from == end {
         return;
     }
-    let content = Content::Fill(pattern);
-    paint(canvas, desk, limit, from, end, false, &content, meter);
+    let span = Span {
+        from,
+        end,
+        stays: false,
+        content: Content::Fill(pattern),
+    };
+    paint(canvas, desk, limit, &span, meter);
 }
 
 /// Writes an input section that is not empty.
@@ -202,12 +217,22 @@ pub(crate) fn paint_piece(
         record { byte = piece_byte (x.now.start + (o - from)) x.now; stays = x.now.stays }) }
 {
     if x.bytes.is_empty() {
-        let content = Content::Fill(&ZERO);
-        paint(canvas, desk, limit, from, end, x.stays, &content, meter);
+        let zeros = Span {
+            from,
+            end,
+            stays: x.stays,
+            content: Content::Fill(&ZERO),
+        };
+        paint(canvas, desk, limit, &zeros, meter);
         return;
     }
-    let content = Content::Bytes(x.bytes, x.fields);
-    paint(canvas, desk, limit, from, end, x.stays, &content, meter);
+    let span = Span {
+        from,
+        end,
+        stays: x.stays,
+        content: Content::Bytes(x.bytes, x.fields),
+    };
+    paint(canvas, desk, limit, &span, meter);
 }
 
 /// Writes a data command.
@@ -227,6 +252,11 @@ pub(crate) fn paint_data(
     ensures painted { IsPainted canvas.old.bytes canvas.new.bytes meter.old meter.new from end (λ o.
         record { byte = data_byte (d.now.start + (o - from)) d.now; stays = false }) }
 {
-    let content = Content::Number(d.value);
-    paint(canvas, desk, limit, from, end, false, &content, meter);
+    let span = Span {
+        from,
+        end,
+        stays: false,
+        content: Content::Number(d.value),
+    };
+    paint(canvas, desk, limit, &span, meter);
 }

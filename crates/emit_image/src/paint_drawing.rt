@@ -5,7 +5,7 @@ ghost use Rattle.emit_image.specs.Drawing.{IsDrawing, IsOrderly, drawing_end, dr
 ghost use Rattle.emit_image.specs.Painted.{IsPainted, IsReady};
 ghost use Rattle.emit_image.specs.Reached.{after_zeros, part_image, section_image};
 
-use crate::paint::{Content, ZERO, paint, paint_fill};
+use crate::paint::{Content, Span, ZERO, paint, paint_fill};
 use crate::paint_section::paint_section;
 use crate::patched::BUFFER_SIZE;
 use crate::section::{Drawing, ImagePart, ImageSection};
@@ -103,8 +103,13 @@ fn paint_part(
     let begin = part.offset as usize;
     let end = begin + part.bytes.len();
     paint_fill(canvas, desk, limit, from, begin, &ZERO, meter);
-    let content = Content::Bytes(part.bytes, &[]);
-    paint(canvas, desk, limit, begin, end, false, &content, meter);
+    let span = Span {
+        from: begin,
+        end,
+        stays: false,
+        content: Content::Bytes(part.bytes, &[]),
+    };
+    paint(canvas, desk, limit, &span, meter);
     end
 }
 
@@ -143,17 +148,13 @@ pub(crate) fn paint_drawing(canvas: &mut Canvas, limit: usize, d: &Drawing<'_>, 
         (drawing_spot d.now) }
 {
     let mut desk = [0; BUFFER_SIZE];
-    let headers = Content::Bytes(d.headers, &[]);
-    paint(
-        canvas,
-        &mut desk,
-        limit,
-        0,
-        d.headers.len(),
-        false,
-        &headers,
-        meter,
-    );
+    let headers = Span {
+        from: 0,
+        end: d.headers.len(),
+        stays: false,
+        content: Content::Bytes(d.headers, &[]),
+    };
+    paint(canvas, &mut desk, limit, &headers, meter);
     let at = paint_sections(canvas, &mut desk, limit, d, meter);
     let _end = paint_tail(canvas, &mut desk, limit, at, d, meter);
 }
