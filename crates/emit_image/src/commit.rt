@@ -14,7 +14,7 @@ use elfobj::Meter;
 use emit_fields::canvas::Canvas;
 use emit_fields::patch::Patch;
 
-/// Writes patches at their places in the file; the canvas grows where they lie past it. Where the patches have the
+/// Writes patches at their places in the file; the canvas grows if they lie past it. If the patches have the
 /// bytes of an image, bytes of the canvas that were right for that image stay right, and the patched bytes become
 /// right.
 fn write_patches(canvas: &mut Canvas, patches: &[Patch], end: usize, meter: &mut Meter)

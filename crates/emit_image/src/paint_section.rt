@@ -82,8 +82,7 @@ fn paint_next_data(
     }
 }
 
-/// Writes the data commands to come that start below `below`, where the input sections to come start at `below` or
-/// later.
+/// Writes the data commands to come that start below `below`. The input sections to come start at `below` or later.
 #[inline(always)]
 fn paint_data_before(
     canvas: &mut Canvas,

@@ -1,4 +1,4 @@
-//! The input sections of an output section, as they are drawn. One that stays is joined to the one before it, where
+//! The input sections of an output section, as they are drawn. One that stays is joined to the one before it if
 //! that stays too and no gap lies between: so what stayed together is drawn as one.
 
 ghost use Rattle.std.specs.Prelude.{◌≡◌, ◌+◌, ◌++◌, ◌∷◌, [], IfSome, List, OnOk, false, true};
@@ -36,7 +36,7 @@ fn joined_size(last: &ImagePiece<'_>, size: u64, start: u64) -> Option<u64>
     last.size.checked_add(size)
 }
 
-/// Adds an input section. `push` makes a call even where there is room.
+/// Adds an input section. `push` makes a call even if there is room.
 #[inline(always)]
 fn add<'a>(row: &mut Vec<ImagePiece<'a>>, piece: ImagePiece<'a>) -> Result<(), NoMemory>
     ensures { OnOk result (row.new.items ≡ row.old.items ++ piece.entry ∷ []) }

@@ -27,7 +27,7 @@ pub struct ImageSection<'a> {
     pub start: u64,
     /// How many bytes it has.
     pub size: u64,
-    /// What its gaps are filled with, over and over: 1 to 8 bytes; one zero byte where the script says nothing.
+    /// What its gaps are filled with, over and over: 1 to 8 bytes; one zero byte if the script says nothing.
     pub fill: &'a [u8],
     /// The input sections, in the order of their addresses.
     pub pieces: &'a [ImagePiece<'a>],

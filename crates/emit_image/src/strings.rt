@@ -21,7 +21,7 @@ pub(crate) fn add_name(names: &mut Vec<u8>, name: &[u8]) -> Result<usize, NoMemo
 {
     let at = names.len();
     names.extend_from_slice(name)?;
-    // `push` makes a call even where there is room
+    // `push` makes a call even if there is room
     if names.len() < names.capacity() {
         names.push_reserved(0);
     } else {
