@@ -102,6 +102,7 @@ fn site_key(section: &PlacedInput<'_>, entry: u32) -> SiteKey
 }
 
 /// The field of a relocation of number `entry` against a symbol of a value; or its fault.
+#[inline(always)]
 fn field_with(
     section: &PlacedInput<'_>,
     entry: u32,
