@@ -36,7 +36,7 @@ use Rattle.ldmodel_laws.specs.Outline.{ObjectOutline, SectionOutline, object_out
 use Rattle.ldmodel_laws.specs.Outline.{section_outline}
 use Rattle.ldmodel_laws.specs.Spread.{EachLater, IsSpread}
 use Rattle.ldmodel_laws.proofs.Finding.{NotBoth, find_only, flat_map_in, in_flat_map, in_map, find_mapped, none_in}
-use Rattle.ldmodel_laws.proofs.Members.{first_or_later, here, later, none_in_nil, at_place}
+use Rattle.ldmodel_laws.proofs.Members.{first_or_later, none_in_nil, at_place}
 use Rattle.ldmodel_laws.proofs.InImage.{linked}
 use Rattle.ldmodel_laws.proofs.Once.{later_map, names_later}
 use Rattle.ldmodel_laws.proofs.PieceBytes.{byte_of_piece, one_name, same_name, covered}
@@ -44,6 +44,7 @@ use Rattle.ldmodel_laws.proofs.EachOf.{later_of_map, later_imply}
 use Rattle.emit_relocate.specs.PreviousLinkInfo.{range_of}
 use Rattle.emit_relocate.specs.Fields.{fault_at}
 use Rattle.emit_relocate.specs.KnownLink.{KnownLink}
+use Rattle.emit_relocate.proofs.Lists.{partner_in, partner_of}
 use Rattle.emit_in_place.specs.Plan.{AreWritten, ComesOf, IsKept, IsNothing, IsPlannedAt, IsWhole, Written}
 use Rattle.emit_in_place.specs.Plan.{sites_there}
 use Rattle.emit_in_place.specs.InPlaceRewrites.{IsBare, IsInPlaceRewrite}
@@ -141,34 +142,6 @@ outside_of at offset length e = elim (cases_lt at offset) [
     | inr y ↦ inr y
   ]
 ]
-
--- a list with a partner for each member
-record Partner {X Y : Type 0} (R : X → Y → Type 0) (xs : List X) (y : Y) : Type 0 where
-  partner : X
-  among : Contains xs partner
-  related : R partner y
-
-partner_of : {X Y : Type 0} (R : X → Y → Type 0) (xs : List X) (ys : List Y) (y : Y) → AllZip R xs ys
-    → Contains ys y → Partner R xs y
-partner_of R [] [] y h c = absurd (none_in_nil y c)
-partner_of R [] (z ∷ zs) y h c = absurd h
-partner_of R (x ∷ xs) [] y h c = absurd (none_in_nil y c)
-partner_of R (x ∷ xs) (z ∷ zs) y h c = ⊎_elim
-    (λ same. record { partner = x; among = here x xs; related = subst (R x) same h.0 })
-    (λ in_rest. let k : Partner R xs y = partner_of R xs zs y h.1 in_rest in
-    record { partner = k.partner; among = later x xs k.partner k.among; related = k.related })
-    (first_or_later z zs y c)
-
-partner_in : {X Y : Type 0} (R : X → Y → Type 0) (xs : List X) (ys : List Y) (x : X) → AllZip R xs ys
-    → Contains xs x → Partner (λ (y : Y) (z : X). R z y) ys x
-partner_in R [] [] x h c = absurd (none_in_nil x c)
-partner_in R [] (y ∷ ys) x h c = absurd h
-partner_in R (z ∷ zs) [] x h c = absurd h
-partner_in {X} {Y} R (z ∷ zs) (y ∷ ys) x h c = ⊎_elim
-    (λ same. record { partner = y; among = here y ys; related = subst (λ w. R w y) same h.0 })
-    (λ in_rest. let k : Partner (λ (v : Y) (w : X). R w v) ys x = partner_in R zs ys x h.1 in_rest in
-    record { partner = k.partner; among = later y ys k.partner k.among; related = k.related })
-    (first_or_later z zs x c)
 
 -- ---- a section without bytes of its own
 

@@ -8,7 +8,7 @@ mod Kept
 mod Found
 mod Rowed
 mod Filling
-mod Lists
+pub mod Lists
 mod Filed
 mod Moving
 mod Changing
