@@ -11,8 +11,8 @@ use std::marker::Model;
 pub struct Field {
     /// Its value as 8 bytes.
     bytes: [u8; 8],
-    /// The number of bytes that the field has.
-    width: u8,
+    /// The number of bytes that the field has. As a whole word it is copied at once.
+    width: usize,
 }
 
 impl Model for Field {
@@ -30,7 +30,7 @@ impl Field {
     pub fn bytes(&self) -> &[u8]
         ensures { result.now ≡ self.now }
     {
-        &self.bytes[..usize::from(self.width)]
+        &self.bytes[..self.width]
     }
 }
 

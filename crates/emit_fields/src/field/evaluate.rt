@@ -33,11 +33,11 @@ fn value(relocation: &Relocation, s: u64, p: u64) -> u64
 
 /// The number of bytes of the field.
 #[tactic(auto, using(crate::proofs::FieldBytes::width_at_most))]
-fn width(kind: RelocationKind) -> u8
+fn width(kind: RelocationKind) -> usize
     ensures width { result ≡ width kind }
     ensures most { result ≤ 8 }
 {
-    kind.width() as u8
+    kind.width() as usize
 }
 
 /// Whether a number is in the range from `low` to `high`.
