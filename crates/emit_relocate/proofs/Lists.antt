@@ -1,5 +1,5 @@
 -- What a test keeps of a list, and members of two lists that are related one by one.
-use Rattle.std.proofs.Common.{◌≡◌, ◌⊎◌, ⊎_elim, ◌+◌, Bool, true, false, cond, not, ◌&&◌}
+use Rattle.std.proofs.Common.{◌≡◌, ⊎_elim, ◌+◌, Bool, true, false, cond, not, ◌&&◌}
 use Rattle.std.proofs.Common.{List, [], ◌∷◌, length, filter, Option, None, refl, sym, ap, ◌∙◌}
 use Rattle.std.proofs.Common.{subst, arith}
 use Rattle.std.specs.Prelude.{◌||◌}
