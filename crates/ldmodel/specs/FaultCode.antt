@@ -102,8 +102,8 @@ assertion_of a =
 
 unfoldable pub fault_of : Project → (number : ℕ → ℕ) → code.Fault → Fault
 fault_of project number (variant.DuplicateDefinition e first) =
-    let object : ℕ = number e.key in
-    fault.DuplicateDefinition (name_of_symbol project object e.symbol) (object_name project object)
+    let object : ℕ = number e.object.0 in
+    fault.DuplicateDefinition (name_of_symbol project object e.symbol.0) (object_name project object)
     (definer_of project number first)
 fault_of project number variant.UndefinedEntry = fault.UndefinedEntry (unwrap_or (entry_symbol project) [])
 fault_of project number (variant.Orphan x) =

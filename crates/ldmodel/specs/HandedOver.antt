@@ -7,20 +7,33 @@ use Rattle.ldmodel.specs.Sections.{SectionId}
 use Rattle.ldmodel.specs.declared.names.Case.{Case}
 use Rattle.ldmodel.specs.declared.names.Case.TheVariants as case
 use Rattle.ldmodel.specs.declared.names.Entry as names
+use Rattle.ldmodel.specs.declared.names.ObjectKey.{ObjectKey}
+use Rattle.ldmodel.specs.declared.names.ObjectPlace.{ObjectPlace}
 use Rattle.ldmodel.specs.declared.rows.Piece as rows
 use Rattle.ldmodel.specs.declared.sections.SectionKey.{SectionKey}
 
-abbrev pub entry_of : (number : ℕ → ℕ) → names.Entry → Entry
-entry_of number e = record { object = number e.key; symbol = e.symbol }
+-- an entry, where `number` says which place in the project an object has
+abbrev pub entry_by : {O : Type 0} → (number : O → ℕ) → names.Entry O → Entry
+entry_by number e = record { object = number e.object; symbol = e.symbol.0 }
 
-abbrev pub decision_of : (number : ℕ → ℕ) → Case → Decision
-decision_of number (case.Strong e) = Strong (entry_of number e)
-decision_of number case.Script = Script
-decision_of number (case.Common owner size align) = Common (entry_of number owner) size align
-decision_of number (case.Weak e) = Weak (entry_of number e)
-decision_of number case.Provided = Provided
-decision_of number case.Undefined = Undefined
-decision_of number case.Duplicate = Duplicate
+abbrev pub decision_by : {O : Type 0} → (number : O → ℕ) → Case O → Decision
+decision_by number (case.Strong e) = Strong (entry_by number e)
+decision_by number case.Script = Script
+decision_by number (case.Common owner size align) = Common (entry_by number owner) size align
+decision_by number (case.Weak e) = Weak (entry_by number e)
+decision_by number case.Provided = Provided
+decision_by number case.Undefined = Undefined
+decision_by number case.Duplicate = Duplicate
+
+abbrev pub entry_of : (number : ℕ → ℕ) → names.Entry ObjectPlace → Entry
+entry_of number e = entry_by (λ (object : ObjectPlace). number object.0) e
+
+abbrev pub decision_of : (number : ℕ → ℕ) → Case ObjectPlace → Decision
+decision_of number c = decision_by (λ (object : ObjectPlace). number object.0) c
+
+-- a case under keys, which stand for themselves
+abbrev pub decision_under_keys : Case ObjectKey → Decision
+decision_under_keys c = decision_by (λ (object : ObjectKey). object.0) c
 
 abbrev pub section_id : (number : ℕ → ℕ) → SectionKey → SectionId
 section_id number k = record { object = number k.object.0; part = k.part }

@@ -40,7 +40,7 @@ pub enum Fault {
     /// `F1 NAME OBJECT FIRST`: an object defines a name once more.
     DuplicateDefinition {
         /// The definition that is not the first.
-        entry: Entry,
+        entry: Entry<ObjectPlace>,
         /// What defines the name first.
         first: Definer,
     },

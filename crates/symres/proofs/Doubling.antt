@@ -40,6 +40,7 @@ use Rattle.ldmodel.specs.declared.fault.Fault.TheVariants as variant
 use Rattle.ldmodel.specs.declared.names.Case.{Case}
 use Rattle.ldmodel.specs.declared.names.Case.TheVariants as case
 use Rattle.ldmodel.specs.declared.names.Entry as code_names
+use Rattle.ldmodel.specs.declared.names.ObjectPlace.{ObjectPlace}
 use Rattle.ldmodel.specs.declared.names.NameKey.{NameKey}
 use Rattle.ldmodel_project.specs.ByPlace.{faults_in}
 use Rattle.symres_table.specs.State.{AreDistinct, IsNamed, slot}
@@ -168,7 +169,7 @@ told_more p ds d =
     (map (duplicate p) (filter (is_duplicate p) (d ∷ []))))
 
 keeps_found : (p : Project) (names : List (Option (List ℕ))) (ds : List Declaration) (d : Declaration)
-    (firsts : List (Option code_names.Entry)) (faults : List code.Fault) → Begins p (ds ++ d ∷ [])
+    (firsts : List (Option (code_names.Entry ObjectPlace))) (faults : List code.Fault) → Begins p (ds ++ d ∷ [])
     → (is_strong d ≡ true → decision p d.name ≡ Duplicate → ⊥) → AreFound p names ds firsts faults
     → AreFound p names (ds ++ d ∷ []) firsts faults
 keeps_found p names ds d firsts faults b not_it h = record {
@@ -201,26 +202,29 @@ object_of_first : (p : Project) (xs : List Declaration) (x : Entry) → first_en
 object_of_first p [] x h = absurd (cc)
 object_of_first p (y ∷ ys) x h = let e : y.entry ≡ x = cc in ap (λ (z : Entry). ByObject (object_name p z.object)) e
 
-noted_or : (o : Option code_names.Entry) (x : Option Entry) (e : code_names.Entry) → option_map by_place o ≡ x
+noted_or : (o : Option (code_names.Entry ObjectPlace)) (x : Option Entry) (e : code_names.Entry ObjectPlace)
+    → option_map by_place o ≡ x
     → by_place (unwrap_or o e) ≡ unwrap_or x (by_place e)
 noted_or None x e h = ap (λ (y : Option Entry). unwrap_or y (by_place e)) h
 noted_or (Some o) x e h = ap (λ (y : Option Entry). unwrap_or y (by_place e)) h
 
 -- what a symbol defines, and the first definition of its name
-record Defines (p : Project) (ds : List Declaration) (d : Declaration) (e earliest : code_names.Entry) : Type 0 where
+record Defines (p : Project) (ds : List Declaration) (d : Declaration)
+    (e earliest : code_names.Entry ObjectPlace) : Type 0 where
   begins : Begins p (ds ++ d ∷ [])
   strong : is_strong d ≡ true
-  name : name_of_symbol p e.key e.symbol ≡ d.name
+  name : name_of_symbol p e.object.0 e.symbol.0 ≡ d.name
   entry : by_place e ≡ d.entry
   first : (ys : List Declaration) → first_entry (strongs d.name ds ++ d ∷ ys) ≡ Some (by_place earliest)
 
-first_defined : (p : Project) (ds : List Declaration) (d : Declaration) (e x : code_names.Entry)
+first_defined : (p : Project) (ds : List Declaration) (d : Declaration) (e x : code_names.Entry ObjectPlace)
     → (h : Defines p ds d e x) → first_entry (strong_definitions p d.name) ≡ Some (by_place x)
 first_defined p ds d e x h =
     ap first_entry (strongs_of p ds d h.begins h.strong) ∙ h.first (strongs d.name h.begins.0)
 
 -- whether it is a fault
-is_fault : (p : Project) (ds : List Declaration) (d : Declaration) (e x : code_names.Entry) → (h : Defines p ds d e x)
+is_fault : (p : Project) (ds : List Declaration) (d : Declaration) (e x : code_names.Entry ObjectPlace)
+    → (h : Defines p ds d e x)
     → is_duplicate p d ≡ (is_assigned p.script d.name || not (is_same_entry (by_place x) (by_place e)))
 is_fault p ds d e x h =
     ap (λ (b : Bool). b && (is_assigned p.script d.name || not (is_first_of (strong_definitions p d.name) d))) h.strong
@@ -229,19 +233,20 @@ is_fault p ds d e x h =
     ∙ ap (is_same_entry (by_place x)) (sym h.entry))
 
 -- the fault of a definition whose name another definer has
-fault_is : (p : Project) (ds : List Declaration) (d : Declaration) (e x : code_names.Entry)
+fault_is : (p : Project) (ds : List Declaration) (d : Declaration) (e x : code_names.Entry ObjectPlace)
     (by : code_definer.Definer) → Defines p ds d e x → definer_of p (λ key. key) by ≡ first_definer p d.name
     → faults_in p (variant.DuplicateDefinition e by ∷ []) ≡ duplicate_fault (duplicate p d) ∷ []
 unfolding fault_of
 fault_is p ds d e x by h same =
-    let object : e.key ≡ d.entry.object = ap (λ (y : Entry). y.object) h.entry in
+    let object : e.object.0 ≡ d.entry.object = ap (λ (y : Entry). y.object) h.entry in
     ap (λ (n : List ℕ).
-    fault.DuplicateDefinition n (object_name p e.key) (definer_of p (λ key. key) by) ∷ []) h.name
+    fault.DuplicateDefinition n (object_name p e.object.0) (definer_of p (λ key. key) by) ∷ []) h.name
     ∙ (ap (λ (k : ℕ). fault.DuplicateDefinition d.name (object_name p k) (definer_of p (λ key. key) by) ∷ []) object
     ∙ ap (λ (f : Definer). fault.DuplicateDefinition d.name (object_name p d.entry.object) f ∷ []) same)
 
 -- the faults of a symbol
-told_one : (p : Project) (ds : List Declaration) (d : Declaration) (e x : code_names.Entry) → Defines p ds d e x
+told_one : (p : Project) (ds : List Declaration) (d : Declaration) (e x : code_names.Entry ObjectPlace)
+    → Defines p ds d e x
     → faults_in p (faults_of e (definer_before (is_assigned p.script d.name) x e))
     ≡ shown p (filter (is_duplicate p) (d ∷ []))
 told_one p ds d e x h =
@@ -250,19 +255,20 @@ told_one p ds d e x h =
   where
     go : (a s : Bool) → is_assigned p.script d.name ≡ a → is_same_entry (by_place x) (by_place e) ≡ s
         → faults_in p (faults_of e (cond a (Some definer.Script) (cond s None
-        (Some (definer.Object (record { 0 = x.key }))))))
+        (Some (definer.Object x.object)))))
         ≡ shown p (cond (a || not s) (d ∷ []) [])
     go true s is same =
         fault_is p ds d e x definer.Script h
         (sym (ap (λ (b : Bool). cond b ByScript (first_among p (strong_definitions p d.name))) is))
     go false true is same = refl
     go false false is same =
-        fault_is p ds d e x (definer.Object (record { 0 = x.key })) h
+        fault_is p ds d e x (definer.Object x.object) h
         (sym (ap (λ (b : Bool). cond b ByScript (first_among p (strong_definitions p d.name))) is
         ∙ object_of_first p (strong_definitions p d.name) (by_place x) (first_defined p ds d e x h)))
 
 -- the two conditions again
-told_at : (p : Project) (ds : List Declaration) (d : Declaration) (e x : code_names.Entry) (old new : List code.Fault)
+told_at : (p : Project) (ds : List Declaration) (d : Declaration) (e x : code_names.Entry ObjectPlace)
+    (old new : List code.Fault)
     → Defines p ds d e x → new ≡ old ++ faults_of e (definer_before (is_assigned p.script d.name) x e)
     → faults_in p old ≡ shown p (filter (is_duplicate p) ds)
     → faults_in p new ≡ shown p (filter (is_duplicate p) (ds ++ d ∷ []))
@@ -279,7 +285,8 @@ some_name : (x y : List ℕ) → Some x ≡ Some y → x ≡ y
 some_name x y h = cc
 
 noted_at : (p : Project) (names : List (Option (List ℕ))) (ds : List Declaration) (d : Declaration)
-    (e x : code_names.Entry) (k : ℕ) (old : List (Option code_names.Entry)) (j : ℕ) (name : List ℕ)
+    (e x : code_names.Entry ObjectPlace) (k : ℕ) (old : List (Option (code_names.Entry ObjectPlace))) (j : ℕ)
+    (name : List ℕ)
     → Defines p ds d e x → IsNamed names k d.name → AreDistinct names → k < length old → IsNamed names j name
     → option_map by_place (get_or old j None) ≡ first_entry (strongs name ds)
     → option_map by_place (get_or (set old k (Some x)) j None) ≡ first_entry (strongs name (ds ++ d ∷ []))
@@ -310,13 +317,14 @@ noted_at p names ds d e x k old j name h named differ within is noted = ⊎_elim
         ∙ append-nil (strongs name ds)))))
 
 more_found : (p : Project) (names : List (Option (List ℕ))) (ds : List Declaration) (d : Declaration)
-    (e x : code_names.Entry) (k : ℕ) (old new : List (Option code_names.Entry)) (faults faults' : List code.Fault)
+    (e x : code_names.Entry ObjectPlace) (k : ℕ) (old new : List (Option (code_names.Entry ObjectPlace)))
+    (faults faults' : List code.Fault)
     → Defines p ds d e x → IsNamed names k d.name → AreDistinct names → k < length old → new ≡ set old k (Some x)
     → faults' ≡ faults ++ faults_of e (definer_before (is_assigned p.script d.name) x e)
     → AreFound p names ds old faults → AreFound p names (ds ++ d ∷ []) new faults'
 more_found p names ds d e x k old new faults faults' h named differ within is more found = record {
   noted = λ j name n twice.
-      ap (λ (xs : List (Option code_names.Entry)). option_map by_place (get_or xs j None)) is
+      ap (λ (xs : List (Option (code_names.Entry ObjectPlace))). option_map by_place (get_or xs j None)) is
       ∙ noted_at p names ds d e x k old j name h named differ within n (found.noted j name n twice);
   told = told_at p ds d e x faults faults' h more found.told;
 }
@@ -384,13 +392,14 @@ seen_at objects place number symbols x table within strong = record {
 
 -- ---- what is read of a symbol
 
-abbrev Steps : Project → List (Option (List ℕ)) → List Declaration → (old new : List (Option code_names.Entry))
+abbrev Steps : Project → List (Option (List ℕ)) → List Declaration
+    → (old new : List (Option (code_names.Entry ObjectPlace)))
     → (faults faults' : List code.Fault) → List Declaration → Type 0
 Steps p names ds old new faults faults' more =
     Begins p (ds ++ more) → AreFound p names ds old faults → AreFound p names (ds ++ more) new faults'
 
 declared_seen : (p : Project) (names : List (Option (List ℕ))) (ds : List Declaration) (place number : ℕ)
-    (s : NamedSymbol) (old new : List (Option code_names.Entry)) (faults faults' : List code.Fault)
+    (s : NamedSymbol) (old new : List (Option (code_names.Entry ObjectPlace))) (faults faults' : List code.Fault)
     → is_local s.symbol.binding ≡ false → Steps p names ds old new faults faults' (declaration place (number, s) ∷ [])
     → Steps p names ds old new faults faults' (declared_by place number s)
 declared_seen p names ds place number s old new faults faults' seen h =
@@ -399,7 +408,7 @@ declared_seen p names ds place number s old new faults faults' seen h =
 
 -- a symbol that is no definition of a name that is defined twice
 pub no_more : (p : Project) (names : List (Option (List ℕ))) (ds : List Declaration) (place number : ℕ)
-    (s : NamedSymbol) (firsts : List (Option code_names.Entry)) (faults : List code.Fault)
+    (s : NamedSymbol) (firsts : List (Option (code_names.Entry ObjectPlace))) (faults : List code.Fault)
     → IsDoubled p names (declaration place (number, s)) None
     → Steps p names ds firsts firsts faults faults (declared_by place number s)
 no_more p names ds place number s firsts faults none = go (is_local s.symbol.binding) refl
@@ -417,21 +426,24 @@ no_more p names ds place number s firsts faults none = go (is_local s.symbol.bin
 -- a definition of a name that is defined twice
 pub one_more : (p : Project) (a : SymbolTableState) (ds : List Declaration) (place number : ℕ) (symbols : List
     NamedSymbol)
-    (d : NamedSymbol) (k : NameKey) (x : code_names.Entry) (old new : List (Option code_names.Entry))
+    (d : NamedSymbol) (k : NameKey) (x : code_names.Entry ObjectPlace)
+    (old new : List (Option (code_names.Entry ObjectPlace)))
     (faults faults' : List code.Fault) (name : List ℕ)
     → IsSymbolTable p a → IsTableAt a.objects place symbols → number < length symbols
     → IsDoubled p a.names (declaration place (number, get_or symbols number d)) (Some k) → AreDistinct a.names
-    → k.0 < length old → x ≡ unwrap_or (get_or old k.0 None) (record { key = place; symbol = number })
+    → k.0 < length old → x ≡ unwrap_or (get_or old k.0 None)
+    (record { object = record { 0 = place }; symbol = record { 0 = number } })
     → new ≡ set old k.0 (Some x) → name ≡ (get_or symbols number d).name
-    → faults' ≡ faults ++ faults_of (record { key = place; symbol = number })
-    (definer_before (is_assigned p.script name) x (record { key = place; symbol = number }))
+    → faults' ≡ faults ++ faults_of (record { object = record { 0 = place }; symbol = record { 0 = number } })
+    (definer_before (is_assigned p.script name) x
+    (record { object = record { 0 = place }; symbol = record { 0 = number } }))
     → Steps p a.names ds old new faults faults' (declared_by place number (get_or symbols number d))
 one_more p a ds place number symbols d k x old new faults faults' name symbol_table table within is differ inside first
     set'
     named more =
     let s : NamedSymbol = get_or symbols number d in
     let y : Declaration = declaration place (number, s) in
-    let e : code_names.Entry = record { key = place; symbol = number } in
+    let e : code_names.Entry ObjectPlace = record { object = record { 0 = place }; symbol = record { 0 = number } } in
     declared_seen p a.names ds place number s old new faults faults' (strong_seen place number s is.0)
     (λ b h.
     let noted : by_place x ≡ unwrap_or (first_entry (strongs y.name ds)) y.entry =
@@ -460,7 +472,7 @@ strong_at shown symbols place n x b same within is d =
     ∙ get_or-map (λ (s : NamedSymbol). s.symbol) symbols n d x within in
     sym (ap (λ (s : Symbol). is_global s.binding && is_placed s.place) here) ∙ is
 
-duplicate_case : (o : Option Case) → is_doubled o ≡ true → o ≡ Some case.Duplicate
+duplicate_case : (o : Option (Case ObjectPlace)) → is_doubled o ≡ true → o ≡ Some case.Duplicate
 duplicate_case None h = absurd (cc)
 duplicate_case (Some (case.Strong e)) h = absurd (cc)
 duplicate_case (Some case.Script) h = absurd (cc)
@@ -470,7 +482,7 @@ duplicate_case (Some case.Provided) h = absurd (cc)
 duplicate_case (Some case.Undefined) h = absurd (cc)
 duplicate_case (Some case.Duplicate) h = refl
 
-pub case_duplicate : (c : Case) → decision_of (λ key. key) c ≡ Duplicate → is_doubled (Some c) ≡ true
+pub case_duplicate : (c : Case ObjectPlace) → decision_of (λ key. key) c ≡ Duplicate → is_doubled (Some c) ≡ true
 case_duplicate (case.Strong e) h = absurd (cc)
 case_duplicate case.Script h = absurd (cc)
 case_duplicate (case.Common e size align) h = absurd (cc)
@@ -554,7 +566,7 @@ begins_first p ds place n symbols b =
 
 -- a symbol more
 pub symbol_more : (p : Project) (names : List (Option (List ℕ))) (ds : List Declaration) (place n : ℕ)
-    (symbols : List NamedSymbol) (d : NamedSymbol) (start old new : List (Option code_names.Entry))
+    (symbols : List NamedSymbol) (d : NamedSymbol) (start old new : List (Option (code_names.Entry ObjectPlace)))
     (faults faults' faults'' : List code.Fault) → n < length symbols
     → ((ds' : List Declaration) → Steps p names ds' old new faults' faults'' (declared_by place n (get_or symbols n d)))
     → (Begins p (ds ++ declarations_in (place, symbols)) → AreFound p names ds start faults
@@ -571,7 +583,7 @@ symbol_more p names ds place n symbols d start old new faults faults' faults'' w
     (step first (subst (Begins p) (sym same) (begins_first p ds place (n + 1) symbols b)) (before b h))
 
 pub symbols_all : (p : Project) (names : List (Option (List ℕ))) (ds : List Declaration) (place n : ℕ)
-    (symbols : List NamedSymbol) (new : List (Option code_names.Entry)) (faults : List code.Fault)
+    (symbols : List NamedSymbol) (new : List (Option (code_names.Entry ObjectPlace))) (faults : List code.Fault)
     → length symbols ≤ n → AreFound p names (ds ++ filter is_seen (take n (all_entries (place, symbols)))) new faults
     → AreFound p names (ds ++ declarations_in (place, symbols)) new faults
 symbols_all p names ds place n symbols new faults past h =
@@ -583,17 +595,18 @@ symbols_all p names ds place n symbols new faults past h =
 
 -- ---- the objects
 
-pub none_found : (p : Project) (names : List (Option (List ℕ))) (n : ℕ) (firsts : List (Option code_names.Entry))
+pub none_found : (p : Project) (names : List (Option (List ℕ))) (n : ℕ)
+    (firsts : List (Option (code_names.Entry ObjectPlace)))
     → firsts ≡ replicate n None → AreFound p names (declarations_of []) firsts []
 unfolding declarations_of
 none_found p names n firsts is = record {
   noted = λ k name named twice.
-      ap (option_map by_place) (ap (λ (xs : List (Option code_names.Entry)). get_or xs k None) is
+      ap (option_map by_place) (ap (λ (xs : List (Option (code_names.Entry ObjectPlace))). get_or xs k None) is
       ∙ none_at n k);
   told = refl;
 }
   where
-    nothing : Option code_names.Entry
+    nothing : Option (code_names.Entry ObjectPlace)
     nothing = None
 
     none_at : (n k : ℕ) → get_or (replicate n nothing) k nothing ≡ nothing
@@ -629,7 +642,7 @@ is_table_at p a inputs i x symbol_table same within here =
 
 -- an object more
 pub object_more : (p : Project) (names : List (Option (List ℕ))) (inputs : List InputObject) (i : ℕ) (x : InputObject)
-    (old new : List (Option code_names.Entry)) (faults faults' : List code.Fault)
+    (old new : List (Option (code_names.Entry ObjectPlace))) (faults faults' : List code.Fault)
     → shown_inputs inputs ≡ p.objects → i < length inputs → get_or inputs i x ≡ x
     → ((ds : List Declaration) → Steps p names ds old new faults faults' (declarations_in (i, symbols_of x)))
     → AreFound p names (declarations_of (take i (enumerate_from 0 (symbol_tables p.objects)))) old faults
@@ -656,7 +669,7 @@ object_more p names inputs i x old new faults faults' same within here step h =
     (step (declarations_of (take i tables)) (declarations_of (drop (i + 1) tables), all) h)
 
 pub objects_all : (p : Project) (names : List (Option (List ℕ))) (inputs : List InputObject) (i : ℕ)
-    (new : List (Option code_names.Entry)) (faults : List code.Fault)
+    (new : List (Option (code_names.Entry ObjectPlace))) (faults : List code.Fault)
     → shown_inputs inputs ≡ p.objects → length inputs ≤ i
     → AreFound p names (declarations_of (take i (enumerate_from 0 (symbol_tables p.objects)))) new faults
     → faults_in p faults ≡ map duplicate_fault (duplicates p)

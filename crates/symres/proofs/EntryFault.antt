@@ -18,10 +18,12 @@ use Rattle.ldmodel.specs.declared.fault.Fault as code
 use Rattle.ldmodel.specs.declared.fault.Fault.TheVariants as variant
 use Rattle.ldmodel.specs.declared.names.Case.{Case}
 use Rattle.ldmodel.specs.declared.names.Case.TheVariants as case
+use Rattle.ldmodel.specs.declared.names.ObjectPlace.{ObjectPlace}
 use Rattle.ldmodel_project.specs.ByPlace.{faults_in}
 use Rattle.symres.specs.Undefined.{faults_if, is_undefined}
 
-if_case : (c : Case) (name : List ℕ) → is_some (if_undefined name (decision_of (λ key. key) c)) ≡ is_undefined c
+if_case : (c : Case ObjectPlace) (name : List ℕ) → is_some (if_undefined name (decision_of (λ key. key) c))
+    ≡ is_undefined c
 if_case (case.Strong e) name = refl
 if_case case.Script name = refl
 if_case (case.Common e size align) name = refl
@@ -31,7 +33,7 @@ if_case case.Undefined name = refl
 if_case case.Duplicate name = refl
 
 -- an entry symbol of this case
-pub entry_of_case : (p : Project) (name : List ℕ) (c : Case) (b : Bool) → Some name ≡ entry_symbol p
+pub entry_of_case : (p : Project) (name : List ℕ) (c : Case ObjectPlace) (b : Bool) → Some name ≡ entry_symbol p
     → decision_of (λ key. key) c ≡ decision p name → is_undefined c ≡ b → b ≡ is_some (undefined_entry p)
 unfolding undefined_entry
 entry_of_case p name c b entry is same =
@@ -83,7 +85,8 @@ same_entry p q script options =
     ∙ ap (λ (s : List Statement). option_or q.options.entry (entry_of s)) script
 
 -- where no name is defined twice, the fault of the entry symbol is the only one
-pub entry_alone : (p view : Project) (name : List ℕ) (c : Case) → p.script ≡ view.script → p.options ≡ view.options
+pub entry_alone : (p view : Project) (name : List ℕ) (c : Case ObjectPlace) → p.script ≡ view.script
+    → p.options ≡ view.options
     → Some name ≡ entry_symbol view → decision_of (λ key. key) c ≡ decision p name → is_undefined c ≡ true
     → duplicates p ≡ [] → faults_in p (variant.UndefinedEntry ∷ []) ≡ name_faults p
 entry_alone p view name c script options entry is undefined none =

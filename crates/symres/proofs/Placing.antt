@@ -9,12 +9,14 @@ use Rattle.std.proofs.lemmas.List.FromFn.{length-enumerate_from, get_or-enumerat
 use Rattle.elfobj.specs.Symbols.{NamedSymbol, null_symbol}
 use Rattle.ldscript.specs.statements.declared.statement.Statement.{Statement}
 use Rattle.ldmodel_laws.specs.Renumbering.{renumbered_decision}
-use Rattle.ldmodel.specs.HandedOver.{decision_of}
+use Rattle.ldmodel.specs.HandedOver.{decision_of, decision_under_keys}
 use Rattle.ldmodel.specs.Names.{decided, decision, is_local, symbol_tables}
 use Rattle.ldmodel.specs.Project.{Project}
 use Rattle.ldmodel.specs.ScriptNames.{is_assigned, is_provided}
 use Rattle.ldmodel.specs.declared.names.Case.{Case}
 use Rattle.ldmodel.specs.declared.names.Case.TheVariants as case
+use Rattle.ldmodel.specs.declared.names.ObjectKey.{ObjectKey}
+use Rattle.ldmodel.specs.declared.names.ObjectPlace.{ObjectPlace}
 use Rattle.ldmodel_project.specs.Tables.{place_or_0}
 use Rattle.symres_table.specs.State as keyed
 use Rattle.symres_table.specs.State.{HasName, IsNamed, entries_of}
@@ -68,43 +70,47 @@ same_tables p d order symbol_table =
 
 -- ---- cases
 
-pub case_placed : (f : Case → Case) (cases : List (Option Case)) (k : ℕ)
+pub case_placed : (f : Case ObjectKey → Case ObjectPlace) (cases : List (Option (Case ObjectKey))) (k : ℕ)
     → case_at (map (option_map f) cases) k ≡ option_map f (case_at cases k)
 case_placed f [] zero = refl
 case_placed f [] (suc k) = refl
 case_placed f (c ∷ cs) zero = refl
 case_placed f (c ∷ cs) (suc k) = case_placed f cs k
 
-pub some_placed : (f : Case → Case) (cases : List (Option Case)) (k : ℕ) (c : Case) → case_at cases k ≡ Some c
+pub some_placed : (f : Case ObjectKey → Case ObjectPlace) (cases : List (Option (Case ObjectKey))) (k : ℕ)
+    (c : Case ObjectKey) → case_at cases k ≡ Some c
     → case_at (map (option_map f) cases) k ≡ Some (f c)
 some_placed f cases k c h = case_placed f cases k ∙ ap (option_map f) h
 
-pub has_placed : (f : Case → Case) (cases : List (Option Case)) (k : ℕ) → HasCase cases k
+pub has_placed : (f : Case ObjectKey → Case ObjectPlace) (cases : List (Option (Case ObjectKey))) (k : ℕ)
+    → HasCase cases k
     → HasCase (map (option_map f) cases) k
 has_placed f cases k h = (f h.0, some_placed f cases k h.0 h.1)
 
-some_same : (c d : Case) → Some c ≡ Some d → c ≡ d
+some_same : (c d : Case ObjectPlace) → Some c ≡ Some d → c ≡ d
 some_same c d h = cc
 
-none_some : (c : Case) → None ≡ Some c → ⊥
+none_some : (c : Case ObjectPlace) → None ≡ Some c → ⊥
 none_some c h = absurd (cc)
 
 -- where a case was placed from
-record PlacedFrom (f : Case → Case) (cases : List (Option Case)) (k : ℕ) (c : Case) : Type 0 where
-  from : Case
+record PlacedFrom (f : Case ObjectKey → Case ObjectPlace) (cases : List (Option (Case ObjectKey))) (k : ℕ)
+    (c : Case ObjectPlace) : Type 0 where
+  from : Case ObjectKey
   there : case_at cases k ≡ Some from
   is : f from ≡ c
 
-placed_from : (f : Case → Case) (cases : List (Option Case)) (k : ℕ) (c : Case)
+placed_from : (f : Case ObjectKey → Case ObjectPlace) (cases : List (Option (Case ObjectKey))) (k : ℕ)
+    (c : Case ObjectPlace)
     → case_at (map (option_map f) cases) k ≡ Some c → PlacedFrom f cases k c
 placed_from f cases k c h = go (case_at cases k) refl (sym (case_placed f cases k) ∙ h)
   where
-    go : (o : Option Case) → case_at cases k ≡ o → option_map f o ≡ Some c → PlacedFrom f cases k c
+    go : (o : Option (Case ObjectKey)) → case_at cases k ≡ o → option_map f o ≡ Some c → PlacedFrom f cases k c
     go None e h = absurd (none_some c h)
     go (Some x) e h = record { from = x; there = e; is = some_same (f x) c h }
 
-decision_placed : (keys : List ℕ) (c : Case)
-    → decision_of (λ key. key) (place_case keys c) ≡ renumbered_decision (place_or_0 keys) (decision_of (λ key. key) c)
+decision_placed : (keys : List ℕ) (c : Case ObjectKey)
+    → decision_of (λ key. key) (place_case keys c) ≡ renumbered_decision (place_or_0 keys) (decision_under_keys c)
 decision_placed keys (case.Strong e) = refl
 decision_placed keys case.Script = refl
 decision_placed keys (case.Common owner size align) = refl
@@ -139,7 +145,8 @@ kept_naming p d order keys by kept same = record {
 }
 
 -- the case of any name
-pub named_decision : (p : Project) (script : List Statement) (d : DecisionsState) (order name : List ℕ) (c : Case)
+pub named_decision : (p : Project) (script : List Statement) (d : DecisionsState) (order name : List ℕ)
+    (c : Case ObjectKey)
     → keys_of d.names.objects ≡ order → ByKeys p d name → IsCaseNamed script d name c
     → IsSymbolTable p (state_of d order)
     → p.script ≡ script → decision_of (λ key. key) (place_case order c) ≡ decision p name

@@ -10,6 +10,7 @@ use Rattle.ldmodel.specs.Project.{Project}
 use Rattle.ldmodel.specs.ScriptNames.{is_assigned, is_provided}
 use Rattle.ldmodel.specs.declared.names.Case.{Case}
 use Rattle.ldmodel.specs.declared.names.Case.TheVariants as case
+use Rattle.ldmodel.specs.declared.names.ObjectKey.{ObjectKey}
 use Rattle.ldmodel_project.specs.Tables.{place_or_0}
 use Rattle.symres_table.specs.State.{HasName, IsNamed, entries_of}
 use Rattle.symres_decisions.specs.Decided.{HasCase, case_at, is_doubled}
@@ -24,19 +25,19 @@ abbrev one_if : Bool → ℕ
 one_if b = cond b 1 0
 
 -- where none is counted, none is there
-none_counted : (cases : List (Option Case)) (k : ℕ) → count_by is_doubled cases ≡ 0
+none_counted : (cases : List (Option (Case ObjectKey))) (k : ℕ) → count_by is_doubled cases ≡ 0
     → is_doubled (case_at cases k) ≡ true → ⊥
 none_counted [] zero h t = absurd (cc)
 none_counted [] (suc k) h t = absurd (cc)
 none_counted (c ∷ cs) zero h t =
-    let split = sum_by-cons (λ (y : Option Case). one_if (is_doubled y)) c cs in
+    let split = sum_by-cons (λ (y : Option (Case ObjectKey)). one_if (is_doubled y)) c cs in
     let here : one_if (is_doubled c) ≡ 1 = ap one_if t in
     omega (arith, h, split, here)
 none_counted (c ∷ cs) (suc k) h t =
-    let split = sum_by-cons (λ (y : Option Case). one_if (is_doubled y)) c cs in
+    let split = sum_by-cons (λ (y : Option (Case ObjectKey)). one_if (is_doubled y)) c cs in
     none_counted cs k (omega (arith, h, split)) t
 
-placed_doubled : (keys : List ℕ) (c : Case) → is_doubled (Some (place_case keys c)) ≡ is_doubled (Some c)
+placed_doubled : (keys : List ℕ) (c : Case ObjectKey) → is_doubled (Some (place_case keys c)) ≡ is_doubled (Some c)
 placed_doubled keys (case.Strong e) = refl
 placed_doubled keys case.Script = refl
 placed_doubled keys (case.Common owner size align) = refl

@@ -17,22 +17,24 @@ use Rattle.ldmodel.specs.declared.fault.Fault as code
 use Rattle.ldmodel.specs.declared.fault.Fault.TheVariants as variant
 use Rattle.ldmodel.specs.declared.names.Entry as code_names
 use Rattle.ldmodel.specs.declared.names.NameKey.{NameKey}
+use Rattle.ldmodel.specs.declared.names.ObjectPlace.{ObjectPlace}
 use Rattle.ldmodel_project.specs.ByPlace.{faults_in}
 pub use Rattle.symres_decisions.specs.Decided.{is_doubled}
 use Rattle.symres_table.specs.State.{IsNamed}
 
 -- an entry, by the place of its object
-abbrev pub by_place : code_names.Entry → Entry
+abbrev pub by_place : code_names.Entry ObjectPlace → Entry
 by_place e = entry_of (λ key. key) e
 
 -- what defines a name before an entry does, where this is the first entry that does
-abbrev pub definer_before : (is_assigned : Bool) → (first entry : code_names.Entry) → Option code_definer.Definer
+abbrev pub definer_before : (is_assigned : Bool) → (first entry : code_names.Entry ObjectPlace)
+    → Option code_definer.Definer
 definer_before is_assigned first entry =
     if is_assigned then Some definer.Script
     else (if is_same_entry (by_place first) (by_place entry) then None
-    else Some (definer.Object (record { 0 = first.key })))
+    else Some (definer.Object first.object))
 
-abbrev pub faults_of : code_names.Entry → Option code_definer.Definer → List code.Fault
+abbrev pub faults_of : code_names.Entry ObjectPlace → Option code_definer.Definer → List code.Fault
 faults_of entry None = []
 faults_of entry (Some first) = variant.DuplicateDefinition entry first ∷ []
 
@@ -69,7 +71,7 @@ first_entry (d ∷ ds) = Some d.entry
 -- of each name that is defined twice the first definition among these is noted under its key, and these are the faults
 -- of those that aren't the first
 pub record AreFound (project : Project) (names : List (Option (List ℕ))) (ds : List Declaration)
-    (firsts : List (Option code_names.Entry)) (faults : List code.Fault) : Type 0 where
+    (firsts : List (Option (code_names.Entry ObjectPlace))) (faults : List code.Fault) : Type 0 where
   pub noted : (k : ℕ) (name : List ℕ) → IsNamed names k name → decision project name ≡ Duplicate
       → option_map by_place (slice_index_or firsts k None) ≡ first_entry (strongs name ds)
   pub told : faults_in project faults ≡ map duplicate_fault (map (duplicate project) (filter (is_duplicate project) ds))

@@ -8,6 +8,7 @@ use Rattle.ldmodel.specs.HandedOver.{decision_of}
 use Rattle.ldmodel.specs.Names.{decision, is_local, symbol_tables}
 use Rattle.ldmodel.specs.Project.{Project}
 use Rattle.ldmodel.specs.declared.names.Case.{Case}
+use Rattle.ldmodel.specs.declared.names.ObjectPlace.{ObjectPlace}
 use Rattle.symres_table.specs.State.{IsNamed, HasName}
 use Rattle.symres_decisions.specs.Decided.{case_at}
 use Rattle.symres_decisions.specs.Decisions.{DecisionsState}
@@ -19,7 +20,7 @@ pub record SymbolTableState : Type 0 where
   pub kept : DecisionsState
   pub objects : List (ℕ × List NamedSymbol)
   pub names : List (Option (List ℕ))
-  pub cases : List (Option Case)
+  pub cases : List (Option (Case ObjectPlace))
 
 -- `order` has the keys of the objects by place
 abbrev pub state_of : DecisionsState → (order : List ℕ) → SymbolTableState
@@ -31,14 +32,14 @@ state_of d order = record {
 }
 
 -- the key has a name, and the case is what it stands for in the project
-pub record IsDecision (project : Project) (names : List (Option (List ℕ))) (k : ℕ) (c : Case) : Type 0 where
+pub record IsDecision (project : Project) (names : List (Option (List ℕ))) (k : ℕ) (c : Case ObjectPlace) : Type 0 where
   pub named : HasName names k
   pub case : (name : List ℕ) → IsNamed names k name → decision_of (λ key. key) c ≡ decision project name
 
 -- the objects are those of the project, and each case is that of the name of its key
 pub record IsSymbolTable (project : Project) (table : SymbolTableState) : Type 0 where
   pub objects : table.objects ≡ enumerate_from 0 (symbol_tables project.objects)
-  pub sound : (k : ℕ) (c : Case) → case_at table.cases k ≡ Some c → IsDecision project table.names k c
+  pub sound : (k : ℕ) (c : Case ObjectPlace) → case_at table.cases k ≡ Some c → IsDecision project table.names k c
 
 -- the object at the place has a symbol of this number, which isn't local
 pub record IsSeenAt (objects : List (ℕ × List NamedSymbol)) (place number : ℕ) : Type 0 where

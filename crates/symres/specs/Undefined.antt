@@ -4,8 +4,9 @@ use Rattle.ldmodel.specs.declared.fault.Fault as code
 use Rattle.ldmodel.specs.declared.fault.Fault.TheVariants as variant
 use Rattle.ldmodel.specs.declared.names.Case.{Case}
 use Rattle.ldmodel.specs.declared.names.Case.TheVariants as case
+use Rattle.ldmodel.specs.declared.names.ObjectPlace.{ObjectPlace}
 
-abbrev pub is_undefined : Case → Bool
+abbrev pub is_undefined : Case ObjectPlace → Bool
 is_undefined case.Undefined = true
 is_undefined _ = false
 

@@ -3,22 +3,22 @@
 ghost use Rattle.std.specs.Prelude.{◌≡◌};
 ghost use Rattle.symres.specs.Placed.{place_case, place_entry};
 
-use ldmodel::names::{Case, Entry, ObjectKey};
+use ldmodel::names::{Case, Entry, ObjectKey, ObjectPlace};
 use ldmodel_project::order::Order;
 
 #[inline(always)]
-fn place_entry(order: &Order, entry: Entry) -> Entry
+fn place_entry(order: &Order, entry: Entry<ObjectKey>) -> Entry<ObjectPlace>
     ensures { result ≡ place_entry order.now entry }
 {
     Entry {
-        key: order.place_of(ObjectKey(entry.key)).unwrap_or(0),
+        object: ObjectPlace(order.place_of(entry.object).unwrap_or(0)),
         symbol: entry.symbol,
     }
 }
 
 /// A case, with the places of objects for their keys. The time is constant.
 #[inline(always)]
-pub fn place_case(order: &Order, case: Case) -> Case
+pub fn place_case(order: &Order, case: Case<ObjectKey>) -> Case<ObjectPlace>
     ensures { result ≡ place_case order.now case }
 {
     match case {

@@ -46,25 +46,33 @@ fn is_assigned(script: &Script, name: &[u8]) -> bool
 }
 
 /// No entries, for this number of keys.
-fn no_entries(alloc: Global, count: usize) -> Result<Vec<Option<Entry>>, NoMemory>
+fn no_entries(alloc: Global, count: usize) -> Result<Vec<Option<Entry<ObjectPlace>>>, NoMemory>
     ensures { IfOk result (λ v. v.items ≡ replicate count None) }
 {
     vec![in alloc; None; count]
 }
 
 /// The first definition of a name, by its key: this one, unless one was noted before. It is noted from then on.
-fn note_first(firsts: &mut Vec<Option<Entry>>, key: usize, entry: Entry) -> Entry
-    requires { key < length firsts.old.items }
-    ensures first { result ≡ unwrap_or (slice_index_or firsts.old.items key None) entry }
-    ensures noted { firsts.new.items ≡ slice_set firsts.old.items key (Some result) }
+fn note_first(
+    firsts: &mut Vec<Option<Entry<ObjectPlace>>>,
+    key: NameKey,
+    entry: Entry<ObjectPlace>,
+) -> Entry<ObjectPlace>
+    requires { key.0 < length firsts.old.items }
+    ensures first { result ≡ unwrap_or (slice_index_or firsts.old.items key.0 None) entry }
+    ensures noted { firsts.new.items ≡ slice_set firsts.old.items key.0 (Some result) }
 {
-    let first = firsts[key].unwrap_or(entry);
-    firsts[key] = Some(first);
+    let first = firsts[key.0].unwrap_or(entry);
+    firsts[key.0] = Some(first);
     first
 }
 
 /// What defines a name before `entry` does. `first` is the first entry that defines the name.
-fn definer_before(is_assigned: bool, first: Entry, entry: Entry) -> Option<Definer>
+fn definer_before(
+    is_assigned: bool,
+    first: Entry<ObjectPlace>,
+    entry: Entry<ObjectPlace>,
+) -> Option<Definer>
     ensures { result ≡ definition.definer_before is_assigned first entry }
 {
     if is_assigned {
@@ -73,15 +81,15 @@ fn definer_before(is_assigned: bool, first: Entry, entry: Entry) -> Option<Defin
     if first == entry {
         return None;
     }
-    Some(Definer::Object(ObjectPlace(first.key)))
+    Some(Definer::Object(first.object))
 }
 
 /// Adds the fault of a definition, unless nothing defines the name before it.
 fn add_if_not_first(
     script: &Script,
     name: &[u8],
-    first: Entry,
-    entry: Entry,
+    first: Entry<ObjectPlace>,
+    entry: Entry<ObjectPlace>,
     faults: &mut Vec<Fault>,
 ) -> Result<(), NoMemory>
     ensures { OnOk result (faults.new.items ≡ faults.old.items ++ faults_of entry
@@ -145,12 +153,12 @@ impl SymbolTable {
     }
 
     /// The key of the name of a symbol, if the symbol is a strong definition of a name that is defined twice.
-    fn doubled_key(&self, place: usize, object: &Object, number: u32) -> Option<NameKey>
-        requires table { IsTableAt self.now.objects place object.now.symbols }
+    fn doubled_key(&self, place: ObjectPlace, object: &Object, number: u32) -> Option<NameKey>
+        requires table { IsTableAt self.now.objects place.0 object.now.symbols }
         requires number { number < length object.now.symbols }
         ensures key { (project : Project) (d : NamedSymbol) → IsSymbolTable project self.now
             → IsDoubled project self.now.names
-            (declaration place (number, slice_index_or object.now.symbols number d)) result }
+            (declaration place.0 (number, slice_index_or object.now.symbols number d)) result }
         ensures within { (k : NameKey) → result ≡ Some k → k.0 < length self.now.cases }
     {
         if !is_strong(&object.symbols()[number as usize]) {
@@ -167,22 +175,22 @@ impl SymbolTable {
     fn add_symbol(
         &self,
         script: &Script,
-        place: usize,
+        place: ObjectPlace,
         object: &Object,
         number: u32,
-        firsts: &mut Vec<Option<Entry>>,
+        firsts: &mut Vec<Option<Entry<ObjectPlace>>>,
         faults: &mut Vec<Fault>,
     ) -> Result<(), NoMemory>
-        requires table { IsTableAt self.now.objects place object.now.symbols }
+        requires table { IsTableAt self.now.objects place.0 object.now.symbols }
         requires number { number < length object.now.symbols }
         requires long { length firsts.old.items ≡ length self.now.cases }
         ensures long { length firsts.new.items ≡ length firsts.old.items }
         ensures found { OnOk result ((project : Project) (d : NamedSymbol) (ds : List Declaration)
             → IsSymbolTable project self.now → project.script ≡ script.now
-            → Begins project (ds ++ declared_by place number (slice_index_or object.now.symbols number d))
+            → Begins project (ds ++ declared_by place.0 number (slice_index_or object.now.symbols number d))
             → AreFound project self.now.names ds firsts.old.items faults.old.items
             → AreFound project self.now.names (ds
-            ++ declared_by place number (slice_index_or object.now.symbols number d))
+            ++ declared_by place.0 number (slice_index_or object.now.symbols number d))
             firsts.new.items faults.new.items) }
     {
         match self.doubled_key(place, object, number) {
@@ -190,10 +198,10 @@ impl SymbolTable {
             Some(key) => {
                 self.names_differ();
                 let entry = Entry {
-                    key: place,
-                    symbol: number,
+                    object: place,
+                    symbol: SymbolIndex(number),
                 };
-                let first = note_first(firsts, key.0, entry);
+                let first = note_first(firsts, key, entry);
                 add_if_not_first(
                     script,
                     object.name_of(SymbolIndex(number)),
@@ -209,20 +217,20 @@ impl SymbolTable {
     fn add_symbols(
         &self,
         script: &Script,
-        place: usize,
+        place: ObjectPlace,
         object: &Object,
-        firsts: &mut Vec<Option<Entry>>,
+        firsts: &mut Vec<Option<Entry<ObjectPlace>>>,
         faults: &mut Vec<Fault>,
     ) -> Result<(), NoMemory>
-        requires table { IsTableAt self.now.objects place object.now.symbols }
+        requires table { IsTableAt self.now.objects place.0 object.now.symbols }
         requires long { length firsts.old.items ≡ length self.now.cases }
         ensures long { length firsts.new.items ≡ length firsts.old.items }
         ensures found { OnOk result ((project : Project) (ds : List Declaration) → IsSymbolTable project self.now
             → project.script
             ≡ script.now
-            → Begins project (ds ++ declarations_in (place, object.now.symbols))
+            → Begins project (ds ++ declarations_in (place.0, object.now.symbols))
             → AreFound project self.now.names ds firsts.old.items faults.old.items
-            → AreFound project self.now.names (ds ++ declarations_in (place, object.now.symbols)) firsts.new.items
+            → AreFound project self.now.names (ds ++ declarations_in (place.0, object.now.symbols)) firsts.new.items
             faults.new.items) }
     {
         for number in 0..object.symbols().len() as u32 {
@@ -250,7 +258,7 @@ impl SymbolTable {
         for (place, input) in project.inputs().iter().enumerate() {
             self.add_symbols(
                 project.script(),
-                place,
+                ObjectPlace(place),
                 input.object,
                 &mut firsts,
                 &mut faults,

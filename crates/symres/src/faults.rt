@@ -12,12 +12,12 @@ ghost use Rattle.ldmodel_project.specs.ByPlace.{faults_in};
 use crate::symbol_table::SymbolTable;
 use ldmodel::fault::Fault;
 use ldmodel::memory::NoMemory;
-use ldmodel::names::Case;
+use ldmodel::names::{Case, ObjectPlace};
 use ldmodel_project::view::ProjectView;
 use std::alloc::Global;
 
 /// Whether nothing defines a name.
-fn is_undefined(case: Case) -> bool
+fn is_undefined(case: Case<ObjectPlace>) -> bool
     ensures { result ≡ is_undefined case }
 {
     match case {

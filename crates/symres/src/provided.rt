@@ -12,13 +12,13 @@ ghost use Rattle.symres.specs.Provided.{in_force, AddsIfInForce};
 use crate::symbol_table::SymbolTable;
 use ldmodel::impossible::impossible;
 use ldmodel::memory::NoMemory;
-use ldmodel::names::Case;
+use ldmodel::names::{Case, ObjectPlace};
 use ldmodel::script_symbol::DirectiveIndex;
 use ldscript::Script;
 use ldscript::tree::Directive;
 use std::alloc::Global;
 
-fn is_provided(case: Case) -> bool
+fn is_provided(case: Case<ObjectPlace>) -> bool
     ensures { result ≡ is_provided_case (decision_of (λ key. key) case) }
 {
     match case {

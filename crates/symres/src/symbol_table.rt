@@ -20,7 +20,7 @@ use crate::entered::{by_place, keys_of};
 use elfobj::Meter;
 use elfobj::relocation::SymbolIndex;
 use ldmodel::memory::NoMemory;
-use ldmodel::names::{Case, NameKey};
+use ldmodel::names::{Case, NameKey, ObjectPlace};
 use ldmodel_laws::names::decision_by_keys;
 use ldmodel_project::input::InputObject;
 use ldmodel_project::law::tables_by_place;
@@ -132,7 +132,7 @@ impl SymbolTable {
 
     /// How the name of a key is resolved, if the key has one. The time is constant.
     #[inline(always)]
-    pub fn case_of(&self, key: NameKey) -> Option<Case>
+    pub fn case_of(&self, key: NameKey) -> Option<Case<ObjectPlace>>
         ensures { result ≡ case_at self.now.cases key.0 }
     {
         match self.decisions.case_of(key) {
@@ -143,16 +143,16 @@ impl SymbolTable {
 
     /// The key of the name of a symbol that isn't local, of the object at a place. The key has a case. The time is
     /// constant.
-    pub fn key_of(&self, place: usize, symbol: SymbolIndex) -> NameKey
-        requires { IsSeenAt self.now.objects place symbol.0 }
-        ensures name { IsNameAt self.now place symbol.0 result.0 }
+    pub fn key_of(&self, place: ObjectPlace, symbol: SymbolIndex) -> NameKey
+        requires { IsSeenAt self.now.objects place.0 symbol.0 }
+        ensures name { IsNameAt self.now place.0 symbol.0 result.0 }
         ensures case { HasCase self.now.cases result.0 }
     {
         self.decisions.key_at(place, symbol)
     }
 
     /// How any name, such as the entry symbol, is resolved: the name is hashed and looked up.
-    pub fn case_named(&self, script: &Script, name: &[u8]) -> Case
+    pub fn case_named(&self, script: &Script, name: &[u8]) -> Case<ObjectPlace>
         ensures case { (project : Project) → IsSymbolTable project self.now → project.script ≡ script.now
             → decision_of (λ key. key) result
             ≡ decision project name.now }

@@ -8,6 +8,7 @@ use Rattle.elfobj.specs.declared.meter.Count.TheVariants as counts
 use Rattle.ldscript.specs.statements.declared.statement.Statement.{Statement}
 use Rattle.ldmodel.specs.Names.{distinct}
 use Rattle.ldmodel.specs.declared.names.Case.{Case}
+use Rattle.ldmodel.specs.declared.names.ObjectKey.{ObjectKey}
 use Rattle.symres_table.specs.State.{HasName, IsInByteOrder, IsNamed, State, entries_of, slot}
 use Rattle.symres_decisions.specs.Change.{AreThere, Fits, IsReadyFor, PutsIn, Table, TakesOut, changed_tables}
 use Rattle.symres_decisions.specs.Change.{declared_by}
@@ -35,27 +36,29 @@ use Rattle.symres_decisions.proofs.Touched.{case_within, complete_after, entries
 -- ---- of an object, if there is one
 
 pub there_is : (s : State) (o : Option ObjectAt) (x : ObjectAt) → o ≡ Some x → AreThere s o
-    → AreFound s (sources.Entered x.place) (symbols_at x)
+    → AreFound s (sources.Entered (record { 0 = x.place })) (symbols_at x)
 there_is s o x e h = let there : AreThere s (Some x) = subst (AreThere s) e h in there
 
-pub cleared_some : (names : List (Option (List ℕ))) (o : Option ObjectAt) (x : ObjectAt) (old new : List (Option Case))
+pub cleared_some : (names : List (Option (List ℕ))) (o : Option ObjectAt) (x : ObjectAt)
+    (old new : List (Option (Case ObjectKey)))
     → o ≡ Some x → IsCleared names (symbols_at x) old new → IsCleared names (symbols_or o) old new
 cleared_some names o x old new e h = subst (λ (o : Option ObjectAt). IsCleared names (symbols_or o) old new) (sym e) h
 
-pub cleared_none : (names : List (Option (List ℕ))) (o : Option ObjectAt) (cases : List (Option Case)) → o ≡ None
+pub cleared_none : (names : List (Option (List ℕ))) (o : Option ObjectAt) (cases : List (Option (Case ObjectKey)))
+    → o ≡ None
     → IsCleared names (symbols_or o) cases cases
 cleared_none names o cases e =
     subst (λ (o : Option ObjectAt). IsCleared names (symbols_or o) cases cases) (sym e) (none_cleared names cases)
 
 pub decided_some : (script : List Statement) (s : State) (o : Option ObjectAt) (x : ObjectAt)
-    (old new : List (Option Case)) (m m' : Counts) (seen : List (List ℕ)) → o ≡ Some x
+    (old new : List (Option (Case ObjectKey))) (m m' : Counts) (seen : List (List ℕ)) → o ≡ Some x
     → DecidedFor script s old new m m' seen (symbols_at x) → DecidedFor script s old new m m' seen (symbols_or o)
 decided_some script s o x old new m m' seen e h =
     subst (λ (o : Option ObjectAt). DecidedFor script s old new m m' seen (symbols_or o)) (sym e) h
 
 -- ---- places for cases
 
-pub places_after : (s0 s2 : State) (old new : List (Option Case)) → s2.names ≡ s0.names
+pub places_after : (s0 s2 : State) (old new : List (Option (Case ObjectKey))) → s2.names ≡ s0.names
     → ((k : ℕ) → HasName s0.names k → HasCase old k) → length new ≡ length old → HasPlaces s2.names new
 places_after s0 s2 old new same complete long k h =
     omega (arith, case_within old k (complete k (subst (λ (ns : List (Option (List ℕ))). HasName ns k) same h)), long)
@@ -80,13 +83,13 @@ used_put s0 s1 s2 c n fits out into h gone =
 
 -- ---- the whole change
 
-both_none : (b : Bool) → (let n : Option Case = None in cond b n n) ≡ None
+both_none : (b : Bool) → (let n : Option (Case ObjectKey) = None in cond b n n) ≡ None
 both_none true = refl
 both_none false = refl
 
 -- what its steps say
 pub record Steps (script : List Statement) (c : ObjectChange) (s0 s1 s2 : State)
-    (cases0 cases1 cases2 cases3 cases4 : List (Option Case)) (m0 m1 m2 : Counts) : Type 0 where
+    (cases0 cases1 cases2 cases3 cases4 : List (Option (Case ObjectKey))) (m0 m1 m2 : Counts) : Type 0 where
   pub ready : IsReadyFor (record { names = s0; cases = cases0 }) c
   pub kept : AreCases script s0 cases0
   pub whole : IsWhole s0 cases0
@@ -102,7 +105,7 @@ pub record Steps (script : List Statement) (c : ObjectChange) (s0 s1 s2 : State)
       → DecidedFor script s2 cases3 cases4 m1 m2 seen (symbols_or c.into)
 
 module _ (script : List Statement) (c : ObjectChange) (s0 s1 s2 : State)
-    (cases0 cases1 cases2 cases3 cases4 : List (Option Case)) (m0 m1 m2 : Counts)
+    (cases0 cases1 cases2 cases3 cases4 : List (Option (Case ObjectKey))) (m0 m1 m2 : Counts)
     (h : Steps script c s0 s1 s2 cases0 cases1 cases2 cases3 cases4 m0 m1 m2) where
   pub names_after : s2.names ≡ s0.names
   names_after = in_names s1 s2 c.key.0 c.into h.into ∙ out_names s0 s1 c.key.0 c.out h.out

@@ -14,6 +14,7 @@ use Rattle.std.proofs.lemmas.Slice.Eq.{bytes_eq-Decides}
 use Rattle.elfobj.specs.Symbols.{NamedSymbol}
 use Rattle.ldmodel.specs.Names.{is_local}
 use Rattle.ldmodel.specs.declared.names.Case.{Case}
+use Rattle.ldmodel.specs.declared.names.ObjectKey.{ObjectKey}
 use Rattle.symres_table.specs.State.{AreDistinct, IsListing, IsNamed, slot}
 use Rattle.symres_decisions.specs.Counted.{declared_in}
 use Rattle.symres_decisions.specs.Decided.{case_at}
@@ -124,14 +125,14 @@ declares_at (s ∷ ss) (suc i) d l seen =
 
 -- ---- clearing
 
-pub none_cleared : (names : Slots) (cases : List (Option Case)) → IsCleared names [] cases cases
+pub none_cleared : (names : Slots) (cases : List (Option (Case ObjectKey))) → IsCleared names [] cases cases
 none_cleared names cases = record { long = refl; at = λ k. go k (slot names k) }
   where
     go : (k : ℕ) (o : Option (List ℕ)) → case_at cases k ≡ cond (touches [] o) None (case_at cases k)
     go k None = refl
     go k (Some name) = refl
 
-pub cleared_local : (names : Slots) (ss : List NamedSymbol) (x : NamedSymbol) (old new : List (Option Case))
+pub cleared_local : (names : Slots) (ss : List NamedSymbol) (x : NamedSymbol) (old new : List (Option (Case ObjectKey)))
     → is_local x.symbol.binding ≡ true → IsCleared names ss old new → IsCleared names (ss ++ x ∷ []) old new
 cleared_local names ss x old new e h = record {
   long = h.long;
@@ -139,7 +140,8 @@ cleared_local names ss x old new e h = record {
       h.at k ∙ ap (λ (b : Bool). cond b None (case_at old k)) (sym (touches_local ss x (slot names k) e));
 }
 
-pub cleared_seen : (names : Slots) (ss : List NamedSymbol) (x : NamedSymbol) (n : ℕ) (old new : List (Option Case))
+pub cleared_seen : (names : Slots) (ss : List NamedSymbol) (x : NamedSymbol) (n : ℕ)
+    (old new : List (Option (Case ObjectKey)))
     → AreDistinct names → is_local x.symbol.binding ≡ false → IsNamed names n x.name → n < length new
     → IsCleared names ss old new → IsCleared names (ss ++ x ∷ []) old (set new n None)
 cleared_seen names ss x n old new d e here l h = record {

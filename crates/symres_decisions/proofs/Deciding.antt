@@ -11,6 +11,7 @@ use Rattle.elfobj.specs.Raised.{raised}
 use Rattle.elfobj.specs.declared.meter.Count.TheVariants as counts
 use Rattle.ldscript.specs.statements.declared.statement.Statement.{Statement}
 use Rattle.ldmodel.specs.declared.names.Case.{Case}
+use Rattle.ldmodel.specs.declared.names.ObjectKey.{ObjectKey}
 use Rattle.symres_table.specs.State.{HasName, IsListing, State}
 use Rattle.symres_decisions.specs.Counted.{all_uses, is_used, uses}
 use Rattle.symres_decisions.specs.Decided.{AreCases, HasCase, IsCase, case_at}
@@ -18,20 +19,21 @@ use Rattle.symres_decisions.proofs.Listed.{Listed, StandsIn, stands_in}
 use Rattle.symres_decisions.proofs.OneName.{raised_none, raised_twice}
 
 -- the key has a case, and it is right
-pub record IsDone (script : List Statement) (s : State) (cases : List (Option Case)) (k : ℕ) : Type 0 where
-  pub which : Case
+pub record IsDone (script : List Statement) (s : State) (cases : List (Option (Case ObjectKey))) (k : ℕ) : Type 0 where
+  pub which : Case ObjectKey
   pub at : case_at cases k ≡ Some which
   pub is : IsCase script s k which
 
 -- the names before a number in the list are decided, and those that have entries are counted
-pub record DecidedTo (script : List Statement) (s : State) (start cases : List (Option Case)) (before after : Counts)
+pub record DecidedTo (script : List Statement) (s : State) (start cases : List (Option (Case ObjectKey)))
+    (before after : Counts)
     (number : ℕ) : Type 0 where
   pub long : length cases ≡ length start
   pub done : (i : ℕ) (e : Listed) → i < number → IsDone script s cases (get_or s.order i e).1
   pub only : (k : ℕ) → HasCase cases k → HasName s.names k
   pub counted : after ≡ raised before counts.Names (all_uses s.objects (take number s.order))
 
-pub none_decided : (script : List Statement) (s : State) (cases : List (Option Case)) (m : Counts)
+pub none_decided : (script : List Statement) (s : State) (cases : List (Option (Case ObjectKey))) (m : Counts)
     → m.names < 2 ^ 64 → ((k : ℕ) → HasCase cases k → HasName s.names k) → DecidedTo script s cases cases m m 0
 none_decided script s cases m small only = record {
   long = refl;
@@ -54,7 +56,8 @@ one_more objects order i e l = go (is_used objects (get_or order i e).0) refl
         ∙ (let none : all_uses objects (take i order) + 0 ≡ all_uses objects (take i order) = omega arith in none)
         ∙ sym (count_by_more_no (λ (x : Listed). is_used objects x.0) order i e l q)
 
-pub set_done : (script : List Statement) (s : State) (cases : List (Option Case)) (n k : ℕ) (c : Case)
+pub set_done : (script : List Statement) (s : State) (cases : List (Option (Case ObjectKey))) (n k : ℕ)
+    (c : Case ObjectKey)
     → n < length cases → IsCase script s n c → (k ≡ n → ⊥) → IsDone script s cases k
     → IsDone script s (set cases n (Some c)) k
 set_done script s cases n k c l is ne d = record {
@@ -63,7 +66,8 @@ set_done script s cases n k c l is ne d = record {
   is = d.is;
 }
 
-pub done_set : (script : List Statement) (s : State) (cases : List (Option Case)) (n k : ℕ) (c : Case)
+pub done_set : (script : List Statement) (s : State) (cases : List (Option (Case ObjectKey))) (n k : ℕ)
+    (c : Case ObjectKey)
     → n < length cases → IsCase script s n c → k ≡ n → IsDone script s (set cases n (Some c)) k
 done_set script s cases n k c l is e = record {
   which = c;
@@ -71,15 +75,16 @@ done_set script s cases n k c l is e = record {
   is = subst (λ (m : ℕ). IsCase script s m c) (sym e) is;
 }
 
-only_set : (s : State) (cases : List (Option Case)) (n : ℕ) (c : Case) → HasName s.names n
+only_set : (s : State) (cases : List (Option (Case ObjectKey))) (n : ℕ) (c : Case ObjectKey) → HasName s.names n
     → ((k : ℕ) → HasCase cases k → HasName s.names k) → (k : ℕ) → HasCase (set cases n (Some c)) k → HasName s.names k
 only_set s cases n c h only k has =
     ⊎_elim (λ e. subst (HasName s.names) (sym e) h)
     (λ ne. only k (has.0, sym (get_or-set_other cases n k (Some c) None ne) ∙ has.1))
     (cases_eq k n)
 
-pub one_decided : (script : List Statement) (s : State) (start cases : List (Option Case)) (m m1 m2 : Counts)
-    (number n : ℕ) (c : Case) → number < length s.order → n < length cases → IsCase script s n c
+pub one_decided : (script : List Statement) (s : State) (start cases : List (Option (Case ObjectKey)))
+    (m m1 m2 : Counts)
+    (number n : ℕ) (c : Case ObjectKey) → number < length s.order → n < length cases → IsCase script s n c
     → ((e : Listed) → (get_or s.order number e).1 ≡ n)
     → ((e : Listed) → m2 ≡ raised m1 counts.Names (uses s.objects (get_or s.order number e).0))
     → DecidedTo script s start cases m m1 number
@@ -105,18 +110,20 @@ one_decided script s start cases m m1 m2 number n c l w is key up d = record {
       ∙ ap (raised m counts.Names) (one_more s.objects s.order number e l);
 }
 
-some_same : (c d : Case) → Some c ≡ Some d → c ≡ d
+some_same : (c d : Case ObjectKey) → Some c ≡ Some d → c ≡ d
 some_same c d h = cc
 
 -- the known key is done
-pub one_done : (script : List Statement) (s : State) (start cases : List (Option Case)) (m m' : Counts) (number k : ℕ)
+pub one_done : (script : List Statement) (s : State) (start cases : List (Option (Case ObjectKey))) (m m' : Counts)
+    (number k : ℕ)
     → length s.order ≤ number → IsListing s.names s.order → DecidedTo script s start cases m m' number
     → HasName s.names k → IsDone script s cases k
 one_done script s start cases m m' number k past l d h =
     let at : StandsIn s.order k = stands_in s.names s.order k l h in
     subst (IsDone script s cases) (at.is ([], 0)) (d.done at.at ([], 0) (omega (arith, at.within, past)))
 
-pub all_sound : (script : List Statement) (s : State) (start cases : List (Option Case)) (m m' : Counts) (number : ℕ)
+pub all_sound : (script : List Statement) (s : State) (start cases : List (Option (Case ObjectKey))) (m m' : Counts)
+    (number : ℕ)
     → length s.order ≤ number → IsListing s.names s.order → DecidedTo script s start cases m m' number
     → AreCases script s cases
 all_sound script s start cases m m' number past l d k c h =
@@ -124,13 +131,13 @@ all_sound script s start cases m m' number past l d k c h =
     one_done script s start cases m m' number k past l d (d.only k (c, h)) in
     subst (IsCase script s k) (some_same done.which c (sym done.at ∙ h)) done.is
 
-pub all_complete : (script : List Statement) (s : State) (start cases : List (Option Case)) (m m' : Counts)
+pub all_complete : (script : List Statement) (s : State) (start cases : List (Option (Case ObjectKey))) (m m' : Counts)
     (number : ℕ) → length s.order ≤ number → IsListing s.names s.order
     → DecidedTo script s start cases m m' number → (k : ℕ) → HasName s.names k → HasCase cases k
 all_complete script s start cases m m' number past l d k h =
     let done : IsDone script s cases k = one_done script s start cases m m' number k past l d h in (done.which, done.at)
 
-pub all_counted : (script : List Statement) (s : State) (start cases : List (Option Case)) (m m' : Counts)
+pub all_counted : (script : List Statement) (s : State) (start cases : List (Option (Case ObjectKey))) (m m' : Counts)
     (number : ℕ) → length s.order ≤ number → DecidedTo script s start cases m m' number
     → m' ≡ raised m counts.Names (all_uses s.objects s.order)
 all_counted script s start cases m m' number past d =

@@ -11,6 +11,7 @@ use Rattle.elfobj.specs.Symbols.{NamedSymbol}
 use Rattle.elfobj.specs.declared.symbol.Symbol.{Symbol}
 use Rattle.ldmodel.specs.Names.{is_local}
 use Rattle.ldmodel.specs.declared.names.NameKey.{NameKey}
+use Rattle.ldmodel.specs.declared.names.ObjectPlace.{ObjectPlace}
 use Rattle.symres_table.specs.State.{HasName, IsNameAt, IsNamed, IsSeenAt, State}
 use Rattle.symres_decisions.specs.declared.texts.KeySource.{KeySource}
 use Rattle.symres_decisions.specs.declared.texts.KeySource.TheVariants as sources
@@ -55,8 +56,8 @@ pub record Stands (s : State) (place : ℕ) (symbols : List NamedSymbol) : Type 
   pub within : place < length s.objects
   pub is : (t : Table) → (get_or s.objects place t).1 ≡ symbols
 
-pub stands : (s : State) (o : KeySource) (place : ℕ) (symbols : List NamedSymbol) → o ≡ sources.Entered place
-    → AreFound s o symbols → Stands s place symbols
+pub stands : (s : State) (o : KeySource) (place : ObjectPlace) (symbols : List NamedSymbol) → o ≡ sources.Entered place
+    → AreFound s o symbols → Stands s place.0 symbols
 stands s o place symbols e h =
     let there : AreFound s (sources.Entered place) symbols = subst (λ (o : KeySource). AreFound s o symbols) e h in
     record { within = there.0; is = there.1 }

@@ -15,6 +15,7 @@ use Rattle.ldscript.specs.statements.declared.statement.Statement.{Statement}
 use Rattle.ldmodel.specs.Names.{Declaration, decided}
 use Rattle.ldmodel.specs.ScriptNames.{is_assigned, is_provided}
 use Rattle.ldmodel.specs.declared.names.Case.{Case}
+use Rattle.ldmodel.specs.declared.names.ObjectKey.{ObjectKey}
 use Rattle.symres_table.specs.State.{Forgets, HasName, IsInByteOrder, IsListing, IsNamed, KeepsNames, MayEnter}
 use Rattle.symres_table.specs.State.{State, comes_before, entries_of, slot}
 use Rattle.symres_decisions.specs.Change.{Fits, IsReadyFor, MayFollow, symbols_at}
@@ -31,7 +32,8 @@ use Rattle.symres_decisions.proofs.OneName.{one_name}
 
 -- ---- names are only added
 
-pub sound_more : (script : List Statement) (a b : State) (cases : List (Option Case)) → KeepsNames a.names b.names
+pub sound_more : (script : List Statement) (a b : State) (cases : List (Option (Case ObjectKey)))
+    → KeepsNames a.names b.names
     → b.objects ≡ a.objects → AreCases script a cases → AreCases script b cases
 sound_more script a b cases keeps same sound k c h =
     let is : IsCase script a k c = sound k c h in
@@ -46,7 +48,8 @@ sound_more script a b cases keeps same sound k c h =
     }
 
 -- the names that were known have cases
-pub below_after : (a b : State) (cases : List (Option Case)) (from : ℕ) (more : List Listed) → from ≡ length a.order
+pub below_after : (a b : State) (cases : List (Option (Case ObjectKey))) (from : ℕ) (more : List Listed)
+    → from ≡ length a.order
     → IsListing a.names a.order → b.order ≡ a.order ++ more → IsWhole a cases → HaveCasesBelow b.order from cases
 below_after a b cases from more count l order h = λ i e lt inside.
     let within : i < length a.order = omega (arith, lt, count) in
@@ -68,7 +71,7 @@ none_more [] (y ∷ ys) h = absurd (omega (arith, h))
 none_more (x ∷ xs) ys h = ap (λ (l : List _). x ∷ l) (none_more xs ys (omega (arith, h)))
 
 -- no name became known
-pub whole_same : (a b : State) (cases : List (Option Case)) (more : List Listed) → IsListing b.names b.order
+pub whole_same : (a b : State) (cases : List (Option (Case ObjectKey))) (more : List Listed) → IsListing b.names b.order
     → KeepsNames a.names b.names → b.order ≡ a.order ++ more → length b.order ≡ length a.order
     → HaveCasesBelow b.order (length a.order) cases → IsWhole a cases → IsWhole b cases
 whole_same a b cases more l keeps order count below h = record {
@@ -101,7 +104,8 @@ text_none_more a b text more order count =
     text_same a b text (order ∙ none_more a.order more (ap length (sym order) ∙ count))
 
 -- names that only stand in another order
-pub whole_ordered : (a b : State) (cases : List (Option Case)) → b ≡ record a { order = b.order } → IsWhole a cases
+pub whole_ordered : (a b : State) (cases : List (Option (Case ObjectKey))) → b ≡ record a { order = b.order }
+    → IsWhole a cases
     → IsWhole b cases
 whole_ordered a b cases same h =
     let names : b.names ≡ a.names = ap (λ (s : State). s.names) same in
@@ -110,7 +114,7 @@ whole_ordered a b cases same h =
       only = λ k has. subst (λ (ns : List (Option (List ℕ))). HasName ns k) (sym names) (h.only k has);
     }
 
-pub sound_ordered : (script : List Statement) (a b : State) (cases : List (Option Case))
+pub sound_ordered : (script : List Statement) (a b : State) (cases : List (Option (Case ObjectKey)))
     → b ≡ record a { order = b.order } → AreCases script a cases → AreCases script b cases
 sound_ordered script a b cases same =
     sound_more script a b cases (λ n name h. ap (λ (s : State). slot s.names n) same ∙ h)
@@ -121,13 +125,14 @@ noted_not s sure = absurd (cc)
 
 -- ---- new names get cases
 
-some_same : (c d : Case) → Some c ≡ Some d → c ≡ d
+some_same : (c d : Case ObjectKey) → Some c ≡ Some d → c ≡ d
 some_same c d h = cc
 
-some_none : (c : Case) → None ≡ Some c → ⊥
+some_none : (c : Case ObjectKey) → None ≡ Some c → ⊥
 some_none c h = absurd (cc)
 
-pub sound_given : (script : List Statement) (s : State) (old mid : List (Option Case)) (n : ℕ) (c : Case)
+pub sound_given : (script : List Statement) (s : State) (old mid : List (Option (Case ObjectKey))) (n : ℕ)
+    (c : Case ObjectKey)
     → ((k : ℕ) → case_at mid k ≡ case_at old k) → n < length mid → IsCase script s n c → AreCases script s old
     → AreCases script s (set mid n (Some c))
 sound_given script s old mid n c same within is sound k x h =
@@ -136,11 +141,12 @@ sound_given script s old mid n c same within is sound k x h =
     let there : case_at (set mid n (Some c)) k ≡ Some c =
     ap (case_at (set mid n (Some c))) e ∙ get_or-set_same mid n (Some c) None within in
     let one : c ≡ x = some_same c x (sym there ∙ h) in
-    subst (λ (y : Case). IsCase script s k y) one (subst (λ (m : ℕ). IsCase script s m c) (sym e) is))
+    subst (λ (y : Case ObjectKey). IsCase script s k y) one (subst (λ (m : ℕ). IsCase script s m c) (sym e) is))
     (λ ne. sound k x (sym (same k) ∙ (sym (get_or-set_other mid n k (Some c) None ne) ∙ h)))
     (cases_eq k n)
 
-pub kept_given : (old mid : List (Option Case)) (n : ℕ) (c : Case) → ((k : ℕ) → case_at mid k ≡ case_at old k)
+pub kept_given : (old mid : List (Option (Case ObjectKey))) (n : ℕ) (c : Case ObjectKey)
+    → ((k : ℕ) → case_at mid k ≡ case_at old k)
     → n < length mid → (k : ℕ) → HasCase old k → HasCase (set mid n (Some c)) k
 kept_given old mid n c same within k h =
     ⊎_elim
@@ -148,7 +154,8 @@ kept_given old mid n c same within k h =
     (λ ne. (h.0, get_or-set_other mid n k (Some c) None ne ∙ (same k ∙ h.1)))
     (cases_eq k n)
 
-pub has_given : (mid : List (Option Case)) (n : ℕ) (c : Case) → n < length mid → HasCase (set mid n (Some c)) n
+pub has_given : (mid : List (Option (Case ObjectKey))) (n : ℕ) (c : Case ObjectKey) → n < length mid
+    → HasCase (set mid n (Some c)) n
 has_given mid n c within = (c, get_or-set_same mid n (Some c) None within)
 
 -- a name of the key of a place from which on no name is used has no entries
@@ -172,7 +179,7 @@ both_ok (Ok x) a f = f a
 both_ok (Err e) a f = tt
 
 -- all known names have cases
-pub whole_settled : (script : List Statement) (a : State) (old new : List (Option Case)) (from : ℕ)
+pub whole_settled : (script : List Statement) (a : State) (old new : List (Option (Case ObjectKey))) (from : ℕ)
     → IsListing a.names a.order → HaveCasesBelow a.order from old → HaveCasesFrom a.order from new
     → ((k : ℕ) → HasCase old k → HasCase new k) → AreCases script a new → IsWhole a new
 whole_settled script a old new from l below above kept sound = record {
@@ -187,7 +194,7 @@ whole_settled script a old new from l below above kept sound = record {
 
 -- ---- names are forgotten
 
-pub kept_if : (key k : ℕ) (names : List (Option (List ℕ))) (cases : List (Option Case)) (name : List ℕ)
+pub kept_if : (key k : ℕ) (names : List (Option (List ℕ))) (cases : List (Option (Case ObjectKey))) (name : List ℕ)
     → IsNamed names key name
     → case_at cases k ≡ cond (eqb k key) (kept_where (slot names key) (case_at cases key)) (case_at cases k)
 kept_if key k names cases name n =
@@ -207,7 +214,8 @@ no_slot : (names : List (Option (List ℕ))) (key : ℕ) (o : Option (List ℕ))
 no_slot names key None e h = e
 no_slot names key (Some name) e h = absurd (h name e)
 
-pub cleared_if : (key k : ℕ) (names : List (Option (List ℕ))) (cases : List (Option Case)) → key < length cases
+pub cleared_if : (key k : ℕ) (names : List (Option (List ℕ))) (cases : List (Option (Case ObjectKey)))
+    → key < length cases
     → ((name : List ℕ) → IsNamed names key name → ⊥)
     → case_at (set cases key None) k
     ≡ cond (eqb k key) (kept_where (slot names key) (case_at cases key)) (case_at cases k)
@@ -225,15 +233,17 @@ cleared_if key k names cases l h =
     (cases_eq k key)
 
 -- the keys before a number have been gone through
-pub record Cleaned (names : List (Option (List ℕ))) (old new : List (Option Case)) (number : ℕ) : Type 0 where
+pub record Cleaned (names : List (Option (List ℕ))) (old new : List (Option (Case ObjectKey)))
+    (number : ℕ) : Type 0 where
   pub long : length new ≡ length old
   pub done : (k : ℕ) → k < number → case_at new k ≡ kept_where (slot names k) (case_at old k)
   pub rest : (k : ℕ) → number ≤ k → case_at new k ≡ case_at old k
 
-pub none_cleaned : (names : List (Option (List ℕ))) (cases : List (Option Case)) → Cleaned names cases cases 0
+pub none_cleaned : (names : List (Option (List ℕ))) (cases : List (Option (Case ObjectKey)))
+    → Cleaned names cases cases 0
 none_cleaned names cases = record { long = refl; done = λ k l. absurd (omega (arith, l)); rest = λ k l. refl }
 
-pub one_cleaned : (names : List (Option (List ℕ))) (old mid new : List (Option Case)) (number : ℕ)
+pub one_cleaned : (names : List (Option (List ℕ))) (old mid new : List (Option (Case ObjectKey))) (number : ℕ)
     → length new ≡ length mid
     → ((k : ℕ) → case_at new k
     ≡ cond (eqb k number) (kept_where (slot names number) (case_at mid number)) (case_at mid k))
@@ -262,7 +272,8 @@ none_kept : (o : Option (List ℕ)) → None ≡ kept_where o None
 none_kept None = refl
 none_kept (Some name) = refl
 
-pub all_cleaned : (names : List (Option (List ℕ))) (old new : List (Option Case)) (number : ℕ) → length old ≤ number
+pub all_cleaned : (names : List (Option (List ℕ))) (old new : List (Option (Case ObjectKey))) (number : ℕ)
+    → length old ≤ number
     → Cleaned names old new number → AreKeptWhere names old new
 all_cleaned names old new number past h k =
     ⊎_elim (λ lt. h.done k lt)
@@ -301,7 +312,7 @@ remained a b k name f n = go (slot a.names k) refl
     go (Some x) e = yes x e (is_used a.objects x) refl (f.names k x e)
 
 -- what is kept of the cases
-kept_some : (o : Option (List ℕ)) (c : Option Case) (x : Case) → kept_where o c ≡ Some x
+kept_some : (o : Option (List ℕ)) (c : Option (Case ObjectKey)) (x : Case ObjectKey) → kept_where o c ≡ Some x
     → ((name : List ℕ) × (o ≡ Some name)) × (c ≡ Some x)
 kept_some None c x h = absurd (some_none x h)
 kept_some (Some name) c x h = ((name, refl), h)
@@ -309,7 +320,8 @@ kept_some (Some name) c x h = ((name, refl), h)
 same_objects : (a b : State) → Forgets a b → b.objects ≡ a.objects
 same_objects a b f = ap (λ (s : State). s.objects) f.rest
 
-pub whole_forgotten : (a b : State) (old new : List (Option Case)) → Forgets a b → AreKeptWhere b.names old new
+pub whole_forgotten : (a b : State) (old new : List (Option (Case ObjectKey))) → Forgets a b
+    → AreKeptWhere b.names old new
     → ((k : ℕ) (name : List ℕ) → IsNamed a.names k name → is_used a.objects name ≡ true → HasCase old k)
     → IsWhole b new
 whole_forgotten a b old new f kept complete = record {
@@ -320,7 +332,7 @@ whole_forgotten a b old new f kept complete = record {
   only = λ k has. (kept_some (slot b.names k) (case_at old k) has.0 (sym (kept k) ∙ has.1)).0;
 }
 
-pub sound_forgotten : (script : List Statement) (a b : State) (old new : List (Option Case)) → Forgets a b
+pub sound_forgotten : (script : List Statement) (a b : State) (old new : List (Option (Case ObjectKey))) → Forgets a b
     → AreKeptWhere b.names old new → AreCases script a old → AreCases script b new
 sound_forgotten script a b old new f kept sound k c h =
     let there = kept_some (slot b.names k) (case_at old k) c (sym (kept k) ∙ h) in
@@ -356,7 +368,7 @@ used_not : (tables : List (ℕ × List NamedSymbol)) (name : List ℕ) → entri
     → is_used tables name ≡ false
 used_not tables name e = ap (λ (ds : List Declaration). nat_lt 0 (length ds)) e
 
-pub complete_refused : (s : State) (cases new : List (Option Case)) (from : ℕ) → IsListing s.names s.order
+pub complete_refused : (s : State) (cases new : List (Option (Case ObjectKey))) (from : ℕ) → IsListing s.names s.order
     → HaveCasesBelow s.order from cases → AreUnused s from → ((k : ℕ) → HasCase cases k → HasCase new k)
     → (k : ℕ) (name : List ℕ) → IsNamed s.names k name → is_used s.objects name ≡ true → HasCase new k
 complete_refused s cases new from l below unused kept k name n used =
@@ -373,7 +385,8 @@ complete_refused s cases new from l below unused kept k name n used =
 
 -- ---- ready
 
-pub ready_come : (s : State) (cases : List (Option Case)) (c : ObjectChange) (x : ObjectAt) → c.into ≡ Some x
+pub ready_come : (s : State) (cases : List (Option (Case ObjectKey))) (c : ObjectChange) (x : ObjectAt)
+    → c.into ≡ Some x
     → Fits s.objects c → MayEnter s (symbols_at x) → IsReadyFor (record { names = s; cases = cases }) c
 ready_come s cases c x e fits m = record {
   fits = fits;
@@ -385,7 +398,7 @@ ready_come s cases c x e fits m = record {
     go (Some y) = λ t w. w.others (symbols_at x) m
 
 -- what is left after names without entries are forgotten is as it was
-pub frame_forgotten : (s t : State) (before after : List (Option Case)) → Forgets s t
+pub frame_forgotten : (s t : State) (before after : List (Option (Case ObjectKey))) → Forgets s t
     → AreKeptWhere t.names before after → OnlyDrops s.names t.names before after
 frame_forgotten s t before after h kept k name named = (
   (remained s t k name h named).was,

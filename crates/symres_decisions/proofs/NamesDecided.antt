@@ -14,6 +14,7 @@ use Rattle.elfobj.specs.declared.meter.Count.TheVariants as counts
 use Rattle.ldscript.specs.statements.declared.statement.Statement.{Statement}
 use Rattle.ldmodel.specs.Names.{distinct, is_local}
 use Rattle.ldmodel.specs.declared.names.Case.{Case}
+use Rattle.ldmodel.specs.declared.names.ObjectKey.{ObjectKey}
 use Rattle.symres_table.specs.State.{AreDistinct, IsNamed, State}
 use Rattle.symres_decisions.specs.Counted.{declared_in}
 use Rattle.symres_decisions.specs.Decided.{AreCases, HasCase, IsCase, KeepsCases, case_at}
@@ -22,7 +23,8 @@ use Rattle.symres_decisions.proofs.Clearing.{declared_local, declared_seen}
 use Rattle.symres_decisions.proofs.Distinct.{member_append, member_pushed, old_pushed, pushed_new}
 use Rattle.symres_decisions.proofs.OneName.{one_name, raised_none, raised_twice}
 
-pub none_named : (script : List Statement) (s : State) (cases : List (Option Case)) (m : Counts) (seen : List (List ℕ))
+pub none_named : (script : List Statement) (s : State) (cases : List (Option (Case ObjectKey))) (m : Counts)
+    (seen : List (List ℕ))
     → m.names < 2 ^ 64 → AreCases script s cases → AreDone s.names cases seen
     → DecidedFor script s cases cases m m seen []
 none_named script s cases m seen small sound done = record {
@@ -36,7 +38,7 @@ none_named script s cases m seen small sound done = record {
   each = omega (arith, ap (λ (ns : List (List ℕ)). length (distinct ns)) (append-nil seen));
 }
 
-pub named_local : (script : List Statement) (s : State) (start cases : List (Option Case)) (m m' : Counts)
+pub named_local : (script : List Statement) (s : State) (start cases : List (Option (Case ObjectKey))) (m m' : Counts)
     (seen : List (List ℕ)) (ss : List NamedSymbol) (x : NamedSymbol) → is_local x.symbol.binding ≡ true
     → DecidedFor script s start cases m m' seen ss → DecidedFor script s start cases m m' seen (ss ++ x ∷ [])
 named_local script s start cases m m' seen ss x e d =
@@ -55,7 +57,8 @@ named_local script s start cases m m' seen ss x e d =
     }
 
 -- one more name has a case
-done_more : (s : State) (cases : List (Option Case)) (n : ℕ) (name : List ℕ) (ns : List (List ℕ)) → AreDistinct s.names
+done_more : (s : State) (cases : List (Option (Case ObjectKey))) (n : ℕ) (name : List ℕ) (ns : List (List ℕ))
+    → AreDistinct s.names
     → IsNamed s.names n name → HasCase cases n → AreDone s.names cases ns → AreDone s.names cases (ns ++ name ∷ [])
 done_more s cases n name ns d here has done q h k is =
     go (is_member bytes_eq ns q) refl (sym (member_pushed ns name q) ∙ h)
@@ -80,7 +83,7 @@ names_more seen ss x e =
     ap (λ (ns : List (List ℕ)). seen ++ ns) (declared_seen ss x e)
     ∙ sym (append_assoc seen (declared_in ss) (x.name ∷ []))
 
-some_none : (c : Case) → Some c ≡ None → ⊥
+some_none : (c : Case ObjectKey) → Some c ≡ None → ⊥
 some_none c h = absurd (cc)
 
 or_left : (a b : Bool) → (a || b) ≡ false → a ≡ false
@@ -103,7 +106,7 @@ not_last ns x q h same =
     ∙ or_right (is_member bytes_eq ns q) (bytes_eq q x) (sym (member_pushed ns x q) ∙ h))
 
 -- a name that has a case is one of those that were decided
-was_decided : (script : List Statement) (s : State) (start cases : List (Option Case)) (m m' : Counts)
+was_decided : (script : List Statement) (s : State) (start cases : List (Option (Case ObjectKey))) (m m' : Counts)
     (pending seen : List (List ℕ)) (ss : List NamedSymbol) (name : List ℕ) (n : ℕ) → IsNamed s.names n name
     → HasCase cases n → AreOpen s.names start pending seen → is_member bytes_eq pending name ≡ true
     → DecidedFor script s start cases m m' seen ss → is_member bytes_eq (seen ++ declared_in ss) name ≡ true
@@ -119,7 +122,7 @@ was_decided script s start cases m m' pending seen ss name n here has free among
         (sym (member_append seen (declared_in ss) name) ∙ e) in
         absurd (some_none has.0 (sym has.1 ∙ (d.others n name here e ∙ free name among unseen n here)))
 
-again : (script : List Statement) (s : State) (start cases : List (Option Case)) (m m' : Counts)
+again : (script : List Statement) (s : State) (start cases : List (Option (Case ObjectKey))) (m m' : Counts)
     (pending seen : List (List ℕ)) (ss : List NamedSymbol) (x : NamedSymbol) (n : ℕ) → AreDistinct s.names
     → is_local x.symbol.binding ≡ false → IsNamed s.names n x.name → HasCase cases n
     → AreOpen s.names start pending seen → is_member bytes_eq pending x.name ≡ true
@@ -148,7 +151,8 @@ again script s start cases m m' pending seen ss x n apart e here has free among 
       );
     }
 
-kept_set : (start cases : List (Option Case)) (n : ℕ) (c : Case) → case_at cases n ≡ None → KeepsCases start cases
+kept_set : (start cases : List (Option (Case ObjectKey))) (n : ℕ) (c : Case ObjectKey) → case_at cases n ≡ None
+    → KeepsCases start cases
     → KeepsCases start (set cases n (Some c))
 kept_set start cases n c none kept k x h =
     ⊎_elim
@@ -156,10 +160,11 @@ kept_set start cases n c none kept k x h =
     (λ ne. get_or-set_other cases n k (Some c) None ne ∙ kept k x h)
     (cases_eq k n)
 
-some_same : (c d : Case) → Some c ≡ Some d → c ≡ d
+some_same : (c d : Case ObjectKey) → Some c ≡ Some d → c ≡ d
 some_same c d h = cc
 
-sound_set : (script : List Statement) (s : State) (cases : List (Option Case)) (n : ℕ) (c : Case) → n < length cases
+sound_set : (script : List Statement) (s : State) (cases : List (Option (Case ObjectKey))) (n : ℕ) (c : Case ObjectKey)
+    → n < length cases
     → IsCase script s n c → AreCases script s cases → AreCases script s (set cases n (Some c))
 sound_set script s cases n c within is sound k x h =
     ⊎_elim
@@ -167,11 +172,12 @@ sound_set script s cases n c within is sound k x h =
     let there : case_at (set cases n (Some c)) k ≡ Some c =
     ap (case_at (set cases n (Some c))) e ∙ get_or-set_same cases n (Some c) None within in
     let one : c ≡ x = some_same c x (sym there ∙ h) in
-    subst (λ (y : Case). IsCase script s k y) one (subst (λ (m : ℕ). IsCase script s m c) (sym e) is))
+    subst (λ (y : Case ObjectKey). IsCase script s k y) one (subst (λ (m : ℕ). IsCase script s m c) (sym e) is))
     (λ ne. sound k x (sym (get_or-set_other cases n k (Some c) None ne) ∙ h))
     (cases_eq k n)
 
-done_set : (s : State) (cases : List (Option Case)) (n : ℕ) (c : Case) (ns : List (List ℕ)) → n < length cases
+done_set : (s : State) (cases : List (Option (Case ObjectKey))) (n : ℕ) (c : Case ObjectKey) (ns : List (List ℕ))
+    → n < length cases
     → AreDone s.names cases ns → AreDone s.names (set cases n (Some c)) ns
 done_set s cases n c ns l done q h k is =
     ⊎_elim
@@ -181,15 +187,16 @@ done_set s cases n c ns l done q h k is =
     (cases_eq k n)
 
 -- a name without a case is new
-is_new : (s : State) (cases : List (Option Case)) (n : ℕ) (name : List ℕ) (ns : List (List ℕ)) → IsNamed s.names n name
+is_new : (s : State) (cases : List (Option (Case ObjectKey))) (n : ℕ) (name : List ℕ) (ns : List (List ℕ))
+    → IsNamed s.names n name
     → case_at cases n ≡ None → AreDone s.names cases ns → (b : Bool) → is_member bytes_eq ns name ≡ b
     → is_member bytes_eq ns name ≡ false
 is_new s cases n name ns here none done true e =
     let has : HasCase cases n = done name e n here in absurd (some_none has.0 (sym has.1 ∙ none))
 is_new s cases n name ns here none done false e = e
 
-anew : (script : List Statement) (s : State) (start cases : List (Option Case)) (m m1 m2 : Counts)
-    (seen : List (List ℕ)) (ss : List NamedSymbol) (x : NamedSymbol) (n : ℕ) (c : Case) → AreDistinct s.names
+anew : (script : List Statement) (s : State) (start cases : List (Option (Case ObjectKey))) (m m1 m2 : Counts)
+    (seen : List (List ℕ)) (ss : List NamedSymbol) (x : NamedSymbol) (n : ℕ) (c : Case ObjectKey) → AreDistinct s.names
     → is_local x.symbol.binding ≡ false → IsNamed s.names n x.name → n < length cases → case_at cases n ≡ None
     → IsCase script s n c → m2 ≡ raised m1 counts.Names 1 → DecidedFor script s start cases m m1 seen ss
     → DecidedFor script s start (set cases n (Some c)) m m2 seen (ss ++ x ∷ [])
@@ -223,16 +230,17 @@ anew script s start cases m m1 m2 seen ss x n c apart e here l none is up d =
       );
     }
 
-pub named_seen : (script : List Statement) (s : State) (start old new : List (Option Case)) (m m1 m2 : Counts)
+pub named_seen : (script : List Statement) (s : State) (start old new : List (Option (Case ObjectKey)))
+    (m m1 m2 : Counts)
     (pending seen : List (List ℕ)) (ss : List NamedSymbol) (x : NamedSymbol) (n : ℕ) → AreDistinct s.names
     → is_local x.symbol.binding ≡ false → IsNamed s.names n x.name → n < length old
     → AreOpen s.names start pending seen → is_member bytes_eq pending x.name ≡ true
     → DecidesOnce script s n old new m1 m2 → DecidedFor script s start old m m1 seen ss
     → DecidedFor script s start new m m2 seen (ss ++ x ∷ [])
 named_seen script s start old new m m1 m2 pending seen ss x n apart e here l free among (inl h) d =
-    subst (λ (cs : List (Option Case)). DecidedFor script s start cs m m2 seen (ss ++ x ∷ [])) (sym h.1)
+    subst (λ (cs : List (Option (Case ObjectKey))). DecidedFor script s start cs m m2 seen (ss ++ x ∷ [])) (sym h.1)
     (subst (λ (y : Counts). DecidedFor script s start old m y seen (ss ++ x ∷ [])) (sym h.2)
     (again script s start old m m1 pending seen ss x n apart e here h.0 free among d))
 named_seen script s start old new m m1 m2 pending seen ss x n apart e here l free among (inr h) d =
-    subst (λ (cs : List (Option Case)). DecidedFor script s start cs m m2 seen (ss ++ x ∷ [])) (sym h.cases)
+    subst (λ (cs : List (Option (Case ObjectKey))). DecidedFor script s start cs m m2 seen (ss ++ x ∷ [])) (sym h.cases)
     (anew script s start old m m1 m2 seen ss x n h.which apart e here l h.none h.is h.counted d)

@@ -8,10 +8,11 @@ use Rattle.elfobj.specs.Counts.{Counts}
 use Rattle.elfobj.specs.Raised.{raised}
 use Rattle.elfobj.specs.declared.meter.Count.TheVariants as counts
 use Rattle.ldscript.specs.statements.declared.statement.Statement.{Statement}
-use Rattle.ldmodel.specs.HandedOver.{decision_of}
+use Rattle.ldmodel.specs.HandedOver.{decision_under_keys}
 use Rattle.ldmodel.specs.Names.{Script, Undefined, decided}
 use Rattle.ldmodel.specs.ScriptNames.{is_assigned, is_provided}
 use Rattle.ldmodel.specs.declared.names.Case.{Case}
+use Rattle.ldmodel.specs.declared.names.ObjectKey.{ObjectKey}
 use Rattle.symres_table.specs.State.{HasName, IsNameAt, IsNamed, State, entries_of}
 use Rattle.symres_decisions.specs.Decided.{HasCase, IsCase, case_at, decision_in}
 
@@ -38,14 +39,15 @@ pub one_name : (names : List (Option (List ℕ))) (k : ℕ) (x y : List ℕ) →
 one_name names k x y a b = some_same x y (sym a ∙ b)
 
 -- a name without entries is what the script alone makes of it
-pub case_unused : (script : List Statement) (s : State) (k : ℕ) (c : Case) (name : List ℕ) → IsNamed s.names k name
+pub case_unused : (script : List Statement) (s : State) (k : ℕ) (c : Case ObjectKey) (name : List ℕ)
+    → IsNamed s.names k name
     → entries_of name s.objects ≡ []
-    → decision_of (λ key. key) c ≡ decided (is_assigned script name) (is_provided script name) [] → IsCase script s k c
+    → decision_under_keys c ≡ decided (is_assigned script name) (is_provided script name) [] → IsCase script s k c
 case_unused script s k c name n e h = record {
   named = (name, n);
   case = λ other o.
       let same : name ≡ other = one_name s.names k name other n o in
-      subst (λ (x : List ℕ). decision_of (λ key. key) c ≡ decision_in script s x) same
+      subst (λ (x : List ℕ). decision_under_keys c ≡ decision_in script s x) same
       (h ∙ ap (decided (is_assigned script name) (is_provided script name)) (sym e));
 }
 
@@ -67,7 +69,8 @@ raised_none m h =
 
 -- ---- a key that has a case
 
-pub some_case : (cases : List (Option Case)) (k : ℕ) (r : Option Case) → r ≡ case_at cases k → HasCase cases k
+pub some_case : (cases : List (Option (Case ObjectKey))) (k : ℕ) (r : Option (Case ObjectKey)) → r ≡ case_at cases k
+    → HasCase cases k
     → IsSome r
 some_case cases k r e h = subst IsSome (sym (e ∙ h.1)) refl
 

@@ -17,6 +17,7 @@ use Rattle.ldmodel.specs.Names.{Declaration, decided, declaration, declarations_
 use Rattle.ldmodel.specs.Names.{is_of_name}
 use Rattle.ldmodel.specs.ScriptNames.{is_assigned, is_provided}
 use Rattle.ldmodel.specs.declared.names.Case.{Case}
+use Rattle.ldmodel.specs.declared.names.ObjectKey.{ObjectKey}
 use Rattle.symres_table.specs.State.{HasName, State, entries_of, slot, without}
 use Rattle.symres_decisions.specs.Change.{CanGo, Table, put_in, symbols_at, symbols_or, taken_out}
 use Rattle.symres_decisions.specs.Counted.{declared_in}
@@ -154,17 +155,19 @@ entries_same name key out into ts g h i =
 
 -- ---- the cases
 
-some_none : (c : Case) → None ≡ Some c → ⊥
+some_none : (c : Case ObjectKey) → None ≡ Some c → ⊥
 some_none c h = absurd (cc)
 
 -- a case that was not cleared
-pub record Untouched (names : List (Option (List ℕ))) (symbols : List NamedSymbol) (old : List (Option Case)) (k : ℕ)
-    (c : Case) : Type 0 where
+pub record Untouched (names : List (Option (List ℕ))) (symbols : List NamedSymbol)
+    (old : List (Option (Case ObjectKey))) (k : ℕ)
+    (c : Case ObjectKey) : Type 0 where
   pub out : touches symbols (slot names k) ≡ false
   pub was : case_at old k ≡ Some c
 
-untouched : (names : List (Option (List ℕ))) (symbols : List NamedSymbol) (old new : List (Option Case)) (k : ℕ)
-    (c : Case)
+untouched : (names : List (Option (List ℕ))) (symbols : List NamedSymbol) (old new : List (Option (Case ObjectKey)))
+    (k : ℕ)
+    (c : Case ObjectKey)
     → IsCleared names symbols old new → case_at new k ≡ Some c → Untouched names symbols old k c
 untouched names symbols old new k c h at = go (touches symbols (slot names k)) refl (sym (h.at k) ∙ at)
   where
@@ -178,7 +181,7 @@ untouched names symbols old new k c h at = go (touches symbols (slot names k)) r
 
 -- the cases that stay are right after the change
 pub sound_after : (script : List Statement) (s0 s2 : State) (os ns : List NamedSymbol)
-    (cases0 casesA casesB : List (Option Case)) → s2.names ≡ s0.names
+    (cases0 casesA casesB : List (Option (Case ObjectKey))) → s2.names ≡ s0.names
     → ((name : List ℕ) → declares os name ≡ false → declares ns name ≡ false
     → entries_of name s2.objects ≡ entries_of name s0.objects)
     → IsCleared s0.names os cases0 casesA → IsCleared s2.names ns casesA casesB → AreCases script s0 cases0
@@ -205,7 +208,8 @@ or_right true b h = absurd (cc)
 or_right false b h = h
 
 -- each known name has a case after the change
-pub complete_after : (s0 s2 : State) (os ns : List NamedSymbol) (cases0 casesA casesB casesD : List (Option Case))
+pub complete_after : (s0 s2 : State) (os ns : List NamedSymbol)
+    (cases0 casesA casesB casesD : List (Option (Case ObjectKey)))
     → s2.names ≡ s0.names → ((k : ℕ) → HasName s0.names k → HasCase cases0 k)
     → IsCleared s0.names os cases0 casesA → IsCleared s2.names ns casesA casesB → KeepsCases casesB casesD
     → AreDone s2.names casesD (declared_in os ++ declared_in ns) → (k : ℕ) → HasName s2.names k → HasCase casesD k
@@ -236,7 +240,7 @@ complete_after s0 s2 os ns cases0 casesA casesB casesD same complete a b kept do
     go false e = left (sym (member_append (declared_in os) (declared_in ns) h.0) ∙ e)
 
 -- a case stands within the list
-pub case_within : (cases : List (Option Case)) (k : ℕ) → HasCase cases k → k < length cases
+pub case_within : (cases : List (Option (Case ObjectKey))) (k : ℕ) → HasCase cases k → k < length cases
 case_within cases k h =
     ⊎_elim (λ lt. lt) (λ ge. absurd (some_none h.0 (sym (get_or_past cases k None ge) ∙ h.1)))
     (cases_lt k (length cases))

@@ -93,4 +93,4 @@ PutsIn old new key (Some x) = Enters old new key x.place (symbols_at x)
 -- the object is there, if there is one
 abbrev pub AreThere : State → Option ObjectAt → Type 0
 AreThere s None = Unit {0}
-AreThere s (Some x) = AreFound s (sources.Entered x.place) (symbols_at x)
+AreThere s (Some x) = AreFound s (sources.Entered (record { 0 = x.place })) (symbols_at x)

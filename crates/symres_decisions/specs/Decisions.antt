@@ -1,10 +1,11 @@
 -- What names stand for, as callers see it.
 use Rattle.std.specs.Prelude.{ℕ, ◌≡◌, ◌<◌, ◌≤◌, ◌⊎◌, Bool, true, List, [], Option, Some, IfSome, length, slice_index_or}
 use Rattle.ldscript.specs.statements.declared.statement.Statement.{Statement}
-use Rattle.ldmodel.specs.HandedOver.{decision_of}
+use Rattle.ldmodel.specs.HandedOver.{decision_under_keys}
 use Rattle.ldmodel.specs.Names.{decided}
 use Rattle.ldmodel.specs.ScriptNames.{is_assigned, is_provided}
 use Rattle.ldmodel.specs.declared.names.Case.{Case}
+use Rattle.ldmodel.specs.declared.names.ObjectKey.{ObjectKey}
 use Rattle.symres_table.specs.State.{State, HasName, IsInByteOrder, IsNamed, entries_of}
 use Rattle.symres_decisions.specs.Counted.{is_used}
 use Rattle.symres_decisions.specs.Decided.{AreCases, HasCase, case_at}
@@ -12,10 +13,10 @@ use Rattle.symres_decisions.specs.Decided.{AreCases, HasCase, case_at}
 -- the table of names, and the cases by their keys
 pub record DecisionsState : Type 0 where
   pub names : State
-  pub cases : List (Option Case)
+  pub cases : List (Option (Case ObjectKey))
 
 -- each known name has a case, and nothing else has one
-pub record IsWhole (names : State) (cases : List (Option Case)) : Type 0 where
+pub record IsWhole (names : State) (cases : List (Option (Case ObjectKey))) : Type 0 where
   pub complete : (k : ℕ) → HasName names.names k → HasCase cases k
   pub only : (k : ℕ) → HasCase cases k → HasName names.names k
 
@@ -41,8 +42,8 @@ abbrev pub AreKept : List Statement → DecisionsState → Type 0
 AreKept script d = AreCases script d.names d.cases
 
 -- the case of a name: that of its key; or what the script alone makes of it, where it has no entries
-abbrev pub IsCaseNamed : List Statement → DecisionsState → List ℕ → Case → Type 0
+abbrev pub IsCaseNamed : List Statement → DecisionsState → List ℕ → Case ObjectKey → Type 0
 IsCaseNamed script d name c =
     ((k : ℕ) × IsNamed d.names.names k name × (case_at d.cases k ≡ Some c))
     ⊎ ((entries_of name d.names.objects ≡ [])
-    × (decision_of (λ key. key) c ≡ decided (is_assigned script name) (is_provided script name) []))
+    × (decision_under_keys c ≡ decided (is_assigned script name) (is_provided script name) []))

@@ -11,6 +11,7 @@ use Rattle.elfobj.specs.declared.meter.Count.TheVariants as counts
 use Rattle.ldscript.specs.statements.declared.statement.Statement.{Statement}
 use Rattle.ldmodel.specs.Names.{distinct, is_local}
 use Rattle.ldmodel.specs.declared.names.Case.{Case}
+use Rattle.ldmodel.specs.declared.names.ObjectKey.{ObjectKey}
 use Rattle.ldmodel.specs.declared.names.NameKey.{NameKey}
 use Rattle.symres_table.specs.State.{HasName, IsNamed, State, slot}
 use Rattle.symres_decisions.specs.Counted.{declared_in}
@@ -43,11 +44,11 @@ AreNoted names symbols keys =
 abbrev pub AreFound : State → KeySource → List NamedSymbol → Type 0
 AreFound s (sources.Noted keys) symbols = AreKnown s.names symbols × AreNoted s.names symbols keys.now
 AreFound s (sources.Entered place) symbols =
-    (place < length s.objects)
-    × ((t : ℕ × List NamedSymbol) → (slice_index_or s.objects place t).1 ≡ symbols)
+    (place.0 < length s.objects)
+    × ((t : ℕ × List NamedSymbol) → (slice_index_or s.objects place.0 t).1 ≡ symbols)
 
 -- there is a place for the case of each known name
-abbrev pub HasPlaces : List (Option (List ℕ)) → List (Option Case) → Type 0
+abbrev pub HasPlaces : List (Option (List ℕ)) → List (Option (Case ObjectKey)) → Type 0
 HasPlaces names cases = (k : ℕ) → HasName names k → k < length cases
 
 -- the symbols declare the name
@@ -60,39 +61,42 @@ touches symbols None = false
 touches symbols (Some name) = declares symbols name
 
 -- the names that the symbols declare have no cases, and the others have those that they had
-pub record IsCleared (names : List (Option (List ℕ))) (symbols : List NamedSymbol) (old new : List (Option Case))
+pub record IsCleared (names : List (Option (List ℕ))) (symbols : List NamedSymbol)
+    (old new : List (Option (Case ObjectKey)))
     : Type 0 where
   pub long : length new ≡ length old
   pub at : (k : ℕ) → case_at new k ≡ (if touches symbols (slot names k) then None else case_at old k)
 
 -- these names have cases, those of them that are known
-abbrev pub AreDone : List (Option (List ℕ)) → List (Option Case) → List (List ℕ) → Type 0
+abbrev pub AreDone : List (Option (List ℕ)) → List (Option (Case ObjectKey)) → List (List ℕ) → Type 0
 AreDone names cases seen = (name : List ℕ) → is_member bytes_eq seen name ≡ true → (k : ℕ) → IsNamed names k name
     → HasCase cases k
 
 -- none of these names has a case, but for those in `seen`
-abbrev pub AreOpen : List (Option (List ℕ)) → List (Option Case) → (pending seen : List (List ℕ)) → Type 0
+abbrev pub AreOpen : List (Option (List ℕ)) → List (Option (Case ObjectKey)) → (pending seen : List (List ℕ)) → Type 0
 AreOpen names cases pending seen =
     (name : List ℕ) → is_member bytes_eq pending name ≡ true → is_member bytes_eq seen name ≡ false
     → (k : ℕ) → IsNamed names k name → case_at cases k ≡ None
 
 -- the name of a key had no case, and was decided and counted
-pub record IsDecidedAnew (script : List Statement) (s : State) (k : ℕ) (old new : List (Option Case))
+pub record IsDecidedAnew (script : List Statement) (s : State) (k : ℕ) (old new : List (Option (Case ObjectKey)))
     (before after : Counts) : Type 0 where
   pub none : case_at old k ≡ None
-  pub which : Case
+  pub which : Case ObjectKey
   pub is : IsCase script s k which
   pub cases : new ≡ slice_set old k (Some which)
   pub counted : after ≡ raised before counts.Names 1
 
 -- the name of a key has a case: that which it had, or it was decided
-abbrev pub DecidesOnce : List Statement → State → ℕ → (old new : List (Option Case)) → (before after : Counts) → Type 0
+abbrev pub DecidesOnce : List Statement → State → ℕ → (old new : List (Option (Case ObjectKey)))
+    → (before after : Counts) → Type 0
 DecidesOnce script s k old new before after =
     (HasCase old k × (new ≡ old) × (after ≡ before)) ⊎ IsDecidedAnew script s k old new before after
 
 -- the names that these symbols declare were decided and counted, each once, but for those in `seen`, which had a case;
 -- all others have the case that they had
-pub record DecidedFor (script : List Statement) (s : State) (old new : List (Option Case)) (before after : Counts)
+pub record DecidedFor (script : List Statement) (s : State) (old new : List (Option (Case ObjectKey)))
+    (before after : Counts)
     (seen : List (List ℕ)) (symbols : List NamedSymbol) : Type 0 where
   pub long : length new ≡ length old
   pub kept : KeepsCases old new

@@ -22,7 +22,7 @@ pub fn places_for(alloc: Global, names: &Names) -> Result<Cases, NoMemory>
     let count = names.known();
     cases.reserve(count)?;
     for number in 0..count {
-        cases.grow_to(names.key_listed(number).0)?;
+        cases.grow_to(names.key_listed(number))?;
     }
     Ok(cases)
 }
@@ -42,6 +42,6 @@ pub fn decide_all(names: &Names, script: &Script, cases: &mut Cases, meter: &mut
     for number in 0..count {
         let key = names.key_listed(number);
         let case = case_for(names, script, key, meter);
-        cases.set(key.0, Some(case));
+        cases.set(key, Some(case));
     }
 }

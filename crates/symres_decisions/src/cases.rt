@@ -4,23 +4,24 @@ ghost use Rattle.std.specs.Prelude.{◌≡◌, ◌<◌, ◌≤◌, ℕ, [], leng
 ghost use Rattle.symres_decisions.specs.Decided.{case_at, is_doubled};
 
 use elfobj::memory::NoMemory;
-use ldmodel::names::Case;
+use ldmodel::names::{Case, NameKey, ObjectKey};
 use std::alloc::Global;
 use std::marker::Model;
 
 /// The case of each key that has one. How many are duplicates is known without a pass.
 #[derive(Drop)]
 pub struct Cases {
-    list: Vec<Option<Case>>,
+    list: Vec<Option<Case<ObjectKey>>>,
     doubled: usize,
 }
 
 impl Model for Cases {
     ghost use Rattle.std.specs.Prelude.{◌≡◌, count_by, List, Option};
     ghost use Rattle.ldmodel.specs.declared.names.Case.{Case};
+    ghost use Rattle.ldmodel.specs.declared.names.ObjectKey.{ObjectKey};
     ghost use Rattle.symres_decisions.specs.Decided.{is_doubled};
 
-    ghost Value = { List (Option Case) };
+    ghost Value = { List (Option (Case ObjectKey)) };
 
     ghost view = { λ a. a.list.items };
 
@@ -28,7 +29,7 @@ impl Model for Cases {
 }
 
 /// 1 for a duplicate.
-fn count(case: Option<Case>) -> usize
+fn count(case: Option<Case<ObjectKey>>) -> usize
     ensures { result ≡ (if is_doubled case then 1 else 0) }
 {
     match case {
@@ -69,18 +70,19 @@ impl Cases {
     }
 
     #[inline(always)]
-    pub fn get(&self, key: usize) -> Option<Case>
-        ensures { result ≡ case_at self.now key }
+    pub fn get(&self, key: NameKey) -> Option<Case<ObjectKey>>
+        ensures { result ≡ case_at self.now key.0 }
     {
-        self.list.get(key).copied().unwrap_or(None)
+        self.list.get(key.0).copied().unwrap_or(None)
     }
 
-    pub fn set(&mut self, key: usize, case: Option<Case>)
-        requires { key < length self.old }
-        ensures { self.new ≡ slice_set self.old key case }
+    /// Gives a key this case, or none. There is a place for it.
+    pub fn set(&mut self, key: NameKey, case: Option<Case<ObjectKey>>)
+        requires { key.0 < length self.old }
+        ensures { self.new ≡ slice_set self.old key.0 case }
     {
-        let without = self.doubled - count(self.list[key]);
-        self.list[key] = case;
+        let without = self.doubled - count(self.list[key.0]);
+        self.list[key.0] = case;
         self.doubled = without + count(case);
     }
 
@@ -92,12 +94,12 @@ impl Cases {
     }
 
     /// Makes places for cases up to a key.
-    pub fn grow_to(&mut self, key: usize) -> Result<(), NoMemory>
+    pub fn grow_to(&mut self, key: NameKey) -> Result<(), NoMemory>
         ensures same { (k : ℕ) → case_at self.new k ≡ case_at self.old k }
         ensures more { length self.old ≤ length self.new }
-        ensures ok { OnOk result (key < length self.new) }
+        ensures ok { OnOk result (key.0 < length self.new) }
     {
-        while self.list.len() <= key {
+        while self.list.len() <= key.0 {
             self.list.push(None)?;
         }
         Ok(())

@@ -19,7 +19,7 @@ use crate::noted::note_keys;
 use crate::texts::{KeySource, clear_names, decide_names, have_entries};
 use crate::used_names::count_used;
 use elfobj::Meter;
-use ldmodel::names::NameKey;
+use ldmodel::names::{NameKey, ObjectPlace};
 use ldscript::Script;
 use symres_table::law::entered_again;
 use symres_table::names::Names;
@@ -32,7 +32,10 @@ fn clear_names_of(names: &Names, at: Option<ObjectAt<'_>>, cases: &mut Cases)
     ensures { IsCleared names.now.names (symbols_or at.entry) cases.old cases.new }
 {
     match at {
-        Some(at) => clear_names(names, KeySource::Entered(at.place), at.object, cases),
+        Some(at) => {
+            let source = KeySource::Entered(ObjectPlace(at.place));
+            clear_names(names, source, at.object, cases);
+        }
         None => {}
     }
 }
@@ -89,16 +92,9 @@ fn decide_gone(
 {
     // for the prover: brings in that the count of names fits a u64
     let _names = meter.names();
-    match out {
-        Some(at) => decide_names(
-            names,
-            script,
-            KeySource::Noted(noted),
-            at.object,
-            cases,
-            meter,
-        ),
-        None => {}
+    if let Some(at) = out {
+        let source = KeySource::Noted(noted);
+        decide_names(names, script, source, at.object, cases, meter);
     }
 }
 
@@ -121,16 +117,9 @@ fn decide_come(
 {
     // for the prover: brings in that the count of names fits a u64
     let _names = meter.names();
-    match into {
-        Some(at) => decide_names(
-            names,
-            script,
-            KeySource::Entered(at.place),
-            at.object,
-            cases,
-            meter,
-        ),
-        None => {}
+    if let Some(at) = into {
+        let source = KeySource::Entered(ObjectPlace(at.place));
+        decide_names(names, script, source, at.object, cases, meter);
     }
 }
 

@@ -4,7 +4,7 @@ ghost use Rattle.std.specs.Prelude.{◌≡◌, ◌<◌, ℕ, List, [], Contains,
 ghost use Rattle.std.specs.Prelude.{length, count_by};
 ghost use Rattle.std.specs.Prelude.{slice_get, true};
 ghost use Rattle.std.specs.Option.{option_map};
-ghost use Rattle.ldmodel.specs.HandedOver.{decision_of};
+ghost use Rattle.ldmodel.specs.HandedOver.{decision_under_keys};
 ghost use Rattle.ldscript.specs.statements.declared.statement.Statement.{Statement};
 ghost use Rattle.symres_decisions.specs.Counted.{CountsNames, declared_names};
 ghost use Rattle.symres_decisions.specs.Decided.{case_at, decision_in, HasCase, is_doubled};
@@ -26,7 +26,7 @@ use elfobj::Meter;
 use elfobj::memory::NoMemory;
 use elfobj::relocation::SymbolIndex;
 use indexmap::map::Iter;
-use ldmodel::names::{Case, NameKey, ObjectKey};
+use ldmodel::names::{Case, NameKey, ObjectKey, ObjectPlace};
 use ldscript::Script;
 use std::alloc::Global;
 use std::hash::RandomState;
@@ -141,22 +141,22 @@ impl Decisions {
 
     /// How the name of a key is resolved, if the key has one.
     #[inline(always)]
-    pub fn case_of(&self, name: NameKey) -> Option<Case>
+    pub fn case_of(&self, name: NameKey) -> Option<Case<ObjectKey>>
         ensures case { result ≡ case_at self.now.cases name.0 }
         ensures complete { HasName self.now.names.names name.0 → HasCase self.now.cases name.0 }
         ensures named { HasCase self.now.cases name.0 → HasName self.now.names.names name.0 }
     {
-        self.cases.get(name.0)
+        self.cases.get(name)
     }
 
     /// How any name is resolved: it is hashed and looked up.
-    pub fn case_named(&self, script: &Script, name: &[u8]) -> Case
-        ensures case { AreKept script.now self.now → decision_of (λ key. key) result
+    pub fn case_named(&self, script: &Script, name: &[u8]) -> Case<ObjectKey>
+        ensures case { AreKept script.now self.now → decision_under_keys result
             ≡ decision_in script.now self.now.names name.now }
         ensures found { IsCaseNamed script.now self.now name.now result }
     {
         match self.names.key_named(name) {
-            Some(key) => self.cases.get(key.0).unwrap(),
+            Some(key) => self.cases.get(key).unwrap(),
             None => given_case(script, name),
         }
     }
@@ -171,17 +171,17 @@ impl Decisions {
 
     /// The key of the name of a symbol that isn't local, of the object at a place among the entered ones, from 0. The
     /// time is constant.
-    pub fn key_at(&self, place: usize, symbol: SymbolIndex) -> NameKey
-        requires { IsSeenAt self.now.names.objects place symbol.0 }
-        ensures name { IsNameAt self.now.names.names self.now.names.objects place symbol.0 result.0 }
+    pub fn key_at(&self, place: ObjectPlace, symbol: SymbolIndex) -> NameKey
+        requires { IsSeenAt self.now.names.objects place.0 symbol.0 }
+        ensures name { IsNameAt self.now.names.names self.now.names.objects place.0 symbol.0 result.0 }
         ensures case { HasCase self.now.cases result.0 }
     {
         self.names.key_at(place, symbol)
     }
 
     /// The key of the object at a place among the entered ones, from 0. The time is constant.
-    pub fn object_at(&self, place: usize) -> Option<ObjectKey>
-        ensures { result ≡ option_map object_key (slice_get self.now.names.objects place) }
+    pub fn object_at(&self, place: ObjectPlace) -> Option<ObjectKey>
+        ensures { result ≡ option_map object_key (slice_get self.now.names.objects place.0) }
     {
         self.names.object_at(place)
     }

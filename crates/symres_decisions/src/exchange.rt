@@ -12,9 +12,8 @@ pub fn take_out(names: &mut Names, key: ObjectKey, out: Option<ObjectAt<'_>>)
     requires { CanGo names.old.objects key.0 out }
     ensures { TakesOut names.old names.new key.0 out.entry }
 {
-    match out {
-        Some(_at) => names.withdraw(key),
-        None => {}
+    if let Some(_at) = out {
+        names.withdraw(key);
     }
 }
 
@@ -25,8 +24,7 @@ pub fn put_in(names: &mut Names, key: ObjectKey, into: Option<ObjectAt<'_>>)
     requires room { MayCome names.old into }
     ensures { PutsIn names.old names.new key.0 into.entry }
 {
-    match into {
-        Some(at) => names.enter(key, at.place, at.object),
-        None => {}
+    if let Some(at) = into {
+        names.enter(key, at.place, at.object);
     }
 }

@@ -9,7 +9,7 @@ use crate::change::{ObjectAt, ObjectChange};
 use crate::texts::{KeySource, key_of};
 use elfobj::Object;
 use elfobj::memory::NoMemory;
-use ldmodel::names::NameKey;
+use ldmodel::names::{NameKey, ObjectPlace};
 use symres_table::names::Names;
 
 fn symbol_count(at: Option<ObjectAt<'_>>) -> usize {
@@ -58,8 +58,12 @@ pub fn note_keys(names: &Names, at: Option<ObjectAt<'_>>, keys: &mut Vec<NameKey
     ensures { AreNoted names.now.names (symbols_or at.entry) keys.new.items }
 {
     keys.clear();
-    match at {
-        Some(at) => note_all(names, KeySource::Entered(at.place), at.object, keys),
-        None => {}
+    if let Some(at) = at {
+        note_all(
+            names,
+            KeySource::Entered(ObjectPlace(at.place)),
+            at.object,
+            keys,
+        );
     }
 }

@@ -37,9 +37,9 @@ fn add_given(
     ensures kept { (k : ℕ) → HasCase cases.old k → HasCase cases.new k }
     ensures ok { OnOk result (HasCase cases.new key.0) }
 {
-    cases.grow_to(key.0)?;
+    cases.grow_to(key)?;
     let name = names.name_of(key).unwrap();
-    cases.set(key.0, Some(given_case(script, name)));
+    cases.set(key, Some(given_case(script, name)));
     Ok(())
 }
 
@@ -82,13 +82,14 @@ fn settle_new(
 }
 
 /// Clears the case of a key without a name.
-fn clear_if_unnamed(names: &Names, key: usize, cases: &mut Cases)
-    requires { key < length cases.old }
+fn clear_if_unnamed(names: &Names, key: NameKey, cases: &mut Cases)
+    requires { key.0 < length cases.old }
     ensures long { length cases.new ≡ length cases.old }
     ensures at { (k : ℕ) → case_at cases.new k
-        ≡ (if k == key then kept_where (slot names.now.names key) (case_at cases.old key) else case_at cases.old k) }
+        ≡ (if k == key.0 then kept_where (slot names.now.names key.0) (case_at cases.old key.0)
+        else case_at cases.old k) }
 {
-    match names.name_of(NameKey(key)) {
+    match names.name_of(key) {
         Some(_name) => {}
         None => cases.set(key, None),
     }
@@ -100,7 +101,7 @@ fn clear_unnamed(names: &Names, cases: &mut Cases)
 {
     let count = cases.len();
     for key in 0..count {
-        clear_if_unnamed(names, key, cases);
+        clear_if_unnamed(names, NameKey(key), cases);
     }
 }
 

@@ -3,7 +3,7 @@
 ghost use Rattle.std.specs.Prelude.{◌≡◌, ℕ, List, []};
 ghost use Rattle.elfobj.specs.Raised.{raised};
 ghost use Rattle.elfobj.specs.declared.meter.Count.TheVariants as counts;
-ghost use Rattle.ldmodel.specs.HandedOver.{decision_of};
+ghost use Rattle.ldmodel.specs.HandedOver.{decision_under_keys};
 ghost use Rattle.ldmodel.specs.Names.{decided};
 ghost use Rattle.ldmodel.specs.ScriptNames.{is_assigned, is_provided};
 ghost use Rattle.symres_decisions.specs.Decided.{IsCase};
@@ -12,13 +12,13 @@ ghost use Rattle.symres_table.specs.State.{HasName, IsNamed};
 
 use elfobj::Meter;
 use ldmodel::given::is_assigned;
-use ldmodel::names::{Case, NameKey};
+use ldmodel::names::{Case, NameKey, ObjectKey};
 use ldscript::Script;
 use symres_table::names::Names;
 
 /// What the script alone makes of a name.
-pub fn given_case(script: &Script, name: &[u8]) -> Case
-    ensures { decision_of (λ key. key) result
+pub fn given_case(script: &Script, name: &[u8]) -> Case<ObjectKey>
+    ensures { decision_under_keys result
         ≡ decided (is_assigned script.now name.now) (is_provided script.now name.now) [] }
 {
     if is_assigned(script.given(name)) {
@@ -30,7 +30,7 @@ pub fn given_case(script: &Script, name: &[u8]) -> Case
 
 /// How the name of a key is resolved. It is resolved and counted if it has entries; else it follows from the script
 /// alone.
-pub fn case_for(names: &Names, script: &Script, key: NameKey, meter: &mut Meter) -> Case
+pub fn case_for(names: &Names, script: &Script, key: NameKey, meter: &mut Meter) -> Case<ObjectKey>
     requires { HasName names.now.names key.0 }
     ensures case { IsCase script.now names.now key.0 result }
     ensures counted { (name : List ℕ) → IsNamed names.now.names key.0 name → meter.new

@@ -6,6 +6,7 @@ ghost use Rattle.elfobj.specs.Symbols.{NamedSymbol};
 ghost use Rattle.elfobj.specs.Counts.{Counts};
 ghost use Rattle.ldmodel.specs.Names.{is_local};
 ghost use Rattle.ldmodel.specs.declared.names.Case.{Case};
+ghost use Rattle.ldmodel.specs.declared.names.ObjectKey.{ObjectKey};
 ghost use Rattle.symres_decisions.specs.Decided.{AreCases};
 ghost use Rattle.symres_decisions.specs.Room.{HaveEntries};
 ghost use Rattle.symres_decisions.specs.Counted.{declared_in};
@@ -16,7 +17,7 @@ ghost use Rattle.symres_table.specs.State.{AreDistinct, HasName};
 use crate::cases::Cases;
 use elfobj::relocation::SymbolIndex;
 use elfobj::{Meter, Object};
-use ldmodel::names::NameKey;
+use ldmodel::names::{NameKey, ObjectPlace};
 use ldscript::Script;
 use symres_table::names::Names;
 use symres_table::symbol::is_visible;
@@ -25,7 +26,7 @@ use symres_table::symbol::is_visible;
 #[derive(Clone, Copy)]
 pub enum KeySource<'a> {
     /// The object is entered at this place.
-    Entered(usize),
+    Entered(ObjectPlace),
     /// The object isn't entered. These are the keys of its first symbols; what stands for a local one is not read.
     Noted(&'a [NameKey]),
 }
@@ -98,12 +99,12 @@ fn clear_name(
     requires number { number < length object.now.symbols }
     requires distinct { AreDistinct names.now.names }
     requires room { HasPlaces names.now.names cases.old }
-    ensures { (start : List (Option Case)) (before : List NamedSymbol) (d : NamedSymbol)
+    ensures { (start : List (Option (Case ObjectKey))) (before : List NamedSymbol) (d : NamedSymbol)
         → IsCleared names.now.names before start cases.old
         → IsCleared names.now.names (before ++ slice_index_or object.now.symbols number d ∷ []) start cases.new }
 {
     match key_of(names, source, object, number) {
-        Some(key) => cases.set(key.0, None),
+        Some(key) => cases.set(key, None),
         None => {}
     }
 }
@@ -127,11 +128,11 @@ fn decide_once(names: &Names, script: &Script, key: NameKey, cases: &mut Cases, 
     ensures long { length cases.new ≡ length cases.old }
     ensures decided { DecidesOnce script.now names.now key.0 cases.old cases.new meter.old meter.new }
 {
-    if cases.get(key.0).is_some() {
+    if cases.get(key).is_some() {
         return;
     }
     let decision = names.decide_key(script, key, meter);
-    cases.set(key.0, Some(*decision.case()));
+    cases.set(key, Some(*decision.case()));
 }
 
 /// Decides the name of a symbol that isn't local, unless it has a case.
@@ -149,8 +150,8 @@ fn decide_name(
     requires distinct { AreDistinct names.now.names }
     requires room { HasPlaces names.now.names cases.old }
     ensures long { length cases.new ≡ length cases.old }
-    ensures decided { (start : List (Option Case)) (m : Counts) (seen : List (List ℕ)) (before : List NamedSymbol)
-        (d : NamedSymbol) → AreOpen names.now.names start (declared_in object.now.symbols) seen
+    ensures decided { (start : List (Option (Case ObjectKey))) (m : Counts) (seen : List (List ℕ))
+        (before : List NamedSymbol) (d : NamedSymbol) → AreOpen names.now.names start (declared_in object.now.symbols) seen
         → DecidedFor script.now names.now start cases.old m meter.old seen before
         → DecidedFor script.now names.now start cases.new m meter.new seen
         (before ++ slice_index_or object.now.symbols number d ∷ []) }

@@ -10,6 +10,7 @@ use Rattle.ldmodel.specs.declared.names.ObjectKey.{ObjectKey}
 use Rattle.symres_table.specs.declared.symbol.Numbered.{Numbered}
 use Rattle.symres_table.specs.Numbers.{Entered}
 use Rattle.symres_table.specs.Spelled.{spell, spell_symbol}
+use Rattle.symres_table.specs.Objects.{key_of}
 use Rattle.symres_table.specs.State.{IsNameAt, IsNamed, IsSeenAt, object_key}
 use Rattle.symres_table.proofs.Joined.{named_so}
 use Rattle.symres_table.proofs.Naming.{nothing}
@@ -59,16 +60,12 @@ named_at names os place number x a h is = λ t s.
     (named_so names (get_or (get_or os place nobody).symbols number nothing)
     ((a place nobody lt).named number nothing inside) seen))
 
-pub key_of_place : (names : Names) (os : List Entered) (place : ℕ) (r : Option ℕ)
-    → r ≡ option_map (λ (o : Entered). o.key) (slice_get os place)
-    → option_map (λ (k : ℕ). let x : ObjectKey = record { 0 = k } in x) r
-    ≡ option_map object_key (slice_get (map (spell names) os) place)
-key_of_place names os place r h =
-    ap (option_map (λ (k : ℕ). let x : ObjectKey = record { 0 = k } in x)) h ∙ go (slice_get os place)
+pub key_of_place : (names : Names) (os : List Entered) (place : ℕ) (r : Option ObjectKey)
+    → r ≡ option_map key_of (slice_get os place)
+    → r ≡ option_map object_key (slice_get (map (spell names) os) place)
+key_of_place names os place r h = h ∙ go (slice_get os place)
     ∙ ap (option_map object_key) (sym (slice_get-map (spell names) os place))
   where
-    go : (o : Option Entered)
-        → option_map (λ (k : ℕ). let x : ObjectKey = record { 0 = k } in x) (option_map (λ (o : Entered). o.key) o)
-        ≡ option_map object_key (option_map (spell names) o)
+    go : (o : Option Entered) → option_map key_of o ≡ option_map object_key (option_map (spell names) o)
     go None = refl
     go (Some o) = refl

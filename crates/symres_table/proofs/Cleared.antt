@@ -22,9 +22,9 @@ Row = Vec Declared Global
 
 others_twice : (key : ℕ) (ds : List Declared) → others key (others key ds) ≡ others key ds
 others_twice key [] = refl
-others_twice key (d ∷ ds) = go (not (eqb d.entry.key key)) refl (others_twice key ds)
+others_twice key (d ∷ ds) = go (not (eqb d.entry.object.0 key)) refl (others_twice key ds)
   where
-    go : (b : Bool) → not (eqb d.entry.key key) ≡ b → others key (others key ds) ≡ others key ds
+    go : (b : Bool) → not (eqb d.entry.object.0 key) ≡ b → others key (others key ds) ≡ others key ds
         → others key (cond b (d ∷ others key ds) (others key ds)) ≡ cond b (d ∷ others key ds) (others key ds)
     go true e h = rw e (ap (λ l. d ∷ l) h)
     go false e h = h
@@ -34,7 +34,7 @@ others_cleared key true ds = others_twice key ds
 others_cleared key false ds = refl
 
 others-append : (key : ℕ) (xs ys : List Declared) → others key (xs ++ ys) ≡ others key xs ++ others key ys
-others-append key xs ys = filter-append (λ (d : Declared). not (eqb d.entry.key key)) xs ys
+others-append key xs ys = filter-append (λ (d : Declared). not (eqb d.entry.object.0 key)) xs ys
 
 others_of : (key k : ℕ) (ss : List Numbered) (b : Bool) → eqb k key ≡ b → others key (map (declared k) ss)
     ≡ cond b [] (map (declared k) ss)
@@ -185,7 +185,8 @@ marked key s old v l e i c = record {
         ∙ eq-eqb key key refl
 
 -- a row without the declarations of the key
-pub unmarked : (key : ℕ) (v l : Row) → l.items ≡ others key v.items → vec_capacity l ≡ vec_capacity v → Gathered key v l
+pub unmarked : (key : ℕ) (v l : Row) → l.items ≡ others key v.items → vec_capacity l ≡ vec_capacity v
+    → Gathered key v l
 unmarked key v l i c = record {
   same = ap (others key) i ∙ others_twice key v.items;
   gathered = inr (ap (others key) i ∙ others_twice key v.items ∙ sym i);

@@ -10,6 +10,7 @@ use Rattle.ldmodel.specs.Names.{Declaration, is_strong, is_common, is_weak, is_u
 use Rattle.ldmodel.specs.Names.{common_alignment, is_global, is_weak_binding, is_placed, is_common_place}
 use Rattle.ldmodel.specs.Names.{is_undefined_place}
 use Rattle.ldmodel.specs.declared.names.Entry.{Entry}
+use Rattle.ldmodel.specs.declared.names.ObjectKey.{ObjectKey}
 use Rattle.symres_table.specs.Tally.{first, tally_of}
 use Rattle.symres_table.specs.declared.tally.Tally.{Tally}
 
@@ -34,15 +35,15 @@ any (x ∷ ds) d true h = go (is_undefined x) (any ds d true h)
     go false e = e
 any (x ∷ ds) d false h = ap (λ b. is_undefined x || b) (any ds d false h)
 
-entry_of : Declaration → Entry
-entry_of d = record { key = d.entry.object; symbol = d.entry.symbol }
+abbrev pub entry_of : Declaration → Entry ObjectKey
+entry_of d = record { object = record { 0 = d.entry.object }; symbol = record { 0 = d.entry.symbol } }
 
-abbrev pub or_entry : Option Entry → Entry → Option Entry
+abbrev pub or_entry : Option (Entry ObjectKey) → Entry ObjectKey → Option (Entry ObjectKey)
 or_entry None e = Some e
 or_entry (Some x) e = Some x
 
 first_push : (ds : List Declaration) (d : Declaration) → first (ds ++ d ∷ [])
-    ≡ or_entry (first ds) (record { key = d.entry.object; symbol = d.entry.symbol })
+    ≡ or_entry (first ds) (record { object = record { 0 = d.entry.object }; symbol = record { 0 = d.entry.symbol } })
 first_push [] d = refl
 first_push (x ∷ ds) d = refl
 
@@ -55,7 +56,7 @@ several_push (x ∷ y ∷ ds) d =
 -- a tally with one entry more, by what the entry is
 abbrev pub grown : (strong common weak undefined : Bool) → Tally → Declaration → Tally
 grown strong common weak undefined t d =
-    let e : Entry = record { key = d.entry.object; symbol = d.entry.symbol } in
+    let e : Entry ObjectKey = entry_of d in
     record {
       several = cond strong (is_some t.strong) t.several;
       strong = cond strong (or_entry t.strong e) t.strong;
@@ -102,7 +103,9 @@ tally_push s c w u seen d hs hc hw hu =
     by_several false = refl
 
     by_first : (b : Bool) (ds : List Declaration) → first (cond b (ds ++ d ∷ []) ds)
-        ≡ cond b (or_entry (first ds) (record { key = d.entry.object; symbol = d.entry.symbol })) (first ds)
+        ≡ cond b
+        (or_entry (first ds)
+        (record { object = record { 0 = d.entry.object }; symbol = record { 0 = d.entry.symbol } })) (first ds)
     by_first true ds = first_push ds d
     by_first false ds = refl
 
@@ -112,7 +115,7 @@ tally_push s c w u seen d hs hc hw hu =
     by_greatest true of = greatest_push of (filter is_common seen) d
     by_greatest false of = refl
 
-stays : (o : Option Entry) (e : Entry) → is_none o ≡ false → or_entry o e ≡ o
+stays : (o : Option (Entry ObjectKey)) (e : Entry ObjectKey) → is_none o ≡ false → or_entry o e ≡ o
 stays None e h = absurd (false≢true (sym h))
 stays (Some x) e h = refl
 
@@ -126,7 +129,7 @@ pub common_later : (seen : List Declaration) (d : Declaration) (t : Tally) → d
     → record t { size = max t.size d.symbol.size; alignment = max t.alignment d.symbol.value }
     ≡ tally_of (seen ++ d ∷ [])
 common_later seen d t k h n =
-    let e : Entry = record { key = d.entry.object; symbol = d.entry.symbol } in
+    let e : Entry ObjectKey = entry_of d in
     let strong : is_strong d ≡ false = ap (λ p. is_global d.symbol.binding && is_placed p) k
     ∙ and_false (is_global d.symbol.binding) in
     let weak : is_weak d ≡ false = ap (λ p. is_weak_binding d.symbol.binding && is_placed p) k

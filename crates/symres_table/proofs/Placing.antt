@@ -27,7 +27,7 @@ or None m = m
 
 place_append : (xs ys : List PlacedKey) (key : ℕ) → place_of (xs ++ ys) key ≡ or (place_of xs key) (place_of ys key)
 place_append [] ys key = refl
-place_append (x ∷ xs) ys key = go (eqb x.key key) (place_append xs ys key)
+place_append (x ∷ xs) ys key = go (eqb x.key.0 key) (place_append xs ys key)
   where
     go : (b : Bool) → place_of (xs ++ ys) key ≡ or (place_of xs key) (place_of ys key)
         → cond b (Some x.at) (place_of (xs ++ ys) key) ≡ or (cond b (Some x.at) (place_of xs key)) (place_of ys key)
@@ -35,11 +35,11 @@ place_append (x ∷ xs) ys key = go (eqb x.key key) (place_append xs ys key)
     go false e = e
 
 -- another key that is put in
-insert_other : (ps : List PlacedKey) (n : ℕ) (p : PlacedKey) (key : ℕ) → p.key ≢ key → place_of (insert ps n p) key
+insert_other : (ps : List PlacedKey) (n : ℕ) (p : PlacedKey) (key : ℕ) → p.key.0 ≢ key → place_of (insert ps n p) key
     ≡ place_of ps key
 insert_other ps n p key h =
     place_append (take n ps) (p ∷ drop n ps) key
-    ∙ ap (λ b. or (place_of (take n ps) key) (cond b (Some p.at) (place_of (drop n ps) key))) (ne_eqb p.key key h)
+    ∙ ap (λ b. or (place_of (take n ps) key) (cond b (Some p.at) (place_of (drop n ps) key))) (ne_eqb p.key.0 key h)
     ∙ sym (place_append (take n ps) (drop n ps) key)
     ∙ ap (λ l. place_of l key) (take-append-drop n ps)
 
@@ -47,14 +47,15 @@ or_none : (a b : Option ℕ) → or a b ≡ None → a ≡ None
 or_none None b h = refl
 or_none (Some n) b h = absurd (cc)
 
-insert_same : (ps : List PlacedKey) (n : ℕ) (p : PlacedKey) → place_of ps p.key ≡ None → place_of (insert ps n p) p.key
+insert_same : (ps : List PlacedKey) (n : ℕ) (p : PlacedKey) → place_of ps p.key.0 ≡ None
+    → place_of (insert ps n p) p.key.0
     ≡ Some p.at
 insert_same ps n p h =
-    let parts : or (place_of (take n ps) p.key) (place_of (drop n ps) p.key) ≡ None =
-    sym (place_append (take n ps) (drop n ps) p.key) ∙ ap (λ l. place_of l p.key) (take-append-drop n ps) ∙ h in
-    place_append (take n ps) (p ∷ drop n ps) p.key
-    ∙ ap (λ o. or o (place_of (p ∷ drop n ps) p.key)) (or_none _ _ parts)
-    ∙ ap (λ b. cond b (Some p.at) (place_of (drop n ps) p.key)) (eq-eqb p.key p.key refl)
+    let parts : or (place_of (take n ps) p.key.0) (place_of (drop n ps) p.key.0) ≡ None =
+    sym (place_append (take n ps) (drop n ps) p.key.0) ∙ ap (λ l. place_of l p.key.0) (take-append-drop n ps) ∙ h in
+    place_append (take n ps) (p ∷ drop n ps) p.key.0
+    ∙ ap (λ o. or o (place_of (p ∷ drop n ps) p.key.0)) (or_none _ _ parts)
+    ∙ ap (λ b. cond b (Some p.at) (place_of (drop n ps) p.key.0)) (eq-eqb p.key.0 p.key.0 refl)
 
 -- a moved place is found where it moved
 pub place_moved : (move : ℕ → ℕ) (old new : List PlacedKey) (key : ℕ) → AreMoved move old new → place_of new key
@@ -63,7 +64,7 @@ place_moved move [] [] key m = refl
 place_moved move [] (y ∷ new) key m = absurd (omega (arith, m.long))
 place_moved move (x ∷ old) [] key m = absurd (omega (arith, m.long))
 place_moved move (x ∷ old) (y ∷ new) key m =
-    let k : y.key ≡ x.key = m.key 0 x (omega arith) in
+    let k : y.key.0 ≡ x.key.0 = m.key 0 x (omega arith) in
     let a : y.at ≡ move x.at = m.at 0 x (omega arith) in
     let rest : place_of new key ≡ option_map move (place_of old key) =
     place_moved move old new key
@@ -74,8 +75,8 @@ place_moved move (x ∷ old) (y ∷ new) key m =
           m.at (suc j) d (omega (arith, l));
     }) in
     ap (λ j. cond (eqb j key) (Some y.at) (place_of new key)) k
-    ∙ ap (λ j. cond (eqb x.key key) (Some j) (place_of new key)) a
-    ∙ ap (λ o. cond (eqb x.key key) (Some (move x.at)) o) rest ∙ go (eqb x.key key)
+    ∙ ap (λ j. cond (eqb x.key.0 key) (Some j) (place_of new key)) a
+    ∙ ap (λ o. cond (eqb x.key.0 key) (Some (move x.at)) o) rest ∙ go (eqb x.key.0 key)
   where
     go : (b : Bool) → cond b (Some (move x.at)) (option_map move (place_of old key))
         ≡ option_map move (cond b (Some x.at) (place_of old key))
@@ -98,22 +99,22 @@ below_moved move old new key n m b = record {
 
 -- each place in a sorted list is the one found
 pub found_at : (ps : List PlacedKey) (k : ℕ) (d : PlacedKey) → AreSorted ps → k < length ps
-    → place_of ps (get_or ps k d).key
+    → place_of ps (get_or ps k d).key.0
     ≡ Some (get_or ps k d).at
-found_at ps k d s h = place_at ps (get_or ps k d).key k (get_or ps k d)
+found_at ps k d s h = place_at ps (get_or ps k d).key.0 k (get_or ps k d)
     (λ j e l same. let lt = s j k e l h in let is = get_or_default ps k d e h in
-    omega (arith, lt, same, ap (λ (p : PlacedKey). p.key) is))
+    omega (arith, lt, same, ap (λ (p : PlacedKey). p.key.0) is))
     h (get_or_default ps k (get_or ps k d) d h) refl
 
 -- no key stands in a list that is the one sought
 apart : (ps : List PlacedKey) (key : ℕ) → place_of ps key ≡ None → AreSorted ps → (k : ℕ) (d : PlacedKey)
     → k < length ps
-    → (get_or ps k d).key ≢ key
+    → (get_or ps k d).key.0 ≢ key
 apart ps key n s k d h same = let f = found_at ps k d s h in let g : place_of ps key ≡ Some (get_or ps k d).at =
     ap (place_of ps) (sym same) ∙ f in absurd (cc)
 
-pub sorted_insert : (ps : List PlacedKey) (n : ℕ) (p : PlacedKey) → AreSorted ps → IsBelow ps p.key n
-    → place_of ps p.key
+pub sorted_insert : (ps : List PlacedKey) (n : ℕ) (p : PlacedKey) → AreSorted ps → IsBelow ps p.key.0 n
+    → place_of ps p.key.0
     ≡ None → AreSorted (insert ps n p)
 sorted_insert ps n p s b none = λ i j d h l.
     let l' : j < length ps + 1 = omega (arith, l, length-insert ps n p b.within) in
@@ -130,7 +131,7 @@ sorted_insert ps n p s b none = λ i j d h l.
     (λ i_high. ⊎_elim
     (λ i_at.
     let le = b.rest (j - 1) d (omega (arith, h, i_at)) (omega (arith, l', h)) in
-    let ne = apart ps p.key none s (j - 1) d (omega (arith, l', h)) in
+    let ne = apart ps p.key.0 none s (j - 1) d (omega (arith, l', h)) in
     omega (
       arith,
       le,
@@ -148,16 +149,16 @@ sorted_insert ps n p s b none = λ i j d h l.
     (cases_eq i n))
     (cases_lt i n)
   where
-    at_low : (k : ℕ) (d : PlacedKey) → k < n → (get_or (insert ps n p) k d).key ≡ (get_or ps k d).key
-    at_low k d h = ap (λ (q : PlacedKey). q.key) (get_or-insert_below ps n p d k h b.within)
+    at_low : (k : ℕ) (d : PlacedKey) → k < n → (get_or (insert ps n p) k d).key.0 ≡ (get_or ps k d).key.0
+    at_low k d h = ap (λ (q : PlacedKey). q.key.0) (get_or-insert_below ps n p d k h b.within)
 
-    at_same : (k : ℕ) (d : PlacedKey) → k ≡ n → (get_or (insert ps n p) k d).key ≡ p.key
-    at_same k d e = ap (λ (q : PlacedKey). q.key) (ap (λ q. get_or (insert ps n p) q d) e
+    at_same : (k : ℕ) (d : PlacedKey) → k ≡ n → (get_or (insert ps n p) k d).key.0 ≡ p.key.0
+    at_same k d e = ap (λ (q : PlacedKey). q.key.0) (ap (λ q. get_or (insert ps n p) q d) e
         ∙ get_or-insert_at ps n p d b.within)
 
-    at_high : (k : ℕ) (d : PlacedKey) → n ≤ k → k ≢ n → (get_or (insert ps n p) k d).key ≡ (get_or ps (k - 1) d).key
+    at_high : (k : ℕ) (d : PlacedKey) → n ≤ k → k ≢ n → (get_or (insert ps n p) k d).key.0 ≡ (get_or ps (k - 1) d).key.0
     at_high k d h ne = let e : k ≡ (k - 1) + 1 = omega (arith, h, ne) in
-        ap (λ (q : PlacedKey). q.key) (ap (λ q. get_or (insert ps n p) q d) e
+        ap (λ (q : PlacedKey). q.key.0) (ap (λ q. get_or (insert ps n p) q d) e
         ∙ get_or-insert_above ps n p d (k - 1) (omega (arith, h, ne)) b.within)
 
 pub sorted_remove : (ps : List PlacedKey) (n : ℕ) → AreSorted ps → n < length ps → AreSorted (remove ps n)
@@ -172,40 +173,40 @@ sorted_remove ps n s w = λ i j d h l.
     omega (arith, lt, high i d i_high, high j d (omega (arith, h, i_high))))
     (cases_lt i n)
   where
-    low : (k : ℕ) (d : PlacedKey) → k < n → (get_or (remove ps n) k d).key ≡ (get_or ps k d).key
-    low k d h = ap (λ (q : PlacedKey). q.key) (get_or-remove_below ps n d k h w)
+    low : (k : ℕ) (d : PlacedKey) → k < n → (get_or (remove ps n) k d).key.0 ≡ (get_or ps k d).key.0
+    low k d h = ap (λ (q : PlacedKey). q.key.0) (get_or-remove_below ps n d k h w)
 
-    high : (k : ℕ) (d : PlacedKey) → n ≤ k → (get_or (remove ps n) k d).key ≡ (get_or ps (k + 1) d).key
-    high k d h = ap (λ (q : PlacedKey). q.key) (get_or-remove_above ps n d k h w)
+    high : (k : ℕ) (d : PlacedKey) → n ≤ k → (get_or (remove ps n) k d).key.0 ≡ (get_or ps (k + 1) d).key.0
+    high k d h = ap (λ (q : PlacedKey). q.key.0) (get_or-remove_above ps n d k h w)
 
 -- what is found once the place of a key was taken out
-pub remove_other : (ps : List PlacedKey) (n key : ℕ) (p : PlacedKey) → n < length ps → p ≡ get_or ps n p → p.key ≢ key
+pub remove_other : (ps : List PlacedKey) (n key : ℕ) (p : PlacedKey) → n < length ps → p ≡ get_or ps n p → p.key.0 ≢ key
     → place_of (remove ps n) key ≡ place_of ps key
 remove_other [] n key p h e ne = absurd (omega (arith, h))
 remove_other (x ∷ ps) zero key p h e ne =
     sym (ap (λ b. cond b (Some x.at) (place_of ps key))
-    (ne_eqb x.key key (λ same. ne (ap (λ (q : PlacedKey). q.key) e ∙ same))))
+    (ne_eqb x.key.0 key (λ same. ne (ap (λ (q : PlacedKey). q.key.0) e ∙ same))))
 remove_other (x ∷ ps) (suc n) key p h e ne =
-    ap (λ o. cond (eqb x.key key) (Some x.at) o) (remove_other ps n key p (omega (arith, h)) e ne)
+    ap (λ o. cond (eqb x.key.0 key) (Some x.at) o) (remove_other ps n key p (omega (arith, h)) e ne)
 
 pub remove_same : (ps : List PlacedKey) (n : ℕ) (p : PlacedKey) → AreSorted ps → n < length ps → p ≡ get_or ps n p
-    → place_of (remove ps n) p.key ≡ None
-remove_same ps n p s w e = place_none (remove ps n) p.key (λ k d l same. ⊎_elim
+    → place_of (remove ps n) p.key.0 ≡ None
+remove_same ps n p s w e = place_none (remove ps n) p.key.0 (λ k d l same. ⊎_elim
     (λ low. let lt = s k n d low w in
     absurd (omega (
       arith,
       lt,
       same,
-      ap (λ (q : PlacedKey). q.key) (get_or-remove_below ps n d k low w),
-      ap (λ (q : PlacedKey). q.key) (e ∙ get_or_default ps n p d w),
+      ap (λ (q : PlacedKey). q.key.0) (get_or-remove_below ps n d k low w),
+      ap (λ (q : PlacedKey). q.key.0) (e ∙ get_or_default ps n p d w),
     )))
     (λ high. let lt = s n (k + 1) d (omega (arith, high)) (omega (arith, l, length-remove ps n w)) in
     absurd (omega (
       arith,
       lt,
       same,
-      ap (λ (q : PlacedKey). q.key) (get_or-remove_above ps n d k high w),
-      ap (λ (q : PlacedKey). q.key) (e ∙ get_or_default ps n p d w),
+      ap (λ (q : PlacedKey). q.key.0) (get_or-remove_above ps n d k high w),
+      ap (λ (q : PlacedKey). q.key.0) (e ∙ get_or_default ps n p d w),
     )))
     (cases_lt k n))
 
@@ -266,7 +267,7 @@ was move (Some m) j h = (m, refl, cc)
 pub numbered_after : (old mid : List PlacedKey) (number at : ℕ) (new : Entered) (os : List Entered) → IsNumbered old os
     → AreMoved (up at) old mid → IsBelow old new.key number → at ≤ length os
     → All (λ (o : Entered). eqb o.key new.key ≡ false) os
-    → IsNumbered (insert mid number (record { key = new.key; at = at })) (insert os at new)
+    → IsNumbered (insert mid number (record { key = record { 0 = new.key }; at = at })) (insert os at new)
 numbered_after old mid number at new os n m b h f =
     let none : place_of old new.key ≡ None = fresh_place old os new.key n f in
     let none' : place_of mid new.key ≡ None = place_moved (up at) old mid new.key m ∙ ap (option_map (up at)) none in
@@ -320,7 +321,7 @@ numbered_after old mid number at new os n m b h f =
     }
   where
     here : PlacedKey
-    here = record { key = new.key; at = at }
+    here = record { key = record { 0 = new.key }; at = at }
 
     new_places : List PlacedKey
     new_places = insert mid number here
@@ -339,7 +340,7 @@ numbered_after old mid number at new os n m b h f =
 -- where a sorted list has the place of a key
 pub record At (ps : List PlacedKey) (key n j : ℕ) : Type 0 where
   pub within : n < length ps
-  pub key_is : (d : PlacedKey) → (get_or ps n d).key ≡ key
+  pub key_is : (d : PlacedKey) → (get_or ps n d).key.0 ≡ key
   pub at_is : (d : PlacedKey) → (get_or ps n d).at ≡ j
 
 pub at_number : (ps : List PlacedKey) (key n j : ℕ) → AreSorted ps → IsBelow ps key n → place_of ps key ≡ Some j
@@ -348,7 +349,7 @@ at_number ps key n j s b e = ⊎_elim
     (λ w. ⊎_elim
     (λ same. record {
       within = w;
-      key_is = λ d. ap (λ (p : PlacedKey). p.key) (get_or_default ps n d nowhere w) ∙ same;
+      key_is = λ d. ap (λ (p : PlacedKey). p.key.0) (get_or_default ps n d nowhere w) ∙ same;
       at_is = λ d. ap (λ (p : PlacedKey). p.at) (get_or_default ps n d nowhere w)
           ∙ some (get_or ps n nowhere).at
           (found_here ps key n (get_or ps n nowhere) b w (get_or_default ps n nowhere (get_or ps n nowhere) w) same
@@ -356,12 +357,12 @@ at_number ps key n j s b e = ⊎_elim
     })
     (λ ne. let none = found_other ps key n (get_or ps n nowhere) s b w
     (get_or_default ps n nowhere (get_or ps n nowhere) w) ne ∙ e in absurd (cc))
-    (cases_eq (get_or ps n nowhere).key key))
+    (cases_eq (get_or ps n nowhere).key.0 key))
     (λ past. let none = found_past ps key n b past ∙ e in absurd (cc))
     (cases_lt n (length ps))
   where
     nowhere : PlacedKey
-    nowhere = record { key = 0; at = 0 }
+    nowhere = record { key = record { 0 = 0 }; at = 0 }
 
     some : (a : ℕ) → Some a ≡ Some j → a ≡ j
     some a h = cc
@@ -395,7 +396,7 @@ other_key places os key at j o n p h ne e = let is : Some j ≡ Some at = sym (n
 
 -- the object of a key has left
 pub numbered_without : (places mid new : List PlacedKey) (number key at : ℕ) (p : PlacedKey) (os : List Entered)
-    → IsNumbered places os → Here places os key at → number < length places → p ≡ get_or places number p → p.key ≡ key
+    → IsNumbered places os → Here places os key at → number < length places → p ≡ get_or places number p → p.key.0 ≡ key
     → mid ≡ remove places number → AreMoved (down at) mid new → IsNumbered new (remove os at)
 numbered_without places mid new number key at p os n h w is k e m = record {
   sorted = sorted_moved (down at) mid new m (subst AreSorted (sym e) (sorted_remove places number n.sorted w));
@@ -504,7 +505,7 @@ pub kept_after : (old mid : List PlacedKey) (number at : ℕ) (new : Entered) (o
     → All (λ (o : Entered). eqb o.key new.key ≡ false) os → All (HasRow (length table)) new.symbols → length rows
     ≡ length table
     → IsTable rows (insert os at new)
-    → IsKept (insert os at new) rows (insert mid number (record { key = new.key; at = at }))
+    → IsKept (insert os at new) rows (insert mid number (record { key = record { 0 = new.key }; at = at }))
 kept_after old mid number at new os table rows k m b h f n r t = record {
   table = t;
   known = subst (λ c. All (λ (o : Entered). All (HasRow c) o.symbols) (insert os at new)) (sym r)

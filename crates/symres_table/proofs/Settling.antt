@@ -96,7 +96,7 @@ nobody = declared 0 nothing
 
 -- the key's declarations at the end begin no later than these
 own_start_le : (key : ℕ) (row xs os : List Declared) (n : ℕ) → row ≡ xs ++ os
-    → All (λ (d : Declared). eqb d.entry.key key ≡ true) os → IsOwnStart key row n → n ≤ length xs
+    → All (λ (d : Declared). eqb d.entry.object.0 key ≡ true) os → IsOwnStart key row n → n ≤ length xs
 own_start_le key row xs os n e o s = ⊎_elim
     (λ more.
     let len = ap length e in
@@ -104,7 +104,7 @@ own_start_le key row xs os n e o s = ⊎_elim
     let w = s.within in
     let there : get_or row (n - 1) nobody ≡ get_or os (n - 1 - length xs) nobody =
     ap (λ l. get_or l (n - 1) nobody) e ∙ get_or-append_right xs os (length xs) (n - 1) nobody refl (omega arith) in
-    absurd (false≢true (sym (s.other nobody (omega arith)) ∙ ap (λ (d : Declared). eqb d.entry.key key) there
+    absurd (false≢true (sym (s.other nobody (omega arith)) ∙ ap (λ (d : Declared). eqb d.entry.object.0 key) there
     ∙ o (n - 1 - length xs) nobody (omega (arith, len, len', w)))))
     (λ less. omega arith)
     (cases_lt (length xs) n)
@@ -115,11 +115,11 @@ or_left false b e = refl
 
 -- what does not stand before the place is of another key
 other_key : (place : List PlacedKey) (at key : ℕ) (d : Declared) → before place at key d ≡ false
-    → eqb d.entry.key key ≡ false
-other_key place at key d h = or_left (eqb d.entry.key key) _ h
+    → eqb d.entry.object.0 key ≡ false
+other_key place at key d h = or_left (eqb d.entry.object.0 key) _ h
 
 own_start_ge : (key : ℕ) (row xs os : List Declared) (n : ℕ) → row ≡ xs ++ os
-    → (0 < length xs → eqb (get_or xs (length xs - 1) nobody).entry.key key ≡ false) → IsOwnStart key row n
+    → (0 < length xs → eqb (get_or xs (length xs - 1) nobody).entry.object.0 key ≡ false) → IsOwnStart key row n
     → length xs ≤ n
 own_start_ge key row xs os n e o s = ⊎_elim
     (λ less.
@@ -127,7 +127,7 @@ own_start_ge key row xs os n e o s = ⊎_elim
     let len' = length-append xs os in
     let there : get_or row (length xs - 1) nobody ≡ get_or xs (length xs - 1) nobody =
     ap (λ l. get_or l (length xs - 1) nobody) e ∙ get_or_append_left xs os nobody (length xs - 1) (omega arith) in
-    absurd (false≢true (sym (o (omega arith)) ∙ ap (λ (d : Declared). eqb d.entry.key key) (sym there)
+    absurd (false≢true (sym (o (omega arith)) ∙ ap (λ (d : Declared). eqb d.entry.object.0 key) (sym there)
     ∙ s.own (length xs - 1) nobody (omega arith) (omega (arith, len, len')))))
     (λ more. omega arith)
     (cases_lt n (length xs))
@@ -159,8 +159,8 @@ settle_is place at key row fs (b ∷ bs) os n j a e s p =
     let at_last : ℕ = length (fs ++ (b ∷ bs)) - 1 in
     let last : get_or (fs ++ (b ∷ bs)) at_last nobody ≡ get_or (b ∷ bs) (at_last - length fs) nobody =
     get_or-append_right fs (b ∷ bs) (length fs) (length (fs ++ (b ∷ bs)) - 1) nobody refl (omega (arith, len)) in
-    let other : eqb (get_or (fs ++ (b ∷ bs)) (length (fs ++ (b ∷ bs)) - 1) nobody).entry.key key ≡ false =
-    ap (λ (d : Declared). eqb d.entry.key key) last
+    let other : eqb (get_or (fs ++ (b ∷ bs)) (length (fs ++ (b ∷ bs)) - 1) nobody).entry.object.0 key ≡ false =
+    ap (λ (d : Declared). eqb d.entry.object.0 key) last
     ∙ other_key place at key (get_or (b ∷ bs) (at_last - length fs) nobody)
     (a.behind (at_last - length fs) nobody (omega (arith, len))) in
     let le = own_start_le key row (fs ++ (b ∷ bs)) os n e' a.own s in
@@ -216,8 +216,9 @@ settled_same place at key number row row' fs (b ∷ bs) os a e h f =
     let d : Declared = get_or (b ∷ bs) (length bs) nobody in
     let last : slice_get row (length row - 1) ≡ Some d =
     ap (λ l. slice_get l (length l - 1)) (e ∙ sym (append_assoc fs os (b ∷ bs))) ∙ last_of (fs ++ os) b bs in
-    let other : eqb d.entry.key key ≡ false = other_key place at key d (a.behind (length bs) nobody (omega arith)) in
-    absurd (false≢true (sym (ap (is_entry key number) last ∙ and_left (eqb d.entry.key key) _ other) ∙ h))
+    let other : eqb d.entry.object.0 key ≡ false = other_key place at key d
+    (a.behind (length bs) nobody (omega arith)) in
+    absurd (false≢true (sym (ap (is_entry key number) last ∙ and_left (eqb d.entry.object.0 key) _ other) ∙ h))
 
 pub settling_start : (place : List PlacedKey) (at key : ℕ) (ss : List Numbered) (table : List Row)
     → Settling place at key ss ss table table
@@ -308,8 +309,8 @@ settling_local place at key ss left s old new h r = record {
       (ap (λ b. cond b (s ∷ named k left) (named k left)) (named_local k s h)) (r.items k d fs bs l a e);
 }
 
-own_key : (k key : ℕ) (ss : List Numbered) → All (λ (d : Declared). eqb d.entry.key key ≡ true) (own k key ss)
-own_key k key ss = All-map (λ (d : Declared). eqb d.entry.key key ≡ true) (declared key) (named k ss) (λ j d l.
+own_key : (k key : ℕ) (ss : List Numbered) → All (λ (d : Declared). eqb d.entry.object.0 key ≡ true) (own k key ss)
+own_key k key ss = All-map (λ (d : Declared). eqb d.entry.object.0 key ≡ true) (declared key) (named k ss) (λ j d l.
     eq-eqb key key refl)
 
 settled_is : (fs bs os l : List Declared) → IsSettling [] fs bs os l → l ≡ fs ++ (os ++ bs)

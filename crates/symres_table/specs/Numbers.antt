@@ -17,7 +17,10 @@ pub record Entered : Type 0 where
   pub room : ℕ
 
 abbrev pub declared : ℕ → Numbered → Declared
-declared key s = record { entry = record { key = key; symbol = s.number }; symbol = s.symbol }
+declared key s = record {
+  entry = record { object = record { 0 = key }; symbol = record { 0 = s.number } };
+  symbol = s.symbol;
+}
 
 -- the symbol isn't local, and has the name of this number
 abbrev pub is_named : ℕ → Numbered → Bool
@@ -42,7 +45,7 @@ HasRow n s = is_local s.symbol.binding ≡ false → s.name < n
 
 -- the declaration is of the object `key`, or of one that stands in front of `at`
 abbrev pub before : List PlacedKey → ℕ → ℕ → Declared → Bool
-before places at key d = (d.entry.key == key) || is_below at (place_of places d.entry.key)
+before places at key d = (d.entry.object.0 == key) || is_below at (place_of places d.entry.object.0)
 
 -- where a declaration of `key` goes: those from there on are not before it, and the one in front is
 pub record IsPlace (places : List PlacedKey) (at key : ℕ) (ds : List Declared) (n : ℕ) : Type 0 where
@@ -74,7 +77,7 @@ pub record Grows (old new : List (Vec Declared Global)) (symbols : List Numbered
 
 -- the declarations of other objects
 abbrev pub others : ℕ → List Declared → List Declared
-others key ds = filter (λ (d : Declared). not (d.entry.key == key)) ds
+others key ds = filter (λ (d : Declared). not (d.entry.object.0 == key)) ds
 
 -- the objects without the one of the key
 abbrev pub without : ℕ → List Entered → List Entered

@@ -2,6 +2,7 @@
 use Rattle.std.specs.Prelude.{ℕ, ◌≡◌, ◌+◌, ◌<◌, ◌≤◌, List, Some, length, slice_index_or}
 use Rattle.std.specs.List.{All}
 use Rattle.std.proofs.Common.{Vec, Global}
+use Rattle.ldmodel.specs.declared.names.ObjectKey.{ObjectKey}
 use Rattle.symres_table.specs.declared.places.PlacedKey.{PlacedKey}
 use Rattle.symres_table.specs.declared.symbol.Declared.{Declared}
 use Rattle.symres_table.specs.declared.symbol.Numbered.{Numbered}
@@ -38,6 +39,9 @@ pub record IsKept (os : List Entered) (rows : List (Vec Declared Global)) (place
 -- the object of the key is entered
 abbrev pub HasKey : ℕ → List Entered → Type 0
 HasKey key os = (j : ℕ) × (j < length os) × ((o : Entered) → (slice_index_or os j o).key ≡ key)
+
+abbrev pub key_of : Entered → ObjectKey
+key_of o = record { 0 = o.key }
 
 -- the objects and the room for them stay, and rows and room are only added
 pub record GrowsRoom (old new : ObjectsState) : Type 0 where

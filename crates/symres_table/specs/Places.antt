@@ -6,18 +6,18 @@ use Rattle.symres_table.specs.declared.places.PlacedKey.{PlacedKey}
 -- the place of the object of a key
 abbrev pub place_of : List PlacedKey → ℕ → Option ℕ
 place_of [] key = None
-place_of (p ∷ ps) key = if p.key == key then Some p.at else place_of ps key
+place_of (p ∷ ps) key = if p.key.0 == key then Some p.at else place_of ps key
 
 -- in the order of the keys, each of them once
 abbrev pub AreSorted : List PlacedKey → Type 0
 AreSorted ps = (i j : ℕ) (d : PlacedKey) → i < j → j < length ps
-    → (slice_index_or ps i d).key < (slice_index_or ps j d).key
+    → (slice_index_or ps i d).key.0 < (slice_index_or ps j d).key.0
 
 -- where the keys below this one end
 pub record IsBelow (ps : List PlacedKey) (key n : ℕ) : Type 0 where
   pub within : n ≤ length ps
-  pub below : (k : ℕ) (d : PlacedKey) → k < n → (slice_index_or ps k d).key < key
-  pub rest : (k : ℕ) (d : PlacedKey) → n ≤ k → k < length ps → key ≤ (slice_index_or ps k d).key
+  pub below : (k : ℕ) (d : PlacedKey) → k < n → (slice_index_or ps k d).key.0 < key
+  pub rest : (k : ℕ) (d : PlacedKey) → n ≤ k → k < length ps → key ≤ (slice_index_or ps k d).key.0
 
 -- the place is in front of `at`
 abbrev pub is_below : ℕ → Option ℕ → Bool
@@ -35,5 +35,5 @@ down at n = if nat_lt at n then n - 1 else n
 -- each key has moved so
 pub record AreMoved (move : ℕ → ℕ) (old new : List PlacedKey) : Type 0 where
   pub long : length new ≡ length old
-  pub key : (k : ℕ) (d : PlacedKey) → k < length old → (slice_index_or new k d).key ≡ (slice_index_or old k d).key
+  pub key : (k : ℕ) (d : PlacedKey) → k < length old → (slice_index_or new k d).key.0 ≡ (slice_index_or old k d).key.0
   pub at : (k : ℕ) (d : PlacedKey) → k < length old → (slice_index_or new k d).at ≡ move (slice_index_or old k d).at

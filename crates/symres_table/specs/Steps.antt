@@ -36,17 +36,17 @@ pub record Holds (ss : List Numbered) (old new : List (Vec Declared Global)) : T
 pub record AreParts (places : List PlacedKey) (at key : ℕ) (fs bs os : List Declared) : Type 0 where
   pub front : All (λ (d : Declared). before places at key d ≡ true) fs
   pub behind : All (λ (d : Declared). before places at key d ≡ false) bs
-  pub own : All (λ (d : Declared). (d.entry.key == key) ≡ true) os
+  pub own : All (λ (d : Declared). (d.entry.object.0 == key) ≡ true) os
 
 -- from n on all declarations are of the key, and the one in front is not
 pub record IsOwnStart (key : ℕ) (ds : List Declared) (n : ℕ) : Type 0 where
   pub within : n ≤ length ds
-  pub own : (k : ℕ) (d : Declared) → n ≤ k → k < length ds → ((slice_index_or ds k d).entry.key == key) ≡ true
-  pub other : (d : Declared) → 0 < n → ((slice_index_or ds (n - 1) d).entry.key == key) ≡ false
+  pub own : (k : ℕ) (d : Declared) → n ≤ k → k < length ds → ((slice_index_or ds k d).entry.object.0 == key) ≡ true
+  pub other : (d : Declared) → 0 < n → ((slice_index_or ds (n - 1) d).entry.object.0 == key) ≡ false
 
 abbrev pub is_entry : ℕ → ℕ → Option Declared → Bool
 is_entry key number None = false
-is_entry key number (Some d) = (d.entry.key == key) && (d.entry.symbol == number)
+is_entry key number (Some d) = (d.entry.object.0 == key) && (d.entry.symbol.0 == number)
 
 -- the last declaration is that of this symbol
 abbrev pub ends_with : ℕ → ℕ → List Declared → Bool
@@ -89,7 +89,7 @@ pub record Cleared (key : ℕ) (ss : List Numbered) (old new : List (Vec Declare
 
 abbrev pub is_of : ℕ → Option Declared → Bool
 is_of key None = false
-is_of key (Some d) = d.entry.key == key
+is_of key (Some d) = d.entry.object.0 == key
 
 -- the last declaration is of the key
 abbrev pub ends_in : ℕ → List Declared → Bool

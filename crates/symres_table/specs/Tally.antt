@@ -4,18 +4,19 @@ use Rattle.std.specs.List.{list_any}
 use Rattle.ldmodel.specs.Names.{Declaration, is_strong, is_common, is_weak, is_undefined, greatest, common_size}
 use Rattle.ldmodel.specs.Names.{common_alignment}
 use Rattle.ldmodel.specs.declared.names.Entry.{Entry}
+use Rattle.ldmodel.specs.declared.names.ObjectKey.{ObjectKey}
 use Rattle.symres_table.specs.declared.symbol.Declared.{Declared}
 use Rattle.symres_table.specs.declared.tally.Tally.{Tally}
 
 -- a declaration of a name, where objects have their keys as numbers
 abbrev pub declaration_of : List ℕ → Declared → Declaration
 declaration_of name d =
-    record { entry = record { object = d.entry.key; symbol = d.entry.symbol }; name = name; symbol = d.symbol }
+    record { entry = record { object = d.entry.object.0; symbol = d.entry.symbol.0 }; name = name; symbol = d.symbol }
 
 -- the entry of the first
-abbrev pub first : List Declaration → Option Entry
+abbrev pub first : List Declaration → Option (Entry ObjectKey)
 first [] = None
-first (d ∷ ds) = Some (record { key = d.entry.object; symbol = d.entry.symbol })
+first (d ∷ ds) = Some (record { object = record { 0 = d.entry.object }; symbol = record { 0 = d.entry.symbol } })
 
 abbrev pub tally_of : List Declaration → Tally
 tally_of ds = record {

@@ -8,7 +8,7 @@ ghost use Rattle.std.specs.Option.{option_map};
 ghost use Rattle.elfobj.specs.Raised.{raised};
 ghost use Rattle.elfobj.specs.declared.meter.Count.TheVariants as counts;
 ghost use Rattle.elfobj.specs.Symbols.{NamedSymbol};
-ghost use Rattle.ldmodel.specs.HandedOver.{decision_of};
+ghost use Rattle.ldmodel.specs.HandedOver.{decision_under_keys};
 ghost use Rattle.ldmodel.specs.Names.{decided, is_local};
 ghost use Rattle.ldmodel.specs.ScriptNames.{is_assigned, is_provided};
 ghost use Rattle.symres_table.specs.Changes.{IsRefused, Joins};
@@ -35,7 +35,7 @@ use elfobj::memory::NoMemory;
 use elfobj::relocation::SymbolIndex;
 use elfobj::{Count, Meter, Object};
 use indexmap::map::Iter;
-use ldmodel::names::{Case, NameKey, ObjectKey};
+use ldmodel::names::{Case, NameKey, ObjectKey, ObjectPlace};
 use ldscript::Script;
 use std::alloc::Global;
 use std::hash::RandomState;
@@ -44,20 +44,21 @@ use std::marker::Model;
 /// The resolution of a name. Only `Names` makes one, and counts it.
 #[derive(Drop)]
 pub struct Decision {
-    case: Case,
+    case: Case<ObjectKey>,
 }
 
 impl Model for Decision {
     ghost use Rattle.ldmodel.specs.declared.names.Case.{Case};
+    ghost use Rattle.ldmodel.specs.declared.names.ObjectKey.{ObjectKey};
 
-    ghost Value = { Case };
+    ghost Value = { Case ObjectKey };
 
     ghost view = { λ d. d.case };
 }
 
 impl Decision {
     /// The case, with the caller's keys of objects.
-    pub fn case(&self) -> &Case
+    pub fn case(&self) -> &Case<ObjectKey>
         ensures { result.now ≡ self.now }
     {
         &self.case
@@ -220,12 +221,12 @@ impl Names {
         ensures entered { result ≡ true → HasObject object.0 self.now.objects }
         ensures fresh { result ≡ false → IsFresh object.0 self.now.objects }
     {
-        self.objects.contains(object.0)
+        self.objects.contains(object)
     }
 
     /// Decides a name over the entries of all entered objects and the script, and counts it. It takes no memory.
     pub fn decide(&self, script: &Script, name: &[u8], meter: &mut Meter) -> Decision
-        ensures case { decision_of (λ key. key) result
+        ensures case { decision_under_keys result
             ≡ decided (is_assigned script.now name.now) (is_provided script.now name.now)
             (entries_of name.now self.now.objects) }
         ensures counted { meter.new ≡ raised meter.old counts.Names 1 }
@@ -245,7 +246,7 @@ impl Names {
     /// Decides the name of a key, without hashing.
     pub fn decide_key(&self, script: &Script, name: NameKey, meter: &mut Meter) -> Decision
         requires { HasName self.now.names name.0 }
-        ensures case { (bytes : List ℕ) → IsNamed self.now.names name.0 bytes → decision_of (λ key. key) result
+        ensures case { (bytes : List ℕ) → IsNamed self.now.names name.0 bytes → decision_under_keys result
             ≡ decided (is_assigned script.now bytes) (is_provided script.now bytes)
             (entries_of bytes self.now.objects) }
         ensures counted { meter.new ≡ raised meter.old counts.Names 1 }
@@ -345,28 +346,25 @@ impl Names {
         requires symbol { HasSymbol object.0 symbol.0 self.now.objects }
         ensures { IsNameOfSymbol self.now.names object.0 symbol.0 self.now.objects result.0 }
     {
-        match self.objects.symbol(object.0, symbol.0 as usize) {
+        match self.objects.symbol(object, symbol.0 as usize) {
             Some(symbol) => NameKey(symbol.name),
             None => unreachable!(),
         }
     }
 
     /// The key of a symbol's name, of the object at a place among the entered ones, from 0. The time is constant.
-    pub fn key_at(&self, place: usize, symbol: SymbolIndex) -> NameKey
-        requires { IsSeenAt self.now.objects place symbol.0 }
-        ensures { IsNameAt self.now.names self.now.objects place symbol.0 result.0 }
+    pub fn key_at(&self, place: ObjectPlace, symbol: SymbolIndex) -> NameKey
+        requires { IsSeenAt self.now.objects place.0 symbol.0 }
+        ensures { IsNameAt self.now.names self.now.objects place.0 symbol.0 result.0 }
     {
         NameKey(self.objects.symbol_in(place, symbol.0 as usize).name)
     }
 
     /// The key of the object at a place among the entered ones, from 0. The time is constant.
-    pub fn object_at(&self, place: usize) -> Option<ObjectKey>
-        ensures { result ≡ option_map object_key (slice_get self.now.objects place) }
+    pub fn object_at(&self, place: ObjectPlace) -> Option<ObjectKey>
+        ensures { result ≡ option_map object_key (slice_get self.now.objects place.0) }
     {
-        match self.objects.key_at(place) {
-            Some(key) => Some(ObjectKey(key)),
-            None => None,
-        }
+        self.objects.key_at(place)
     }
 
     /// Makes room for this many more names, as far as there is memory for it, so that entering objects is quicker.
@@ -427,7 +425,7 @@ impl Names {
         let _known = self.known.len();
         let mut list = take_list(&mut self.spare, object.symbols().len());
         number_all(&self.known, object, &self.guesses, &self.repeats, &mut list);
-        self.objects.enter(key.0, at, list);
+        self.objects.enter(key, at, list);
     }
 
     /// Enters an object at a place among the entered ones, from 0. It does what `reserve` and `enter` do one after the
@@ -458,7 +456,7 @@ impl Names {
         let _known = self.known.len();
         let mut list = take_list(&mut self.spare, object.symbols().len());
         number_seen(object, &self.guesses, &mut list);
-        self.objects.enter(key.0, at, list);
+        self.objects.enter(key, at, list);
         Ok(())
     }
 
@@ -476,7 +474,7 @@ impl Names {
     {
         // for the prover: brings in the invariant of `self.known`
         let _known = self.known.len();
-        let list = self.objects.withdraw(key.0);
+        let list = self.objects.withdraw(key);
         self.spare.push_reserved(list);
     }
 

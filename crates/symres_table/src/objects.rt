@@ -5,7 +5,7 @@ ghost use Rattle.std.specs.Prelude.{slice_index_or, slice_get, vec_len, vec_capa
 ghost use Rattle.std.specs.Option.{option_map};
 ghost use Rattle.std.specs.List.{All};
 ghost use Rattle.ldmodel.specs.Names.{is_local};
-ghost use Rattle.symres_table.specs.Objects.{CanEnter, GrowsRoom, HasKey};
+ghost use Rattle.symres_table.specs.Objects.{CanEnter, GrowsRoom, HasKey, key_of};
 ghost use Rattle.symres_table.specs.Numbers.{Entered, entries, HasRoom, HasRow, HasSymbols, is_used, Leaves, RowsGrow};
 ghost use Rattle.symres_table.specs.Numbers.{without};
 ghost use Rattle.symres_table.specs.declared.symbol.Declared.{Declared};
@@ -14,12 +14,13 @@ ghost use Rattle.symres_table.specs.declared.symbol.Numbered.{Numbered};
 use crate::places::{PlacedKey, count_below, find, make_gap, move_down};
 use crate::rows::{add_all, grow_to, remove_all, reserve_all};
 use crate::symbol::{Declared, Numbered};
+use ldmodel::names::{ObjectKey, ObjectPlace};
 use std::alloc::{AllocError, Global};
 use std::marker::Model;
 
 #[derive(Drop)]
 struct EnteredObject {
-    key: usize,
+    key: ObjectKey,
     symbols: Vec<Numbered>,
 }
 
@@ -29,7 +30,7 @@ impl Model for EnteredObject {
 
     ghost Value = { Entered };
 
-    ghost view = { λ p. record { key = p.key; symbols = p.symbols.items; room = vec_capacity p.symbols } };
+    ghost view = { λ p. record { key = p.key.0; symbols = p.symbols.items; room = vec_capacity p.symbols } };
 }
 
 /// The entered objects, the rows of names under their numbers, and the places of keys.
@@ -97,9 +98,9 @@ impl Objects {
     }
 
     /// Whether the object of a key is entered.
-    pub fn contains(&self, key: usize) -> bool
-        ensures entered { result ≡ true → HasKey key self.now.objects }
-        ensures fresh { result ≡ false → All (λ (o : Entered). (o.key == key) ≡ false) self.now.objects }
+    pub fn contains(&self, key: ObjectKey) -> bool
+        ensures entered { result ≡ true → HasKey key.0 self.now.objects }
+        ensures fresh { result ≡ false → All (λ (o : Entered). (o.key == key.0) ≡ false) self.now.objects }
     {
         match find(&self.places, key) {
             Some(_) => true,
@@ -125,29 +126,30 @@ impl Objects {
     }
 
     /// A symbol of an entered object.
-    pub fn symbol(&self, key: usize, number: usize) -> Option<Numbered>
-        requires { HasKey key self.now.objects }
-        ensures { All (λ (o : Entered). (o.key == key) ≡ true → result ≡ slice_get o.symbols number) self.now.objects }
+    pub fn symbol(&self, key: ObjectKey, number: usize) -> Option<Numbered>
+        requires { HasKey key.0 self.now.objects }
+        ensures { All (λ (o : Entered). (o.key == key.0) ≡ true → result ≡ slice_get o.symbols number)
+            self.now.objects }
     {
         let at = find(&self.places, key).unwrap();
         symbol_at(&self.order[at].symbols, number)
     }
 
     /// A symbol of the object at a place.
-    pub fn symbol_in(&self, place: usize, number: usize) -> Numbered
-        requires place { place < length self.now.objects }
-        requires number { (o : Entered) → number < length (slice_index_or self.now.objects place o).symbols }
+    pub fn symbol_in(&self, place: ObjectPlace, number: usize) -> Numbered
+        requires place { place.0 < length self.now.objects }
+        requires number { (o : Entered) → number < length (slice_index_or self.now.objects place.0 o).symbols }
         ensures { (o : Entered) (s : Numbered) → result
-            ≡ slice_index_or (slice_index_or self.now.objects place o).symbols number s }
+            ≡ slice_index_or (slice_index_or self.now.objects place.0 o).symbols number s }
     {
-        self.order[place].symbols[number]
+        self.order[place.0].symbols[number]
     }
 
     /// The key of the object at a place.
-    pub fn key_at(&self, place: usize) -> Option<usize>
-        ensures { result ≡ option_map (λ (o : Entered). o.key) (slice_get self.now.objects place) }
+    pub fn key_at(&self, place: ObjectPlace) -> Option<ObjectKey>
+        ensures { result ≡ option_map key_of (slice_get self.now.objects place.0) }
     {
-        match self.order.get(place) {
+        match self.order.get(place.0) {
             Some(placed) => Some(placed.key),
             None => None,
         }
@@ -182,12 +184,13 @@ impl Objects {
     }
 
     /// Enters an object at a place. It takes no memory.
-    pub fn enter(&mut self, key: usize, at: usize, symbols: Vec<Numbered>)
+    pub fn enter(&mut self, key: ObjectKey, at: usize, symbols: Vec<Numbered>)
         requires at { at ≤ length self.old.objects }
-        requires fresh { All (λ (o : Entered). (o.key == key) ≡ false) self.old.objects }
+        requires fresh { All (λ (o : Entered). (o.key == key.0) ≡ false) self.old.objects }
         requires room { CanEnter self.old symbols.items }
         ensures objects { self.new.objects
-            ≡ insert self.old.objects at (record { key = key; symbols = symbols.items; room = vec_capacity symbols }) }
+            ≡ insert self.old.objects at
+            (record { key = key.0; symbols = symbols.items; room = vec_capacity symbols }) }
         ensures room { self.new.room ≡ self.old.room }
         ensures order { self.new.order_room + 1 ≡ self.old.order_room }
         ensures places { self.new.place_room + 1 ≡ self.old.place_room }
@@ -203,15 +206,15 @@ impl Objects {
     }
 
     /// Removes an object, and returns its list. It takes no memory.
-    pub fn withdraw(&mut self, key: usize) -> Vec<Numbered>
-        requires { HasKey key self.old.objects }
-        ensures objects { self.new.objects ≡ without key self.old.objects }
+    pub fn withdraw(&mut self, key: ObjectKey) -> Vec<Numbered>
+        requires { HasKey key.0 self.old.objects }
+        ensures objects { self.new.objects ≡ without key.0 self.old.objects }
         ensures leaves { Leaves self.old.objects self.new.objects
-            (record { key = key; symbols = result.items; room = vec_capacity result }) }
+            (record { key = key.0; symbols = result.items; room = vec_capacity result }) }
         ensures room { self.new.room ≡ self.old.room }
         ensures order { self.new.order_room ≡ self.old.order_room + 1 }
         ensures places { self.new.place_room ≡ self.old.place_room + 1 }
-        ensures symbols { HasSymbols key result.items self.old.objects }
+        ensures symbols { HasSymbols key.0 result.items self.old.objects }
         ensures again { CanEnter self.new result.items }
     {
         let number = count_below(&self.places, key);

@@ -3,10 +3,14 @@
 ghost use Rattle.std.specs.Prelude.{◌≡◌, ◌<◌, ◌≤◌, ◌^◌, ◌-◌, length};
 ghost use Rattle.std.specs.List.{All};
 
+use ldmodel::names::ObjectKey;
+
 /// The key of an entered object, and its place in the project, from 0.
 #[derive(Clone, Copy, Debug, PartialEq, Eq)]
 pub struct PlacedKey {
-    pub key: usize,
+    /// The key.
+    pub key: ObjectKey,
+    /// The place.
     pub at: usize,
 }
 
@@ -14,15 +18,15 @@ ghost use Rattle.symres_table.specs.Places.{AreSorted, IsBelow, place_of, is_bel
 ghost use Rattle.symres_table.specs.declared.places.PlacedKey.{PlacedKey};
 
 /// The number of places whose key is below this one.
-pub fn count_below(places: &[PlacedKey], key: usize) -> usize
+pub fn count_below(places: &[PlacedKey], key: ObjectKey) -> usize
     requires { AreSorted places.now }
-    ensures { IsBelow places.now key result }
+    ensures { IsBelow places.now key.0 result }
 {
     let mut low = 0;
     let mut high = places.len();
     while low < high {
         let middle = low + (high - low) / 2;
-        if places[middle].key < key {
+        if places[middle].key.0 < key.0 {
             low = middle + 1;
         } else {
             high = middle;
@@ -32,9 +36,9 @@ pub fn count_below(places: &[PlacedKey], key: usize) -> usize
 }
 
 /// The place of the object of a key.
-pub fn find(places: &[PlacedKey], key: usize) -> Option<usize>
+pub fn find(places: &[PlacedKey], key: ObjectKey) -> Option<usize>
     requires { AreSorted places.now }
-    ensures { result ≡ place_of places.now key }
+    ensures { result ≡ place_of places.now key.0 }
 {
     let number = count_below(places, key);
     match places.get(number) {
@@ -50,9 +54,9 @@ pub fn find(places: &[PlacedKey], key: usize) -> Option<usize>
 }
 
 /// Whether the object of a key is before `at`.
-pub fn is_in_front(places: &[PlacedKey], at: usize, key: usize) -> bool
+pub fn is_in_front(places: &[PlacedKey], at: usize, key: ObjectKey) -> bool
     requires { AreSorted places.now }
-    ensures { result ≡ is_below at (place_of places.now key) }
+    ensures { result ≡ is_below at (place_of places.now key.0) }
 {
     match find(places, key) {
         Some(place) => place < at,

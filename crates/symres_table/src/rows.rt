@@ -11,25 +11,26 @@ ghost use Rattle.symres_table.specs.Numbers.{before, declared, Entered, Grows, H
 ghost use Rattle.symres_table.specs.Numbers.{IsSplit};
 ghost use Rattle.symres_table.specs.Numbers.{IsTable, KeepsRoom, others, RowsGrow, without};
 ghost use Rattle.symres_table.specs.Places.{AreSorted};
-ghost use Rattle.symres_table.specs.Steps.{AllGathered, Appended, AreParts, ClearedWhere, ends_in, ends_with, Gathered};
-ghost use Rattle.symres_table.specs.Steps.{HasRoomForOne, Holds, IsGathered, IsOwnStart, Settling};
+ghost use Rattle.symres_table.specs.Steps.{AllGathered, Appended, AreParts, ClearedWhere, ends_in, ends_with};
+ghost use Rattle.symres_table.specs.Steps.{HasRoomForOne, Holds, IsGathered, IsOwnStart, Gathered, Settling};
 
 use crate::places::{PlacedKey, is_in_front};
 use crate::symbol::{Declared, Numbered, is_visible};
+use elfobj::relocation::SymbolIndex;
 use elfobj::symbol::SymbolPlace;
-use ldmodel::names::Entry;
+use ldmodel::names::{Entry, ObjectKey};
 use std::alloc::AllocError;
 
-fn is_before(places: &[PlacedKey], at: usize, key: usize, declared: &Declared) -> bool
+fn is_before(places: &[PlacedKey], at: usize, key: ObjectKey, declared: &Declared) -> bool
     requires { AreSorted places.now }
-    ensures { result ≡ before places.now at key declared.now }
+    ensures { result ≡ before places.now at key.0 declared.now }
 {
-    declared.entry.key == key || is_in_front(places, at, declared.entry.key)
+    declared.entry.object == key || is_in_front(places, at, declared.entry.object)
 }
 
-fn place_for(row: &[Declared], places: &[PlacedKey], at: usize, key: usize) -> usize
+fn place_for(row: &[Declared], places: &[PlacedKey], at: usize, key: ObjectKey) -> usize
     requires { AreSorted places.now }
-    ensures { IsPlace places.now at key row.now result }
+    ensures { IsPlace places.now at key.0 row.now result }
 {
     let mut number = row.len();
     while number > 0 && !is_before(places, at, key, &row[number - 1]) {
@@ -38,24 +39,24 @@ fn place_for(row: &[Declared], places: &[PlacedKey], at: usize, key: usize) -> u
     number
 }
 
-fn declaration(key: usize, symbol: Numbered) -> Declared
-    ensures { result ≡ declared key symbol }
+fn declaration(key: ObjectKey, symbol: Numbered) -> Declared
+    ensures { result ≡ declared key.0 symbol }
 {
     Declared {
         entry: Entry {
-            key,
-            symbol: symbol.number,
+            object: key,
+            symbol: SymbolIndex(symbol.number),
         },
         symbol: symbol.symbol,
     }
 }
 
 /// Puts a declaration of a symbol of any binding at the end of its row. A local one declares nothing.
-fn append_visible(table: &mut Vec<Vec<Declared>>, key: usize, symbol: Numbered)
+fn append_visible(table: &mut Vec<Vec<Declared>>, key: ObjectKey, symbol: Numbered)
     requires known { HasRow (length table.old.items) symbol }
     requires room { HasRoomForOne table.old.items symbol }
-    ensures { (ss : List Numbered) (was : List (Vec Declared Global)) → Appended key ss was table.old.items
-        → Appended key (ss ++ symbol ∷ []) was table.new.items }
+    ensures { (ss : List Numbered) (was : List (Vec Declared Global)) → Appended key.0 ss was table.old.items
+        → Appended key.0 (ss ++ symbol ∷ []) was table.new.items }
 {
     if is_visible(&symbol.symbol) {
         table[symbol.name].push_reserved(declaration(key, symbol));
@@ -63,10 +64,10 @@ fn append_visible(table: &mut Vec<Vec<Declared>>, key: usize, symbol: Numbered)
 }
 
 /// Puts what an object declares at the ends of the rows. It takes no memory.
-fn append_all(table: &mut Vec<Vec<Declared>>, key: usize, symbols: &[Numbered])
+fn append_all(table: &mut Vec<Vec<Declared>>, key: ObjectKey, symbols: &[Numbered])
     requires known { All (HasRow (length table.old.items)) symbols.now }
     requires room { HasRoom table.old.items symbols.now }
-    ensures { Appended key symbols.now table.old.items table.new.items }
+    ensures { Appended key.0 symbols.now table.old.items table.new.items }
 {
     for symbol in symbols {
         append_visible(table, key, *symbol);
@@ -74,11 +75,11 @@ fn append_all(table: &mut Vec<Vec<Declared>>, key: usize, symbols: &[Numbered])
 }
 
 /// Where the declarations of a key at the end of a row begin.
-fn start_of_own(row: &[Declared], key: usize) -> usize
-    ensures { IsOwnStart key row.now result }
+fn start_of_own(row: &[Declared], key: ObjectKey) -> usize
+    ensures { IsOwnStart key.0 row.now result }
 {
     let mut start = row.len();
-    while start > 0 && row[start - 1].entry.key == key {
+    while start > 0 && row[start - 1].entry.object == key {
         start -= 1;
     }
     start
@@ -95,9 +96,9 @@ fn move_tail_to(row: &mut [Declared], tail: usize, at: usize)
 }
 
 /// Moves the declarations of a key from the end of a row to those of the objects in front, in one rotation.
-fn settle(row: &mut [Declared], places: &[PlacedKey], at: usize, key: usize)
+fn settle(row: &mut [Declared], places: &[PlacedKey], at: usize, key: ObjectKey)
     requires { AreSorted places.now }
-    ensures { (fs bs os : List Declared) → AreParts places.now at key fs bs os → row.old ≡ fs ++ (bs ++ os)
+    ensures { (fs bs os : List Declared) → AreParts places.now at key.0 fs bs os → row.old ≡ fs ++ (bs ++ os)
         → row.new ≡ fs ++ (os ++ bs) }
 {
     let tail = start_of_own(row, key);
@@ -106,25 +107,31 @@ fn settle(row: &mut [Declared], places: &[PlacedKey], at: usize, key: usize)
 }
 
 /// Whether a row ends with the declaration of this symbol by the object under `key`.
-fn ends_with(row: &[Declared], key: usize, symbol: Numbered) -> bool
-    ensures { result ≡ ends_with key symbol.number row.now }
+fn ends_with(row: &[Declared], key: ObjectKey, symbol: Numbered) -> bool
+    ensures { result ≡ ends_with key.0 symbol.number row.now }
 {
     match row.last() {
-        Some(declared) => declared.entry.key == key && declared.entry.symbol == symbol.number,
+        Some(declared) => declared.entry.object == key && declared.entry.symbol.0 == symbol.number,
         None => false,
     }
 }
 
 /// Settles a row if it ends with the declaration of this symbol. Of the symbols of a name only the last one finds
 /// that, so that a row is gone through once.
-fn settle_last(row: &mut [Declared], places: &[PlacedKey], at: usize, key: usize, symbol: Numbered)
+fn settle_last(
+    row: &mut [Declared],
+    places: &[PlacedKey],
+    at: usize,
+    key: ObjectKey,
+    symbol: Numbered,
+)
     requires { AreSorted places.now }
-    ensures last { (fs bs os : List Declared) → AreParts places.now at key fs bs (os ++ declared key symbol ∷ [])
-        → row.old ≡ fs ++ (bs ++ (os ++ declared key symbol ∷ []))
-        → row.new ≡ fs ++ ((os ++ declared key symbol ∷ []) ++ bs) }
-    ensures either { (fs bs os : List Declared) → AreParts places.now at key fs bs os
+    ensures last { (fs bs os : List Declared) → AreParts places.now at key.0 fs bs (os ++ declared key.0 symbol ∷ [])
+        → row.old ≡ fs ++ (bs ++ (os ++ declared key.0 symbol ∷ []))
+        → row.new ≡ fs ++ ((os ++ declared key.0 symbol ∷ []) ++ bs) }
+    ensures either { (fs bs os : List Declared) → AreParts places.now at key.0 fs bs os
         → row.old ≡ fs ++ (bs ++ os) → (row.new ≡ row.old) ⊎ (row.new ≡ fs ++ (os ++ bs)) }
-    ensures settled { (fs bs os : List Declared) → AreParts places.now at key fs bs os
+    ensures settled { (fs bs os : List Declared) → AreParts places.now at key.0 fs bs os
         → row.old ≡ fs ++ (os ++ bs) → row.new ≡ row.old }
 {
     if ends_with(row, key, symbol) {
@@ -137,14 +144,14 @@ fn settle_visible(
     table: &mut Vec<Vec<Declared>>,
     places: &[PlacedKey],
     at: usize,
-    key: usize,
+    key: ObjectKey,
     symbol: Numbered,
 )
     requires sorted { AreSorted places.now }
     requires known { HasRow (length table.old.items) symbol }
     ensures { (ss left : List Numbered) (was : List (Vec Declared Global))
-        → Settling places.now at key (ss ++ symbol ∷ left) (symbol ∷ left) was table.old.items
-        → Settling places.now at key (ss ++ symbol ∷ left) left was table.new.items }
+        → Settling places.now at key.0 (ss ++ symbol ∷ left) (symbol ∷ left) was table.old.items
+        → Settling places.now at key.0 (ss ++ symbol ∷ left) left was table.new.items }
 {
     if is_visible(&symbol.symbol) {
         settle_last(&mut table[symbol.name], places, at, key, symbol);
@@ -156,12 +163,12 @@ fn settle_all(
     table: &mut Vec<Vec<Declared>>,
     places: &[PlacedKey],
     at: usize,
-    key: usize,
+    key: ObjectKey,
     symbols: &[Numbered],
 )
     requires sorted { AreSorted places.now }
     requires known { All (HasRow (length table.old.items)) symbols.now }
-    ensures { Settling places.now at key symbols.now [] table.old.items table.new.items }
+    ensures { Settling places.now at key.0 symbols.now [] table.old.items table.new.items }
 {
     for symbol in symbols {
         settle_visible(table, places, at, key, *symbol);
@@ -175,15 +182,15 @@ pub fn add_all(
     places: &[PlacedKey],
     at: usize,
     count: usize,
-    key: usize,
+    key: ObjectKey,
     symbols: &[Numbered],
 )
     requires sorted { AreSorted places.now }
     requires known { All (HasRow (length table.old.items)) symbols.now }
     requires room { HasRoom table.old.items symbols.now }
-    ensures table { (xs ys : List Entered) → IsSplit places.now at key xs ys → (count ≤ at → ys ≡ [])
+    ensures table { (xs ys : List Entered) → IsSplit places.now at key.0 xs ys → (count ≤ at → ys ≡ [])
         → IsTable table.old.items (xs ++ ys)
-        → (room : ℕ) → IsTable table.new.items (xs ++ record { key = key; symbols = symbols.now; room = room } ∷ ys) }
+        → (room : ℕ) → IsTable table.new.items (xs ++ record { key = key.0; symbols = symbols.now; room = room } ∷ ys) }
     ensures grows { Grows table.old.items table.new.items symbols.now }
 {
     append_all(table, key, symbols);
@@ -192,26 +199,26 @@ pub fn add_all(
     }
 }
 
-fn drop_key(row: &mut Vec<Declared>, key: usize)
-    ensures items { row.new.items ≡ others key row.old.items }
+fn drop_key(row: &mut Vec<Declared>, key: ObjectKey)
+    ensures items { row.new.items ≡ others key.0 row.old.items }
     ensures capacity { vec_capacity row.new ≡ vec_capacity row.old }
 {
-    row.retain(|declared| declared.entry.key != key);
+    row.retain(|declared| declared.entry.object != key);
 }
 
-fn ends_in(row: &[Declared], key: usize) -> bool
-    ensures { result ≡ ends_in key row.now }
+fn ends_in(row: &[Declared], key: ObjectKey) -> bool
+    ensures { result ≡ ends_in key.0 row.now }
 {
     match row.last() {
-        Some(declared) => declared.entry.key == key,
+        Some(declared) => declared.entry.object == key,
         None => false,
     }
 }
 
-/// Takes the declarations of a key out of a row, and puts this one at its end where there were any: it shows that the
-/// row is done.
-fn gather(row: &mut Vec<Declared>, key: usize, symbol: Numbered)
-    ensures { Gathered key row.old row.new }
+/// Takes the declarations of a key out of a row. If there were any, puts this one at the end of the row, which shows
+/// that the row is done.
+fn gather(row: &mut Vec<Declared>, key: ObjectKey, symbol: Numbered)
+    ensures { Gathered key.0 row.old row.new }
 {
     let count = row.len();
     drop_key(row, key);
@@ -220,18 +227,20 @@ fn gather(row: &mut Vec<Declared>, key: usize, symbol: Numbered)
     }
 }
 
-fn gather_once(row: &mut Vec<Declared>, key: usize, symbol: Numbered)
-    ensures { Gathered key row.old row.new }
+/// Does what `gather` does, unless the row ends in a declaration of the key.
+fn gather_once(row: &mut Vec<Declared>, key: ObjectKey, symbol: Numbered)
+    ensures { Gathered key.0 row.old row.new }
 {
     if !ends_in(row, key) {
         gather(row, key, symbol);
     }
 }
 
-fn gather_visible(table: &mut Vec<Vec<Declared>>, key: usize, symbol: Numbered)
+/// Makes the row of a symbol end in a declaration of the key, or have none. A local symbol has no row.
+fn gather_visible(table: &mut Vec<Vec<Declared>>, key: ObjectKey, symbol: Numbered)
     requires { HasRow (length table.old.items) symbol }
-    ensures { (ss : List Numbered) (was : List (Vec Declared Global)) → AllGathered key ss was table.old.items
-        → AllGathered key (ss ++ symbol ∷ []) was table.new.items }
+    ensures { (ss : List Numbered) (was : List (Vec Declared Global)) → AllGathered key.0 ss was table.old.items
+        → AllGathered key.0 (ss ++ symbol ∷ []) was table.new.items }
 {
     if is_visible(&symbol.symbol) {
         gather_once(&mut table[symbol.name], key, symbol);
@@ -239,17 +248,18 @@ fn gather_visible(table: &mut Vec<Vec<Declared>>, key: usize, symbol: Numbered)
 }
 
 /// Makes the rows of these symbols end in a declaration of the key, or have none.
-fn gather_all(table: &mut Vec<Vec<Declared>>, key: usize, symbols: &[Numbered])
+fn gather_all(table: &mut Vec<Vec<Declared>>, key: ObjectKey, symbols: &[Numbered])
     requires { All (HasRow (length table.old.items)) symbols.now }
-    ensures { AllGathered key symbols.now table.old.items table.new.items }
+    ensures { AllGathered key.0 symbols.now table.old.items table.new.items }
 {
     for symbol in symbols {
         gather_visible(table, key, *symbol);
     }
 }
 
-fn clear_once(row: &mut Vec<Declared>, key: usize)
-    ensures items { IsGathered key row.old.items → row.new.items ≡ others key row.old.items }
+/// Takes the declarations of a key out of a row, if it ends in one of them.
+fn clear_once(row: &mut Vec<Declared>, key: ObjectKey)
+    ensures items { IsGathered key.0 row.old.items → row.new.items ≡ others key.0 row.old.items }
     ensures capacity { vec_capacity row.new ≡ vec_capacity row.old }
 {
     if ends_in(row, key) {
@@ -258,19 +268,19 @@ fn clear_once(row: &mut Vec<Declared>, key: usize)
 }
 
 /// Takes what an object declares out of the row of one of its symbols.
-fn clear_visible(table: &mut Vec<Vec<Declared>>, key: usize, symbol: Numbered)
+fn clear_visible(table: &mut Vec<Vec<Declared>>, key: ObjectKey, symbol: Numbered)
     requires { HasRow (length table.old.items) symbol }
-    ensures { (ss : List Numbered) (was : List (Vec Declared Global)) → ClearedWhere key ss was table.old.items
-        → ClearedWhere key (ss ++ symbol ∷ []) was table.new.items }
+    ensures { (ss : List Numbered) (was : List (Vec Declared Global)) → ClearedWhere key.0 ss was table.old.items
+        → ClearedWhere key.0 (ss ++ symbol ∷ []) was table.new.items }
 {
     if is_visible(&symbol.symbol) {
         clear_once(&mut table[symbol.name], key);
     }
 }
 
-fn clear_all(table: &mut Vec<Vec<Declared>>, key: usize, symbols: &[Numbered])
+fn clear_all(table: &mut Vec<Vec<Declared>>, key: ObjectKey, symbols: &[Numbered])
     requires { All (HasRow (length table.old.items)) symbols.now }
-    ensures { ClearedWhere key symbols.now table.old.items table.new.items }
+    ensures { ClearedWhere key.0 symbols.now table.old.items table.new.items }
 {
     for symbol in symbols {
         clear_visible(table, key, *symbol);
@@ -279,10 +289,10 @@ fn clear_all(table: &mut Vec<Vec<Declared>>, key: usize, symbols: &[Numbered])
 
 /// Takes out what an object declares. Each row is gone through twice at most, however many of the symbols have its
 /// name: once a row ends in a declaration of the key, the others of them are passed over.
-pub fn remove_all(table: &mut Vec<Vec<Declared>>, key: usize, symbols: &[Numbered])
+pub fn remove_all(table: &mut Vec<Vec<Declared>>, key: ObjectKey, symbols: &[Numbered])
     requires known { All (HasRow (length table.old.items)) symbols.now }
-    ensures table { (os : List Entered) → HasSymbols key symbols.now os → IsTable table.old.items os
-        → IsTable table.new.items (without key os) }
+    ensures table { (os : List Entered) → HasSymbols key.0 symbols.now os → IsTable table.old.items os
+        → IsTable table.new.items (without key.0 os) }
     ensures room { KeepsRoom table.old.items table.new.items }
 {
     gather_all(table, key, symbols);
@@ -319,7 +329,7 @@ fn hold_row(row: &mut Vec<Declared>, symbol: Numbered) -> Result<(), AllocError>
     ensures refused { OnErr result (row.new.items ≡ row.old.items) }
 {
     reserve_row(row, symbol.symbol.place)?;
-    row.push_reserved(declaration(0, symbol));
+    row.push_reserved(declaration(ObjectKey(0), symbol));
     Ok(())
 }
 

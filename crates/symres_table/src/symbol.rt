@@ -4,7 +4,7 @@ ghost use Rattle.std.specs.Prelude.{◌≡◌, not};
 ghost use Rattle.ldmodel.specs.Names.{is_local};
 
 use elfobj::symbol::{Binding, Symbol};
-use ldmodel::names::Entry;
+use ldmodel::names::{Entry, ObjectKey};
 
 /// An entry of the symbol table of an object.
 #[derive(Clone, Copy, Debug, PartialEq, Eq)]
@@ -21,7 +21,7 @@ pub struct Numbered {
 #[derive(Clone, Copy, Debug, PartialEq, Eq)]
 pub struct Declared {
     /// The key of its object, and its number there.
-    pub entry: Entry,
+    pub entry: Entry<ObjectKey>,
     /// What the symbol table says of it.
     pub symbol: Symbol,
 }

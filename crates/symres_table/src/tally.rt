@@ -1,7 +1,7 @@
 //! How a name is resolved, by one pass over its entries.
 
 ghost use Rattle.std.specs.Prelude.{◌≡◌, ℕ, List, [], ◌∷◌, ◌++◌, map, true};
-ghost use Rattle.ldmodel.specs.HandedOver.{decision_of};
+ghost use Rattle.ldmodel.specs.HandedOver.{decision_under_keys};
 ghost use Rattle.ldmodel.specs.Names.{Declaration, decided, is_placed};
 ghost use Rattle.ldmodel.specs.ScriptNames.{is_assignment, is_provision};
 ghost use Rattle.symres_table.specs.declared.symbol.Declared.{Declared};
@@ -9,7 +9,7 @@ ghost use Rattle.symres_table.specs.declared.symbol.Declared.{Declared};
 use crate::symbol::Declared;
 use elfobj::symbol::{Binding, SymbolPlace};
 use ldmodel::given::{is_assigned, is_provided};
-use ldmodel::names::{Case, Entry};
+use ldmodel::names::{Case, Entry, ObjectKey};
 use ldscript::tree::Given;
 
 /// What a pass over entries keeps.
@@ -17,11 +17,11 @@ use ldscript::tree::Given;
 struct Tally {
     /// Whether two or more are strong.
     several: bool,
-    strong: Option<Entry>,
-    common: Option<Entry>,
+    strong: Option<Entry<ObjectKey>>,
+    common: Option<Entry<ObjectKey>>,
     size: u64,
     alignment: u64,
-    weak: Option<Entry>,
+    weak: Option<Entry<ObjectKey>>,
     undefined: bool,
 }
 
@@ -84,8 +84,8 @@ impl Tally {
 
     /// What the entries seen say, where the script gives the name so.
     #[tactic(auto, unfolding(ldmodel::specs::Names::decided))]
-    fn case(&self, given: Option<Given>) -> Case
-        ensures { (seen : List Declaration) → self.now ≡ tally_of seen → decision_of (λ key. key) result
+    fn case(&self, given: Option<Given>) -> Case<ObjectKey>
+        ensures { (seen : List Declaration) → self.now ≡ tally_of seen → decision_under_keys result
             ≡ decided (is_assignment given) (is_provision given) seen }
     {
         let assigned = is_assigned(given);
@@ -119,8 +119,8 @@ impl Tally {
 ghost use Rattle.symres_table.specs.Tally.{declaration_of};
 
 /// How a name is resolved by its entries, in object order and then symbol order, and by the script.
-pub fn decide(given: Option<Given>, declared: &[Declared]) -> Case
-    ensures { (name : List ℕ) → decision_of (λ key. key) result
+pub fn decide(given: Option<Given>, declared: &[Declared]) -> Case<ObjectKey>
+    ensures { (name : List ℕ) → decision_under_keys result
         ≡ decided (is_assignment given) (is_provision given) (map (declaration_of name) declared.now) }
 {
     let mut tally = Tally::new();

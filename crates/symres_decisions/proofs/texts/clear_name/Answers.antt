@@ -1,6 +1,7 @@
 use Rattle.std.proofs.Common.{◌++◌, ◌∷◌, [], List, Option, get_or, subst, sym}
 use Rattle.elfobj.specs.Symbols.{NamedSymbol, null_symbol}
 use Rattle.ldmodel.specs.declared.names.Case.{Case}
+use Rattle.ldmodel.specs.declared.names.ObjectKey.{ObjectKey}
 use Rattle.symres_decisions.specs.Texts.{IsCleared}
 use Rattle.symres_decisions.proofs.Clearing.{cleared_local, cleared_seen}
 use Rattle.symres_decisions.proofs.Keys.{has_name}
@@ -15,7 +16,7 @@ set-requires c =
 pub returns-in-Some : goal.returns-in-Some
 returns-in-Some c = λ start before d h.
     let x : NamedSymbol = get_or c.args.object.now.symbols c.args.number d in
-    subst (λ (cs : List (Option Case)). IsCleared c.args.names.now.names (before ++ x ∷ []) start cs)
+    subst (λ (cs : List (Option (Case ObjectKey))). IsCleared c.args.names.now.names (before ++ x ∷ []) start cs)
     (sym c.set.ensures)
     (cleared_seen c.args.names.now.names before x c.in-Some.key.0 start c.args.cases.now c.requires.distinct
     (c.in-Some.ensures d).0 (c.in-Some.ensures d).1

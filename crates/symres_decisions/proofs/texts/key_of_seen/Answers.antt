@@ -3,7 +3,7 @@ use Rattle.symres_decisions.proofs.texts.key_of_seen.Goals as goal
 
 pub key_at-requires : goal.key_at-requires
 key_at-requires c =
-    seen_at c.args.names.now c.in-Entered.place c.args.symbol.0 c.args.object.now.symbols
+    seen_at c.args.names.now c.in-Entered.place.0 c.args.symbol.0 c.args.object.now.symbols
     (stands c.args.names.now c.args.source c.in-Entered.place c.args.object.now.symbols c.in-Entered.is
     c.requires.found)
     c.requires.number c.requires.seen
@@ -11,7 +11,7 @@ key_at-requires c =
 pub returns-in-Entered : goal.returns-in-Entered
 returns-in-Entered c = λ d. (
   c.requires.seen d,
-  name_at c.args.names.now c.in-Entered.place c.args.symbol.0 c.key_at.result.0 c.args.object.now.symbols d
+  name_at c.args.names.now c.in-Entered.place.0 c.args.symbol.0 c.key_at.result.0 c.args.object.now.symbols d
       (stands c.args.names.now c.args.source c.in-Entered.place c.args.object.now.symbols c.in-Entered.is
       c.requires.found)
       c.key_at.ensures,

@@ -5,7 +5,7 @@ use Rattle.symres_table.proofs.Finding.{below_middle, above_middle}
 use Rattle.symres_table.proofs.places.count_below.Goals as goal
 
 abbrev nowhere : PlacedKey
-nowhere = record { key = 0; at = 0 }
+nowhere = record { key = record { 0 = 0 }; at = 0 }
 
 pub loop-low-preserved-then-places-middle : goal.loop-low-preserved-then-places-middle
 loop-low-preserved-then-places-middle c =
@@ -18,10 +18,10 @@ loop-low-preserved-then-places-middle c =
     record {
       ordered = omega (arith, lt);
       within = i.within;
-      below = below_middle ps c.args.key m c.requires in_list (λ d.
+      below = below_middle ps c.args.key.0 m c.requires in_list (λ d.
           omega (
             arith,
-            ap (λ (p : PlacedKey). p.key) (get_or_default ps m d nowhere in_list),
+            ap (λ (p : PlacedKey). p.key.0) (get_or_default ps m d nowhere in_list),
             c.if-places-middle.true,
           ));
       rest = i.rest;
@@ -38,6 +38,6 @@ loop-low-preserved c =
       ordered = omega arith;
       within = omega (arith, lt, i.within);
       below = i.below;
-      rest = above_middle ps c.args.key m c.requires (λ d h.
-          omega (arith, ap (λ (p : PlacedKey). p.key) (get_or_default ps m d nowhere h), c.if-places-middle.false));
+      rest = above_middle ps c.args.key.0 m c.requires (λ d h.
+          omega (arith, ap (λ (p : PlacedKey). p.key.0) (get_or_default ps m d nowhere h), c.if-places-middle.false));
     }

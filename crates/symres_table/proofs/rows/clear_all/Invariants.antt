@@ -3,4 +3,4 @@ use Rattle.symres_table.specs.Steps.{ClearedWhere}
 use Rattle.symres_table.proofs.rows.clear_all.Given as goal
 
 abbrev pub invariant-loop-symbol : goal.invariant-loop-symbol
-invariant-loop-symbol l = ClearedWhere l.key (take l.symbol-index l.symbols) l.fn.table.items l.table.items
+invariant-loop-symbol l = ClearedWhere l.key.0 (take l.symbol-index l.symbols) l.fn.table.items l.table.items

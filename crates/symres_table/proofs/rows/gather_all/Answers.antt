@@ -12,7 +12,7 @@ pub loop-symbol-preserved : goal.loop-symbol-preserved
 loop-symbol-preserved c =
     let i = c.loop-symbol.symbol-index in
     let ss = c.args.symbols.now in
-    subst (λ xs. AllGathered c.args.key xs c.args.table.now.items c.gather_visible.new.table.items)
+    subst (λ xs. AllGathered c.args.key.0 xs c.args.table.now.items c.gather_visible.new.table.items)
     (sym (take_more ss i nothing c.loop-symbol-test.true))
     (c.gather_visible.ensures (take i ss) c.args.table.now.items c.loop-symbol.invariant)
 
@@ -20,4 +20,5 @@ pub returns : goal.returns
 returns c =
     let all : take c.loop-symbol.symbol-index c.args.symbols.now ≡ c.args.symbols.now =
     take_all _ c.args.symbols.now c.loop-symbol-test.false in
-    subst (λ ss. AllGathered c.args.key ss c.args.table.now.items c.loop-symbol.table.items) all c.loop-symbol.invariant
+    subst (λ ss. AllGathered c.args.key.0 ss c.args.table.now.items c.loop-symbol.table.items) all
+    c.loop-symbol.invariant

@@ -5,5 +5,5 @@ use Rattle.symres_table.proofs.rows.gather_once.Goals as goal
 
 pub returns-else-not-ends_in : goal.returns-else-not-ends_in
 returns-else-not-ends_in c =
-    as_it_was c.args.key c.args.row.now
-    (ap (ends_in c.args.key) (sym c.deref.ensures.value) ∙ sym c.if-not-ends_in.ensures)
+    as_it_was c.args.key.0 c.args.row.now
+    (ap (ends_in c.args.key.0) (sym c.deref.ensures.value) ∙ sym c.if-not-ends_in.ensures)

@@ -9,5 +9,5 @@ returns c = λ fs bs os a e.
     let tail = c.start_of_own-tail.result in
     c.move_tail_to.ensures (take tail row) (drop tail row) (sym (take-append-drop tail row))
     (length-take-le tail row c.start_of_own-tail.ensures.within)
-    ∙ settle_is c.args.places.now c.args.at c.args.key row fs bs os tail c.place_for-number.result a e
+    ∙ settle_is c.args.places.now c.args.at c.args.key.0 row fs bs os tail c.place_for-number.result a e
     c.start_of_own-tail.ensures c.place_for-number.ensures

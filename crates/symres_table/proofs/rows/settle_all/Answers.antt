@@ -17,15 +17,15 @@ loop-symbol-preserved c =
     let s : Numbered = get_or ss i nothing in
     let more : drop i ss ≡ s ∷ left = drop_more ss i nothing c.loop-symbol-test.true in
     let all : ss ≡ take i ss ++ s ∷ left = sym (take-append-drop i ss) ∙ ap (λ l. take i ss ++ l) more in
-    subst (λ xs. Settling c.args.places.now c.args.at c.args.key xs left c.args.table.now.items
+    subst (λ xs. Settling c.args.places.now c.args.at c.args.key.0 xs left c.args.table.now.items
     c.settle_visible.new.table.items) (sym all)
     (c.settle_visible.ensures (take i ss) left c.args.table.now.items
-    (subst (λ xs. Settling c.args.places.now c.args.at c.args.key xs (s ∷ left) c.args.table.now.items
+    (subst (λ xs. Settling c.args.places.now c.args.at c.args.key.0 xs (s ∷ left) c.args.table.now.items
     c.loop-symbol.table.items) all
-    (subst (λ xs. Settling c.args.places.now c.args.at c.args.key ss xs c.args.table.now.items
+    (subst (λ xs. Settling c.args.places.now c.args.at c.args.key.0 ss xs c.args.table.now.items
     c.loop-symbol.table.items) more c.loop-symbol.invariant)))
 
 pub returns : goal.returns
 returns c =
-    subst (λ xs. Settling c.args.places.now c.args.at c.args.key c.args.symbols.now xs c.args.table.now.items
+    subst (λ xs. Settling c.args.places.now c.args.at c.args.key.0 c.args.symbols.now xs c.args.table.now.items
     c.loop-symbol.table.items) (drop_all _ c.args.symbols.now c.loop-symbol-test.false) c.loop-symbol.invariant

@@ -16,7 +16,7 @@ returns-then-is_visible c = λ ss left was r.
     let is : c.deref_mut.result.now ≡ v.items = c.deref_mut.ensures.value in
     let now : l.items ≡ c.settle_last.new.row =
     with_items_is v c.settle_last.new.row (c.settle_last.auto.row ∙ c.deref_mut.ensures.len) in
-    let step : Step c.args.places.now c.args.at c.args.key c.args.symbol v l = record {
+    let step : Step c.args.places.now c.args.at c.args.key.0 c.args.symbol v l = record {
       last = λ fs bs os a e. now ∙ c.settle_last.ensures.last fs bs os a (is ∙ e);
       either = λ fs bs os a e. ⊎_elim (λ q. inl (now ∙ q ∙ is)) (λ q. inr (now ∙ q))
           (c.settle_last.ensures.either fs bs os a (is ∙ e));
@@ -24,5 +24,5 @@ returns-then-is_visible c = λ ss left was r.
       len = refl;
       room = refl;
     } in
-    settling_step c.args.places.now c.args.at c.args.key ss left c.args.symbol was c.args.table.now.items v l
+    settling_step c.args.places.now c.args.at c.args.key.0 ss left c.args.symbol was c.args.table.now.items v l
     seen (c.requires.known seen) c.index_mut.ensures.value step r

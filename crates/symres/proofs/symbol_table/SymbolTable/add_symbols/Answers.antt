@@ -8,7 +8,7 @@ pub loop-number-preserved : goal.loop-number-preserved
 loop-number-preserved c = record {
   long = c.add_symbol.ensures.long ∙ c.loop-number.invariant.long;
   found = λ p ds symbol_table same.
-      symbol_more p c.args.self.now.names ds c.args.place c.loop-number.number c.args.object.now.symbols null_symbol
+      symbol_more p c.args.self.now.names ds c.args.place.0 c.loop-number.number c.args.object.now.symbols null_symbol
       c.args.firsts.now.items c.loop-number.firsts.items c.add_symbol.new.firsts.items c.args.faults.now.items
       c.loop-number.faults.items c.add_symbol.new.faults.items
       (omega (
@@ -24,7 +24,7 @@ loop-number-preserved c = record {
 pub returns-clause-found : goal.returns-clause-found
 returns-clause-found c =
     λ p ds symbol_table same b h.
-    symbols_all p c.args.self.now.names ds c.args.place c.loop-number.number c.args.object.now.symbols
+    symbols_all p c.args.self.now.names ds c.args.place.0 c.loop-number.number c.args.object.now.symbols
     c.loop-number.firsts.items c.loop-number.faults.items
     (omega (
       arith,

@@ -10,8 +10,8 @@ abbrev pub invariant-loop-number : goal.invariant-loop-number
 invariant-loop-number l = record {
   long : length l.firsts.items ≡ length l.fn.firsts.items;
   found : (p : Project) (ds : List Declaration) → IsSymbolTable p l.self → p.script ≡ l.script
-      → Begins p (ds ++ declarations_in (l.place, l.object.symbols))
+      → Begins p (ds ++ declarations_in (l.place.0, l.object.symbols))
       → AreFound p l.self.names ds l.fn.firsts.items l.fn.faults.items
-      → AreFound p l.self.names (ds ++ filter is_seen (take l.number (all_entries (l.place, l.object.symbols))))
+      → AreFound p l.self.names (ds ++ filter is_seen (take l.number (all_entries (l.place.0, l.object.symbols))))
       l.firsts.items l.faults.items;
 }

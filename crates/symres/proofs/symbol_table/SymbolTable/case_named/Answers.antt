@@ -1,6 +1,7 @@
 use Rattle.std.proofs.Common.{◌∙◌, ap}
 use Rattle.ldmodel.specs.HandedOver.{decision_of}
 use Rattle.ldmodel.specs.declared.names.Case.{Case}
+use Rattle.ldmodel.specs.declared.names.ObjectPlace.{ObjectPlace}
 use Rattle.symres.proofs.Placing.{named_decision}
 use Rattle.symres.proofs.symbol_table.SymbolTable.case_named.Goals as goal
 
@@ -10,7 +11,7 @@ returns c =
     rw (← c.self.view_is)
     (record {
       case = λ p symbol_table same.
-          ap (λ (x : Case). decision_of (λ key. key) x) c.place_case.ensures
+          ap (λ (x : Case ObjectPlace). decision_of (λ key. key) x) c.place_case.ensures
           ∙ named_decision p c.args.script.now c.self.inside.decisions c.self.inside.order c.args.name.now
           c.case_named.result c.self.invariant (by p c.args.name.now) c.case_named.ensures.found symbol_table same;
     })

@@ -4,6 +4,7 @@ use Rattle.ldmodel.specs.Link.{duplicate_fault}
 use Rattle.ldmodel.specs.Names.{declarations_of}
 use Rattle.ldmodel.specs.declared.fault.Fault.{Fault}
 use Rattle.ldmodel.specs.declared.names.Entry.{Entry}
+use Rattle.ldmodel.specs.declared.names.ObjectPlace.{ObjectPlace}
 use Rattle.ldmodel_project.specs.ByPlace.{faults_in}
 use Rattle.symres.specs.Duplicates.{AreFound}
 use Rattle.std.proofs.lemmas.List.{length-replicate}
@@ -24,7 +25,7 @@ loop-place-init c = record {
       c.in_ok-firsts.ensures);
 }
   where
-    nothing : Option Entry
+    nothing : Option (Entry ObjectPlace)
     nothing = None
 
 pub add_symbols-requires-clause-table : goal.add_symbols-requires-clause-table

@@ -6,4 +6,4 @@ returns-clause-case c =
     let s = c.self.inside.names in
     rw (← c.self.view_is)
     (c.self.invariant.0.complete c.key_at.result.0
-    (named_there s.names s.objects c.args.place c.args.symbol.0 c.key_at.result.0 c.key_at.ensures))
+    (named_there s.names s.objects c.args.place.0 c.args.symbol.0 c.key_at.result.0 c.key_at.ensures))

@@ -29,10 +29,10 @@ invariant_of-self c =
     let os = a.order.items in
     let v = c.self.view_is in
     let k : IsKept os a.rows.items a.places.items = c.self.invariant in
-    let new : Entered = record { key = c.args.key; symbols = c.args.symbols.items; room = vec_capacity c.args.symbols }
-    in
+    let new : Entered =
+    record { key = c.args.key.0; symbols = c.args.symbols.items; room = vec_capacity c.args.symbols } in
     let at : c.args.at ≤ length os = rw (← v) at c.requires.at in
-    let fresh : All (λ (o : Entered). eqb o.key c.args.key ≡ false) os = rw (← v) at c.requires.fresh in
+    let fresh : All (λ (o : Entered). eqb o.key c.args.key.0 ≡ false) os = rw (← v) at c.requires.fresh in
     let known : All (HasRow (length a.rows.items)) c.args.symbols.items = λ j x l s.
     omega (
       arith,
@@ -45,7 +45,7 @@ invariant_of-self c =
     let last : c.len-count.result ≤ c.args.at → drop c.args.at os ≡ [] =
     λ le. drop_all c.args.at os (omega (arith, le, c.len-count.ensures, a.order.ok.0)) in
     let added = c.add_all.ensures.table (take c.args.at os) (drop c.args.at os)
-    (rw c.deref.ensures.value (split_at a.places.items c.args.at c.args.key os k.numbered at fresh)) last whole
+    (rw c.deref.ensures.value (split_at a.places.items c.args.at c.args.key.0 os k.numbered at fresh)) last whole
     (vec_capacity c.args.symbols) in
     let items = rw c.unwrap-2.ensures at c.insert-2.ensures.items in
     let places = rw c.unwrap.ensures at c.insert.ensures.items in
