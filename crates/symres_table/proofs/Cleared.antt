@@ -13,8 +13,8 @@ use Rattle.ldmodel.specs.Names.{is_local}
 use Rattle.symres_table.specs.Numbers.{Entered, declared, own, entries, IsTable, KeepsRoom, is_named, named, others}
 use Rattle.symres_table.specs.Numbers.{without}
 use Rattle.symres_table.specs.Numbers.{HasSymbols}
-use Rattle.symres_table.specs.Steps.{AllGathered, cleared, has_name, Cleared, ClearedWhere, ends_in, Gathered, is_of}
-use Rattle.symres_table.specs.Steps.{IsGathered}
+use Rattle.symres_table.specs.Steps.{AllMarkedLast, cleared, has_name, Cleared, ClearedWhere, ends_in, MarksLast, is_of}
+use Rattle.symres_table.specs.Steps.{IsMarkedLast}
 use Rattle.symres_table.proofs.Naming.{named_yes, named_no, named_local}
 
 abbrev pub Row : Type 0
@@ -122,18 +122,18 @@ has_now k ss s vis same = named_now k ss s true (named_yes k s vis (sym same))
 has_same : (k : ℕ) (ss : List Numbered) (s : Numbered) → k ≢ s.name → has_name k (ss ++ s ∷ []) ≡ has_name k ss
 has_same k ss s n = named_now k ss s false (named_no k s (λ q. n (sym q)))
 
-pub gathered_start : (key : ℕ) (table : List Row) → AllGathered key [] table table
-gathered_start key table = record {
+pub marked_start : (key : ℕ) (table : List Row) → AllMarkedLast key [] table table
+marked_start key table = record {
   room = keeps_refl table;
   same = λ k d h. refl;
-  gathered = λ k d h e. absurd (false≢true e);
+  done = λ k d h e. absurd (false≢true e);
   rest = λ k d h e. refl;
 }
 
-pub gathered_step : (key : ℕ) (ss : List Numbered) (s : Numbered) (old mid : List Row) (v l : Row)
-    → is_local s.symbol.binding ≡ false → s.name < length mid → v ≡ get_or mid s.name v → Gathered key v l
-    → AllGathered key ss old mid → AllGathered key (ss ++ s ∷ []) old (set mid s.name l)
-gathered_step key ss s old mid v l vis w i g r = record {
+pub marked_step : (key : ℕ) (ss : List Numbered) (s : Numbered) (old mid : List Row) (v l : Row)
+    → is_local s.symbol.binding ≡ false → s.name < length mid → v ≡ get_or mid s.name v → MarksLast key v l
+    → AllMarkedLast key ss old mid → AllMarkedLast key (ss ++ s ∷ []) old (set mid s.name l)
+marked_step key ss s old mid v l vis w i g r = record {
   room = keeps_set s.name old mid v l w i g.room r.room;
   same = λ k d h. ⊎_elim
       (λ same. ap (λ (x : Row). others key x.items) (set_here mid s.name k l d w same) ∙ g.same
@@ -141,10 +141,10 @@ gathered_step key ss s old mid v l vis w i g r = record {
       ∙ r.same k d h)
       (λ n. ap (λ (x : Row). others key x.items) (get_or-set_other mid s.name k l d n) ∙ r.same k d h)
       (cases_eq k s.name);
-  gathered = λ k d h e. ⊎_elim
-      (λ same. subst (λ (x : Row). IsGathered key x.items) (sym (set_here mid s.name k l d w same)) g.gathered)
-      (λ n. subst (λ (x : Row). IsGathered key x.items) (sym (get_or-set_other mid s.name k l d n))
-      (r.gathered k d h (sym (has_same k ss s n) ∙ e)))
+  done = λ k d h e. ⊎_elim
+      (λ same. subst (λ (x : Row). IsMarkedLast key x.items) (sym (set_here mid s.name k l d w same)) g.done)
+      (λ n. subst (λ (x : Row). IsMarkedLast key x.items) (sym (get_or-set_other mid s.name k l d n))
+      (r.done k d h (sym (has_same k ss s n) ∙ e)))
       (cases_eq k s.name);
   rest = λ k d h e. ⊎_elim
       (λ same. absurd (false≢true (sym e ∙ has_now k ss s vis same)))
@@ -154,23 +154,23 @@ gathered_step key ss s old mid v l vis w i g r = record {
 }
 
 -- a local symbol has no row
-pub gathered_local : (key : ℕ) (ss : List Numbered) (s : Numbered) (old new : List Row)
-    → is_local s.symbol.binding ≡ true → AllGathered key ss old new → AllGathered key (ss ++ s ∷ []) old new
-gathered_local key ss s old new h r = record {
+pub marked_local : (key : ℕ) (ss : List Numbered) (s : Numbered) (old new : List Row)
+    → is_local s.symbol.binding ≡ true → AllMarkedLast key ss old new → AllMarkedLast key (ss ++ s ∷ []) old new
+marked_local key ss s old new h r = record {
   room = r.room;
   same = r.same;
-  gathered = λ k d l e. r.gathered k d l (sym (named_now k ss s false (named_local k s h)) ∙ e);
+  done = λ k d l e. r.done k d l (sym (named_now k ss s false (named_local k s h)) ∙ e);
   rest = λ k d l e. r.rest k d l (sym (named_now k ss s false (named_local k s h)) ∙ e);
 }
 
 -- the declaration at the end shows that a row is done
 pub marked : (key : ℕ) (s : Numbered) (old : List Declared) (v l : Row) → v.items ≡ old
-    → l.items ≡ others key old ++ declared key s ∷ [] → vec_capacity l ≡ vec_capacity v → Gathered key v l
+    → l.items ≡ others key old ++ declared key s ∷ [] → vec_capacity l ≡ vec_capacity v → MarksLast key v l
 marked key s old v l e i c = record {
   same = ap (others key) i ∙ others-append key (others key old) (declared key s ∷ [])
       ∙ ap (λ b. others key (others key old) ++ cond (not b) (declared key s ∷ []) []) (eq-eqb key key refl)
       ∙ append-nil _ ∙ others_twice key old ∙ ap (others key) (sym e);
-  gathered = inl (ap (ends_in key) i ∙ ends_pushed key (others key old) s);
+  done = inl (ap (ends_in key) i ∙ ends_pushed key (others key old) s);
   room = c;
 }
   where
@@ -186,30 +186,30 @@ marked key s old v l e i c = record {
 
 -- a row without the declarations of the key
 pub unmarked : (key : ℕ) (v l : Row) → l.items ≡ others key v.items → vec_capacity l ≡ vec_capacity v
-    → Gathered key v l
+    → MarksLast key v l
 unmarked key v l i c = record {
   same = ap (others key) i ∙ others_twice key v.items;
-  gathered = inr (ap (others key) i ∙ others_twice key v.items ∙ sym i);
+  done = inr (ap (others key) i ∙ others_twice key v.items ∙ sym i);
   room = c;
 }
 
-pub as_it_was : (key : ℕ) (v : Row) → ends_in key v.items ≡ true → Gathered key v v
-as_it_was key v e = record { same = refl; gathered = inl e; room = refl }
+pub as_it_was : (key : ℕ) (v : Row) → ends_in key v.items ≡ true → MarksLast key v v
+as_it_was key v e = record { same = refl; done = inl e; room = refl }
 
-pub gathered_stays : (key : ℕ) (ds : List Declared) → IsGathered key ds → ends_in key ds ≡ false → ds ≡ others key ds
-gathered_stays key ds (inl e) h = absurd (false≢true (sym h ∙ e))
-gathered_stays key ds (inr e) h = sym e
+pub marked_stays : (key : ℕ) (ds : List Declared) → IsMarkedLast key ds → ends_in key ds ≡ false → ds ≡ others key ds
+marked_stays key ds (inl e) h = absurd (false≢true (sym h ∙ e))
+marked_stays key ds (inr e) h = sym e
 
 pub cleared_start : (key : ℕ) (table : List Row) → ClearedWhere key [] table table
 cleared_start key table = record { room = keeps_refl table; row = λ k d h g. refl }
 
-gathered_cleared : (key : ℕ) (b : Bool) (ds : List Declared) → IsGathered key ds → IsGathered key (cleared key b ds)
-gathered_cleared key true ds g = inr (others_twice key ds)
-gathered_cleared key false ds g = g
+marked_cleared : (key : ℕ) (b : Bool) (ds : List Declared) → IsMarkedLast key ds → IsMarkedLast key (cleared key b ds)
+marked_cleared key true ds g = inr (others_twice key ds)
+marked_cleared key false ds g = g
 
 pub cleared_step : (key : ℕ) (ss : List Numbered) (s : Numbered) (old mid : List Row) (v l : Row)
     → is_local s.symbol.binding ≡ false → s.name < length mid → v ≡ get_or mid s.name v
-    → (IsGathered key v.items → l.items ≡ others key v.items) → vec_capacity l ≡ vec_capacity v
+    → (IsMarkedLast key v.items → l.items ≡ others key v.items) → vec_capacity l ≡ vec_capacity v
     → ClearedWhere key ss old mid → ClearedWhere key (ss ++ s ∷ []) old (set mid s.name l)
 cleared_step key ss s old mid v l vis w i p c r = record {
   room = keeps_set s.name old mid v l w i c r.room;
@@ -221,7 +221,7 @@ cleared_step key ss s old mid v l vis w i p c r = record {
       ap (λ (x : Row). x.items) (sym (was_here mid s.name k v d (omega (arith, r.room.long)) same i))
       ∙ r.row k d h (λ e. g now) in
       ap (λ (x : Row). x.items) (set_here mid s.name k l d w same)
-      ∙ p (subst (IsGathered key) (sym was) (gathered_cleared key (has_name k ss) ds (g now)))
+      ∙ p (subst (IsMarkedLast key) (sym was) (marked_cleared key (has_name k ss) ds (g now)))
       ∙ ap (others key) was ∙ others_cleared key (has_name k ss) ds
       ∙ ap (λ b. cleared key b ds) (sym now))
       (λ n. ap (λ (x : Row). x.items) (get_or-set_other mid s.name k l d n)
@@ -246,12 +246,12 @@ keeps_both old mid new a b = record {
   row = λ k d h. b.row k d (omega (arith, a.long)) ∙ a.row k d h;
 }
 
--- rows that were gathered and then cleared have lost the declarations of the key
-pub cleared_all : (key : ℕ) (ss : List Numbered) (old mid new : List Row) → AllGathered key ss old mid
+-- rows that were marked and then cleared have lost the declarations of the key
+pub cleared_all : (key : ℕ) (ss : List Numbered) (old mid new : List Row) → AllMarkedLast key ss old mid
     → ClearedWhere key ss mid new → Cleared key ss old new
 cleared_all key ss old mid new a r = record {
   room = keeps_both old mid new a.room r.room;
-  row = λ k d h. r.row k d (omega (arith, a.room.long)) (a.gathered k d h) ∙ go k d h (has_name k ss) refl;
+  row = λ k d h. r.row k d (omega (arith, a.room.long)) (a.done k d h) ∙ go k d h (has_name k ss) refl;
 }
   where
     go : (k : ℕ) (d : Row) → k < length old → (b : Bool) → has_name k ss ≡ b → cleared key b (get_or mid k d).items

@@ -96,28 +96,28 @@ abbrev pub ends_in : ℕ → List Declared → Bool
 ends_in key ds = is_of key (slice_get ds (length ds - 1))
 
 -- the row ends in a declaration of the key, or has none
-abbrev pub IsGathered : ℕ → List Declared → Type 0
-IsGathered key ds = (ends_in key ds ≡ true) ⊎ (others key ds ≡ ds)
+abbrev pub IsMarkedLast : ℕ → List Declared → Type 0
+IsMarkedLast key ds = (ends_in key ds ≡ true) ⊎ (others key ds ≡ ds)
 
 -- the row has the same declarations of others, and ends in one of the key or has none
-pub record Gathered (key : ℕ) (old new : Vec Declared Global) : Type 0 where
+pub record MarksLast (key : ℕ) (old new : Vec Declared Global) : Type 0 where
   pub same : others key new.items ≡ others key old.items
-  pub gathered : IsGathered key new.items
+  pub done : IsMarkedLast key new.items
   pub room : vec_capacity new ≡ vec_capacity old
 
--- the rows of these symbols were gathered, and the others are as they were
-pub record AllGathered (key : ℕ) (ss : List Numbered) (old new : List (Vec Declared Global)) : Type 0 where
+-- the rows of these symbols were marked, and the others are as they were
+pub record AllMarkedLast (key : ℕ) (ss : List Numbered) (old new : List (Vec Declared Global)) : Type 0 where
   pub room : KeepsRoom old new
   pub same : (k : ℕ) (d : Vec Declared Global) → k < length old → others key (slice_index_or new k d).items
       ≡ others key (slice_index_or old k d).items
-  pub gathered : (k : ℕ) (d : Vec Declared Global) → k < length old → has_name k ss ≡ true
-      → IsGathered key (slice_index_or new k d).items
+  pub done : (k : ℕ) (d : Vec Declared Global) → k < length old → has_name k ss ≡ true
+      → IsMarkedLast key (slice_index_or new k d).items
   pub rest : (k : ℕ) (d : Vec Declared Global) → k < length old → has_name k ss ≡ false
       → (slice_index_or new k d).items ≡ (slice_index_or old k d).items
 
--- the rows of these symbols, where they were gathered, have lost the declarations of the key
+-- the rows of these symbols, where they were marked, have lost the declarations of the key
 pub record ClearedWhere (key : ℕ) (ss : List Numbered) (old new : List (Vec Declared Global)) : Type 0 where
   pub room : KeepsRoom old new
-  pub row : (k : ℕ) (d : Vec Declared Global) → k < length old → (has_name k ss ≡ true → IsGathered key
+  pub row : (k : ℕ) (d : Vec Declared Global) → k < length old → (has_name k ss ≡ true → IsMarkedLast key
       (slice_index_or old k d).items)
       → (slice_index_or new k d).items ≡ cleared key (has_name k ss) (slice_index_or old k d).items

@@ -11,8 +11,8 @@ ghost use Rattle.symres_table.specs.Numbers.{before, declared, Entered, Grows, H
 ghost use Rattle.symres_table.specs.Numbers.{IsSplit};
 ghost use Rattle.symres_table.specs.Numbers.{IsTable, KeepsRoom, others, RowsGrow, without};
 ghost use Rattle.symres_table.specs.Places.{AreSorted};
-ghost use Rattle.symres_table.specs.Steps.{AllGathered, Appended, AreParts, ClearedWhere, ends_in, ends_with};
-ghost use Rattle.symres_table.specs.Steps.{HasRoomForOne, Holds, IsGathered, IsOwnStart, Gathered, Settling};
+ghost use Rattle.symres_table.specs.Steps.{AllMarkedLast, Appended, AreParts, ClearedWhere, ends_in, ends_with};
+ghost use Rattle.symres_table.specs.Steps.{HasRoomForOne, Holds, IsMarkedLast, IsOwnStart, MarksLast, Settling};
 
 use crate::places::{PlacedKey, is_in_front};
 use crate::symbol::{Declared, Numbered, is_visible};
@@ -217,8 +217,8 @@ fn ends_in(row: &[Declared], key: ObjectKey) -> bool
 
 /// Takes the declarations of a key out of a row. If there were any, puts this one at the end of the row, which shows
 /// that the row is done.
-fn gather(row: &mut Vec<Declared>, key: ObjectKey, symbol: Numbered)
-    ensures { Gathered key.0 row.old row.new }
+fn mark_last(row: &mut Vec<Declared>, key: ObjectKey, symbol: Numbered)
+    ensures { MarksLast key.0 row.old row.new }
 {
     let count = row.len();
     drop_key(row, key);
@@ -228,38 +228,38 @@ fn gather(row: &mut Vec<Declared>, key: ObjectKey, symbol: Numbered)
 }
 
 /// Does what `gather` does, unless the row ends in a declaration of the key.
-fn gather_once(row: &mut Vec<Declared>, key: ObjectKey, symbol: Numbered)
-    ensures { Gathered key.0 row.old row.new }
+fn mark_last_once(row: &mut Vec<Declared>, key: ObjectKey, symbol: Numbered)
+    ensures { MarksLast key.0 row.old row.new }
 {
     if !ends_in(row, key) {
-        gather(row, key, symbol);
+        mark_last(row, key, symbol);
     }
 }
 
 /// Makes the row of a symbol end in a declaration of the key, or have none. A local symbol has no row.
-fn gather_visible(table: &mut Vec<Vec<Declared>>, key: ObjectKey, symbol: Numbered)
+fn mark_last_visible(table: &mut Vec<Vec<Declared>>, key: ObjectKey, symbol: Numbered)
     requires { HasRow (length table.old.items) symbol }
-    ensures { (ss : List Numbered) (was : List (Vec Declared Global)) → AllGathered key.0 ss was table.old.items
-        → AllGathered key.0 (ss ++ symbol ∷ []) was table.new.items }
+    ensures { (ss : List Numbered) (was : List (Vec Declared Global)) → AllMarkedLast key.0 ss was table.old.items
+        → AllMarkedLast key.0 (ss ++ symbol ∷ []) was table.new.items }
 {
     if is_visible(&symbol.symbol) {
-        gather_once(&mut table[symbol.name], key, symbol);
+        mark_last_once(&mut table[symbol.name], key, symbol);
     }
 }
 
 /// Makes the rows of these symbols end in a declaration of the key, or have none.
-fn gather_all(table: &mut Vec<Vec<Declared>>, key: ObjectKey, symbols: &[Numbered])
+fn mark_last_all(table: &mut Vec<Vec<Declared>>, key: ObjectKey, symbols: &[Numbered])
     requires { All (HasRow (length table.old.items)) symbols.now }
-    ensures { AllGathered key.0 symbols.now table.old.items table.new.items }
+    ensures { AllMarkedLast key.0 symbols.now table.old.items table.new.items }
 {
     for symbol in symbols {
-        gather_visible(table, key, *symbol);
+        mark_last_visible(table, key, *symbol);
     }
 }
 
 /// Takes the declarations of a key out of a row, if it ends in one of them.
 fn clear_once(row: &mut Vec<Declared>, key: ObjectKey)
-    ensures items { IsGathered key.0 row.old.items → row.new.items ≡ others key.0 row.old.items }
+    ensures items { IsMarkedLast key.0 row.old.items → row.new.items ≡ others key.0 row.old.items }
     ensures capacity { vec_capacity row.new ≡ vec_capacity row.old }
 {
     if ends_in(row, key) {
@@ -295,7 +295,7 @@ pub fn remove_all(table: &mut Vec<Vec<Declared>>, key: ObjectKey, symbols: &[Num
         → IsTable table.new.items (without key.0 os) }
     ensures room { KeepsRoom table.old.items table.new.items }
 {
-    gather_all(table, key, symbols);
+    mark_last_all(table, key, symbols);
     clear_all(table, key, symbols);
 }
 

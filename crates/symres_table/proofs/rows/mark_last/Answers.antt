@@ -2,7 +2,7 @@ use Rattle.std.proofs.Common.{◌∙◌, ◌∷◌, ◌++◌, [], ap, refl}
 use Rattle.symres_table.specs.Numbers.{others}
 use Rattle.symres_table.specs.declared.symbol.Declared.{Declared}
 use Rattle.symres_table.proofs.Cleared.{marked, unmarked}
-use Rattle.symres_table.proofs.rows.gather.Goals as goal
+use Rattle.symres_table.proofs.rows.mark_last.Goals as goal
 
 pub returns-then-len-count : goal.returns-then-len-count
 returns-then-len-count c =

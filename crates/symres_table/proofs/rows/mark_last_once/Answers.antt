@@ -1,7 +1,7 @@
 use Rattle.std.proofs.Common.{◌∙◌, ap, sym}
 use Rattle.symres_table.specs.Steps.{ends_in}
 use Rattle.symres_table.proofs.Cleared.{as_it_was}
-use Rattle.symres_table.proofs.rows.gather_once.Goals as goal
+use Rattle.symres_table.proofs.rows.mark_last_once.Goals as goal
 
 pub returns-else-not-ends_in : goal.returns-else-not-ends_in
 returns-else-not-ends_in c =

@@ -1,24 +1,24 @@
 use Rattle.std.proofs.Common.{◌≡◌, take, subst, sym}
 use Rattle.std.proofs.lemmas.List.{take_more, take_all}
-use Rattle.symres_table.specs.Steps.{AllGathered}
-use Rattle.symres_table.proofs.Cleared.{gathered_start}
+use Rattle.symres_table.specs.Steps.{AllMarkedLast}
+use Rattle.symres_table.proofs.Cleared.{marked_start}
 use Rattle.symres_table.proofs.Naming.{nothing}
-use Rattle.symres_table.proofs.rows.gather_all.Goals as goal
+use Rattle.symres_table.proofs.rows.mark_last_all.Goals as goal
 
 pub loop-symbol-init : goal.loop-symbol-init
-loop-symbol-init c = gathered_start _ _
+loop-symbol-init c = marked_start _ _
 
 pub loop-symbol-preserved : goal.loop-symbol-preserved
 loop-symbol-preserved c =
     let i = c.loop-symbol.symbol-index in
     let ss = c.args.symbols.now in
-    subst (λ xs. AllGathered c.args.key.0 xs c.args.table.now.items c.gather_visible.new.table.items)
+    subst (λ xs. AllMarkedLast c.args.key.0 xs c.args.table.now.items c.mark_last_visible.new.table.items)
     (sym (take_more ss i nothing c.loop-symbol-test.true))
-    (c.gather_visible.ensures (take i ss) c.args.table.now.items c.loop-symbol.invariant)
+    (c.mark_last_visible.ensures (take i ss) c.args.table.now.items c.loop-symbol.invariant)
 
 pub returns : goal.returns
 returns c =
     let all : take c.loop-symbol.symbol-index c.args.symbols.now ≡ c.args.symbols.now =
     take_all _ c.args.symbols.now c.loop-symbol-test.false in
-    subst (λ ss. AllGathered c.args.key.0 ss c.args.table.now.items c.loop-symbol.table.items) all
+    subst (λ ss. AllMarkedLast c.args.key.0 ss c.args.table.now.items c.loop-symbol.table.items) all
     c.loop-symbol.invariant
