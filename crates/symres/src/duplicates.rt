@@ -240,8 +240,8 @@ impl SymbolTable {
     }
 
     /// The faults of names that are defined twice: each strong definition after the first, in object order and then
-    /// symbol order; where the script assigns the name, each strong definition. Where no name is defined twice, no
-    /// symbol is looked at.
+    /// symbol order; if the script assigns the name, each strong definition. If no name is defined twice, no symbol is
+    /// looked at.
     pub(crate) fn duplicates(
         &self,
         alloc: Global,

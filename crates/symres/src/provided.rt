@@ -74,7 +74,7 @@ impl SymbolTable {
     ///
     /// # Errors
     ///
-    /// If memory runs out, or where the script has more than 2^32 commands, which none that was read has.
+    /// If memory runs out, or if the script has more than 2^32 commands, which no script that was read has.
     pub fn provided(&self, alloc: Global, script: &Script) -> Result<Vec<DirectiveIndex>, NoMemory>
         ensures { IfOk result (λ list. (project : Project) → IsSymbolTable project self.now → project.script
             ≡ script.now

@@ -52,7 +52,7 @@ fn written(alloc: Global, text: &NameText) -> Result<Vec<NamedKey<'_>>, NoMemory
     Ok(list)
 }
 
-/// All known names, each with its key, in no promised order, where no text of them is kept.
+/// All known names, each with its key, in no promised order, if no text of them is kept.
 fn scattered(alloc: Global, decisions: &Decisions) -> Result<Vec<NamedKey<'_>>, NoMemory>
     ensures list { IfOk result (λ list. map named_number list.items ≡ decisions.now.names.order) }
 {
@@ -131,7 +131,7 @@ fn in_byte_order(alloc: Global, decisions: &Decisions) -> Result<Vec<NamedKey<'_
 
 impl SymbolTable {
     /// All known names in byte order, each with its key: all that objects declare are among them. They are sorted only
-    /// where a name became known since they were put in order.
+    /// if a name became known since they were put in order.
     ///
     /// # Errors
     ///

@@ -47,6 +47,7 @@ fn count(case: Option<Case<ObjectKey>>) -> usize
 }
 
 impl Cases {
+    /// No cases.
     pub fn new(alloc: Global) -> Cases
         ensures { result ≡ [] }
     {
@@ -56,6 +57,7 @@ impl Cases {
         }
     }
 
+    /// How many places for cases there are: each key that has a case is below this number.
     pub fn len(&self) -> usize
         ensures { result ≡ length self.now }
     {
@@ -69,6 +71,7 @@ impl Cases {
         self.doubled
     }
 
+    /// The case of a key, if it has one.
     #[inline(always)]
     pub fn get(&self, key: NameKey) -> Option<Case<ObjectKey>>
         ensures { result ≡ case_at self.now key.0 }

@@ -17,8 +17,8 @@ pub struct ObjectAt<'a> {
     pub object: &'a Object,
 }
 
-/// What changes under a key. Where nothing goes an object is added, and where nothing comes one is removed; with both
-/// one object takes another's place, or is moved.
+/// What changes under a key. If nothing goes, an object is added, and if nothing comes, one is removed; with both one
+/// object takes another's place, or is moved.
 #[derive(Clone, Copy)]
 pub struct ObjectChange<'a> {
     /// The key.

@@ -40,7 +40,7 @@ fn clear_names_of(names: &Names, at: Option<ObjectAt<'_>>, cases: &mut Cases)
     }
 }
 
-/// Whether each name that the object which went declared has an entry, if one went. `noted` are keys of these names.
+/// Whether each name of the object that went has an entry, if one went. `noted` are keys of these names.
 fn are_gone_used(names: &Names, out: Option<ObjectAt<'_>>, noted: &[NameKey]) -> bool
     requires known { AreKnown names.now.names (symbols_or out) }
     requires noted { AreNoted names.now.names (symbols_or out) noted.now }
@@ -52,8 +52,8 @@ fn are_gone_used(names: &Names, out: Option<ObjectAt<'_>>, noted: &[NameKey]) ->
     }
 }
 
-/// How many of the first listed names have entries after a change, where `used` of them had entries before it: names
-/// that became known for the object which came are counted too. `noted` are keys of the names of what went.
+/// How many of the first listed names have entries after a change. `used` of them had entries before it. Names that
+/// became known for the object that came are counted too. `noted` are keys of the names of what went.
 fn used_after_change(
     used: usize,
     names: &Names,
@@ -71,7 +71,7 @@ fn used_after_change(
     0
 }
 
-/// Decides the names that the object which went declared, if one went. `noted` are keys of these names.
+/// Decides the names of the object that went, if one went. `noted` are keys of these names.
 fn decide_gone(
     names: &Names,
     script: &Script,
@@ -98,7 +98,7 @@ fn decide_gone(
     }
 }
 
-/// Decides the names that the object which came declares, if one came.
+/// Decides the names of the object that came, if one came.
 fn decide_come(
     names: &Names,
     script: &Script,

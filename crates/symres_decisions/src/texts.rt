@@ -31,7 +31,7 @@ pub enum KeySource<'a> {
     Noted(&'a [NameKey]),
 }
 
-/// The key of the name of a symbol that isn't local, which is hashed where no key is noted for the symbol.
+/// The key of the name of a symbol that isn't local. The name is hashed if no key is noted for the symbol.
 fn key_noted(
     names: &Names,
     keys: &[NameKey],

@@ -40,7 +40,7 @@ pub fn are_all_used(names: &Names, used: usize) -> bool
     used == names.known()
 }
 
-/// How many of the first names of the list are known to have entries, where that is known of all or of none.
+/// How many of the first names of the list are known to have entries, if that is known of all or of none.
 pub fn all_or_none(names: &Names, are_used: bool) -> usize
     requires { are_used ≡ true → AreUsed names.now }
     ensures { AreUsedBelow names.now result }

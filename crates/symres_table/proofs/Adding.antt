@@ -1,3 +1,4 @@
+-- The entries of a name are those of the objects in front, then those of the objects behind: where a declaration goes.
 use Rattle.std.proofs.Common.{◌≡◌, ◌<◌, ◌+◌, ◌-◌, ℕ, Bool, true, false, eqb, ◌||◌, length, get_or, take, drop, Vec}
 use Rattle.std.proofs.Common.{Global, List, [], ◌∷◌, ◌++◌, map, refl, ap, sym, ◌∙◌, ⊎_elim, arith, append_assoc}
 use Rattle.std.proofs.Common.{append-nil, length-append}

@@ -1,3 +1,4 @@
+-- Without its object a name has the entries of the others, in their order: rows that are marked and then cleared.
 use Rattle.std.proofs.Common.{◌≡◌, ◌≢◌, ◌<◌, ◌-◌, ℕ, Bool, true, false, cond, eqb, not, ◌||◌, length, get_or, set, Vec}
 use Rattle.std.proofs.Common.{Global, List, [], ◌∷◌, ◌++◌, map, refl, ap, sym, ◌∙◌, subst, ⊎_elim, inl, inr, arith}
 use Rattle.std.proofs.Common.{Some, get_or-set_same, get_or-set_other, append-nil, length-append}

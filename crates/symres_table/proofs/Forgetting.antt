@@ -1,3 +1,4 @@
+-- The two tables of names agree after names without entries are dropped, and the others keep their numbers.
 use Rattle.std.proofs.Common.{◌≡◌, ◌<◌, ◌+◌, ℕ, zero, suc, Bool, true, false, cond, nat_lt, length, get_or, Vec, Global}
 use Rattle.std.proofs.Common.{List, [], ◌∷◌, map, filter, refl, ap, sym, ◌∙◌, subst, arith, Option, Some, None}
 use Rattle.std.proofs.Common.{length-append}

@@ -1,3 +1,4 @@
+-- New rows are empty: the rows are still those of the objects, and there is no less room.
 use Rattle.std.proofs.Common.{◌≡◌, ◌<◌, ◌≤◌, ◌+◌, ℕ, zero, suc, false, cond, length, get_or}
 use Rattle.std.proofs.Common.{Vec, Global, List, [], ◌∷◌, ◌++◌, map, refl, ap, sym, ◌∙◌, subst, ⊎_elim}
 use Rattle.std.proofs.Common.{arith, Result, Ok, Err, OnOk}

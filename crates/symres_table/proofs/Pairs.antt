@@ -1,3 +1,4 @@
+-- Two tables that say the same find each name under its number, and no two numbers have one name.
 use Rattle.std.proofs.Common.{◌≡◌, ◌≢◌, ℕ, Bool, true, false, cond, get_or, Vec, Global, List, [], ◌∷◌, ◌++◌, map, refl}
 use Rattle.std.proofs.Common.{ap, sym, ◌∙◌, subst, ⊎_elim, Option, Some, None}
 use Rattle.std.specs.Prelude.{bytes_eq, MatchOption, slice_get}

@@ -1,3 +1,4 @@
+-- A list that is set aside adds its room to those of the others.
 use Rattle.std.proofs.Common.{◌≡◌, ◌<◌, ◌≤◌, ℕ, length, get_or, Vec, Global, List, [], ◌∷◌, ◌++◌, refl, ap, arith}
 use Rattle.std.specs.Vec.{vec_capacity}
 use Rattle.std.proofs.lemmas.List.{get_or-map, length-map}

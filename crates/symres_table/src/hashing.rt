@@ -19,6 +19,7 @@ fn reduced(number: u128) -> u64
     (once % POWER + once / POWER) as u64
 }
 
+/// The sum times the factor and the term more, modulo 2^61 - 1 as in `reduced`.
 #[inline(always)]
 fn combined(sum: u64, factor: u64, term: u64) -> u64
     ensures { result ≡ combined sum factor term }
@@ -96,6 +97,7 @@ fn drawn(seed: RandomState, index: u64) -> u64 {
 }
 
 impl WordState {
+    /// The random numbers of a seed.
     pub fn new(seed: RandomState) -> WordState {
         WordState {
             argument: drawn(seed, 0),

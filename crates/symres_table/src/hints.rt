@@ -126,7 +126,8 @@ fn lines_for(hints: usize) -> usize {
         .max(FIRST_LINES)
 }
 
-/// the line is read to its end, so that a processor need not predict where the hash is
+/// The place that a line has for a hash, from 1, or 0 if there is none. The line is read to its end, so that a
+/// processor need not predict where the hash is.
 fn place_on(line: &Line, hash: u32) -> u32 {
     let mut place = 0;
     for hint in line.iter() {
@@ -167,6 +168,7 @@ fn spread(alloc: Global, lines: &[Line], count: usize) -> Result<Vec<Line>, Allo
 }
 
 impl Hints {
+    /// No hints.
     pub fn new(alloc: Global) -> Hints {
         Hints {
             lines: Vec::new(alloc),
@@ -210,7 +212,7 @@ impl Hints {
         count
     }
 
-    /// The guess for the name of a symbol, by the number of non-local symbols of its object before it.
+    /// The guess for the name of a symbol. `symbol` is the number of non-local symbols of its object before it.
     pub fn place(&self, symbol: usize) -> Option<usize> {
         match self.found.get(symbol) {
             Some(hint) if hint.place > 0 => Some(hint.place as usize - 1),
@@ -218,7 +220,8 @@ impl Hints {
         }
     }
 
-    /// Whether the name of a symbol is likely to have no place yet, by how many symbols stand before it as for `place`.
+    /// Whether the name of a symbol is likely to have no place yet. `symbol` is the number of non-local symbols of its
+    /// object before it.
     pub fn is_new(&self, symbol: usize) -> bool {
         match self.found.get(symbol) {
             Some(hint) => self.is_told && hint.place == 0,

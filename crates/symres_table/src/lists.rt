@@ -22,6 +22,7 @@ use elfobj::span::Span;
 use elfobj::{Object, Symbol};
 use std::alloc::AllocError;
 
+/// The index of a spare list with memory for this many symbols.
 fn find(spare: &[Vec<Numbered>], count: usize) -> usize
     requires { HasList (rooms spare.now) count }
     ensures within { result < length spare.now }
@@ -69,7 +70,7 @@ pub fn park(spare: &mut Vec<Vec<Numbered>>, count: usize, entered: usize) -> Res
     Ok(())
 }
 
-/// The number of a name. The name is not hashed where it has the number that is guessed.
+/// The number of a name. The name is not hashed if it has the number that is guessed.
 fn number_of(known: &NameTable, guess: Option<usize>, name: &[u8]) -> Option<usize>
     ensures number { MatchOption result ((n : ℕ) → slot known.now.slots n ≢ Some name.now) (λ n.
         IsNamed known.now.slots n name.now) }
@@ -95,7 +96,7 @@ fn guess_at(guesses: &[Numbered], at: usize, number: u32) -> Option<usize> {
     }
 }
 
-/// The index of the next guess, after this one or none at an index.
+/// The index of the next guess: one further if there was a guess for the symbol, else the same.
 fn place_after(at: usize, guess: Option<usize>) -> usize {
     match guess {
         Some(_) => at.saturating_add(1),
@@ -109,8 +110,8 @@ fn is_same_place(one: Span, other: Span) -> bool
     one.start == other.start && one.end == other.end
 }
 
-/// The number of the name of a symbol, if the one at this index of the list has its name at the same bytes, which are
-/// not read.
+/// The number of the name of a symbol, if the symbol at this index of the list has its name at the same bytes. The
+/// bytes are not read.
 fn number_at(object: &Object, number: u32, list: &[Numbered], at: usize) -> Option<usize>
     requires within { number < length object.now.symbols }
     requires list { All (λ (s : Numbered). s.number < length object.now.symbols) list.now }
@@ -142,7 +143,7 @@ fn number_noted(object: &Object, number: u32, list: &[Numbered], repeats: &Repea
     }
 }
 
-/// The number of a symbol's name in a list of all symbols so far, where the guesses are the list of those noted.
+/// The number of a symbol's name in a list of all symbols so far. The symbols that were noted are in `guesses`.
 fn number_guessed(
     object: &Object,
     number: u32,
@@ -305,7 +306,7 @@ fn note_new(known: &NameTable, count: usize, hints: &mut Hints, symbol: usize) {
     }
 }
 
-/// The number of a name by the hint for a symbol that has it. It becomes known if it isn't.
+/// The number of a name by the hint for a symbol that has it. The name becomes known if it isn't.
 #[inline(always)]
 fn add_hinted(
     known: &mut NameTable,
@@ -467,8 +468,8 @@ fn name_told(list: &[Numbered], at: usize, number: u32) -> Option<usize>
     None
 }
 
-/// Writes the symbols of an object that aren't local, where names that are not known become so. `repeats` is left with
-/// places in this list.
+/// Writes the symbols of an object that aren't local. Names that are not known become so. `repeats` is left with places
+/// in this list.
 pub fn number_new(
     known: &mut NameTable,
     object: &Object,

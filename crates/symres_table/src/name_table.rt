@@ -138,6 +138,7 @@ impl NameTable {
         }
     }
 
+    /// The allocator of the tables.
     pub fn allocator(&self) -> Global {
         *self.numbers.allocator()
     }
@@ -175,7 +176,7 @@ impl NameTable {
         }
     }
 
-    /// The number of a name, which is new where the name was not known.
+    /// The number of a name, which is new if the name was not known.
     #[inline(never)]
     pub fn add(&mut self, name: &[u8]) -> Result<usize, AllocError>
         ensures ok { IfOk result (λ n. IsNamed self.new.slots n name.now) }
@@ -188,7 +189,7 @@ impl NameTable {
         }
     }
 
-    /// The same as `add`, where the name is likely to be new: it is hashed once.
+    /// The same as `add`, for a name that is likely to be new: it is hashed once.
     #[inline(never)]
     pub fn add_new(&mut self, name: &[u8]) -> Result<usize, AllocError>
         ensures ok { IfOk result (λ n. IsNamed self.new.slots n name.now) }

@@ -18,6 +18,7 @@ use ldmodel::names::{ObjectKey, ObjectPlace};
 use std::alloc::{AllocError, Global};
 use std::marker::Model;
 
+/// An entered object: its key, and its symbols by the numbers of their names.
 #[derive(Drop)]
 struct EnteredObject {
     key: ObjectKey,
@@ -80,6 +81,7 @@ fn reserve_fields(
 }
 
 impl Objects {
+    /// No objects.
     pub fn new(alloc: Global) -> Objects
         ensures objects { result.objects ≡ [] }
         ensures room { result.room ≡ [] }
@@ -91,6 +93,7 @@ impl Objects {
         }
     }
 
+    /// How many objects are entered.
     pub fn len(&self) -> usize
         ensures { result ≡ length self.now.objects }
     {

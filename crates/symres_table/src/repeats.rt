@@ -24,6 +24,7 @@ pub struct Repeats {
 }
 
 impl Repeats {
+    /// No names.
     pub fn new(alloc: Global) -> Repeats {
         Repeats {
             starts: BTreeMap::new(alloc),

@@ -176,7 +176,7 @@ fn settle_all(
 }
 
 /// Adds what an object declares, after the objects in front. It takes no memory. Each row is gone through once, however
-/// many of the symbols have its name, and not at all where the object comes after all `count` that are there.
+/// many of the symbols have its name, and not at all if the object comes after all `count` that are there.
 pub fn add_all(
     table: &mut Vec<Vec<Declared>>,
     places: &[PlacedKey],
@@ -227,7 +227,7 @@ fn mark_last(row: &mut Vec<Declared>, key: ObjectKey, symbol: Numbered)
     }
 }
 
-/// Does what `gather` does, unless the row ends in a declaration of the key.
+/// Does what `mark_last` does, unless the row ends in a declaration of the key.
 fn mark_last_once(row: &mut Vec<Declared>, key: ObjectKey, symbol: Numbered)
     ensures { MarksLast key.0 row.old row.new }
 {
@@ -302,9 +302,9 @@ pub fn remove_all(table: &mut Vec<Vec<Declared>>, key: ObjectKey, symbols: &[Num
 /// For how many entries a row has room once it has more than one.
 const SEVERAL: usize = 2;
 
-/// Makes room for one more entry of a name. The first has room for itself alone where it defines the name, as many names
-/// have no other; else, and once there is a second, there is room for `SEVERAL` entries, and then for twice as many each
-/// time.
+/// Makes room for one more entry of a name. The first entry has room for itself alone if it defines the name, since
+/// many names have no other. Else, and once there is a second, there is room for `SEVERAL` entries, and then for twice
+/// as many each time.
 fn reserve_row(row: &mut Vec<Declared>, place: SymbolPlace) -> Result<(), AllocError>
     ensures items { row.new.items ≡ row.old.items }
     ensures capacity { vec_capacity row.old ≤ vec_capacity row.new }

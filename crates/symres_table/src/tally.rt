@@ -82,7 +82,7 @@ impl Tally {
         }
     }
 
-    /// What the entries seen say, where the script gives the name so.
+    /// How the name is resolved by the entries seen, and by what the script gives it.
     #[tactic(auto, unfolding(ldmodel::specs::Names::decided))]
     fn case(&self, given: Option<Given>) -> Case<ObjectKey>
         ensures { (seen : List Declaration) → self.now ≡ tally_of seen → decision_under_keys result
