@@ -38,7 +38,7 @@ or_0 (Some x) = refl
 
 module _ (l : KnownLink) where
   -- the value of what a name stands for is the name's
-  of_case : (name : List ℕ) (case : Case) (v : SymbolValue) → Some (decision_of l.number case)
+  of_case : (name : List ℕ) (case : Case ObjectPlace) (v : SymbolValue) → Some (decision_of l.number case)
       ≡ Some (decision l.project name) → v ≡ decided_value l.project l.layout name (decision_of l.number case) → v
       ≡ name_value l.project l.layout name
   unfolding name_value
@@ -50,13 +50,14 @@ module _ (l : KnownLink) where
   no_entry None e = refl
   no_entry (Some name) e = cc
 
-  pub entry_without : (case : Option Case) (given : Option ℕ) → case ≡ None → IsEntryCase l case given → Number 0
+  pub entry_without : (case : Option (Case ObjectPlace)) (given : Option ℕ) → case ≡ None → IsEntryCase l case given
+      → Number 0
       ≡ entry_point l.project l.layout
   unfolding entry_point
   entry_without case given e h =
       no_entry (entry_symbol l.project) (sym (ap (option_map (decision_of l.number)) e) ∙ h.decided)
 
-  some_entry : (o : Option (List ℕ)) (case : Case) (given : Option ℕ) (v : SymbolValue)
+  some_entry : (o : Option (List ℕ)) (case : Case ObjectPlace) (given : Option ℕ) (v : SymbolValue)
       → Some (decision_of l.number case) ≡ option_map (decision l.project) o
       → ((name : List ℕ) → o ≡ Some name → given ≡ script_value l.layout name)
       → ((name : List ℕ) → given ≡ script_value l.layout name → v
@@ -65,7 +66,8 @@ module _ (l : KnownLink) where
   some_entry None case given v e g h = cc
   some_entry (Some name) case given v e g h = of_case name case v e (h name (g name refl))
 
-  pub entry_with : (a : Option Case) (case : Case) (given : Option ℕ) (v : SymbolValue) → a ≡ Some case
+  pub entry_with : (a : Option (Case ObjectPlace)) (case : Case ObjectPlace) (given : Option ℕ) (v : SymbolValue)
+      → a ≡ Some case
       → IsEntryCase l a given
       → ((name : List ℕ) → given ≡ script_value l.layout name → v
       ≡ decided_value l.project l.layout name (decision_of l.number case))

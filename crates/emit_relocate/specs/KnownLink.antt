@@ -52,7 +52,7 @@ IsNameOf link object symbol k =
     ≡ false
     → link.name k.0 ≡ Some x.name
 
-abbrev pub IsCaseOf : KnownLink → NameKey → Option Case → Type 0
+abbrev pub IsCaseOf : KnownLink → NameKey → Option (Case ObjectPlace) → Type 0
 IsCaseOf link k case =
     (name : List ℕ) → link.name k.0 ≡ Some name → option_map (decision_of link.number) case
     ≡ Some (decision link.project name)
@@ -90,7 +90,7 @@ named_target link (of.Section object section) = Some (Section (name_of_object li
 named_target link of.Fixed = Some Fixed
 
 -- what the entry symbol stands for, if there is one, and the value that the script gives it
-pub record IsEntryCase (link : KnownLink) (case : Option Case) (given : Option ℕ) : Type 0 where
+pub record IsEntryCase (link : KnownLink) (case : Option (Case ObjectPlace)) (given : Option ℕ) : Type 0 where
   pub decided : option_map (decision_of link.number) case
       ≡ option_map (decision link.project) (entry_symbol link.project)
   pub given_is : (name : List ℕ) → entry_symbol link.project ≡ Some name → given ≡ script_value link.layout name

@@ -35,7 +35,7 @@ pub trait LinkInfo {
             < result };
 
     /// How the name of a key is resolved.
-    fn case(&self, name: NameKey) -> Option<Case>
+    fn case(&self, name: NameKey) -> Option<Case<ObjectPlace>>
         ensures { (link : KnownLink) → knows self.now link → IsCaseOf link name result };
 
     /// The value that the script gives the name of a key, if it gives one.

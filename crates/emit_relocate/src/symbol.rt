@@ -12,7 +12,6 @@ ghost use Rattle.emit_relocate.specs.Values.{value_of};
 
 use crate::link_info::LinkInfo;
 use crate::value::{SymbolValue, address_from};
-use elfobj::relocation::SymbolIndex;
 use elfobj::symbol::{Symbol, SymbolPlace};
 use ldmodel::fault::Fault;
 use ldmodel::names::{Case, Entry, ObjectPlace};
@@ -36,26 +35,25 @@ pub fn own_value<L: LinkInfo>(link: &L, object: ObjectPlace, symbol: &Symbol) ->
 }
 
 /// The value of the symbol of an entry, if there is such an entry.
-fn entry_value<L: LinkInfo>(link: &L, entry: Entry) -> SymbolValue
+fn entry_value<L: LinkInfo>(link: &L, entry: Entry<ObjectPlace>) -> SymbolValue
     ensures { (l : KnownLink) → L.knows link.now l → value_of result
         ≡ entry_value l.project l.layout (entry_of l.number entry) }
 {
-    let key = ObjectPlace(entry.key);
-    let Some(object) = link.object(key) else {
+    let Some(object) = link.object(entry.object) else {
         return SymbolValue::NotDefined;
     };
-    match object.symbols().get(entry.symbol as usize) {
+    match object.symbols().get(entry.symbol.0 as usize) {
         None => SymbolValue::NotDefined,
-        Some(symbol) => own_value(link, key, symbol),
+        Some(symbol) => own_value(link, entry.object, symbol),
     }
 }
 
 /// The address of the common block that an entry owns.
-fn common_value<L: LinkInfo>(link: &L, owner: Entry) -> SymbolValue
+fn common_value<L: LinkInfo>(link: &L, owner: Entry<ObjectPlace>) -> SymbolValue
     ensures { (l : KnownLink) → L.knows link.now l → value_of result ≡ common_value l (entry_of l.number owner) }
 {
-    let object = ObjectPlace(owner.key);
-    let part = Part::InCommon(SymbolIndex(owner.symbol));
+    let object = owner.object;
+    let part = Part::InCommon(owner.symbol);
     address_from(link.start(SectionKey { object, part }), 0)
 }
 
@@ -70,7 +68,7 @@ fn given_value(given: Option<u64>) -> SymbolValue
 }
 
 /// The value of a name, by its resolution and the value that the script gives it.
-fn decided_value<L: LinkInfo>(link: &L, case: Case, given: Option<u64>) -> SymbolValue
+fn decided_value<L: LinkInfo>(link: &L, case: Case<ObjectPlace>, given: Option<u64>) -> SymbolValue
     ensures { (l : KnownLink) → L.knows link.now l → (name : List ℕ) → given ≡ script_value l.layout name
         → value_of result ≡ decided_value l.project l.layout name (decision_of l.number case) }
 {
@@ -84,7 +82,11 @@ fn decided_value<L: LinkInfo>(link: &L, case: Case, given: Option<u64>) -> Symbo
 
 /// The value of the entry symbol, `e_entry`: 0 if there is none. It stands for `case`, and the script gives it the
 /// value `given`, if any.
-pub fn entry_point<L: LinkInfo>(link: &L, case: Option<Case>, given: Option<u64>) -> SymbolValue
+pub fn entry_point<L: LinkInfo>(
+    link: &L,
+    case: Option<Case<ObjectPlace>>,
+    given: Option<u64>,
+) -> SymbolValue
     ensures { (known : KnownLink) → L.knows link.now known → IsEntryCase known case given → value_of result
         ≡ entry_point known.project known.layout }
 {

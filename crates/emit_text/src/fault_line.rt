@@ -91,16 +91,16 @@ fn relocation_or_none<M: Members>(members: &M, site: SiteKey) -> Relocation
 fn put_duplicate<M: Members>(
     text: &mut Vec<u8>,
     members: &M,
-    entry: Entry,
+    entry: Entry<ObjectPlace>,
     first: Definer,
 ) -> Result<(), AllocError>
     ensures { OnOk result (text.new.items ≡ text.old.items ++ line_of
-        (codes "F1" ∷ name_of_symbol (M.project members.now) (M.number members.now entry.key) entry.symbol ∷
-        object_name (M.project members.now) (M.number members.now entry.key) ∷ definer_word
+        (codes "F1" ∷ name_of_symbol (M.project members.now) (M.number members.now entry.object.0) entry.symbol.0 ∷
+        object_name (M.project members.now) (M.number members.now entry.object.0) ∷ definer_word
         (definer_of (M.project members.now) (M.number members.now) first) ∷ [])) }
 {
-    let object = ObjectPlace(entry.key);
-    let name = symbol_name(members, object, SymbolIndex(entry.symbol));
+    let object = entry.object;
+    let name = symbol_name(members, object, entry.symbol);
     put_line(
         text,
         &[

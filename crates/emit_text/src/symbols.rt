@@ -8,7 +8,7 @@ ghost use Rattle.emit_text.specs.ShownMap.{symbol_text, symbols_text};
 use crate::line_buffer::LineBuffer;
 use crate::map_line::put_symbol_line;
 use crate::members::Members;
-use ldmodel::names::{Case, Entry, ObjectPlace};
+use ldmodel::names::{Case, ObjectPlace};
 use std::alloc::AllocError;
 
 /// A name, its resolution, and its value.
@@ -17,7 +17,7 @@ pub struct MapSymbol<'a> {
     /// The name.
     pub name: &'a [u8],
     /// Its resolution. An undefined name, and one that is defined twice, has no line.
-    pub case: Case,
+    pub case: Case<ObjectPlace>,
     /// Its value; `None` if its section is not in the output.
     pub value: Option<u64>,
 }
@@ -41,14 +41,12 @@ pub trait MapSymbols {
 }
 
 /// The name of the object that defines a name, or `script`.
-fn owner_name<M: Members>(members: &M, case: Case) -> &[u8]
+fn owner_name<M: Members>(members: &M, case: Case<ObjectPlace>) -> &[u8]
     ensures { result.now ≡ owner (M.project members.now) (decision_of (M.number members.now) case) }
 {
     match case {
-        Case::Strong(Entry { key, .. }) | Case::Weak(Entry { key, .. }) => members.name(ObjectPlace(
-            key,
-        )),
-        Case::Common { owner, .. } => members.name(ObjectPlace(owner.key)),
+        Case::Strong(entry) | Case::Weak(entry) => members.name(entry.object),
+        Case::Common { owner, .. } => members.name(owner.object),
         Case::Script | Case::Provided | Case::Undefined | Case::Duplicate => b"script",
     }
 }
