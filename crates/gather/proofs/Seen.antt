@@ -11,6 +11,7 @@ use Rattle.elfobj.specs.declared.symbol.Symbol.{Symbol}
 use Rattle.ldmodel.specs.Names.{is_local, symbol_tables}
 use Rattle.ldmodel.specs.Project.{NamedObject, Project}
 use Rattle.ldmodel.specs.declared.names.Case.{Case}
+use Rattle.ldmodel.specs.declared.names.ObjectPlace.{ObjectPlace}
 use Rattle.symres.specs.Decided.{HasCase, case_at}
 use Rattle.symres.specs.SymbolTable.{IsNameAt, IsSymbolTable, IsSeenAt, SymbolTableState}
 use Rattle.symres.specs.table.State.{IsNamed}
@@ -68,7 +69,8 @@ module _ (p : Project) (a : SymbolTableState) (i n : ℕ) (object : ObjectData) 
             (seen d);
       }
 
-  pub case_is : (key : ℕ) (found : Option Case) (d : NamedSymbol) → IsNameAt a i n key → HasCase a.cases key
+  pub case_is : (key : ℕ) (found : Option (Case ObjectPlace)) (d : NamedSymbol) → IsNameAt a i n key
+      → HasCase a.cases key
       → found ≡ case_at a.cases key → is_local (get_or object.symbols n d).symbol.binding ≡ false
       → IsCaseOf p (get_or object.symbols n d) found
   case_is key found d name has is seen =

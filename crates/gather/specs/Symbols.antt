@@ -7,6 +7,7 @@ use Rattle.ldmodel.specs.HandedOver.{decision_of}
 use Rattle.ldmodel.specs.Names.{decision, is_local}
 use Rattle.ldmodel.specs.Project.{NamedObject, Project}
 use Rattle.ldmodel.specs.declared.names.Case.{Case}
+use Rattle.ldmodel.specs.declared.names.ObjectPlace.{ObjectPlace}
 
 -- the object at this place of the project
 abbrev pub IsObjectAt : Project → ℕ → ObjectData → Type 0
@@ -14,7 +15,7 @@ IsObjectAt project i object =
     option_map (λ (object : NamedObject). object.object) (slice_get project.objects i) ≡ Some object
 
 -- a local symbol has no case; that of another is what its name stands for
-abbrev pub IsCaseOf : Project → NamedSymbol → Option Case → Type 0
+abbrev pub IsCaseOf : Project → NamedSymbol → Option (Case ObjectPlace) → Type 0
 IsCaseOf project symbol None = is_local symbol.symbol.binding ≡ true
 IsCaseOf project symbol (Some c) =
     (is_local symbol.symbol.binding ≡ false) × (decision_of (λ key. key) c ≡ decision project symbol.name)

@@ -7,7 +7,7 @@ ghost use Rattle.symres.specs.SymbolTable.{IsSymbolTable};
 
 use elfobj::Object;
 use elfobj::relocation::SymbolIndex;
-use ldmodel::names::Case;
+use ldmodel::names::{Case, ObjectPlace};
 use ldmodel_project::view::ProjectView;
 use symres::SymbolTable;
 use symres::declaring::declares;
@@ -19,14 +19,17 @@ pub(crate) fn case_of_symbol(
     place: usize,
     object: &Object,
     number: usize,
-) -> Option<Case>
+) -> Option<Case<ObjectPlace>>
     requires symbol_table { IsSymbolTable project.now symbol_table.now }
     requires object { IsObjectAt project.now place object.now }
     requires number { number < length object.now.symbols }
     ensures { (d : NamedSymbol) → IsCaseOf project.now (slice_index_or object.now.symbols number d) result }
 {
     if declares(object.symbols()[number].binding) {
-        return symbol_table.case_of(symbol_table.key_of(place, SymbolIndex(number as u32)));
+        return symbol_table.case_of(symbol_table.key_of(
+            ObjectPlace(place),
+            SymbolIndex(number as u32),
+        ));
     }
     None
 }

@@ -11,7 +11,7 @@ ghost use Rattle.symres.specs.SymbolTable.{IsSymbolTable};
 
 use crate::cases::case_of_symbol;
 use elfobj::Object;
-use elfobj::relocation::{Relocation, SymbolIndex};
+use elfobj::relocation::Relocation;
 use elfobj::symbol::SymbolPlace;
 use ldmodel::names::{Case, Entry, ObjectPlace};
 use ldmodel::sections::{Part, SectionKey};
@@ -19,12 +19,12 @@ use ldmodel_project::view::ProjectView;
 use symres::SymbolTable;
 
 /// The section that a symbol of the object at a place is defined in, if it is in one.
-fn section_at(place: ObjectPlace, at: SymbolPlace) -> Option<SectionKey>
-    ensures { option_map (section_id (λ key. key)) result ≡ section_of_place place.0 at }
+fn section_at(object: ObjectPlace, at: SymbolPlace) -> Option<SectionKey>
+    ensures { option_map (section_id (λ key. key)) result ≡ section_of_place object.0 at }
 {
     match at {
         SymbolPlace::Section(number) => Some(SectionKey {
-            object: place,
+            object,
             part: Part::InTable(number),
         }),
         SymbolPlace::Undefined | SymbolPlace::Absolute | SymbolPlace::Common => None,
@@ -32,34 +32,34 @@ fn section_at(place: ObjectPlace, at: SymbolPlace) -> Option<SectionKey>
 }
 
 /// Where a symbol is defined, if there is such a symbol.
-fn place_of(project: &ProjectView<'_>, entry: Entry) -> Option<SymbolPlace>
+fn place_of(project: &ProjectView<'_>, entry: Entry<ObjectPlace>) -> Option<SymbolPlace>
     ensures { result ≡ option_map (λ (symbol : NamedSymbol). symbol.symbol.place)
-        (symbol_at project.now entry.key entry.symbol) }
+        (symbol_at project.now entry.object.0 entry.symbol.0) }
 {
-    let object = project.object(ObjectPlace(entry.key))?;
-    let symbol = object.symbols().get(entry.symbol as usize)?;
+    let object = project.object(entry.object)?;
+    let symbol = object.symbols().get(entry.symbol.0 as usize)?;
     Some(symbol.place)
 }
 
 /// The section that an entry is defined in, if it is in one.
-fn section_of_entry(project: &ProjectView<'_>, entry: Entry) -> Option<SectionKey>
+fn section_of_entry(project: &ProjectView<'_>, entry: Entry<ObjectPlace>) -> Option<SectionKey>
     ensures { option_map (section_id (λ key. key)) result
         ≡ section_of_entry project.now (entry_of (λ key. key) entry) }
 {
     let at = place_of(project, entry)?;
-    section_at(ObjectPlace(entry.key), at)
+    section_at(entry.object, at)
 }
 
 /// The section that a name is defined in, by its resolution; `None` for a number.
-fn section_of_case(project: &ProjectView<'_>, case: Case) -> Option<SectionKey>
+fn section_of_case(project: &ProjectView<'_>, case: Case<ObjectPlace>) -> Option<SectionKey>
     ensures { option_map (section_id (λ key. key)) result
         ≡ section_of_decision project.now (decision_of (λ key. key) case) }
 {
     match case {
         Case::Strong(entry) | Case::Weak(entry) => section_of_entry(project, entry),
         Case::Common { owner, .. } => Some(SectionKey {
-            object: ObjectPlace(owner.key),
-            part: Part::InCommon(SymbolIndex(owner.symbol)),
+            object: owner.object,
+            part: Part::InCommon(owner.symbol),
         }),
         Case::Script | Case::Provided | Case::Undefined | Case::Duplicate => None,
     }
