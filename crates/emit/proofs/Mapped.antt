@@ -6,6 +6,7 @@ use Rattle.std.specs.List.{All, AllPairs}
 use Rattle.std.specs.Ordering.{is_lt}
 use Rattle.ldscript.specs.Numbered.{shown_sections}
 use Rattle.ldscript.specs.Numbering.{output_sections}
+use Rattle.ldmodel.specs.Each.{Each}
 use Rattle.ldmodel.specs.Layout.{Layout}
 use Rattle.ldmodel.specs.PlacementView.{IsPlacementView}
 use Rattle.ldmodel.specs.MapText.{map_text}
@@ -16,6 +17,7 @@ use Rattle.ldmodel.specs.Project.{Project}
 use Rattle.ldmodel.specs.Rows.{rows}
 use Rattle.ldmodel.specs.SymbolValues.{SymbolValue, number_or_0}
 use Rattle.ldmodel_laws.specs.Spread.{entries_in}
+use Rattle.ldmodel_laws.proofs.EachOf.{all_of_each, each_of_all}
 use Rattle.place.specs.LinkLayout.{IsLinkLayout}
 use Rattle.place.specs.declared.link_layout.LinkLayout.{LinkLayout}
 use Rattle.symres.specs.SymbolTable.{SymbolTableState}
@@ -24,11 +26,14 @@ use Rattle.ldmodel_project.specs.ByPlace.{rows_in}
 use Rattle.emit_relocate.specs.Values.{value_of}
 use Rattle.emit_relocate.specs.declared.value.SymbolValue as code
 use Rattle.emit_relocate.specs.declared.value.SymbolValue.TheVariants as value
+use Rattle.emit_text.specs.Definer.{numbered}
+use Rattle.emit_text.specs.declared.definer.Definer.{Definer}
+use Rattle.emit_text.specs.declared.definer.Definer.TheVariants as definer
 use Rattle.emit_text.specs.MapOf.{AreSymbolsOf, IsMapOf, IsSymbolOf, IsValue, symbol_names}
 use Rattle.emit_text.specs.declared.maps.LinkMap.{LinkMap}
 use Rattle.emit_text.specs.declared.maps.MapParts.{MapParts}
 use Rattle.emit_text.specs.declared.symbols.MapSymbol.{MapSymbol}
-use Rattle.emit_values.specs.Values.{AreValues, shown_symbol}
+use Rattle.emit_values.specs.Values.{AreValues, HasFacts, shown_symbol}
 use Rattle.emit_values.specs.declared.values.OutputSymbol.{OutputSymbol}
 use Rattle.emit_values.specs.declared.values.Values.{Values}
 use Rattle.emit.specs.Listed.{map_symbol, number_of}
@@ -58,10 +63,6 @@ names_listed p s (x ∷ xs) = go (stands p x) (names_listed p s xs)
         (filter (stands p) xs)
     go true e = ap (λ (ys : List Name). x ∷ ys) e
     go false e = e
-
-abbrev Each : {X : Type 0} → (X → Type 0) → List X → Type 0
-Each P [] = Unit {0}
-Each P (x ∷ xs) = P x × Each P xs
 
 -- a symbol of the output is that of its name, which is declared
 record IsListed (p : Project) (s : Layout) (y : model.OutputSymbol) : Type 0 where
@@ -104,28 +105,26 @@ value_is (value.Number x) = refl
 value_is value.NotDefined = refl
 value_is value.NotInOutput = refl
 
-symbol_is : (p : Project) (s : Layout) (x : OutputSymbol) → IsListed p s (shown_symbol x)
+numbered_same : (x : Definer) → numbered (λ key. key) x ≡ x
+numbered_same definer.Nothing = refl
+numbered_same definer.Script = refl
+numbered_same (definer.Object key) = refl
+numbered_same (definer.WeakOf key) = refl
+
+symbol_is : (p : Project) (s : Layout) (x : OutputSymbol) → HasFacts p s x → IsListed p s (shown_symbol p x)
     → IsSymbolOf p (λ key. key) s (map_symbol x)
-symbol_is p s x h = record {
-  case = ap (λ (y : model.OutputSymbol). y.decision) h.is;
+symbol_is p s x facts h = record {
+  definer = numbered_same x.definer ∙ facts.definer;
   value = λ d.
       subst (λ (v : SymbolValue). IsValue v (number_of x.value)) (ap (λ (y : model.OutputSymbol). y.value) h.is)
       (value_is x.value);
   declared = λ d. contained_in x.name.now (declared_names p) h.declared;
 }
 
-symbols_are : (p : Project) (s : Layout) (xs : List OutputSymbol) → Each (IsListed p s) (map shown_symbol xs)
-    → Each (IsSymbolOf p (λ key. key) s) (map map_symbol xs)
-symbols_are p s [] h = tt
-symbols_are p s (x ∷ xs) h = (symbol_is p s x h.0, symbols_are p s xs h.1)
-
-all_from_each : {X : Type 0} (P : X → Type 0) (xs : List X) → Each P xs → All P xs
-all_from_each {X = X} P xs e k d h = go xs e k h
-  where
-    go : (ys : List X) → Each P ys → (i : ℕ) → i < length ys → P (get_or ys i d)
-    go [] e i h = absurd (omega (arith, h))
-    go (y ∷ ys) e zero h = e.0
-    go (y ∷ ys) e (suc i) h = go ys e.1 i (omega (arith, h))
+symbols_are : (p : Project) (s : Layout) (xs : List OutputSymbol) → Each (HasFacts p s) xs
+    → Each (IsListed p s) (map (shown_symbol p) xs) → Each (IsSymbolOf p (λ key. key) s) (map map_symbol xs)
+symbols_are p s [] facts h = tt
+symbols_are p s (x ∷ xs) facts h = (symbol_is p s x facts.0 h.0, symbols_are p s xs facts.1 h.1)
 
 before_from : (a b : Name) → Lt a b → is_before a b ≡ true
 before_from a b h = ap is_lt h
@@ -147,24 +146,26 @@ pairs_from xs a i j d l h = go xs a i j l h
     go (y ∷ ys) a zero (suc j) l h = below_at y.name.now ys j d a.0 (omega (arith, h))
     go (y ∷ ys) a (suc i) (suc j) l h = go ys a.1 i j (omega (arith, l)) (omega (arith, h))
 
-same_names : (xs : List OutputSymbol) → symbol_names (map map_symbol xs) ≡ map name_of (map shown_symbol xs)
-same_names [] = refl
-same_names (x ∷ xs) = ap (λ (ys : List Name). x.name.now ∷ ys) (same_names xs)
+same_names : (p : Project) (xs : List OutputSymbol)
+    → symbol_names (map map_symbol xs) ≡ map name_of (map (shown_symbol p) xs)
+same_names p [] = refl
+same_names p (x ∷ xs) = ap (λ (ys : List Name). x.name.now ∷ ys) (same_names p xs)
 
-code_names : (p : Project) (s : Layout) (xs : List OutputSymbol) → map shown_symbol xs ≡ output_symbols p s
+code_names : (p : Project) (s : Layout) (xs : List OutputSymbol) → map (shown_symbol p) xs ≡ output_symbols p s
     → symbol_names (map map_symbol xs) ≡ map name_of (output_symbols p s)
-code_names p s xs same = same_names xs ∙ ap (map name_of) same
+code_names p s xs same = same_names p xs ∙ ap (map name_of) same
 
-are_symbols : (p : Project) (s : Layout) (xs : List OutputSymbol) → map shown_symbol xs ≡ output_symbols p s
-    → AreSymbolsOf p (λ key. key) s (map map_symbol xs)
-are_symbols p s xs same = record {
-  each = all_from_each (IsSymbolOf p (λ key. key) s) (map map_symbol xs)
-      (symbols_are p s xs (subst (Each (IsListed p s)) (sym same) (all_listed p s)));
+are_symbols : (p : Project) (s : Layout) (xs : List OutputSymbol) → map (shown_symbol p) xs ≡ output_symbols p s
+    → All (HasFacts p s) xs → AreSymbolsOf p (λ key. key) s (map map_symbol xs)
+are_symbols p s xs same facts = record {
+  each = all_of_each (IsSymbolOf p (λ key. key) s) (map map_symbol xs)
+      (symbols_are p s xs (each_of_all (HasFacts p s) xs facts)
+      (subst (Each (IsListed p s)) (sym same) (all_listed p s)));
   order = pairs_from (map map_symbol xs) (subst Asc (sym (code_names p s xs same)) (names_asc p s));
 }
 
 all_there : (p : Project) (s : Layout) (xs : List OutputSymbol) (name : Name)
-    → map shown_symbol xs ≡ output_symbols p s → Contains (declared_names p) name → stands p name ≡ true
+    → map (shown_symbol p) xs ≡ output_symbols p s → Contains (declared_names p) name → stands p name ≡ true
     → Contains (symbol_names (map map_symbol xs)) name
 all_there p s xs name same declared is =
     subst (λ (ys : List Name). Contains ys name) (sym (code_names p s xs same ∙ all_names p s))
@@ -191,7 +192,8 @@ is_map p s a l v m xs h link_layout values = record {
   names = h.outputs s link_layout;
   placement = h.placement s link_layout;
   rows = h.lent ∙ sym (h.placed s link_layout);
-  listed = subst (AreSymbolsOf p (λ key. key) s) (sym h.symbols) (are_symbols p s v.symbols.items values.symbols);
+  listed = subst (AreSymbolsOf p (λ key. key) s) (sym h.symbols) (are_symbols p s v.symbols.items values.symbols
+      values.facts);
   complete = λ name declared is.
       subst (λ (ys : List MapSymbol). Contains (symbol_names ys) name) (sym h.symbols)
       (all_there p s v.symbols.items name values.symbols declared is);

@@ -43,30 +43,30 @@ plus_none t =
     ap (λ n. let z : SymbolSizes = record { count = n; names = t.names } in z) e
     ∙ ap (λ n. let z : SymbolSizes = record { count = t.count + 0; names = n } in z) f
 
-sizes_are : (t : SymbolSizes) (xs : List OutputSymbol) → plus_symbols t xs ≡ plus t (valued_in xs)
-sizes_are t [] = plus_none t
-sizes_are t (x ∷ xs) = sizes_are (plus_symbol t x) xs ∙ by_value (value_of x.value)
+sizes_are : (p : Project) (t : SymbolSizes) (xs : List OutputSymbol) → plus_symbols t xs ≡ plus t (valued_in p xs)
+sizes_are p t [] = plus_none t
+sizes_are p t (x ∷ xs) = sizes_are p (plus_symbol t x) xs ∙ by_value (value_of x.value)
   where
     by_value : (v : SymbolValue)
-        → plus (plus_value t x.name.now v) (valued_in xs)
-        ≡ plus t (cons_option (with_value (shown_symbol x) v) (valued_in xs))
+        → plus (plus_value t x.name.now v) (valued_in p xs)
+        ≡ plus t (cons_option (with_value (shown_symbol p x) v) (valued_in p xs))
     by_value NotDefined = refl
     by_value NotInOutput = refl
     by_value (Number v) =
         let own : ℕ = length x.name.now + 1 in
-        let rest : ℕ = names_size (names_of (valued_in xs)) in
-        let e : t.count + 1 + length (valued_in xs) ≡ t.count + suc (length (valued_in xs)) = omega arith in
-        let more : names_size (x.name.now ∷ names_of (valued_in xs)) ≡ own + rest =
-        sum_by-cons (λ name. length name + 1) x.name.now (names_of (valued_in xs)) in
-        let f : t.names + own + rest ≡ t.names + names_size (x.name.now ∷ names_of (valued_in xs)) =
+        let rest : ℕ = names_size (names_of (valued_in p xs)) in
+        let e : t.count + 1 + length (valued_in p xs) ≡ t.count + suc (length (valued_in p xs)) = omega arith in
+        let more : names_size (x.name.now ∷ names_of (valued_in p xs)) ≡ own + rest =
+        sum_by-cons (λ name. length name + 1) x.name.now (names_of (valued_in p xs)) in
+        let f : t.names + own + rest ≡ t.names + names_size (x.name.now ∷ names_of (valued_in p xs)) =
         omega (arith, more) in
         ap (λ n. let z : SymbolSizes = record { count = n; names = t.names + own + rest } in z) e
-        ∙ ap (λ n. let z : SymbolSizes = record { count = t.count + suc (length (valued_in xs)); names = n } in z) f
+        ∙ ap (λ n. let z : SymbolSizes = record { count = t.count + suc (length (valued_in p xs)); names = n } in z) f
 
-valued_same : (xs : List OutputSymbol)
-    → filter_map (λ (x : model.OutputSymbol). with_value x x.value) (map shown_symbol xs) ≡ valued_in xs
-valued_same [] = refl
-valued_same (x ∷ xs) = ap (λ l. cons_option (valued x) l) (valued_same xs)
+valued_same : (p : Project) (xs : List OutputSymbol)
+    → filter_map (λ (x : model.OutputSymbol). with_value x x.value) (map (shown_symbol p) xs) ≡ valued_in p xs
+valued_same p [] = refl
+valued_same p (x ∷ xs) = ap (λ l. cons_option (valued p x) l) (valued_same p xs)
 
 length_flat : (names : List (List ℕ)) → length (flat_map (λ name. name ++ 0 ∷ []) names) ≡ names_size names
 length_flat [] = refl
@@ -93,32 +93,33 @@ own_size = refl
 
 -- the symbols of the table are those that have a value
 pub table_is : (p : Project) (s : Layout) (a : SymbolTableState) (v : Values) → AreValues p s a v
-    → table_symbols p s ≡ valued_in v.symbols.items
+    → table_symbols p s ≡ valued_in p v.symbols.items
 table_is p s a v values =
     sym (ap (filter_map (λ (x : model.OutputSymbol). with_value x x.value)) values.symbols)
-    ∙ valued_same v.symbols.items
+    ∙ valued_same p v.symbols.items
 
 -- what was counted is the tail of a link
 pub sizes_of_tail : (p : Project) (s : Layout) (a : SymbolTableState) (v : Values) (t : TailSizes)
     (os : List code_section.OutputSectionAt) → AreOutputs p s.sections → AreValues p s a v
     → shown_sections os ≡ output_sections p.script
-    → t.symbols ≡ v.sizes.count → t.symbol_names ≡ v.sizes.names + 1 → t.header_names ≡ names_size (tree_names os) + 27 → t.sections ≡ length os
+    → t.symbols ≡ v.sizes.count → t.symbol_names ≡ v.sizes.names + 1
+    → t.header_names ≡ names_size (tree_names os) + 27 → t.sections ≡ length os
     → AreTailSizes p s t
 unfolding symbol_name_table header_name_table
 sizes_of_tail p s a v t os outputs values shown symbols symbol_names header_names sections =
-    let all : table_symbols p s ≡ valued_in v.symbols.items =
+    let all : table_symbols p s ≡ valued_in p v.symbols.items =
     table_is p s a v values in
     let zero_sizes : SymbolSizes = record { count = 0; names = 0 } in
-    let total : v.sizes ≡ plus zero_sizes (valued_in v.symbols.items) =
-    values.sizes ∙ sizes_are zero_sizes v.symbols.items in
-    let count : v.sizes.count ≡ 0 + length (valued_in v.symbols.items) = ap (λ (y : SymbolSizes). y.count) total in
-    let size : v.sizes.names ≡ 0 + names_size (names_of (valued_in v.symbols.items)) =
+    let total : v.sizes ≡ plus zero_sizes (valued_in p v.symbols.items) =
+    values.sizes ∙ sizes_are p zero_sizes v.symbols.items in
+    let count : v.sizes.count ≡ 0 + length (valued_in p v.symbols.items) = ap (λ (y : SymbolSizes). y.count) total in
+    let size : v.sizes.names ≡ 0 + names_size (names_of (valued_in p v.symbols.items)) =
     ap (λ (y : SymbolSizes). y.names) total in
     let tree : tree_names os ≡ map (λ (q : PlacedOutput). q.name) s.sections =
     ap (map (λ (o : OutputSectionAt). o.section.name)) shown ∙ sym outputs in
-    let long : length (table_symbols p s) ≡ length (valued_in v.symbols.items) = ap length all in
+    let long : length (table_symbols p s) ≡ length (valued_in p v.symbols.items) = ap length all in
     let strings : length (string_table (tail.symbol_names p s))
-    ≡ 1 + names_size (names_of (valued_in v.symbols.items)) =
+    ≡ 1 + names_size (names_of (valued_in p v.symbols.items)) =
     length_strings (tail.symbol_names p s) ∙ ap (λ xs. 1 + names_size (names_of xs)) all in
     let headings : length (string_table (headings.header_names s))
     ≡ 1 + (names_size (map (λ (q : PlacedOutput). q.name) s.sections) + 26) =

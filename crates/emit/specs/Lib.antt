@@ -1,3 +1,4 @@
+-- What the output of a link needs besides the definitions of ldmodel.
 pub use Rattle.emit_fields.specs as fields
 pub use Rattle.emit_image.specs as image
 pub use Rattle.emit_relocate.specs as relocate

@@ -11,4 +11,4 @@ abbrev pub number_of : SymbolValue → Option ℕ
 number_of x = number_if_any (value_of x)
 
 abbrev pub map_symbol : OutputSymbol → MapSymbol
-map_symbol symbol = record { name = symbol.name; case = symbol.case; value = number_of symbol.value }
+map_symbol symbol = record { name = symbol.name; definer = symbol.definer; value = number_of symbol.value }

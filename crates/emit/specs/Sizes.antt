@@ -1,5 +1,6 @@
 -- How much the tail of an image has of names and symbols.
 use Rattle.std.specs.Prelude.{ℕ, ◌+◌, List, length, sum_by, Option, filter_map}
+use Rattle.ldmodel.specs.Project.{Project}
 use Rattle.ldmodel.specs.Tail.{ValuedSymbol, with_value}
 use Rattle.emit_relocate.specs.Values.{value_of}
 use Rattle.emit_values.specs.Values.{shown_symbol}
@@ -9,9 +10,9 @@ use Rattle.emit_values.specs.declared.values.OutputSymbol.{OutputSymbol}
 abbrev pub names_size : List (List ℕ) → ℕ
 names_size names = sum_by (λ name. length name + 1) names
 
--- the symbol, if it has a value
-abbrev pub valued : OutputSymbol → Option ValuedSymbol
-valued symbol = with_value (shown_symbol symbol) (value_of symbol.value)
+-- the symbol of a project, if it has a value
+abbrev pub valued : Project → OutputSymbol → Option ValuedSymbol
+valued project symbol = with_value (shown_symbol project symbol) (value_of symbol.value)
 
-abbrev pub valued_in : List OutputSymbol → List ValuedSymbol
-valued_in xs = filter_map valued xs
+abbrev pub valued_in : Project → List OutputSymbol → List ValuedSymbol
+valued_in project xs = filter_map (valued project) xs

@@ -44,7 +44,7 @@ impl<'a> MapSymbols for ListedSymbols<'a> {
         let symbol = &self.symbols[place];
         MapSymbol {
             name: symbol.name,
-            case: symbol.case,
+            definer: symbol.definer,
             value: symbol.value.number(),
         }
     }

@@ -2,12 +2,10 @@
 
 ghost use Rattle.std.specs.Prelude.{◌≡◌, ◌++◌, [], IfOk, List, OnOk};
 ghost use Rattle.std.specs.List.{cons_option};
-ghost use Rattle.ldmodel.specs.HandedOver.{decision_of};
 ghost use Rattle.ldmodel.specs.Layout.{Layout};
 ghost use Rattle.ldmodel.specs.Project.{Project};
-ghost use Rattle.ldmodel.specs.Tail.{ValuedSymbol, st_binding, table_symbols};
+ghost use Rattle.ldmodel.specs.Tail.{ValuedSymbol, table_symbols};
 ghost use Rattle.symres.specs.SymbolTable.{SymbolTableState};
-ghost use Rattle.emit_image.specs.Tables.{binding_number};
 ghost use Rattle.emit_values.specs.Values.{AreValues, HasFacts};
 ghost use Rattle.emit.specs.Sizes.{valued};
 ghost use Rattle.emit.specs.Tables.{AreTablesFor};
@@ -16,37 +14,21 @@ use emit_image::symbols::{SymbolTables, TableSymbol};
 use emit_relocate::value::SymbolValue;
 use emit_values::values::{OutputSymbol, Values};
 use ldmodel::memory::NoMemory;
-use ldmodel::names::Case;
 use std::alloc::Global;
-
-/// Whether a name is resolved to a weak definition.
-fn is_weak(case: Case) -> bool
-    ensures { binding_number result ≡ st_binding (decision_of (λ key. key) case) }
-{
-    match case {
-        Case::Weak(_) => true,
-        Case::Strong(_)
-        | Case::Common { .. }
-        | Case::Script
-        | Case::Provided
-        | Case::Undefined
-        | Case::Duplicate => false,
-    }
-}
 
 /// Adds a symbol of the output to the tables, if it has a value.
 #[inline(always)]
 fn add_symbol(tables: &mut SymbolTables, symbol: &OutputSymbol<'_>) -> Result<(), NoMemory>
     ensures { OnOk result ((project : Project) (layout : Layout) (xs : List ValuedSymbol)
         → HasFacts project layout symbol.now → AreTablesFor project layout xs tables.old
-        → AreTablesFor project layout (xs ++ cons_option (valued symbol.now) []) tables.new) }
+        → AreTablesFor project layout (xs ++ cons_option (valued project symbol.now) []) tables.new) }
 {
     match symbol.value {
         SymbolValue::NotDefined | SymbolValue::NotInOutput => Ok(()),
         SymbolValue::Number(value) => {
             tables.push(&TableSymbol {
                 name: symbol.name,
-                weak: is_weak(symbol.case),
+                weak: symbol.definer.is_weak(),
                 kind: symbol.facts.kind,
                 section: symbol.facts.section,
                 value,

@@ -10,3 +10,4 @@ pub mod ByteOrder
 pub mod MapNames
 pub mod ByteStrings
 pub mod MapRows
+pub mod Definers

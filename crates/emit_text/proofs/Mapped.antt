@@ -6,6 +6,7 @@ use Rattle.std.specs.Prelude.{Contains}
 use Rattle.std.specs.Vec.{vec_items}
 use Rattle.ldscript.specs.Numbering.{OutputSectionAt, output_sections}
 use Rattle.ldscript.specs.Numbered.{shown_sections}
+use Rattle.ldmodel.specs.Each.{Each}
 use Rattle.ldmodel.specs.Layout.{Layout, PlacedPiece, PlacedOutput}
 use Rattle.ldmodel.specs.PlacementView.{placed_of, starts_of}
 use Rattle.ldmodel.specs.Lines.{line_of, hex}
@@ -17,16 +18,19 @@ use Rattle.ldmodel.specs.Project.{Project}
 use Rattle.ldmodel.specs.Rows as model
 use Rattle.ldmodel.specs.SymbolValues.{SymbolValue, Number, NotDefined, NotInOutput, name_value}
 use Rattle.ldmodel.specs.declared.rows.Piece.{Piece}
+use Rattle.emit_text.specs.Definer.{definer_of, defines, owner_in}
 use Rattle.emit_text.specs.MapOf.{IsMapOf, IsSymbolOf, AreSymbolsOf, IsValue, name_of, name_in, row_of, shown_piece}
 use Rattle.emit_text.specs.MapOf.{shown_row, symbol_names}
 use Rattle.emit_text.specs.ShownMap.{piece_text, pieces_text, section_text, sections_text, shown_map}
 use Rattle.emit_text.specs.ShownMap.{symbol_text, symbols_text, value_text}
 use Rattle.emit_text.specs.declared.maps.MapParts.{MapParts}
+use Rattle.emit_text.specs.declared.definer.Definer.{Definer}
 use Rattle.emit_text.specs.declared.symbols.MapSymbol.{MapSymbol}
+use Rattle.emit_text.proofs.Definers.{defines_as, owner_as}
 use Rattle.emit_text.proofs.ByteOrder.{Name, In, Once, contained_in, distinct_once, filtered_asc}
 use Rattle.emit_text.proofs.ByteOrder.{filtered_in, in_contained, in_filtered, in_sorted}
 use Rattle.emit_text.proofs.ByteOrder.{same_list, sorted_asc, sorted_in}
-use Rattle.emit_text.proofs.MapNames.{Each, asc_from, each_name, each_of}
+use Rattle.emit_text.proofs.MapNames.{asc_from, each_name, each_of}
 
 -- ---- sections and rows
 
@@ -125,10 +129,17 @@ value_same NotDefined o e = ap value_text e
 symbol_same : (p : Project) (number : ℕ → ℕ) (s : Layout) (x : MapSymbol) → IsSymbolOf p number s x
     → symbol_text p number x ≡ named_line p s x.name.now
 symbol_same p number s x h =
-    ap (λ (d : Decision).
-    cond (is_defined d) (line_of (codes "symbol" ∷ value_text x.value ∷ x.name.now ∷ owner p d ∷ [])) []) h.case
+    ap (λ (k : Definer). cond (defines k) (line (owner_in p k)) []) h.definer
+    ∙ ap (λ (b : Bool). cond b (line (owner_in p (definer_of d))) []) (defines_as d)
+    ∙ ap (λ (o : List ℕ). cond (is_defined d) (line o) []) (owner_as p d)
     ∙ go (stands p x.name.now) refl
   where
+    d : Decision
+    d = decision p x.name.now
+
+    line : List ℕ → List ℕ
+    line o = line_of (codes "symbol" ∷ value_text x.value ∷ x.name.now ∷ o ∷ [])
+
     go : (b : Bool) → stands p x.name.now ≡ b
         → cond b (line_of (codes "symbol" ∷ value_text x.value ∷ x.name.now ∷ owner p (decision p x.name.now) ∷ [])) []
         ≡ cond b (symbol_line p (output_symbol p s x.name.now)) []

@@ -4,7 +4,7 @@ use Rattle.std.specs.Vec.{vec_items}
 use Rattle.ldscript.specs.Numbered.{shown_sections}
 use Rattle.ldscript.specs.Numbering.{OutputSectionAt, output_sections}
 use Rattle.ldmodel.specs.FaultCode.{name_of_part}
-use Rattle.ldmodel.specs.HandedOver.{decision_of, piece_of}
+use Rattle.ldmodel.specs.HandedOver.{piece_of}
 use Rattle.ldmodel.specs.Layout.{Layout, PlacedPiece, PlacedOutput}
 use Rattle.ldmodel.specs.PlacementView.{IsPlacementView}
 use Rattle.ldmodel.specs.NameFaults.{object_name}
@@ -16,6 +16,7 @@ use Rattle.ldmodel.specs.SymbolValues.{SymbolValue, Number, NotDefined, NotInOut
 use Rattle.ldmodel.specs.SymbolValues.{number_or_0}
 use Rattle.ldmodel.specs.declared.rows.Piece.{Piece}
 use Rattle.ldmodel.specs.declared.sections.SectionKey.{SectionKey}
+use Rattle.emit_text.specs.Definer.{definer_of, numbered}
 use Rattle.emit_text.specs.declared.maps.MapParts.{MapParts}
 use Rattle.emit_text.specs.declared.symbols.MapSymbol.{MapSymbol}
 
@@ -44,9 +45,9 @@ IsValue (Number n) v = v ≡ Some n
 IsValue NotInOutput v = v ≡ None
 IsValue NotDefined v = v ≡ None
 
--- a name with what it stands for and, where that is something, its value; the name is then one that is declared
+-- a name with what defines it and, where that is something, its value; the name is then one that is declared
 pub record IsSymbolOf (project : Project) (number : ℕ → ℕ) (layout : Layout) (x : MapSymbol) : Type 0 where
-  pub case : decision_of number x.case ≡ decision project x.name.now
+  pub definer : numbered number x.definer ≡ definer_of (decision project x.name.now)
   pub value : is_defined (decision project x.name.now) ≡ true → IsValue (name_value project layout x.name.now) x.value
   pub declared : is_defined (decision project x.name.now) ≡ true → Contains (declared_names project) x.name.now
 

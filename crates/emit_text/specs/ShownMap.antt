@@ -6,14 +6,13 @@ use Rattle.std.specs.Vec.{vec_items}
 use Rattle.ldscript.specs.Numbered.{shown_sections}
 use Rattle.ldscript.specs.Numbering.{OutputSectionAt}
 use Rattle.ldmodel.specs.FaultCode.{name_of_part}
-use Rattle.ldmodel.specs.HandedOver.{decision_of}
 use Rattle.ldmodel.specs.Lines.{line_of, hex}
 use Rattle.ldmodel.specs.NameFaults.{object_name}
-use Rattle.ldmodel.specs.OutputSymbols.{is_defined, owner}
 use Rattle.ldmodel.specs.Project.{Project}
 use Rattle.ldmodel.specs.declared.placed.Placed.{Placed}
 use Rattle.ldmodel.specs.declared.rows.Piece.{Piece}
 use Rattle.ldmodel.specs.declared.sections.SectionKey.{SectionKey}
+use Rattle.emit_text.specs.Definer.{defines, numbered, owner_in}
 use Rattle.emit_text.specs.declared.maps.MapParts.{MapParts}
 use Rattle.emit_text.specs.declared.symbols.MapSymbol.{MapSymbol}
 
@@ -81,11 +80,11 @@ abbrev pub symbol_parts : Option ℕ → (name owner : List ℕ) → List ℕ
 symbol_parts value name owner =
     codes "symbol " ++ (value_text value ++ 32 ∷ []) ++ (name ++ 32 ∷ [] ++ owner ++ 10 ∷ [])
 
--- nothing for a name that stands for nothing
+-- nothing for a name that nothing defines
 abbrev pub symbol_text : Project → (number : ℕ → ℕ) → MapSymbol → List ℕ
 symbol_text project number x =
-    if is_defined (decision_of number x.case)
-    then line_of (codes "symbol" ∷ value_text x.value ∷ x.name.now ∷ owner project (decision_of number x.case) ∷ [])
+    if defines (numbered number x.definer)
+    then line_of (codes "symbol" ∷ value_text x.value ∷ x.name.now ∷ owner_in project (numbered number x.definer) ∷ [])
     else []
 
 abbrev pub symbols_text : Project → (number : ℕ → ℕ) → List MapSymbol → List ℕ

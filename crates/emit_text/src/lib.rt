@@ -1,14 +1,15 @@
-//! The texts of a link: the map (`maps::render_map`) and the lines of faults. Each is written in one pass, into a buffer
-//! for names of common length, which grows for longer ones.
+//! The texts of a link: the map (`maps::render_map`) and the lines of faults. Each is written in one pass, into a
+//! buffer for names of common length, which grows for longer ones.
 //!
 //! - `faults`, `fault_line`: fault lines; `maps`, `map_line`: the map; `line`, `line_buffer`, `hex`: how lines are
 //!   written;
-//! - `byte_strings`: the names in a map, kept for the next; `members`, `script_names`, `named`, `symbols`, `assertion`:
-//!   where names come from.
+//! - `definer`: what defines a symbol; `byte_strings`: the names in a map, kept for the next;
+//! - `members`, `script_names`, `named`, `symbols`, `assertion`: where names come from.
 #![tactic(auto)]
 
 pub mod assertion;
 pub mod byte_strings;
+pub mod definer;
 mod fault_line;
 pub mod faults;
 mod hex;

@@ -1,23 +1,23 @@
 //! The map's lines of symbols.
 
 ghost use Rattle.std.specs.Prelude.{◌≡◌, ◌++◌, OnOk};
-ghost use Rattle.ldmodel.specs.HandedOver.{decision_of};
-ghost use Rattle.ldmodel.specs.OutputSymbols.{owner};
+ghost use Rattle.emit_text.specs.Definer.{numbered, owner_in};
 ghost use Rattle.emit_text.specs.ShownMap.{symbol_text, symbols_text};
 
+use crate::definer::Definer;
 use crate::line_buffer::LineBuffer;
 use crate::map_line::put_symbol_line;
 use crate::members::Members;
-use ldmodel::names::{Case, ObjectPlace};
+use ldmodel::names::ObjectPlace;
 use std::alloc::AllocError;
 
-/// A name, its resolution, and its value.
+/// A name, what defines it, and its value.
 #[derive(Clone, Copy, Debug)]
 pub struct MapSymbol<'a> {
     /// The name.
     pub name: &'a [u8],
-    /// Its resolution. An undefined name, and one that is defined twice, has no line.
-    pub case: Case<ObjectPlace>,
+    /// What defines it. A name that nothing defines has no line.
+    pub definer: Definer,
     /// Its value; `None` if its section is not in the output.
     pub value: Option<u64>,
 }
@@ -41,13 +41,12 @@ pub trait MapSymbols {
 }
 
 /// The name of the object that defines a name, or `script`.
-fn owner_name<M: Members>(members: &M, case: Case<ObjectPlace>) -> &[u8]
-    ensures { result.now ≡ owner (M.project members.now) (decision_of (M.number members.now) case) }
+fn owner_name<M: Members>(members: &M, definer: Definer) -> &[u8]
+    ensures { result.now ≡ owner_in (M.project members.now) (numbered (M.number members.now) definer) }
 {
-    match case {
-        Case::Strong(entry) | Case::Weak(entry) => members.name(entry.object),
-        Case::Common { owner, .. } => members.name(owner.object),
-        Case::Script | Case::Provided | Case::Undefined | Case::Duplicate => b"script",
+    match definer {
+        Definer::Object(key) | Definer::WeakOf(key) => members.name(ObjectPlace(key as usize)),
+        Definer::Script | Definer::Nothing => b"script",
     }
 }
 
@@ -63,17 +62,11 @@ fn put_symbol<M: Members>(
     ensures { OnOk result (text.new.items ++ lines.new ≡ (text.old.items ++ lines.old)
         ++ symbol_text (M.project members.now) (M.number members.now) symbol.now) }
 {
-    match symbol.case {
-        Case::Undefined => Ok(()),
-        Case::Duplicate => Ok(()),
-        Case::Strong(_) | Case::Weak(_) | Case::Common { .. } | Case::Script | Case::Provided => {
-            put_symbol_line(
-                text,
-                lines,
-                symbol.value,
-                symbol.name,
-                owner_name(members, symbol.case),
-            )
+    match symbol.definer {
+        Definer::Nothing => Ok(()),
+        Definer::Script | Definer::Object(_) | Definer::WeakOf(_) => {
+            let owner = owner_name(members, symbol.definer);
+            put_symbol_line(text, lines, symbol.value, symbol.name, owner)
         }
     }
 }

@@ -16,9 +16,9 @@ abbrev plus_all : SymbolSizes → List model.OutputSymbol → SymbolSizes
 plus_all t [] = t
 plus_all t (x ∷ xs) = plus_all (plus_value t x.name x.value) xs
 
-shown_same : (t : SymbolSizes) (xs : List OutputSymbol) → plus_symbols t xs ≡ plus_all t (shown xs)
-shown_same t [] = refl
-shown_same t (x ∷ xs) = shown_same (plus_symbol t x) xs
+shown_same : (p : Project) (t : SymbolSizes) (xs : List OutputSymbol) → plus_symbols t xs ≡ plus_all t (shown p xs)
+shown_same p t [] = refl
+shown_same p t (x ∷ xs) = shown_same p (plus_symbol t x) xs
 
 plus_append : (t : SymbolSizes) (xs ys : List model.OutputSymbol) → plus_all t (xs ++ ys)
     ≡ plus_all (plus_all t xs) ys
@@ -36,13 +36,13 @@ pub counts_more : (p : Project) (s : Layout) (names : List _) (old new : List Ou
     → after ≡ plus_symbols zero_sizes new
 counts_more p s names old new n t before after added long was is =
     let more : List model.OutputSymbol = defined_symbols p s names in
-    let front : n ≡ length (shown old) = long ∙ sym (length-map old shown_symbol) in
-    let rest : shown (drop n new) ≡ more =
-    sym (drop-map shown_symbol n new) ∙ ap (drop n) added
-    ∙ ap (λ k. drop k (shown old ++ more)) front ∙ drop_first (shown old) more in
-    is ∙ shown_same before (drop n new) ∙ ap (plus_all before) rest
-    ∙ ap (λ u. plus_all u more) (was ∙ shown_same t old)
-    ∙ sym (plus_append t (shown old) more) ∙ ap (plus_all t) (sym added) ∙ sym (shown_same t new)
+    let front : n ≡ length (shown p old) = long ∙ sym (length-map old (shown_symbol p)) in
+    let rest : shown p (drop n new) ≡ more =
+    sym (drop-map (shown_symbol p) n new) ∙ ap (drop n) added
+    ∙ ap (λ k. drop k (shown p old ++ more)) front ∙ drop_first (shown p old) more in
+    is ∙ shown_same p before (drop n new) ∙ ap (plus_all before) rest
+    ∙ ap (λ u. plus_all u more) (was ∙ shown_same p t old)
+    ∙ sym (plus_append t (shown p old) more) ∙ ap (plus_all t) (sym added) ∙ sym (shown_same p t new)
 
 -- the last symbol, and none past it
 pub last_is : (t : SymbolSizes) (xs : List OutputSymbol) (n : ℕ) (x : OutputSymbol) → n < length xs

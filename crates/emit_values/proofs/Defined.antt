@@ -16,7 +16,7 @@ use Rattle.ldmodel.specs.Layout.{Layout}
 use Rattle.ldmodel.specs.Names.{Declaration, decided, declarations, declared_names, decision, entries, is_of_name}
 use Rattle.ldmodel.specs.Names.{names_in_objects}
 use Rattle.ldmodel.specs.OutputSymbols as model
-use Rattle.ldmodel.specs.OutputSymbols.{in_byte_order, is_before, is_defined, output_symbol, output_symbols}
+use Rattle.ldmodel.specs.OutputSymbols.{in_byte_order, is_defined, output_symbol, output_symbols}
 use Rattle.ldmodel.specs.Project.{Project}
 use Rattle.ldmodel.specs.ScriptNames.{assigned_names, is_assigned, is_assignment, is_provided}
 use Rattle.ldmodel.specs.ScriptNames.{provided_names}
@@ -147,8 +147,8 @@ symbols_are p s a script xs n h symbol_table same all =
 
 -- the next candidate
 pub symbols_more : (p : Project) (s : Layout) (names : List Name) (n : ℕ) (old new : List OutputSymbol)
-    → AddsSymbols p s (fresh names n) old new → shown old ≡ defined_symbols p s (distinct_first names n)
-    → shown new ≡ defined_symbols p s (distinct_first names (n + 1))
+    → AddsSymbols p s (fresh names n) old new → shown p old ≡ defined_symbols p s (distinct_first names n)
+    → shown p new ≡ defined_symbols p s (distinct_first names (n + 1))
 symbols_more p s names n old new added h =
     let suc_is : suc n ≡ n + 1 = omega arith in
     added

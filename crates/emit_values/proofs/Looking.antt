@@ -27,7 +27,7 @@ use Rattle.emit_values.specs.FinalScope.{meaning_of, number_of, numbered}
 use Rattle.emit_values.specs.AssertedSymbols.{found_symbol}
 use Rattle.emit_values.specs.declared.final_scope.FinalScope.{FinalScope}
 use Rattle.emit_values.proofs.Declared.{no_value, same_name}
-use Rattle.emit_values.proofs.Members.{In, Name, sorted_in}
+use Rattle.emit_text.proofs.ByteOrder.{In, Name, sorted_in}
 
 -- ---- symbols
 
@@ -102,25 +102,26 @@ symbol_value p s name =
     ∙ sym (no_value p s name (λ i is. h.1 (sorted_in name (declared_names p) i) is)))
     (searched p s name (in_byte_order (declared_names p)))
 
-found_shown : (xs : List OutputSymbol) (name : Name)
-    → option_and_then (λ (y : model.OutputSymbol). number_if_any y.value) (find (is_named name) (map shown_symbol xs))
-    ≡ number_of (found_symbol xs name)
-found_shown [] name = refl
-found_shown (x ∷ xs) name = go (bytes_eq x.name.now name) (found_shown xs name)
+found_shown : (p : Project) (xs : List OutputSymbol) (name : Name)
+    → option_and_then (λ (y : model.OutputSymbol). number_if_any y.value)
+    (find (is_named name) (map (shown_symbol p) xs)) ≡ number_of (found_symbol xs name)
+found_shown p [] name = refl
+found_shown p (x ∷ xs) name = go (bytes_eq x.name.now name) (found_shown p xs name)
   where
     go : (b : Bool)
         → option_and_then (λ (y : model.OutputSymbol). number_if_any y.value)
-        (find (is_named name) (map shown_symbol xs)) ≡ number_of (found_symbol xs name)
+        (find (is_named name) (map (shown_symbol p) xs)) ≡ number_of (found_symbol xs name)
         → option_and_then (λ (y : model.OutputSymbol). number_if_any y.value)
-        (cond b (Some (shown_symbol x)) (find (is_named name) (map shown_symbol xs)))
+        (cond b (Some (shown_symbol p x)) (find (is_named name) (map (shown_symbol p) xs)))
         ≡ number_of (cond b (Some x) (found_symbol xs name))
     go true e = refl
     go false e = e
 
 symbol_found : (p : Project) (s : Layout) (xs : List OutputSymbol) (name : Name)
-    → map shown_symbol xs ≡ output_symbols p s → number_of (found_symbol xs name) ≡ number_if_any (name_value p s name)
+    → map (shown_symbol p) xs ≡ output_symbols p s
+    → number_of (found_symbol xs name) ≡ number_if_any (name_value p s name)
 symbol_found p s xs name same =
-    sym (found_shown xs name)
+    sym (found_shown p xs name)
     ∙ (ap (λ (ys : List model.OutputSymbol).
     option_and_then (λ (y : model.OutputSymbol). number_if_any y.value) (find (is_named name) ys)) same
     ∙ symbol_value p s name)
@@ -247,7 +248,7 @@ same_scope m n a b c = λ i. record { symbol = λ z. a z i; section = λ z. b z 
 
 pub scope_is : (p : Project) (s : Layout) (f : FinalScope) → f.script.now ≡ p.script
     → IsPlacementView p.script s f.placement
-    → map shown_symbol f.symbols.list.now ≡ output_symbols p s → AreOutputs p s.sections
+    → map (shown_symbol p) f.symbols.list.now ≡ output_symbols p s → AreOutputs p s.sections
     → map (λ (m : MemoryRegion). m.name) s.regions ≡ map (λ (r : Region). r.name) (regions p.script)
     → meaning_of f ≡ final_scope p s
 scope_is p s f script placement symbols outputs memory =

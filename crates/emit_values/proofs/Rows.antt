@@ -27,9 +27,12 @@ use Rattle.ldmodel.specs.declared.names.Case.TheVariants as case
 use Rattle.ldmodel.specs.declared.names.Entry as code_entry
 use Rattle.ldmodel.specs.declared.sections.Part.{Part}
 use Rattle.ldmodel.specs.declared.sections.Part.TheVariants.{InTable}
+use Rattle.ldmodel_laws.proofs.EachOf.{all_of_each}
 use Rattle.emit_relocate.specs.KnownLink.{KnownLink}
 use Rattle.emit_relocate.specs.Values.{address_from, value_of}
 use Rattle.emit_relocate.specs.declared.value.SymbolValue as code_value
+use Rattle.emit_text.specs.Definer.{definer_of}
+use Rattle.emit_text.specs.declared.definer.Definer.{Definer}
 use Rattle.emit_values.specs.LinkView.{IsLinkView}
 use Rattle.emit_values.specs.NameRows.{IsPlaceIn, IsPlaceOf, NameRow, decided_row, defining_symbol, entry_row, facts}
 use Rattle.emit_values.specs.NameRows.{AreCasesFrom, AreResolvedBelow, AreValuesBelow, IsCaseUnder, IsRowUnder}
@@ -59,11 +62,6 @@ none_in t (q ∷ qs) e =
     let split = find_split t q.pieces (flat_map (λ (r : PlacedOutput). r.pieces) qs) e in
     (split.0, none_in t qs split.1)
 
-each_get : {X : Type 0} (P : X → Type 0) (xs : List X) (k : ℕ) (d : X) → Each P xs → k < length xs → P (get_or xs k d)
-each_get P [] k d h l = absurd (omega (arith, l))
-each_get P (x ∷ xs) zero d h l = h.0
-each_get P (x ∷ xs) (suc k) d h l = each_get P xs k d h.1 (omega (arith, l))
-
 no_position : (t : PlacedPiece → Bool) (qs : List PlacedOutput)
     → find t (flat_map (λ (q : PlacedOutput). q.pieces) qs) ≡ None
     → position (λ (q : PlacedOutput). list_any t q.pieces) qs ≡ None
@@ -74,7 +72,7 @@ no_position t (q ∷ qs) e = go (position (λ (r : PlacedOutput). list_any t r.p
     go None at = refl
     go (Some i) at =
         let found = position-Some (λ (r : PlacedOutput). list_any t r.pieces) (q ∷ qs) i q at in
-        let missed = each_get (λ (r : PlacedOutput). list_any t r.pieces ≡ false) (q ∷ qs) i q (none_in t (q ∷ qs) e)
+        let missed = all_of_each (λ (r : PlacedOutput). list_any t r.pieces ≡ false) (q ∷ qs) (none_in t (q ∷ qs) e) i q
         found.0 in
         let yes : list_any t ((get_or (q ∷ qs) i q).pieces) ≡ true = found.1 in
         absurd (let none : ⊥ = cc in none)
@@ -172,12 +170,13 @@ module _ (l : KnownLink) (v : LinkView) (h : IsLinkView l v) where
       is ∙ row_by_decision l.project l.layout name (decision_of (λ key. key) c) (decided_same c name e)
 
   -- a name, by its key
-  resolved_named : (k : ℕ) (x : code_rows.ResolvedName) → IsCaseUnder l k x.case → IsRowUnder l k x.row
+  resolved_named : (k : ℕ) (c : Case) (x : code_rows.ResolvedName) → IsCaseUnder l k c
+      → x.definer ≡ definer_of (decision_of (λ key. key) c) → IsRowUnder l k x.row
       → (name : List ℕ) → l.name k ≡ Some name → shown_resolved x ≡ resolved l.project l.layout name
-  resolved_named k x case row name named =
-      ap (λ (d : Decision). let y : Resolved = record { decision = d; row = shown_row x.row } in y)
-      (decided_same x.case name (case name named))
-      ∙ ap (λ (r : NameRow). let y : Resolved = record { decision = decision l.project name; row = r } in y)
+  resolved_named k c x case definer row name named =
+      ap (λ (d : Definer). let y : Resolved = record { definer = d; row = shown_row x.row } in y)
+      (definer ∙ ap definer_of (decided_same c name (case name named)))
+      ∙ ap (λ (r : NameRow). let y : Resolved = record { definer = definer_of (decision l.project name); row = r } in y)
       (row name named)
 
 -- what is read under the key of a name is the symbol that defines it
@@ -221,12 +220,14 @@ one_more l f g n old new x long e one all k name below is =
     ∙ pushed f old x k (g name) (λ m. all k name (omega (arith, m, long)) is)
     (λ last. one name (subst (λ i. l.name i ≡ Some name) (last ∙ long) is)) (omega (arith, below, long))
 
-module _ (l : KnownLink) (v : LinkView) (h : IsLinkView l v) (n : ℕ) (x : code_rows.ResolvedName)
-    (case : IsCaseUnder l n x.case) (row : IsRowUnder l n x.row) where
+module _ (l : KnownLink) (v : LinkView) (h : IsLinkView l v) (n : ℕ) (c : Case) (x : code_rows.ResolvedName)
+    (case : IsCaseUnder l n c) (definer : x.definer ≡ definer_of (decision_of (λ key. key) c))
+    (row : IsRowUnder l n x.row) where
   pub rows_more : (old new : List code_rows.ResolvedName) → length old ≡ n → new ≡ old ++ x ∷ []
       → AreResolvedBelow l n old → AreResolvedBelow l (n + 1) new
   rows_more old new long e all =
-      one_more l shown_resolved (resolved l.project l.layout) n old new x long e (resolved_named l v h n x case row) all
+      one_more l shown_resolved (resolved l.project l.layout) n old new x long e
+      (resolved_named l v h n c x case definer row) all
 
   pub values_more : (old new : List code_value.SymbolValue) → length old ≡ n → new ≡ old ++ x.row.value ∷ []
       → AreValuesBelow l n old → AreValuesBelow l (n + 1) new

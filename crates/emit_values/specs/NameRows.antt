@@ -21,6 +21,8 @@ use Rattle.ldmodel.specs.declared.sections.Part.TheVariants.{InCommon}
 use Rattle.emit_relocate.specs.KnownLink.{KnownLink}
 use Rattle.emit_relocate.specs.Values.{value_of}
 use Rattle.emit_relocate.specs.declared.value.SymbolValue as code_value
+use Rattle.emit_text.specs.Definer.{definer_of}
+use Rattle.emit_text.specs.declared.definer.Definer.{Definer}
 use Rattle.emit_values.specs.declared.name_row.NameRow as code
 use Rattle.emit_values.specs.declared.name_rows.ResolvedName as code_rows
 use Rattle.emit_values.specs.declared.name_row.Standing.{Standing}
@@ -100,17 +102,18 @@ defining_symbol project case.Provided = None
 defining_symbol project case.Undefined = None
 defining_symbol project case.Duplicate = None
 
--- what a name stands for, and what it is
+-- what defines a name, and what it is
 pub record Resolved : Type 0 where
-  pub decision : Decision
+  pub definer : Definer
   pub row : NameRow
 
 abbrev pub shown_resolved : code_rows.ResolvedName → Resolved
-shown_resolved x = record { decision = decision_of (λ key. key) x.case; row = shown_row x.row }
+shown_resolved x = record { definer = x.definer; row = shown_row x.row }
 
 -- a name of a project
 abbrev pub resolved : Project → Layout → List ℕ → Resolved
-resolved project layout name = record { decision = decision project name; row = row_of project layout name }
+resolved project layout name =
+    record { definer = definer_of (decision project name); row = row_of project layout name }
 
 -- what the name of a key stands for
 abbrev pub IsCaseUnder : KnownLink → ℕ → Case → Type 0
@@ -128,7 +131,7 @@ abbrev pub IsRowUnder : KnownLink → ℕ → code.NameRow → Type 0
 IsRowUnder link k x =
     (name : List ℕ) → link.name k ≡ Some name → shown_row x ≡ row_of link.project link.layout name
 
--- each name has what it stands for, and what it is, under its key
+-- each name has what defines it, and what it is, under its key
 abbrev pub AreResolved : KnownLink → List code_rows.ResolvedName → Type 0
 AreResolved link rows =
     (k : ℕ) (name : List ℕ) → link.name k ≡ Some name

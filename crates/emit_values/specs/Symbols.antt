@@ -8,8 +8,8 @@ use Rattle.ldmodel.specs.Layout.{Layout}
 use Rattle.ldmodel.specs.OutputSymbols as model
 use Rattle.ldmodel.specs.OutputSymbols.{is_defined, output_symbol}
 use Rattle.ldmodel.specs.Project.{Project}
-use Rattle.ldmodel.specs.declared.names.Case.{Case}
 use Rattle.symres.specs.SymbolTable.{IsSymbolTable}
+use Rattle.emit_text.specs.declared.definer.Definer.{Definer}
 use Rattle.emit_values.specs.LinkView.{known_link}
 use Rattle.emit_values.specs.NameRows.{AreResolved}
 use Rattle.emit_values.specs.ScriptValues.{AreScriptValues}
@@ -19,11 +19,15 @@ use Rattle.emit_values.specs.declared.symbols.Sources.{Sources}
 use Rattle.emit_values.specs.declared.values.OutputSymbol.{OutputSymbol}
 
 -- the symbol of a name with a row
-abbrev pub symbol_with : Bor (List ℕ) → Case → NameRow → OutputSymbol
-symbol_with name case row = record { name = name; case = case; value = row.value; facts = row.facts }
+abbrev pub symbol_with : Bor (List ℕ) → Definer → NameRow → OutputSymbol
+symbol_with name definer row = record { name = name; definer = definer; value = row.value; facts = row.facts }
 
-abbrev pub shown : List OutputSymbol → List model.OutputSymbol
-shown xs = map shown_symbol xs
+abbrev pub shown : Project → List OutputSymbol → List model.OutputSymbol
+shown project xs = map (shown_symbol project) xs
+
+-- a symbol was added if its name is defined
+abbrev pub AddsIf : Bool → OutputSymbol → (old new : List OutputSymbol) → Type 0
+AddsIf defined x old new = new ≡ old ++ (if defined then x ∷ [] else [])
 
 -- those that stand for something
 abbrev pub defined : List model.OutputSymbol → List model.OutputSymbol
@@ -41,7 +45,8 @@ pub record AreSources (project : Project) (layout : Layout) (x : Sources) : Type
 
 -- the symbols of these names were added
 abbrev pub AddsSymbols : Project → Layout → List (List ℕ) → (old new : List OutputSymbol) → Type 0
-AddsSymbols project layout names old new = shown new ≡ shown old ++ defined_symbols project layout names
+AddsSymbols project layout names old new =
+    shown project new ≡ shown project old ++ defined_symbols project layout names
 
 -- where all symbols had what the symbol table says of them, they have
 abbrev pub KeepsFacts : Project → Layout → (old new : List OutputSymbol) → Type 0

@@ -11,6 +11,7 @@ use crate::name_row::{NameRow, definition, name_row};
 use elfobj::symbol::Symbol;
 use emit_relocate::link_info::LinkInfo;
 use emit_relocate::value::SymbolValue;
+use emit_text::definer::Definer;
 use ldmodel::memory::NoMemory;
 use ldmodel::names::{Case, NameKey};
 use ldmodel_project::view::ProjectView;
@@ -19,11 +20,11 @@ use std::alloc::Global;
 /// How many names a block has.
 const BLOCK: usize = 128;
 
-/// What a name stands for, and what it is in the output.
+/// What defines a name, and what it is in the output.
 #[derive(Clone, Copy, Debug)]
 pub(crate) struct ResolvedName {
-    /// What it stands for.
-    pub case: Case,
+    /// What defines it.
+    pub definer: Definer,
     /// What it is.
     pub row: NameRow,
 }
@@ -31,7 +32,7 @@ pub(crate) struct ResolvedName {
 /// All names of the output, each under its key. A row under a key without a name has no meaning.
 #[derive(Drop)]
 pub(crate) struct NameRows {
-    /// What they stand for, and what they are.
+    /// What defines them, and what they are.
     pub rows: Vec<ResolvedName>,
     /// Their values.
     pub values: Vec<SymbolValue>,
@@ -133,15 +134,17 @@ fn add_block(
         let place = key - first;
         let case = cases[place];
         let row = row_under(link, case, symbols[place], NameKey(key))?;
+        let definer = Definer::of(case)?;
         values.push_reserved(row.value);
-        rows.push_reserved(ResolvedName { case, row });
+        rows.push_reserved(ResolvedName { definer, row });
     }
     Ok(())
 }
 
-/// What all names are. Keys are nearly in the order of objects: so a pass over them reads memory nearly in its order.
-/// What the names of a block stand for is looked up first, then what defines them, then their rows: so what is looked up
-/// waits for nothing that is looked up for another name, and what one step finds is in the cache for the next.
+/// What all names are. Keys are nearly in the order of the objects, so a pass over them reads memory nearly in its
+/// order. It goes block by block: first it looks up how the names of a block are resolved, then the symbols that define
+/// them, then their rows. So no look-up waits for one of another name, and each step finds in the cache what the step
+/// before it has read.
 ///
 /// # Errors
 ///

@@ -4,16 +4,17 @@ ghost use Rattle.std.specs.Prelude.{◌≡◌, ◌<◌, ◌≤◌, ◌++◌, ◌
 ghost use Rattle.std.specs.Prelude.{slice_index_or, vec_capacity, vec_len};
 ghost use Rattle.ldmodel.specs.HandedOver.{decision_of};
 ghost use Rattle.ldmodel.specs.Layout.{Layout, script_value};
-ghost use Rattle.ldmodel.specs.OutputSymbols.{is_defined, output_symbols};
+ghost use Rattle.ldmodel.specs.OutputSymbols.{output_symbols};
 ghost use Rattle.ldmodel.specs.Project.{Project};
 ghost use Rattle.symres.specs.table.State.{AreDistinct, IsNamed};
+ghost use Rattle.emit_text.specs.Definer.{defines};
 ghost use Rattle.emit_values.specs.AssertedSymbols.{AreInOrder};
 ghost use Rattle.emit_values.specs.Candidates.{names_of, AreCandidates, HasKeyOr};
 ghost use Rattle.emit_values.specs.NameRows.{decided_row, shown_row};
 ghost use Rattle.emit_values.specs.Sizes.{plus_symbols};
-ghost use Rattle.emit_values.specs.Symbols.{defined, fresh, is_repeat, shown, AddsAtMost, AddsSymbols, KeepsFacts};
-ghost use Rattle.emit_values.specs.Symbols.{AreSources, IsWithinRoom, symbol_with};
-ghost use Rattle.emit_values.specs.Values.{HasFacts, shown_symbol};
+ghost use Rattle.emit_values.specs.Symbols.{fresh, is_repeat, shown, AddsAtMost, AddsIf, AddsSymbols};
+ghost use Rattle.emit_values.specs.Symbols.{AreSources, IsWithinRoom, KeepsFacts, symbol_with};
+ghost use Rattle.emit_values.specs.Values.{HasFacts};
 
 use crate::candidate::Candidate;
 use crate::name_row::{NameRow, bare_row, given_value};
@@ -22,6 +23,7 @@ use crate::script_values::ScriptValues;
 use crate::sizes::{NO_SYMBOLS, SymbolSizes, plus_last};
 use crate::values::OutputSymbol;
 use emit_relocate::value::SymbolValue;
+use emit_text::definer::Definer;
 use ldmodel::impossible::impossible;
 use ldmodel::memory::NoMemory;
 use ldmodel::names::{Case, NameKey};
@@ -35,22 +37,10 @@ pub(crate) struct Sources<'a> {
     pub script: &'a Script,
     /// The resolutions of names.
     pub symbol_table: &'a SymbolTable,
-    /// What names stand for, and what they are in the output, under their keys.
+    /// What defines names, and what they are in the output, under their keys.
     pub rows: &'a [ResolvedName],
     /// The values that the script gives names.
     pub given: &'a ScriptValues<'a>,
-}
-
-/// Whether a name is defined.
-fn is_defined(case: Case) -> bool
-    ensures { result ≡ is_defined (decision_of (λ key. key) case) }
-{
-    match case {
-        Case::Strong(_) | Case::Script | Case::Common { .. } | Case::Weak(_) | Case::Provided => {
-            true
-        }
-        Case::Undefined | Case::Duplicate => false,
-    }
 }
 
 /// The row of a name that no object defines.
@@ -66,24 +56,28 @@ fn row_by_script(case: Case, given: Option<u64>) -> Option<NameRow>
     }
 }
 
-/// Adds the symbol of a name with a row, if the name is defined. There is room for it.
+/// Adds the symbol of a name with a row, if something defines the name. There is room for it.
 #[inline(always)]
-fn add_if_defined<'a>(list: &mut Vec<OutputSymbol<'a>>, name: &'a [u8], case: Case, row: &NameRow)
+fn add_if_defined<'a>(
+    list: &mut Vec<OutputSymbol<'a>>,
+    name: &'a [u8],
+    definer: Definer,
+    row: &NameRow,
+)
     requires { vec_len list.old < vec_capacity list.old }
-    ensures shown { shown list.new.items
-        ≡ shown list.old.items ++ defined (shown_symbol (symbol_with name.entry case row.now) ∷ []) }
+    ensures added { AddsIf (defines definer) (symbol_with name.entry definer row.now) list.old.items list.new.items }
     ensures facts { (project : Project) (layout : Layout)
-        → HasFacts project layout (symbol_with name.entry case row.now)
+        → HasFacts project layout (symbol_with name.entry definer row.now)
         → KeepsFacts project layout list.old.items list.new.items }
     ensures name { AddsAtMost name.now list.old.items list.new.items }
     ensures room { IsWithinRoom list.old list.new }
 {
-    if !is_defined(case) {
+    if !definer.defines() {
         return;
     }
     list.push_reserved(OutputSymbol {
         name,
-        case,
+        definer,
         value: row.value,
         facts: row.facts,
     });
@@ -110,7 +104,7 @@ fn add_named<'a>(
     let Some(resolved) = sources.rows.get(key.0) else {
         return;
     };
-    add_if_defined(list, name, resolved.case, &resolved.row);
+    add_if_defined(list, name, resolved.definer, &resolved.row);
 }
 
 /// Adds the symbol of a name without a key, for which there is room. The name is looked up.
@@ -131,10 +125,11 @@ fn add_unnamed<'a>(
     let given = sources.given;
     let case = symbol_table.case_named(sources.script, name);
     let Some(row) = row_by_script(case, given.value(name)) else {
-        // A name that an object defines has a key; that the names with keys are all such names is known of a link alone
+        // a name that an object defines has a key, but no contract here says that each such name has one
         return Err(impossible());
     };
-    add_if_defined(list, name, case, &row);
+    let definer = Definer::of(case)?;
+    add_if_defined(list, name, definer, &row);
     Ok(())
 }
 
@@ -216,8 +211,8 @@ fn add_unless_repeat<'a>(
     add_symbol(sources, &candidates[place], list)
 }
 
-/// Adds the symbols of the output to an empty list with room for all candidates, in byte order of their names. They are
-/// counted while they are in the cache.
+/// Adds the symbols of the output, in byte order of their names, to an empty list with room for all candidates. Each is
+/// counted while it is in the cache.
 ///
 /// # Errors
 ///
@@ -231,7 +226,7 @@ pub(crate) fn add_symbols<'a>(
     requires empty { list.old.items ≡ [] }
     requires room { length candidates.now ≤ vec_capacity list.old }
     ensures symbols { OnOk result ((project : Project) (layout : Layout) → AreSources project layout sources.now
-        → shown list.new.items ≡ output_symbols project layout) }
+        → shown project list.new.items ≡ output_symbols project layout) }
     ensures facts { OnOk result ((project : Project) (layout : Layout) → AreSources project layout sources.now
         → All (HasFacts project layout) list.new.items) }
     ensures order { OnOk result (AreInOrder list.new.items) }

@@ -20,8 +20,8 @@ use crate::sizes::SymbolSizes;
 use crate::symbols::{Sources, add_symbols};
 use emit_relocate::symbol::entry_point;
 use emit_relocate::value::SymbolValue;
+use emit_text::definer::Definer;
 use ldmodel::memory::NoMemory;
-use ldmodel::names::Case;
 use ldmodel_project::view::ProjectView;
 use std::alloc::Global;
 use symres::SymbolTable;
@@ -31,8 +31,8 @@ use symres::SymbolTable;
 pub struct OutputSymbol<'a> {
     /// The name.
     pub name: &'a [u8],
-    /// Its resolution.
-    pub case: Case,
+    /// What defines it.
+    pub definer: Definer,
     /// Its value, if it has one.
     pub value: SymbolValue,
     /// What the symbol table says of it.
@@ -48,7 +48,7 @@ pub struct Values<'a> {
     pub entry: SymbolValue,
     /// The symbols of the output, in byte order of their names.
     pub symbols: Vec<OutputSymbol<'a>>,
-    /// How many of these have a value, and how many bytes their names have.
+    /// The sizes of those that have a value.
     pub sizes: SymbolSizes,
     ghost ordered: { AreInOrder symbols.items },
 }
@@ -96,7 +96,7 @@ impl<'a> Values<'a> {
     {
         let script = project.script();
         let candidates = candidates(alloc, symbol_table, script, &given.sorted)?;
-        // before the rows, so that what is kept stands in memory before what is freed
+        // allocated before the rows: the symbols are kept, and the rows are freed
         let mut symbols = Vec::with_capacity(alloc, candidates.len())?;
         let NameRows { rows, values } = name_rows(alloc, link)?;
         let entry = entry_value(project, symbol_table, &given.values, link);

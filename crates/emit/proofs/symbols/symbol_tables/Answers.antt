@@ -19,13 +19,14 @@ loop-symbol-preserved c p s all =
     let k = c.loop-symbol.symbol-index in
     let within : k < length xs = omega (arith, c.loop-symbol-test.true) in
     symbols_more p s xs k _ c.add_symbol.new.tables within (own_member xs k _)
-    (c.in_ok-add_symbol.ensures p s (valued_in (take k xs)) (all k _ within) (c.loop-symbol.invariant p s all))
+    (c.in_ok-add_symbol.ensures p s (valued_in p (take k xs)) (all k _ within) (c.loop-symbol.invariant p s all))
 
 pub returns : goal.returns
 returns c p s a values =
     let xs = c.deref-symbol-items.result.now in
     subst (λ zs. AreTablesFor p s zs c.loop-symbol.tables)
-    (ap valued_in (take_all c.loop-symbol.symbol-index xs c.loop-symbol-test.false ∙ c.deref-symbol-items.ensures.value)
+    (ap (valued_in p)
+    (take_all c.loop-symbol.symbol-index xs c.loop-symbol-test.false ∙ c.deref-symbol-items.ensures.value)
     ∙ sym (table_is p s a c.args.values.now values))
     (c.loop-symbol.invariant p s
     (subst (λ ys. All (HasFacts p s) ys) (sym c.deref-symbol-items.ensures.value) values.facts))

@@ -11,4 +11,4 @@ use Rattle.emit.specs.Tables.{AreTablesFor}
 abbrev pub invariant-loop-symbol : goal.invariant-loop-symbol
 invariant-loop-symbol l =
     (p : Project) (s : Layout) → All (HasFacts p s) l.symbol-items
-    → AreTablesFor p s (valued_in (take l.symbol-index l.symbol-items)) l.tables
+    → AreTablesFor p s (valued_in p (take l.symbol-index l.symbol-items)) l.tables

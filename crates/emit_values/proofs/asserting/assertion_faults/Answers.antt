@@ -50,7 +50,7 @@ returns c =
     (omega (arith, c.loop-number-test.false))
     (scope_is c.args.project.now s scope c.script-script.ensures
     (c.view.ensures.placement c.args.project.now.script s link_layout.places)
-    (ap (map shown_symbol) (c.of.ensures ∙ c.deref-2.ensures.value) ∙ values.symbols)
+    (ap (map (shown_symbol c.args.project.now)) (c.of.ensures ∙ c.deref-2.ensures.value) ∙ values.symbols)
     (c.outputs_are_of_script.ensures c.args.project.now (rows c.args.project.now) (provided c.args.project.now) s
     link_layout.placed)
     (regions_are c.args.project.now.script s

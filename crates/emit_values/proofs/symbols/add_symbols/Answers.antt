@@ -15,7 +15,7 @@ use Rattle.emit_values.proofs.symbols.add_symbols.Goals as goal
 
 pub loop-place-init : goal.loop-place-init
 loop-place-init c = record {
-  symbols = λ p s h. ap shown c.requires.empty;
+  symbols = λ p s h. ap (shown p) c.requires.empty;
   facts = λ p s h.
       subst (λ (xs : List OutputSymbol). All (HasFacts p s) xs) (sym c.requires.empty)
       (λ k d l. absurd (omega (arith, l)));
@@ -44,7 +44,8 @@ loop-place-preserved c =
       sizes = λ p s h.
           counts_more p s (fresh names c.loop-place.place) c.loop-place.list.items c.add_unless_repeat.new.list.items
           c.len-count.result (record { count = 0; names = 0 }) c.loop-place.sizes _
-          (c.in_ok-add_unless_repeat.ensures.symbol p s h) (omega (arith, c.len-count.ensures, c.loop-place.list.ok.0)) (c.loop-place.invariant.sizes p s h)
+          (c.in_ok-add_unless_repeat.ensures.symbol p s h)
+          (omega (arith, c.len-count.ensures, c.loop-place.list.ok.0)) (c.loop-place.invariant.sizes p s h)
           (c.in_ok-sizes.ensures
           ∙ ap (λ (xs : List OutputSymbol). plus_symbols c.loop-place.sizes (drop c.len-count.result xs))
           c.deref.ensures.value);

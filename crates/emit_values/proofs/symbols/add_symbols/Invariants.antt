@@ -12,7 +12,7 @@ use Rattle.emit_values.proofs.symbols.add_symbols.Given as goal
 -- the names before this place are added, in their order
 abbrev pub invariant-loop-place : goal.invariant-loop-place
 invariant-loop-place l = record {
-  symbols : (p : Project) (s : Layout) → AreSources p s l.sources → shown l.list.items
+  symbols : (p : Project) (s : Layout) → AreSources p s l.sources → shown p l.list.items
       ≡ defined_symbols p s (distinct_first (names_of l.candidates) l.place);
   facts : (p : Project) (s : Layout) → AreSources p s l.sources → All (HasFacts p s) l.list.items;
   len : vec_len l.list ≤ l.place;

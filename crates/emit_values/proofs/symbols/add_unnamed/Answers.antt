@@ -5,14 +5,19 @@ use Rattle.emit_values.proofs.symbols.add_unnamed.Goals as goal
 pub returns-clause-symbol : goal.returns-clause-symbol
 returns-clause-symbol c p s h =
     let case = c.case_named-case.result in
-    adds_one p s (symbol_with c.args.name case c.in-Some.row) c.args.list.now.items c.add_if_defined.new.list.items
-    (unnamed_symbol p s c.args.sources.now h c.args.name case c.in-Some.row c.value.result c.value.ensures
-    (c.in-Some.ensures p s c.args.name.now) (c.case_named-case.ensures.case p h.symbol_table h.script))
-    c.add_if_defined.ensures.shown
+    let decided = c.case_named-case.ensures.case p h.symbol_table h.script in
+    let definer = c.in_ok-definer.definer in
+    let row = c.in-Some.ensures p s c.args.name.now in
+    adds_one p s (symbol_with c.args.name definer c.in-Some.row) c.args.list.now.items c.add_if_defined.new.list.items
+    (unnamed_symbol p s c.args.sources.now h c.args.name case definer c.in-Some.row c.value.result c.value.ensures row
+    c.in_ok-definer.ensures decided)
+    (unnamed_facts p s c.args.sources.now h c.args.name case definer c.in-Some.row c.value.result c.value.ensures row
+    c.in_ok-definer.ensures decided)
+    c.add_if_defined.ensures.added
 
 pub returns-clause-facts : goal.returns-clause-facts
 returns-clause-facts c p s h =
-    let case = c.case_named-case.result in
+    let decided = c.case_named-case.ensures.case p h.symbol_table h.script in
     c.add_if_defined.ensures.facts p s
-    (unnamed_facts p s c.args.sources.now h c.args.name case c.in-Some.row c.value.result c.value.ensures
-    (c.in-Some.ensures p s c.args.name.now))
+    (unnamed_facts p s c.args.sources.now h c.args.name c.case_named-case.result c.in_ok-definer.definer c.in-Some.row
+    c.value.result c.value.ensures (c.in-Some.ensures p s c.args.name.now) c.in_ok-definer.ensures decided)

@@ -1,0 +1,43 @@
+-- What defines a name in the output, which is less than how it is resolved.
+use Rattle.std.specs.Prelude.{ℕ, List, Bool, true, false, codes}
+use Rattle.ldmodel.specs.NameFaults.{object_name}
+use Rattle.ldmodel.specs.Names.{Decision, Strong, Script, Common, Weak, Provided, Undefined, Duplicate}
+use Rattle.ldmodel.specs.Project.{Project}
+use Rattle.emit_text.specs.declared.definer.Definer.{Definer}
+use Rattle.emit_text.specs.declared.definer.Definer.TheVariants as definer
+
+-- what defines a name that is resolved so
+abbrev pub definer_of : Decision → Definer
+definer_of (Strong entry) = definer.Object entry.object
+definer_of Script = definer.Script
+definer_of (Common owner size alignment) = definer.Object owner.object
+definer_of (Weak entry) = definer.WeakOf entry.object
+definer_of Provided = definer.Script
+definer_of Undefined = definer.Nothing
+definer_of Duplicate = definer.Nothing
+
+-- the same, where the object of a key has a number
+abbrev pub numbered : (number : ℕ → ℕ) → Definer → Definer
+numbered number definer.Nothing = definer.Nothing
+numbered number definer.Script = definer.Script
+numbered number (definer.Object key) = definer.Object (number key)
+numbered number (definer.WeakOf key) = definer.WeakOf (number key)
+
+abbrev pub defines : Definer → Bool
+defines definer.Nothing = false
+defines definer.Script = true
+defines (definer.Object key) = true
+defines (definer.WeakOf key) = true
+
+abbrev pub is_weak : Definer → Bool
+is_weak definer.Nothing = false
+is_weak definer.Script = false
+is_weak (definer.Object key) = false
+is_weak (definer.WeakOf key) = true
+
+-- the name of the object, or `script`
+abbrev pub owner_in : Project → Definer → List ℕ
+owner_in project definer.Nothing = codes "script"
+owner_in project definer.Script = codes "script"
+owner_in project (definer.Object place) = object_name project place
+owner_in project (definer.WeakOf place) = object_name project place
