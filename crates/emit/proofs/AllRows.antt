@@ -1,6 +1,6 @@
 -- All rows, one after another.
-use Rattle.std.proofs.Common.{◌≡◌, ◌∙◌, sym, refl, ap, subst, ℕ, ◌+◌, ◌-◌, ◌<◌, ◌≤◌, zero, suc, List, [], ◌∷◌, ◌++◌, length}
-use Rattle.std.proofs.Common.{map, flat_map, take, drop, Some, Bool, true, false, ◌&&◌, bytes_eq}
+use Rattle.std.proofs.Common.{◌≡◌, ◌∙◌, sym, refl, ap, subst, ℕ, ◌+◌, ◌-◌, ◌<◌, ◌≤◌, zero, suc, List, [], ◌∷◌, ◌++◌}
+use Rattle.std.proofs.Common.{length, map, flat_map, take, drop, Some, Bool, true, false, ◌&&◌, bytes_eq}
 use Rattle.std.proofs.Common.{arith, eq-eqb, slice_get}
 use Rattle.std.specs.List.{AllZip}
 use Rattle.std.specs.Option.{option_map}
@@ -24,7 +24,8 @@ use Rattle.place.specs.declared.indexed_layout.IndexedLayout.{IndexedLayout}
 use Rattle.emit.specs.declared.relocated.Relocated.{Relocated}
 use Rattle.emit_relocate.specs.KnownLink.{KnownLink}
 use Rattle.place.proofs.Lists.{each_at, find_at}
-use Rattle.emit.proofs.Lists.{get_left, take_next, zip_more}
+use Rattle.ldmodel_laws.proofs.EachOf.{zip_more}
+use Rattle.emit.proofs.Lists.{get_left, take_next}
 use Rattle.emit.proofs.Running.{drop_drop}
 use Rattle.emit.specs.Output.{IsJoinedRow}
 use Rattle.emit.specs.Pieces.{AreRowsAt, AreSources, IsRowAt, IsSized}

@@ -1,6 +1,6 @@
 -- An output section of a layout with an input section that brings bytes has bytes in the file.
 use Rattle.std.proofs.Common.{◌≡◌, ◌∙◌, ◌+◌, ◌<◌, ◌≤◌, Bool, true, false, not, ◌&&◌, List, [], ◌∷◌, length}
-use Rattle.std.proofs.Common.{◌-◌, ⊎_elim, ap, arith, cond, refl, subst, sym, ◌==◌}
+use Rattle.std.proofs.Common.{◌-◌, ap, arith, cond, refl, subst, sym, ◌==◌}
 use Rattle.std.specs.Prelude.{◌||◌}
 use Rattle.std.specs.List.{All, Contains, list_any}
 use Rattle.std.proofs.lemmas.Bool.{ne_eqb}
@@ -11,15 +11,15 @@ use Rattle.ldscript.specs.statements.Numbering.{OutputSectionAt, output_sections
 use Rattle.ldscript.specs.statements.declared.section.OutputSection.{OutputSection}
 use Rattle.ldscript.specs.statements.declared.statement.Region.{Region}
 use Rattle.ldscript.specs.statements.declared.statement.Statement.{Statement}
+use Rattle.ldmodel_laws.proofs.Finding.{member_of}
+use Rattle.ldmodel_laws.proofs.Members.{any_in}
 use Rattle.ldmodel_laws.specs.Spread.{IsSpread, piece_end}
 use Rattle.ldmodel_laws.specs.Traces.{AddsSection, Trace, all_added, nothing_added, region_added, section_added}
-use Rattle.ldmodel.specs.Each.{Each}
 use Rattle.ldmodel.specs.Layout.{Layout, PlacedPiece, PlacedOutput, nothing_placed}
 use Rattle.ldmodel.specs.Placement.{is_in_file, is_nobits, placed_section}
 use Rattle.ldmodel.specs.Project.{Project}
 use Rattle.ldmodel.specs.Segments.{file_offset, segments}
 use Rattle.ldmodel.specs.Stayed.{FileRange as FileBytes, linked_piece}
-use Rattle.emit.proofs.RelocatedLists.{first_or_later, none_in_nil}
 
 -- an output section has bytes in the file by what stands in it
 abbrev pub IsByContents : PlacedOutput → Type 0
@@ -52,21 +52,6 @@ all_by_contents script s trace =
 
 -- ---- an input section that brings bytes
 
-any_of : {X : Type 0} (test : X → Bool) (xs : List X) (x : X) → Contains xs x → test x ≡ true → list_any test xs ≡ true
-any_of test [] x c e = absurd (none_in_nil x c)
-any_of {X} test (y ∷ ys) x c e = ⊎_elim
-    (λ same. ap (λ b. b || list_any test ys) (ap test same ∙ e))
-    (λ d. or_true (test y) (list_any test ys) (any_of test ys x d e))
-    (first_or_later y ys x c)
-  where
-    or_true : (a b : Bool) → b ≡ true → (a || b) ≡ true
-    or_true true b h = refl
-    or_true false b h = h
-
-pub each_of : {X : Type 0} (P : X → Type 0) (xs : List X) (x : X) → Each P xs → Contains xs x → P x
-each_of P [] x h c = absurd (none_in_nil x c)
-each_of P (y ∷ ys) x h c = ⊎_elim (λ same. subst P same h.0) (λ d. each_of P ys x h.1 d) (first_or_later y ys x c)
-
 not_nobits : (k : SectionKind) → (k ≡ kinds.Nobits → ⊥) → is_nobits k ≡ false
 not_nobits kinds.Progbits h = refl
 not_nobits kinds.Nobits h = absurd (h refl)
@@ -83,7 +68,7 @@ module _ (q : PlacedOutput) (spread : IsSpread q) (contents : IsByContents q) (z
 
   large : not (q.size == 0) ≡ true
   large =
-      let inside = each_of (λ (x : PlacedPiece). (q.start ≤ x.start) × (piece_end x ≤ q.start + q.size)) q.pieces z
+      let inside = member_of (λ (x : PlacedPiece). (q.start ≤ x.start) × (piece_end x ≤ q.start + q.size)) q.pieces z
       spread.pieces_inside among in
       let low = inside.0 in
       let high = inside.1 in
@@ -96,7 +81,7 @@ module _ (q : PlacedOutput) (spread : IsSpread q) (contents : IsByContents q) (z
   has_bytes =
       contents
       ∙ ap (λ b. b && (not (length q.data_commands == 0) || list_any is_in_file q.pieces)) large
-      ∙ ap (λ b. not (length q.data_commands == 0) || b) (any_of is_in_file q.pieces z among brings)
+      ∙ ap (λ b. not (length q.data_commands == 0) || b) (any_in is_in_file q.pieces z among brings)
       ∙ or_true (not (length q.data_commands == 0))
     where
       or_true : (a : Bool) → (a || true) ≡ true

@@ -26,7 +26,8 @@ use Rattle.ldmodel.specs.declared.placed.Placed.{Placed}
 use Rattle.ldmodel.specs.declared.placed.PlacedData.{PlacedData}
 use Rattle.ldmodel.specs.declared.sections.SectionKey.{SectionKey}
 use Rattle.ldscript.specs.statements.Numbering.{OutputSectionAt}
-use Rattle.emit.proofs.Lists.{at_zip, next_zip, zip_more}
+use Rattle.ldmodel_laws.proofs.EachOf.{zip_more}
+use Rattle.emit.proofs.Lists.{at_zip, next_zip}
 use Rattle.emit.specs.DataRuns.{AreDataOf}
 use Rattle.emit.specs.Joined.{AreJoined, IsAt}
 use Rattle.emit.specs.Output.{AreDrawn, AreDrawnOf, IsDrawn, IsOutput, IsJoinedRow, IsSectionKept}
@@ -112,8 +113,9 @@ module _ (p : Project) (s : Layout) (stays : SectionKey → Bool) (places : List
       (subst (λ xs. AllZip (IsOutput p s stays) (take k s.sections ++ j.member ∷ []) xs) (sym pushed)
       (zip_more (IsOutput p s stays) (take k s.sections) old j.member x so_far (make j.member j.is)))
 
-  pub all_joined : (k : ℕ) (xs : List OutputDrawing) → AreJoined p s stays places os offsets rows runs → length places ≤ k
-      → AllZip (IsOutput p s stays) (take k s.sections) xs → AllZip (IsOutput p s stays) s.sections xs
+  pub all_joined : (k : ℕ) (xs : List OutputDrawing) → AreJoined p s stays places os offsets rows runs
+      → length places ≤ k → AllZip (IsOutput p s stays) (take k s.sections) xs
+      → AllZip (IsOutput p s stays) s.sections xs
   all_joined k xs h past so_far =
       let long : length s.sections ≡ length places = sym (length-map s.sections placed_of) ∙ ap length h.placed in
       subst (λ qs. AllZip (IsOutput p s stays) qs xs) (take_all k s.sections (omega (arith, past, long))) so_far

@@ -1,3 +1,4 @@
+-- Lemmas of the crate.
 mod RelocatedLists
 mod Ending
 mod InFile
@@ -22,5 +23,4 @@ mod Sizing
 mod Staying
 mod OfSizes
 mod OfSymbols
--- Lemmas of the crate.
 pub mod Mapped

@@ -1,22 +1,12 @@
 -- Lists: what is known of each member, pair by pair and place by place.
 use Rattle.std.proofs.Common.{◌≡◌, ◌∙◌, sym, refl, ap, subst, ℕ, ◌<◌, zero, suc, List, [], ◌∷◌, ◌++◌, length, map}
 use Rattle.std.proofs.Common.{◌+◌, ◌≤◌, take, Some, arith, get_or, slice_get}
-use Rattle.std.proofs.Common.{◌⊎◌, inl, inr}
-use Rattle.std.specs.Prelude.{Result, Ok, Err, IfOk, OnOk}
-use Rattle.std.specs.List.{All, AllPairs, AllZip, Contains}
+use Rattle.std.specs.List.{All, AllZip, Contains}
 use Rattle.std.specs.Option.{option_map}
 use Rattle.std.proofs.lemmas.List.{take_all}
 use Rattle.std.proofs.lemmas.Option.{same_Some, slice_get-map, slice_get_read}
 use Rattle.std.proofs.lemmas.Slice.Zip.{AllZip-long}
-use Rattle.ldmodel_laws.specs.Spread.{EachLater}
-use Rattle.ldmodel.specs.Each.{Each}
-
-pub zip_more : {A B : Type 0} (R : A → B → Type 0) (xs : List A) (ys : List B) (x : A) (y : B) → AllZip R xs ys → R x y
-    → AllZip R (xs ++ x ∷ []) (ys ++ y ∷ [])
-zip_more R [] [] x y all one = (one, tt)
-zip_more R [] (z ∷ zs) x y all one = absurd all
-zip_more R (w ∷ ws) [] x y all one = absurd all
-zip_more R (w ∷ ws) (z ∷ zs) x y all one = (all.0, zip_more R ws zs x y all.1 one)
+use Rattle.ldmodel_laws.proofs.EachOf.{zip_more}
 
 -- what follows for each pair, of whose first members all are in the list
 pub zip_each : {A B : Type 0} (R S : A → B → Type 0) (xs : List A) (ys : List B)
@@ -36,15 +26,6 @@ zip_right R P xs [] f all k d l = absurd (omega (arith, l))
 zip_right R P [] (y ∷ ys) f all k d l = absurd all
 zip_right R P (x ∷ xs) (y ∷ ys) f all zero d l = f x y all.0
 zip_right R P (x ∷ xs) (y ∷ ys) f all (suc k) d l = zip_right R P xs ys f all.1 k d (omega (arith, l))
-
--- lists of one length whose members go together, place by place
-pub zip_at : {A B : Type 0} (R : A → B → Type 0) (xs : List A) (ys : List B) → length xs ≡ length ys
-    → ((k : ℕ) (x : A) (y : B) → slice_get xs k ≡ Some x → slice_get ys k ≡ Some y → R x y) → AllZip R xs ys
-zip_at R [] [] long h = tt
-zip_at R [] (y ∷ ys) long h = absurd (omega (arith, long))
-zip_at R (x ∷ xs) [] long h = absurd (omega (arith, long))
-zip_at R (x ∷ xs) (y ∷ ys) long h =
-    (h 0 x y refl refl, zip_at R xs ys (omega (arith, long)) (λ k v w e f. h (suc k) v w e f))
 
 pub at_zip : {A B : Type 0} (R : A → B → Type 0) (xs : List A) (ys : List B) (k : ℕ) (x : A) (y : B) → AllZip R xs ys
     → slice_get xs k ≡ Some x → slice_get ys k ≡ Some y → R x y
@@ -94,36 +75,11 @@ pub zip_done : {A B C : Type 0} (R : A → B → Type 0) (S : A → C → Type 0
 zip_done R S xs ys zs k h past done =
     subst (λ vs. AllZip S vs zs) (take_all k xs (omega (arith, past, AllZip-long R xs ys h))) done
 
-pub if_ok : {X E : Type 0} (r : Result X E) {P Q : X → Type 0} → ((x : X) → P x → Q x) → IfOk r P → IfOk r Q
-if_ok (Ok x) f h = f x h
-if_ok (Err e) f h = h
-
-pub on_ok : {X E : Type 0} (P Q : Type 0) (r : Result X E) → (P → Q) → OnOk r P → OnOk r Q
-on_ok P Q (Ok x) f h = f h
-on_ok P Q (Err e) f h = h
-
-pub if_ok_both : {X E : Type 0} (r : Result X E) {P Q R : X → Type 0} → ((x : X) → P x → Q x → R x) → IfOk r P
-    → IfOk r Q → IfOk r R
-if_ok_both (Ok x) f h k = f x h k
-if_ok_both (Err e) f h k = h
-
 -- the member of a mapped list
 pub mapped_at : {X Y : Type 0} (f : X → Y) (xs : List X) (k : ℕ) (x : X) → k < length xs → x ≡ get_or xs k x
     → slice_get (map f xs) k ≡ Some (f x)
 mapped_at f xs k x l e =
     slice_get-map f xs k ∙ ap (option_map f) (slice_get_read xs (length xs) k x refl l e)
-
-pub each_by_get : {X : Type 0} (P : X → Type 0) (xs : List X) → ((k : ℕ) (d : X) → k < length xs → P (get_or xs k d))
-    → Each P xs
-each_by_get P [] h = tt
-each_by_get P (x ∷ xs) h = (h 0 x (omega arith), each_by_get P xs (λ k d l. h (suc k) d (omega (arith, l))))
-
-pub pairs_later : {X : Type 0} (R : X → X → Type 0) (xs : List X) → AllPairs R xs → EachLater R xs
-pairs_later R [] h = tt
-pairs_later R (x ∷ xs) h = (
-  each_by_get (R x) xs (λ k d l. h 0 (suc k) d (omega arith) (omega (arith, l))),
-  pairs_later R xs (λ i j d l m. h (suc i) (suc j) d (omega (arith, l)) (omega (arith, m))),
-)
 
 pub own_member : {X : Type 0} (xs : List X) (k : ℕ) (d : X) → get_or xs k (get_or xs k d) ≡ get_or xs k d
 own_member [] k d = refl
@@ -137,18 +93,6 @@ take_next (y ∷ ys) zero x e = ap (λ z. z ∷ []) (same_Some _ _ e)
 take_next (y ∷ ys) (suc k) x e =
     let more : suc k + 1 ≡ suc (k + 1) = omega arith in
     ap (λ n. take n (y ∷ ys)) more ∙ ap (λ l. y ∷ l) (take_next ys k x e)
-
-pub each_join : {X : Type 0} (P : X → Type 0) (xs ys : List X) → Each P xs → Each P ys → Each P (xs ++ ys)
-each_join P [] ys h k = k
-each_join P (x ∷ xs) ys h k = (h.0, each_join P xs ys h.1 k)
-
--- a member of a list with one more
-pub get_push : {X : Type 0} (xs : List X) (y : X) (k : ℕ) (x : X) → slice_get (xs ++ y ∷ []) k ≡ Some x
-    → (slice_get xs k ≡ Some x) ⊎ ((k ≡ length xs) × (x ≡ y))
-get_push [] y zero x e = inr (refl, sym (same_Some _ _ e))
-get_push [] y (suc k) x e = absurd (let none : ⊥ = cc in none)
-get_push (w ∷ ws) y zero x e = inl e
-get_push (w ∷ ws) y (suc k) x e = elim (get_push ws y k x e) [ inl h ↦ inl h | inr h ↦ inr (ap suc h.0, h.1) ]
 
 pub get_left : {X : Type 0} (xs ys : List X) (k : ℕ) (x : X) → slice_get xs k ≡ Some x → slice_get (xs ++ ys) k ≡ Some x
 get_left [] ys k x e = absurd (let none : ⊥ = cc in none)

@@ -20,7 +20,8 @@ use Rattle.emit_relocate.specs.KnownLink.{KnownLink}
 use Rattle.emit.specs.Numbers.{HaveNumbers}
 use Rattle.emit.specs.Runs.{AreRunsUnless, IsRunUnless}
 use Rattle.place.specs.IndexedLayout.{linked_in}
-use Rattle.emit.proofs.Lists.{get_left, get_right, pairs_later}
+use Rattle.ldmodel_laws.proofs.EachOf.{later_of_pairs}
+use Rattle.emit.proofs.Lists.{get_left, get_right}
 use Rattle.ldmodel_laws.proofs.EachOf.{later_of_map}
 
 -- sections whose numbers ascend have different ones
@@ -29,7 +30,7 @@ pub numbers_differ : (o : ObjectData) (xs : List Section) → xs ≡ map section
 numbers_differ o xs e h =
     later_of_map (λ (s t : Section). (s.number.0 == t.number.0) ≡ false) section_of o.sections
     (subst (EachLater (λ (s t : Section). (s.number.0 == t.number.0) ≡ false)) e
-    (pairs_later (λ (s t : Section). (s.number.0 == t.number.0) ≡ false) xs
+    (later_of_pairs (λ (s t : Section). (s.number.0 == t.number.0) ≡ false) xs
     (λ i j d l m. apart (get_or xs i d).number.0 (get_or xs j d).number.0 (h i j d l m))))
   where
     apart : (m n : ℕ) → m < n → (m == n) ≡ false

@@ -38,7 +38,8 @@ use Rattle.elfobj.specs.Object.{ObjectData}
 use Rattle.elfobj.specs.declared.section.Section.{Section}
 use Rattle.ldmodel.specs.SymbolValues.{placed_part}
 use Rattle.place.proofs.Lists.{find_at}
-use Rattle.emit.proofs.Lists.{take_next, zip_each, zip_more, zip_right}
+use Rattle.ldmodel_laws.proofs.EachOf.{zip_more}
+use Rattle.emit.proofs.Lists.{take_next, zip_each, zip_right}
 use Rattle.emit.specs.Kept.{IsKeptBy}
 use Rattle.emit.specs.Numbers.{HaveNumbers}
 use Rattle.emit.specs.Output.{IsJoinedRow, IsRow}

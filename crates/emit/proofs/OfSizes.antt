@@ -22,7 +22,7 @@ use Rattle.ldmodel.specs.Sections.{InputSection}
 use Rattle.ldmodel.specs.Sorting.{insert_by, sort_by}
 use Rattle.ldscript.specs.statements.Numbering.{InputStatementAt, input_statements}
 use Rattle.place.proofs.Lists.{each_at}
-use Rattle.emit.proofs.Lists.{each_join}
+use Rattle.ldmodel_laws.proofs.EachOf.{each_append}
 use Rattle.emit.proofs.OfRows.{named_self, numbered_is}
 use Rattle.emit.specs.Numbers.{HaveNumbers}
 use Rattle.emit.specs.Pieces.{IsSized}
@@ -40,7 +40,7 @@ each_where P (x ∷ xs) h = (h 0 x refl, each_where P xs (λ k y e. h (suc k) y 
 each_flat : {X Y : Type 0} (P : Y → Type 0) (f : X → List Y) (xs : List X) → Each (λ x. Each P (f x)) xs
     → Each P (flat_map f xs)
 each_flat P f [] h = tt
-each_flat P f (x ∷ xs) h = each_join P (f x) (flat_map f xs) h.0 (each_flat P f xs h.1)
+each_flat P f (x ∷ xs) h = each_append P (f x) (flat_map f xs) h.0 (each_flat P f xs h.1)
 
 each_some : {X Y : Type 0} (P : Y → Type 0) (f : X → Option Y) → ((x : X) (y : Y) → f x ≡ Some y → P y) → (xs : List X)
     → Each P (filter_map f xs)
@@ -110,7 +110,7 @@ module _ (p : Project) (distinct : AreNamesDistinct p.objects) (numbered : AreNu
   inputs_sized =
       each_flat AlwaysSized (λ (o : ℕ × NamedObject). object_inputs p o.0 o.1) (enumerate_from 0 p.objects)
       (each_where (λ (o : ℕ × NamedObject). Each AlwaysSized (object_inputs p o.0 o.1)) (enumerate_from 0 p.objects)
-      (λ k o e. each_join AlwaysSized (map (linked_input o.0 o.1) o.1.object.sections) (common_blocks p o.0 o.1)
+      (λ k o e. each_append AlwaysSized (map (linked_input o.0 o.1) o.1.object.sections) (common_blocks p o.0 o.1)
       (each_into_map AlwaysSized (linked_input o.0 o.1) o.1.object.sections
       (each_where (λ x. AlwaysSized (linked_input o.0 o.1 x)) o.1.object.sections
       (λ j x f. linked_sized k o.0 o.1 (enumerated 0 p.objects k o e) j x f)))

@@ -27,8 +27,8 @@ module _ (inputs : List InputObject) (i : ℕ) where
   shown : i < length inputs → i < length (shown_inputs inputs)
   shown l = omega (arith, l, length-map inputs shown_input)
 
-  pub keys_more : (x : InputObject) → i < length inputs → (ks new : List ObjectPlace) → new ≡ ks ++ record { 0 = i } ∷ []
-      → AreKeysOf (take i (shown_inputs inputs)) (shown_inputs inputs) ks
+  pub keys_more : (x : InputObject) → i < length inputs → (ks new : List ObjectPlace)
+      → new ≡ ks ++ record { 0 = i } ∷ [] → AreKeysOf (take i (shown_inputs inputs)) (shown_inputs inputs) ks
       → AreKeysOf (take (i + 1) (shown_inputs inputs)) (shown_inputs inputs) new
   keys_more x l ks new e h =
       subst (AreKeysOf (take (i + 1) (shown_inputs inputs)) (shown_inputs inputs)) (sym e)

@@ -14,6 +14,7 @@ use Rattle.ldmodel.specs.Names.{provided}
 use Rattle.ldmodel.specs.Placement.{placement}
 use Rattle.ldmodel.specs.Project.{NamedObject, Project}
 use Rattle.ldmodel.specs.Rows.{rows}
+use Rattle.ldmodel_laws.proofs.EachOf.{each_of_all}
 use Rattle.ldmodel_laws.specs.PlacedOnce.{AreNumbered, IsPlacedOnce}
 use Rattle.ldmodel_laws.specs.Spread.{EachLater}
 use Rattle.ldmodel_laws.specs.Untouched.{AreRead}
@@ -22,10 +23,6 @@ use Rattle.emit.specs.Numbered.{AreAscending, IsRead}
 
 abbrev Differ : LinkedSection → LinkedSection → Type 0
 Differ x y = (x.number.0 == y.number.0) ≡ false
-
-each_of : {X : Type 0} (P : X → Type 0) (xs : List X) → All P xs → Each P xs
-each_of P [] h = tt
-each_of P (x ∷ xs) h = (All-head P x xs h, each_of P xs (All-tail P x xs h))
 
 -- the first of ascending numbers is below the others
 above : (n : ℕ) (xs : List LinkedSection) → All (λ (s : Section). n < s.number.0) (map section_of xs)
@@ -52,13 +49,13 @@ module _ (p : Project) (read : All (λ (o : NamedObject). IsRead o.object) p.obj
 
   pub spelt : AreRead p
   spelt =
-      each_of (λ (o : NamedObject). o.object ≡ object_of o.object.text) p.objects
+      each_of_all (λ (o : NamedObject). o.object ≡ object_of o.object.text) p.objects
       (All-weaker (λ (o : NamedObject). IsRead o.object) (λ (o : NamedObject). o.object ≡ object_of o.object.text)
       (λ o h. h.spelt) p.objects read)
 
   numbered : AreNumbered p
   numbered =
-      each_of (λ (o : NamedObject). EachLater Differ o.object.sections) p.objects
+      each_of_all (λ (o : NamedObject). EachLater Differ o.object.sections) p.objects
       (All-weaker (λ (o : NamedObject). IsRead o.object) (λ (o : NamedObject). EachLater Differ o.object.sections)
       (λ o h. all_differ o.object.sections h.ascending) p.objects read)
 

@@ -1,6 +1,6 @@
 -- Members of lists: what holds of all, and the one that is found.
 use Rattle.std.proofs.Common.{◌≡◌, ◌⊎◌, inl, inr, ◌<◌, ◌≤◌, ℕ, zero, suc, ◌+◌, Bool, true, false, cond, List}
-use Rattle.std.proofs.Common.{[], ◌∷◌, length, map, flat_map, find, count_by, Option, Some, None, get_or, refl}
+use Rattle.std.proofs.Common.{[], ◌∷◌, map, flat_map, find, count_by, Option, Some, None, refl}
 use Rattle.std.proofs.Common.{sym, ap, ◌∙◌, subst, arith, IfSome}
 use Rattle.std.specs.Prelude.{slice_get}
 use Rattle.std.specs.List.{All, Contains, cons_option, enumerate_from, filter_map}
@@ -8,6 +8,7 @@ use Rattle.std.proofs.lemmas.List.Elements.{All-append, All-cons, All-head, All-
 use Rattle.std.proofs.lemmas.List.Sums.{sum_by-cons}
 use Rattle.std.proofs.lemmas.Option.{get_or_from_slice_get, slice_get_within}
 use Rattle.ldmodel.specs.Sorting.{insert_by, sort_by}
+use Rattle.ldmodel_laws.proofs.Members.{first_or_later, none_in_nil}
 
 pub all_flat_map : {X Y : Type 0} (P : Y → Type 0) (f : X → List Y) (xs : List X) → All (λ x. All P (f x)) xs
     → All P (flat_map f xs)
@@ -72,17 +73,6 @@ found_passes test (x ∷ xs) y e = go (test x) refl e (found_passes test xs y)
         → test y ≡ true
     go true t k rest = let is : x ≡ y = cc in subst (λ z. test z ≡ true) is t
     go false t k rest = rest k
-
--- a member is the first, or among the others
-pub first_or_later : {X : Type 0} (y : X) (ys : List X) (x : X) → Contains (y ∷ ys) x → (y ≡ x) ⊎ Contains ys x
-first_or_later y ys x c = at c.0 c.1 c.2
-  where
-    at : (k : ℕ) → k < length (y ∷ ys) → get_or (y ∷ ys) k x ≡ x → (y ≡ x) ⊎ Contains ys x
-    at zero l e = inl e
-    at (suc k) l e = inr (k, omega (arith, l), e)
-
-pub none_in_nil : {X : Type 0} (x : X) → Contains [] x → ⊥
-none_in_nil x c = omega (arith, c.1)
 
 abbrev one_if : Bool → ℕ
 one_if b = cond b 1 0

@@ -12,7 +12,7 @@ use Rattle.ldmodel.specs.Layout.{PlacedOutput}
 use Rattle.ldmodel.specs.Layout as layout
 use Rattle.ldmodel.specs.PlacementView.{NumberedData, data_of, numbered}
 use Rattle.ldmodel.specs.declared.placed.PlacedData.{PlacedData}
-use Rattle.emit.proofs.Lists.{zip_more}
+use Rattle.ldmodel_laws.proofs.EachOf.{zip_more}
 use Rattle.emit.specs.DataRuns.{AreDataFrom, AreDataOf, run_length}
 
 -- the output sections before a number have their data commands, and the others are those of what is left

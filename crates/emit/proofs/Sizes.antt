@@ -39,6 +39,8 @@ use Rattle.ldmodel.specs.Stayed.{sites_in_section}
 use Rattle.ldmodel.specs.SymbolValues.{is_part, placed_pieces}
 use Rattle.ldmodel.specs.declared.sections.Part.{Part}
 use Rattle.ldmodel.specs.declared.sections.Part.TheVariants.{InTable, InCommon}
+use Rattle.ldmodel_laws.proofs.Finding.{member_of}
+use Rattle.ldmodel_laws.proofs.Members.{none_in_nil}
 use Rattle.ldmodel_laws.specs.Spread.{IsSpread, entries_in}
 use Rattle.symres.specs.SymbolTable.{SymbolTableState}
 use Rattle.emit_relocate.specs.Filled.{EndBelow}
@@ -46,9 +48,9 @@ use Rattle.emit_relocate.specs.Patched.{AreInFile, AreOfProfile, AreSized}
 use Rattle.emit_values.specs.LinkView.{known_link}
 use Rattle.emit.specs.Numbered.{AreAscending}
 use Rattle.emit.proofs.Ending.{AreBelow, EndsBelow}
-use Rattle.emit.proofs.InFile.{IsByContents, each_of, whole_range}
+use Rattle.emit.proofs.InFile.{IsByContents, whole_range}
 use Rattle.emit.proofs.RelocatedLists.{all_filter_map, all_flat_map, all_of_map, all_second, all_sorted, found}
-use Rattle.emit.proofs.RelocatedLists.{found_passes, in_mapped, none_in_nil, one_passes}
+use Rattle.emit.proofs.RelocatedLists.{found_passes, in_mapped, one_passes}
 
 -- of sections with ascending numbers one has a number
 one_numbered : (xs : List LinkedSection) → AreAscending xs → (x y : LinkedSection) → Contains xs x → Contains xs y
@@ -289,8 +291,8 @@ module _ (p : Project) (names : AreNamesDistinct p.objects)
           t.section.relocations t.relocation of_profile.each own.relocation in
           let some : 0 < z.piece.size =
           omega (arith, one.field, wide (linked_piece p (segments s.sections) q z) t e, own.size) in
-          whole_range q (each_of IsSpread s.sections q spread c) (All-contains IsByContents s.sections q contents c) z d
-          some
+          whole_range q (member_of IsSpread s.sections q spread c)
+          (All-contains IsByContents s.sections q contents c) z d some
           (λ nobits.
           none_in_nil t.relocation
           (subst (λ rs. Contains rs t.relocation) (of_profile.none (sym own.kind ∙ nobits)) own.relocation)) p s

@@ -1,6 +1,7 @@
 -- The names of a map's symbols, and what holds of each symbol.
 use Rattle.std.proofs.Common.{◌≡◌, ◌<◌, ℕ, suc, true, List, [], ◌∷◌, length, get_or, sym, subst, inl, inr, arith}
 use Rattle.std.specs.Prelude.{All, AllPairs}
+use Rattle.ldmodel.specs.Each.{Each}
 use Rattle.ldmodel.specs.OutputSymbols.{is_before}
 use Rattle.emit_text.specs.MapOf.{symbol_names}
 use Rattle.emit_text.specs.declared.symbols.MapSymbol.{MapSymbol}
@@ -8,10 +9,6 @@ use Rattle.emit_text.proofs.ByteOrder.{Name, lt_from_before, Below, Asc, In}
 
 abbrev n : MapSymbol → Name
 n x = x.name.now
-
-abbrev pub Each : (MapSymbol → Type 0) → List MapSymbol → Type 0
-Each P [] = Unit {0}
-Each P (x ∷ xs) = P x × Each P xs
 
 pub each_of : (P : MapSymbol → Type 0) (xs : List MapSymbol) → All P xs → Each P xs
 each_of P [] h = tt

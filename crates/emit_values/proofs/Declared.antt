@@ -28,7 +28,7 @@ use Rattle.ldmodel.specs.OutputSymbols.{is_defined}
 use Rattle.ldmodel.specs.Project.{Project}
 use Rattle.ldmodel.specs.ScriptNames.{assigned_names, is_assigned, is_assignment, is_provided, provided_names}
 use Rattle.ldmodel.specs.SymbolValues.{decided_value, name_value}
-use Rattle.emit_values.proofs.Members.{In, Name, append_in, distinct_in}
+use Rattle.emit_text.proofs.ByteOrder.{In, Name, append_in, distinct_in}
 
 pub same_name : (x y : Name) → bytes_eq x y ≡ true → x ≡ y
 same_name x y = (bytes_eq-Decides x y).0

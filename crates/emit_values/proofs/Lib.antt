@@ -1,3 +1,4 @@
+-- Lemmas of the crate.
 pub mod Seeing
 pub mod Rows
 pub mod Giving
@@ -6,9 +7,7 @@ pub mod Listing
 pub mod Added
 pub mod Distinct
 pub mod Defined
--- Lemmas of the crate.
 pub mod Regions
-pub mod Members
 pub mod Declared
 pub mod Looking
 pub mod Failing

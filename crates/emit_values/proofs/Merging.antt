@@ -1,19 +1,18 @@
 -- A sorted list with the members of another at their places.
 use Rattle.std.proofs.Common.{◌≡◌, ◌∙◌, ℕ, zero, suc, ◌+◌, ◌<◌, ◌≤◌, List, [], ◌∷◌, ◌++◌, length, take, drop, get_or}
-use Rattle.std.proofs.Common.{ap, append_assoc, append-nil, arith, refl, subst, sym, Bool, false}
+use Rattle.std.proofs.Common.{ap, append_assoc, append-nil, arith, subst, sym, Bool, false}
 use Rattle.std.specs.Cmp.{IsStrictWeakOrder}
 use Rattle.ldmodel.specs.Each.{Each}
+use Rattle.ldmodel_laws.specs.Spread.{EachLater}
+use Rattle.ldmodel_laws.proofs.EachOf.{each_append, each_imply, each_of_all, later_of_pairs}
 use Rattle.emit_values.specs.Merged.{Merges, NotAfter}
 use Rattle.std.specs.List.Sorted.{IsPermutation, IsSortedBy}
+use Rattle.std.proofs.lemmas.List.{take-append-drop}
 use Rattle.std.proofs.lemmas.List.Sorted.{IsPermutation-append_left, IsPermutation-cons}
 use Rattle.std.proofs.lemmas.List.Sorted.{IsPermutation-append_right, IsPermutation-refl, IsPermutation-to_front}
 use Rattle.std.proofs.lemmas.List.Sorted.{IsPermutation-sym, IsPermutation-trans, sorted_far}
 
 module _ {X : Type 0} where
-  each_append : (P : X → Type 0) (xs ys : List X) → Each P xs → Each P ys → Each P (xs ++ ys)
-  each_append P [] ys h k = k
-  each_append P (x ∷ xs) ys h k = (h.0, each_append P xs ys h.1 k)
-
   each_take : (P : X → Type 0) (n : ℕ) (xs : List X) → Each P xs → Each P (take n xs)
   each_take P zero xs h = tt
   each_take P (suc n) [] h = tt
@@ -24,15 +23,7 @@ module _ {X : Type 0} where
   each_drop P (suc n) [] h = tt
   each_drop P (suc n) (x ∷ xs) h = each_drop P n xs h.1
 
-  each_map : (P Q : X → Type 0) → ((x : X) → P x → Q x) → (xs : List X) → Each P xs → Each Q xs
-  each_map P Q f [] h = tt
-  each_map P Q f (x ∷ xs) h = (f x h.0, each_map P Q f xs h.1)
-
-  abbrev pub Up : (X → X → Type 0) → List X → Type 0
-  Up R [] = Unit {0}
-  Up R (x ∷ xs) = Each (R x) xs × Up R xs
-
-  up_drop : (R : X → X → Type 0) (n : ℕ) (xs : List X) → Up R xs → Up R (drop n xs)
+  up_drop : (R : X → X → Type 0) (n : ℕ) (xs : List X) → EachLater R xs → EachLater R (drop n xs)
   up_drop R zero xs h = h
   up_drop R (suc n) [] h = tt
   up_drop R (suc n) (x ∷ xs) h = up_drop R n xs h.1
@@ -46,26 +37,22 @@ module _ {X : Type 0} where
       (k.0, merges_each R P (drop m.0 xs) ys m.1 m.5 (each_drop P m.0 xs h) k.1))
 
   module _ (R : X → X → Type 0) (chain : (x y z : X) → R x y → R y z → R x z) where
-    placed : (n : ℕ) (xs : List X) (y : X) (rest : List X) → Up R xs → Each (λ x. R x y) (take n xs)
-        → Each (R y) rest → Up R rest → Up R (take n xs ++ y ∷ rest)
+    placed : (n : ℕ) (xs : List X) (y : X) (rest : List X) → EachLater R xs → Each (λ x. R x y) (take n xs)
+        → Each (R y) rest → EachLater R rest → EachLater R (take n xs ++ y ∷ rest)
     placed zero xs y rest h a b r = (b, r)
     placed (suc n) [] y rest h a b r = (b, r)
     placed (suc n) (x ∷ xs) y rest h a b r = (
       each_append (R x) (take n xs) (y ∷ rest) (each_take (R x) n xs h.0)
-          (a.0, each_map (R y) (R x) (λ z q. chain x y z a.0 q) rest b),
+          (a.0, each_imply (R y) (R x) (λ z q. chain x y z a.0 q) rest b),
       placed n xs y rest h.1 a.1 b r,
     )
 
-    merges_up : (xs ys zs : List X) → Merges R xs ys zs → Up R xs → Up R ys → Up R zs
-    merges_up xs [] zs m h k = subst (Up R) (sym m) h
+    merges_up : (xs ys zs : List X) → Merges R xs ys zs → EachLater R xs → EachLater R ys → EachLater R zs
+    merges_up xs [] zs m h k = subst (EachLater R) (sym m) h
     merges_up xs (y ∷ ys) zs m h k =
-        subst (Up R) (sym m.4)
+        subst (EachLater R) (sym m.4)
         (placed m.0 xs y m.1 h m.2 (merges_each R (R y) (drop m.0 xs) ys m.1 m.5 m.3 k.0)
         (merges_up (drop m.0 xs) ys m.1 m.5 (up_drop R m.0 xs h) k.1))
-
-  each_from : (P : X → Type 0) (xs : List X) → ((j : ℕ) (d : X) → j < length xs → P (get_or xs j d)) → Each P xs
-  each_from P [] f = tt
-  each_from P (x ∷ xs) f = (f 0 x (omega arith), each_from P xs (λ j d l. f (suc j) d (omega (arith, l))))
 
   pub each_first : (P : X → Type 0) (n : ℕ) (xs : List X)
       → ((k : ℕ) (d : X) → k < n → k < length xs → P (get_or xs k d)) → Each P (take n xs)
@@ -78,37 +65,29 @@ module _ {X : Type 0} where
 
   pub each_rest : (P : X → Type 0) (n : ℕ) (xs : List X)
       → ((k : ℕ) (d : X) → n ≤ k → k < length xs → P (get_or xs k d)) → Each P (drop n xs)
-  each_rest P zero xs f = each_from P xs (λ k d w. f k d (omega arith) w)
+  each_rest P zero xs f = each_of_all P xs (λ k d w. f k d (omega arith) w)
   each_rest P (suc n) [] f = tt
   each_rest P (suc n) (x ∷ xs) f =
       each_rest P n xs (λ k d l w. f (suc k) d (omega (arith, l)) (omega (arith, w)))
 
-  pub up_from_pairs : (R : X → X → Type 0) (xs : List X)
-      → ((i j : ℕ) (d : X) → i < j → j < length xs → R (get_or xs i d) (get_or xs j d)) → Up R xs
-  up_from_pairs R [] f = tt
-  up_from_pairs R (x ∷ xs) f = (
-    each_from (R x) xs (λ j d w. f 0 (suc j) d (omega arith) (omega (arith, w))),
-    up_from_pairs R xs (λ i j d l w. f (suc i) (suc j) d (omega (arith, l)) (omega (arith, w))),
-  )
-
   -- ---- by a test
 
   module _ (lt : X → X → Bool) where
-    next : (xs : List X) → Up (NotAfter lt) xs → (k : ℕ) (d : X) → suc k < length xs
+    next : (xs : List X) → EachLater (NotAfter lt) xs → (k : ℕ) (d : X) → suc k < length xs
         → lt (get_or xs (suc k) d) (get_or xs k d) ≡ false
     next [] h k d w = absurd (omega (arith, w))
     next (x ∷ []) h k d w = absurd (omega (arith, w))
     next (x ∷ y ∷ xs) h zero d w = h.0.0
     next (x ∷ y ∷ xs) h (suc k) d w = next (y ∷ xs) h.1 k d (omega (arith, w))
 
-    sorted_from_up : (xs : List X) → Up (NotAfter lt) xs → IsSortedBy lt xs
+    sorted_from_up : (xs : List X) → EachLater (NotAfter lt) xs → IsSortedBy lt xs
     sorted_from_up xs h k d low high =
         let is : suc k ≡ k + 1 = omega arith in
         subst (λ n. lt (get_or xs n d) (get_or xs k d) ≡ false) is (next xs h k d (omega (arith, high)))
 
-    up_from_sorted : IsStrictWeakOrder lt → (xs : List X) → IsSortedBy lt xs → Up (NotAfter lt) xs
+    up_from_sorted : IsStrictWeakOrder lt → (xs : List X) → IsSortedBy lt xs → EachLater (NotAfter lt) xs
     up_from_sorted o xs h =
-        up_from_pairs (NotAfter lt) xs (λ i j d l w. sorted_far lt o xs h i j d (omega (arith, l)) w)
+        later_of_pairs (NotAfter lt) xs (λ i j d l w. sorted_far lt o xs h i j d (omega (arith, l)) w)
 
     pub merges_sorted : IsStrictWeakOrder lt → (xs ys zs : List X) → Merges (NotAfter lt) xs ys zs → IsSortedBy lt xs
         → IsSortedBy lt ys → IsSortedBy lt zs
@@ -118,11 +97,6 @@ module _ {X : Type 0} where
         (up_from_sorted o ys k))
 
   -- ---- the members
-
-  whole : (n : ℕ) (xs : List X) → take n xs ++ drop n xs ≡ xs
-  whole zero xs = refl
-  whole (suc n) [] = refl
-  whole (suc n) (x ∷ xs) = ap (λ ys. x ∷ ys) (whole n xs)
 
   middle : (xs : List X) (y : X) (ys : List X) → IsPermutation (xs ++ y ∷ ys) (y ∷ (xs ++ ys))
   middle xs y ys =
@@ -136,7 +110,7 @@ module _ {X : Type 0} where
       let front = take m.0 xs in
       let back = drop m.0 xs in
       let same : front ++ (back ++ ys) ≡ xs ++ ys =
-      sym (append_assoc front back ys) ∙ ap (λ l. l ++ ys) (whole m.0 xs) in
+      sym (append_assoc front back ys) ∙ ap (λ l. l ++ ys) (take-append-drop m.0 xs) in
       let inner : IsPermutation (xs ++ ys) (front ++ m.1) =
       subst (λ l. IsPermutation l (front ++ m.1)) same
       (IsPermutation-append_right front (back ++ ys) m.1 (merges_permutation R back ys m.1 m.5)) in

@@ -3,11 +3,11 @@ use Rattle.std.proofs.Common.{Bool, ap, sym, subst, map}
 use Rattle.std.specs.List.{AllZip}
 use Rattle.std.specs.Prelude.{Option, is_some}
 use Rattle.std.specs.Vec.{vec_items}
+use Rattle.std.proofs.lemmas.Result.{on_ok_weaker}
 use Rattle.ldmodel.specs.Layout.{Layout}
 use Rattle.ldmodel.specs.declared.sections.SectionKey.{SectionKey}
 use Rattle.symres.specs.SymbolTable.{SymbolTableState}
 use Rattle.emit_relocate.specs.declared.previous_link_info.FileRange.{FileRange}
-use Rattle.emit.proofs.Lists.{on_ok}
 use Rattle.emit.proofs.Staying.{all_said, only_said}
 use Rattle.emit.proofs.drawing.draw_image.Goals as goal
 use Rattle.emit.specs.Drawable.{AreOutputs, IsDrawableAt}
@@ -53,18 +53,18 @@ returns g c =
           (c.in_ok-pieces.ensures s a is.indexed_layout is.fields)));
     } in
     record {
-      image = on_ok _ _ c.draw_outputs.result
+      image = on_ok_weaker c.draw_outputs.result
           (λ h s a is none. h s stays (outputs s a is) (λ k. ap is_some (none k))) c.draw_outputs.ensures.image;
-      redrawn = on_ok _ _ c.draw_outputs.result
+      redrawn = on_ok_weaker c.draw_outputs.result
           (λ h old new a same is good_old good_new sound patches image.
           h old new stays same (outputs new.layout a is) good_old good_new
           (only_said old new a range sound) patches image)
           c.draw_outputs.ensures.redrawn;
-      work = on_ok _ _ c.draw_outputs.result
+      work = on_ok_weaker c.draw_outputs.result
           (λ h old new a same is good complete few.
           h old new stays same (outputs new.layout a is) good (all_said old new a range complete) few)
           c.draw_outputs.ensures.work;
-      spent = on_ok _ _ c.draw_outputs.result
+      spent = on_ok_weaker c.draw_outputs.result
           (λ h old new a same is good complete sound.
           h old new stays same (outputs new.layout a is) good (all_said old new a range complete)
           (only_said old new a range sound))

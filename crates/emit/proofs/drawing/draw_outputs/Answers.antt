@@ -1,9 +1,9 @@
 -- The drawing is that of the link.
 use Rattle.std.proofs.Common.{sym, subst, ◌≤◌, ◌^◌}
+use Rattle.std.proofs.lemmas.Result.{on_ok_weaker}
 use Rattle.ldmodel.specs.Names.{provided}
 use Rattle.ldmodel.specs.Rows.{rows}
 use Rattle.ldmodel.specs.SectionHeaders.{image_length}
-use Rattle.emit.proofs.Lists.{on_ok}
 use Rattle.emit.proofs.Staying.{are_kept, have_stayed, none_stays}
 use Rattle.emit.proofs.Whole.{drawing_joined, drawing_of, ends_in, whole, whole_stands}
 use Rattle.emit.proofs.drawing.draw_outputs.Goals as goal
@@ -45,7 +45,7 @@ pub returns-clause-image : goal.returns-clause-image
 returns-clause-image c =
     let p = c.args.project.now in
     let x = c.in_ok-parts.parts in
-    on_ok _ _ c.redraw.result
+    on_ok_weaker c.redraw.result
     (λ h s stays outputs none.
     let are = c.in_ok-parts.ensures s stays outputs in
     h p s
@@ -70,7 +70,7 @@ returns-clause-image c =
 pub returns-clause-redrawn : goal.returns-clause-redrawn
 returns-clause-redrawn c =
     let x = c.in_ok-parts.parts in
-    on_ok _ _ c.redraw.result
+    on_ok_weaker c.redraw.result
     (λ h old new stays same outputs good_old good_new said patched before.
     let are = subst (λ pr. ArePartsOf pr new.layout stays x) (sym same)
     (c.in_ok-parts.ensures new.layout stays outputs) in
@@ -103,7 +103,7 @@ pub returns-clause-work : goal.returns-clause-work
 returns-clause-work c =
     let p = c.args.project.now in
     let x = c.in_ok-parts.parts in
-    on_ok _ _ c.redraw.result
+    on_ok_weaker c.redraw.result
     (λ h old new stays same outputs good all few.
     let are = subst (λ pr. ArePartsOf pr new.layout stays x) (sym same)
     (c.in_ok-parts.ensures new.layout stays outputs) in
@@ -142,7 +142,7 @@ pub returns-clause-spent : goal.returns-clause-spent
 returns-clause-spent c =
     let p = c.args.project.now in
     let x = c.in_ok-parts.parts in
-    on_ok _ _ c.redraw.result
+    on_ok_weaker c.redraw.result
     (λ h old new stays same outputs good all said.
     let are = subst (λ pr. ArePartsOf pr new.layout stays x) (sym same)
     (c.in_ok-parts.ensures new.layout stays outputs) in
@@ -179,4 +179,4 @@ returns-clause-spent c =
     c.redraw.ensures.spent
 
 pub returns-clause-counted : goal.returns-clause-counted
-returns-clause-counted c = on_ok _ _ c.redraw.result (λ h. (_, h)) c.redraw.ensures.counted
+returns-clause-counted c = on_ok_weaker c.redraw.result (λ h. (_, h)) c.redraw.ensures.counted

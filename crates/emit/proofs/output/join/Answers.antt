@@ -35,8 +35,8 @@ loop-number-preserved c p s stays joined =
           (λ q at. w.in-Some.ensures.some p s stays q at) w.in_ok-push-in-Some.ensures.items
           (c.loop-number.invariant p s stays joined))
       | in-None w ↦
-          let all = reached p s stays c.args.placed.now (shown_sections c.args.sections.now) c.args.offsets.now rows runs k
-          joined low in
+          let all = reached p s stays c.args.placed.now (shown_sections c.args.sections.now) c.args.offsets.now rows
+          runs k joined low in
           absurd (w.in-None.ensures.none
           (omega (arith, all.section, length-map c.args.sections.now show))
           all.offset

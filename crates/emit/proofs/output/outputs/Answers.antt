@@ -3,6 +3,7 @@ use Rattle.std.proofs.Common.{◌∙◌, sym, ap, subst, List, length, map}
 use Rattle.std.specs.Borrow.{Bor}
 use Rattle.std.specs.List.{AllZip}
 use Rattle.std.proofs.lemmas.List.{length-map}
+use Rattle.std.proofs.lemmas.Result.{IfOk-weaker}
 use Rattle.ldmodel.specs.PlacementView.{data_of, placed_of}
 use Rattle.place.specs.Offsets.{IsOffset}
 use Rattle.ldmodel.specs.Names.{provided}
@@ -11,7 +12,6 @@ use Rattle.ldmodel.specs.declared.placed.PlacedData.{PlacedData}
 use Rattle.ldscript.specs.statements.Numbered.{shown_sections}
 use Rattle.ldscript.specs.statements.Numbering.{OutputSectionAt, output_sections}
 use Rattle.emit.proofs.Fills.{fills_are}
-use Rattle.emit.proofs.Lists.{if_ok}
 use Rattle.emit.proofs.output.outputs.Goals as goal
 use Rattle.emit.specs.DataRuns.{AreDataOf}
 
@@ -19,7 +19,7 @@ pub returns : goal.returns
 returns c =
     let p = c.args.project.now in
     let now : Bor (List PlacedData) → List PlacedData = λ run. run.now in
-    if_ok c.join.result
+    IfOk-weaker c.join.result _ _
     (λ v h s stays link_layout pieces.
     let outputs = c.outputs_are_of_script.ensures p (rows p) (provided p) s link_layout.placed in
     let placed = sym (c.view-placement.ensures.sections ∙ link_layout.places.sections) in

@@ -1,8 +1,8 @@
 -- By what the previous link says.
 use Rattle.std.proofs.Common.{◌∙◌, Bool, subst, sym}
 use Rattle.std.specs.Prelude.{is_some}
+use Rattle.std.proofs.lemmas.Result.{on_ok_weaker}
 use Rattle.ldmodel.specs.declared.sections.SectionKey.{SectionKey}
-use Rattle.emit.proofs.Lists.{on_ok}
 use Rattle.emit.proofs.OfRows.{row_drawn, row_kept}
 use Rattle.emit.proofs.pieces.add_entry.Goals as goal
 use Rattle.emit.specs.Pieces.{IsDrawnPiece, IsRowPiece}
@@ -11,7 +11,7 @@ pub returns-then-has_stayed : goal.returns-then-has_stayed
 returns-then-has_stayed g c =
     let p = c.args.project.now in
     let stays : SectionKey → Bool = λ k. is_some (g.E.PreviousLinkInfo.range c.args.previous.now k) in
-    on_ok _ _ c.add_kept.result
+    on_ok_weaker c.add_kept.result
     (λ h l w whole same sources at stand.
     let kept = h whole stand in (
       kept.0,
@@ -28,7 +28,7 @@ returns g c =
     let stays : SectionKey → Bool = λ k. is_some (g.E.PreviousLinkInfo.range c.args.previous.now k) in
     let new = sym c.has_stayed.ensures.is ∙ c.if-has_stayed.false in
     let y = c.drawn_piece-drawn.result in
-    on_ok _ _ c.add_drawn.result
+    on_ok_weaker c.add_drawn.result
     (λ h l w whole same sources at stand.
     let drawn = c.drawn_piece-drawn.ensures l stays w same sources new at in (
       y,

@@ -18,7 +18,8 @@ returns-in-None-section_near c l stays w same sources new at =
     subst (λ pr. IsDrawnPiece pr l.layout w c.zeros-in-None-section_near.result) (sym same)
     (drawn_none p l.layout (piece_in p r) c.args.start w at r.section.object.0 there.object c.in-InTable.number
     c.inputs-inputs.ensures.distinct there.at refl c.in-InTable.is _ c.zeros-in-None-section_near.ensures
-    (numbered_none there.object c.in-InTable.number c.in-Some.object.now there.is c.in-None-section_near.ensures.absent))
+    (numbered_none there.object c.in-InTable.number c.in-Some.object.now there.is
+    c.in-None-section_near.ensures.absent))
 
 pub returns-in-None : goal.returns-in-None
 returns-in-None c l stays w same sources new at =
@@ -49,8 +50,8 @@ returns-in-Some-section_near c l stays w same sources new at =
     c.sections-sections.ensures.ascending) in
     let found = numbered_is o number index x differ here one.is in
     let y = c.section_piece.result in
-    let is = c.section_piece.ensures l stays o x w sources (ap (λ pr. slice_get pr.objects key) same ∙ there.at) there.is here
-    (not_stayed r number x stays c.in-InTable.is one.is new)
+    let is = c.section_piece.ensures l stays o x w sources (ap (λ pr. slice_get pr.objects key) same ∙ there.at)
+    there.is here (not_stayed r number x stays c.in-InTable.is one.is new)
     (placed_is p l.layout (piece_in p r) c.args.start w at key o number c.inputs-inputs.ensures.distinct there.at refl
     c.in-InTable.is x one.is there.name) at.start_is
     (at.sized o number x c.in-InTable.is (named_self p key o c.inputs-inputs.ensures.distinct there.at) found) in

@@ -1,10 +1,10 @@
 -- The rows are those of the layout.
 use Rattle.std.proofs.Common.{◌∙◌, sym, refl, subst}
+use Rattle.std.proofs.lemmas.Result.{IfOk-weaker}
 use Rattle.ldmodel.specs.Each.{Each}
 use Rattle.ldmodel.specs.Names.{provided}
 use Rattle.emit_values.specs.LinkView.{known_link}
 use Rattle.emit.proofs.AllRows.{all_found}
-use Rattle.emit.proofs.Lists.{if_ok}
 use Rattle.emit.proofs.OfSizes.{rows_sized}
 use Rattle.emit.proofs.pieces.image_pieces.Goals as goal
 use Rattle.emit.specs.Pieces.{IsSized}
@@ -12,7 +12,7 @@ use Rattle.emit.specs.Pieces.{IsSized}
 pub returns : goal.returns
 returns g c =
     let p = c.args.project.now in
-    if_ok c.image_rows.result
+    IfOk-weaker c.image_rows.result _ _
     (λ v h s a indexed_layout fields.
     let placed = c.placed_are_rows.ensures p (provided p) s indexed_layout.link_layout.placed in
     h (known_link p s a) refl (record { indexed_layout = indexed_layout; runs = fields })

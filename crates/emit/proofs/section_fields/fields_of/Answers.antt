@@ -82,7 +82,8 @@ returns-then-begin-end-clause-none c l stays o x are runs there own =
     same_Some _ _ (c.in_ok-begin.ensures ∙ ap (λ es. slice_get (0 ∷ es) number) lent ∙ stand.from) in
     let end : c.in_ok-end.end ≡ stand.end =
     same_Some _ _
-    (c.in_ok-end.ensures ∙ ap (slice_get (0 ∷ c.as_slice-ends.result.now)) (omega (arith, c.in_ok-checked_add.ensures.1))
+    (c.in_ok-end.ensures
+    ∙ ap (slice_get (0 ∷ c.as_slice-ends.result.now)) (omega (arith, c.in_ok-checked_add.ensures.1))
     ∙ ap (λ es. slice_get (0 ∷ es) (number + 1)) lent ∙ stand.to) in
     let long = ap length c.as_slice-patches.ensures.value in
     ⊎_elim (λ a. omega (arith, a, begin, end, stand.order))
