@@ -22,7 +22,8 @@ fn run_length(commands: &[PlacedData], section: usize) -> usize
     commands.len()
 }
 
-/// The data commands of each of this number of output sections, which come in the order of these.
+/// The data commands of each output section, of which there are `sections`. The commands come in the order of output
+/// sections.
 ///
 /// # Errors
 ///

@@ -13,8 +13,8 @@ use ldmodel_project::view::ProjectView;
 use place::LinkLayout;
 use place::numbered::are_numbered;
 
-/// A link whose image is not too long and whose relocations have no faults is good. The call looks at each object once,
-/// and changes nothing.
+/// A law: a link whose image is not too long and whose relocations have no faults is good. The call visits each object
+/// once, and changes nothing.
 pub fn is_good(project: &ProjectView<'_>, link_layout: &LinkLayout)
     ensures { (layout : Layout) → IsLinkLayout project.now layout link_layout.now → image_length project.now layout
         ≤ max_image_length

@@ -21,7 +21,7 @@ use place::length::{TailSizes, image_length as length_of};
 use place::sections::law::outputs_are_of_script;
 use std::alloc::Global;
 
-/// How many bytes the names of the tables' own headers have, each with a zero byte after it.
+/// The number of bytes of the names of the tables' own headers, each with a zero byte after it.
 const TABLE_NAMES: u64 = 26;
 
 /// A number of bytes, and the bytes of a name with a zero byte after it.
@@ -31,7 +31,7 @@ fn plus_name(bytes: u64, name: &[u8]) -> Result<u64, NoMemory>
     plus(bytes, name.len() as u64 + 1)
 }
 
-/// How many bytes the names of output sections have, each with a zero byte after it.
+/// The number of bytes of the names of output sections, each with a zero byte after it.
 fn section_names(sections: &[OutputSectionAt<'_>]) -> Result<u64, NoMemory>
     ensures { IfOk result (λ n. n ≡ names_size (map (λ (o : SectionOfTree). o.section.name)
         (shown_sections sections.now))) }
@@ -69,7 +69,7 @@ fn tail_sizes(
     })
 }
 
-/// How many bytes the image of a link has; padding can carry it past 2^64.
+/// The number of bytes of the image of a link; padding can carry it past 2^64.
 ///
 /// # Errors
 ///

@@ -56,8 +56,8 @@ fn fill_of(section: &OutputSection) -> &[u8]
     }
 }
 
-/// The output section of a number, made of its place and of the entries of these lists under that number; `None` if a
-/// list is too short.
+/// The output section of a number at this place in memory, made of the entries of these lists under that number; `None`
+/// if a list is too short.
 fn output_at<'a>(
     number: usize,
     placed: &Placed,

@@ -14,7 +14,7 @@ use emit_fields::patch::Patch;
 use ldmodel::names::ObjectPlace;
 use place::indexed_layout::IndexedLayout;
 
-/// Where the first `count` of some runs end, of which these are the ends; none if there are fewer.
+/// Where the first `count` runs end, by the end of each; none if there are fewer.
 fn end_of(ends: &[usize], count: usize) -> Option<usize>
     ensures { result ≡ slice_get (0 ∷ ends.now) count }
 {

@@ -36,8 +36,8 @@ fn add_assertion<'a>(
     }
 }
 
-/// The ASSERTs among the assignments, PROVIDEs and ASSERTs of a script, in their order: at the place that the number of
-/// each one (`AssertionIndex`) says.
+/// The ASSERTs among the assignments, PROVIDEs and ASSERTs of a script, in their order: each stands at the place of its
+/// number (`AssertionIndex`).
 ///
 /// # Errors
 ///

@@ -29,7 +29,7 @@ fn put_faults<M: Members>(
     Ok(())
 }
 
-/// Room for the line of a fault, if names are of common length. What is not written of it is not touched.
+/// Room for the line of a fault, if names are of common length. Room that is not used is not touched.
 const FAULT_ROOM: usize = 64;
 
 /// The text of these faults: a line for each, in this order. `names` are those of the project's script.

@@ -18,13 +18,25 @@ pub(crate) fn put_entry_line(text: &mut Vec<u8>, entry: u64) -> Result<(), Alloc
     Ok(())
 }
 
+/// The numbers of the line of an output section.
+#[derive(Clone, Copy)]
+pub(crate) struct SectionNumbers {
+    /// The address.
+    pub start: u64,
+    /// The load address.
+    pub load: u64,
+    /// The size in bytes.
+    pub size: u64,
+}
+
 /// ` START LOAD SIZE ` of a line.
-fn section_numbers(start: u64, load: u64, size: u64) -> [u8; 52]
-    ensures { result ≡ 32 ∷ (hex start ++ 32 ∷ []) ++ (hex load ++ 32 ∷ []) ++ (hex size ++ 32 ∷ []) }
+fn section_numbers(numbers: SectionNumbers) -> [u8; 52]
+    ensures { result
+        ≡ 32 ∷ (hex numbers.start ++ 32 ∷ []) ++ (hex numbers.load ++ 32 ∷ []) ++ (hex numbers.size ++ 32 ∷ []) }
 {
-    let start = hex_digits(start);
-    let load = hex_digits(load);
-    let size = hex_digits(size);
+    let start = hex_digits(numbers.start);
+    let load = hex_digits(numbers.load);
+    let size = hex_digits(numbers.size);
     [
         b' ', start[0], start[1], start[2], start[3], start[4], start[5], start[6], start[7],
         start[8], start[9], start[10], start[11], start[12], start[13], start[14], start[15], b' ',
@@ -39,15 +51,15 @@ fn section_numbers(start: u64, load: u64, size: u64) -> [u8; 52]
 pub(crate) fn put_section_line(
     text: &mut Vec<u8>,
     name: &[u8],
-    numbers: (u64, u64, u64),
+    numbers: SectionNumbers,
     flags: &[u8],
 ) -> Result<(), AllocError>
     ensures { OnOk result (text.new.items ≡ text.old.items ++ line_of
-        (codes "section" ∷ name.now ∷ hex numbers.0 ∷ hex numbers.1 ∷ hex numbers.2 ∷ flags.now ∷ [])) }
+        (codes "section" ∷ name.now ∷ hex numbers.start ∷ hex numbers.load ∷ hex numbers.size ∷ flags.now ∷ [])) }
 {
     text.extend_from_slice(b"section ")?;
     text.extend_from_slice(name)?;
-    text.extend_from_slice(&section_numbers(numbers.0, numbers.1, numbers.2))?;
+    text.extend_from_slice(&section_numbers(numbers))?;
     text.extend_from_slice(flags)?;
     text.push(b'\n')?;
     Ok(())

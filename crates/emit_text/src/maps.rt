@@ -11,7 +11,9 @@ ghost use Rattle.emit_text.specs.ShownMap.{section_text, sections_text, shown_ma
 
 use crate::byte_strings::{ByteStrings, GrowingStrings};
 use crate::line_buffer::LineBuffer;
-use crate::map_line::{put_entry_line, put_piece_line, put_piece_names, put_section_line};
+use crate::map_line::{
+    SectionNumbers, put_entry_line, put_piece_line, put_piece_names, put_section_line,
+};
 use crate::members::Members;
 use crate::named::next_part_name;
 use crate::symbols::{MapSymbols, put_symbols};
@@ -51,8 +53,19 @@ fn flags(placed: &Placed) -> &'static [u8]
 fn put_section(text: &mut Vec<u8>, name: &[u8], placed: &Placed) -> Result<(), AllocError>
     ensures { OnOk result (text.new.items ≡ text.old.items ++ section_text name.now placed.now) }
 {
-    let numbers = (placed.start, placed.load, placed.size);
+    let numbers = SectionNumbers {
+        start: placed.start,
+        load: placed.load,
+        size: placed.size,
+    };
     put_section_line(text, name, numbers, flags(placed))
+}
+
+/// An input section at its address.
+#[derive(Clone, Copy)]
+struct PieceAt<'a> {
+    piece: &'a Piece,
+    start: u64,
 }
 
 /// Where the names of the next input section of a row are looked for first.
@@ -71,19 +84,19 @@ fn put_new_piece<M: Members>(
     lines: &mut LineBuffer,
     names: &mut GrowingStrings,
     members: &M,
-    piece: &Piece,
-    start: u64,
+    at: PieceAt<'_>,
     likely: usize,
 ) -> Result<usize, AllocError>
     ensures text { OnOk result (text.new.items ++ lines.new ≡ (text.old.items ++ lines.old)
-        ++ piece_text (M.project members.now) (M.number members.now) piece.now start) }
+        ++ piece_text (M.project members.now) (M.number members.now) at.entry.piece.now at.entry.start) }
     ensures names { OnOk result (names.new
-        ≡ names.old ++ names_of (M.project members.now) (M.number members.now) piece.now.section ∷ []) }
+        ≡ names.old ++ names_of (M.project members.now) (M.number members.now) at.entry.piece.now.section ∷ []) }
 {
-    let object = members.name(piece.section.object);
-    let (section, place) = next_part_name(members, piece.section, likely);
+    let key = at.piece.section;
+    let object = members.name(key.object);
+    let (section, place) = next_part_name(members, key, likely);
     names.push_names(object, section)?;
-    put_piece_line(text, lines, start, piece.size, &[])?;
+    put_piece_line(text, lines, at.start, at.piece.size, &[])?;
     put_piece_names(text, lines, object, section)?;
     Ok(place)
 }
@@ -97,24 +110,23 @@ fn put_piece<M: Members>(
     names: &mut GrowingStrings,
     members: &M,
     row: usize,
-    piece: &Piece,
-    start: u64,
+    at: PieceAt<'_>,
     likely: Likely,
 ) -> Result<Likely, AllocError>
     ensures text { OnOk result (text.new.items ++ lines.new ≡ (text.old.items ++ lines.old)
-        ++ piece_text (M.project members.now) (M.number members.now) piece.now start) }
+        ++ piece_text (M.project members.now) (M.number members.now) at.entry.piece.now at.entry.start) }
     ensures names { OnOk result (names.new
-        ≡ names.old ++ names_of (M.project members.now) (M.number members.now) piece.now.section ∷ []) }
+        ≡ names.old ++ names_of (M.project members.now) (M.number members.now) at.entry.piece.now.section ∷ []) }
 {
-    if let Some(known) = members.known_names(row, likely.known, piece.section) {
+    if let Some(known) = members.known_names(row, likely.known, at.piece.section) {
         names.push(known.names)?;
-        put_piece_line(text, lines, start, piece.size, known.names)?;
+        put_piece_line(text, lines, at.start, at.piece.size, known.names)?;
         return Ok(Likely {
             known: known.at.wrapping_add(1),
             section: likely.section,
         });
     }
-    let place = put_new_piece(text, lines, names, members, piece, start, likely.section)?;
+    let place = put_new_piece(text, lines, names, members, at, likely.section)?;
     Ok(Likely {
         known: likely.known,
         section: place,
@@ -142,9 +154,11 @@ fn put_pieces<M: Members>(
         section: 0,
     };
     for i in 0..row.len().min(starts.len()) {
-        likely = put_piece(
-            text, &mut lines, &mut names, members, number, &row[i], starts[i], likely,
-        )?;
+        let at = PieceAt {
+            piece: &row[i],
+            start: starts[i],
+        };
+        likely = put_piece(text, &mut lines, &mut names, members, number, at, likely)?;
     }
     lines.move_to(text)?;
     let kept = names.finish()?;
@@ -210,7 +224,7 @@ const SYMBOL_ROOM: usize = 64;
 /// Room for the line of an output section, 64 bytes and its name, or of the entry point.
 const SECTION_ROOM: usize = 96;
 
-/// Room for the lines of the map, if names are of common length. What is not written of it is not touched.
+/// Room for the lines of the map, if names are of common length. Room that is not used is not touched.
 fn likely_size(parts: &MapParts<'_>, symbols: usize) -> usize {
     let pieces = parts.placement.starts.len().saturating_mul(PIECE_ROOM);
     let symbols = symbols.saturating_mul(SYMBOL_ROOM);
@@ -229,13 +243,13 @@ pub struct LinkMap {
 }
 
 /// The map of a link: the entry point, the output sections with their rows, and the symbols in byte order of names.
-/// `specs/MapOf.antt` says which values `parts` must have, and `symbols`: names in byte order, among them all that are
-/// defined. It is written once, into room that grows where names are long: to measure it first would take as long as to
-/// write it.
+/// `specs/MapOf.antt` says what `parts` and `symbols` must be: `symbols` has names in byte order, among them all that
+/// are defined. The map is written once, into room that grows where names are long: to measure it first would take as
+/// long as to write it.
 ///
 /// # Errors
 ///
-/// If there is no memory for the text, the only memory that it takes.
+/// If memory runs out.
 pub fn render_map<M: Members, S: MapSymbols>(
     alloc: Global,
     parts: &MapParts<'_>,

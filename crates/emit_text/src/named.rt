@@ -61,8 +61,8 @@ pub fn part_name<M: Members>(members: &M, section: SectionKey) -> &[u8]
     }
 }
 
-/// The name of a part, and the place of its section. It is looked for after that of the part before, which is the place
-/// of most parts of a row.
+/// The name of a part, and the place of its section. That place is looked for first after the place of the section
+/// before it, where the sections of most rows are.
 pub fn next_part_name<M: Members>(members: &M, section: SectionKey, last: usize) -> (&[u8], usize)
     ensures { result.0.now ≡ name_of_part (M.project members.now) (M.number members.now section.object.0) section.part }
 {

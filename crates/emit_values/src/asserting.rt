@@ -59,7 +59,7 @@ fn add_unless_holds(
             faults.push(Fault::AssertionFailed(AssertionIndex(number)))?;
             Ok(())
         }
-        // No script is long enough for 2^32 assertions; but no contract says how many a list of them has
+        // no script is long enough for 2^32 ASSERTs, but no contract says so
         Err(_) => Err(impossible()),
     }
 }
@@ -86,7 +86,7 @@ pub fn assertion_faults(
     let commands = script.all_directives(alloc)?;
     let assertions = assertions(alloc, &commands)?;
     if assertions.is_empty() {
-        // without conditions the names are not looked at
+        // without ASSERTs no name is looked up
         return Ok(Vec::new(alloc));
     }
     let scope = FinalScope {

@@ -58,8 +58,8 @@ fn add_all_given<'a>(
     Ok(())
 }
 
-/// All names that objects declare or that the script gives values to, in byte order. Of those that are alike, one with
-/// a key is the first. `sorted` are all names that objects declare, in byte order.
+/// All names that objects declare or that the script gives values to, in byte order. Of equal names, one with a key
+/// comes first. `sorted` has all names that objects declare, in byte order.
 ///
 /// # Errors
 ///

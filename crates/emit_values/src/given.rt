@@ -1,5 +1,5 @@
-//! What of a link is made once for both its view and its values: the values that the script gives names, and the order
-//! of all names.
+//! What both the view of a link and its values need: the values that the script gives names, and the order of all
+//! names.
 
 ghost use Rattle.std.specs.Prelude.{IfOk};
 

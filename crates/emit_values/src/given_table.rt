@@ -33,8 +33,7 @@ fn put_given(
     }
 }
 
-/// The table of all names. A name is looked up for each command of the script that gives one a value, so the time is
-/// that of the commands but for the table itself.
+/// The table of all names. Only the names that commands of the script give a value are looked up.
 ///
 /// # Errors
 ///

@@ -10,7 +10,7 @@ use ldmodel::memory::NoMemory;
 use std::alloc::Global;
 use symres::sorted::NamedKey;
 
-/// How many of these names, which are in byte order, do not come after a name. The time is logarithmic.
+/// The number of names, in a list in byte order, that do not come after a name. The time is logarithmic.
 fn count_up_to(sorted: &[NamedKey<'_>], name: &[u8]) -> usize
     requires { IsSortedBy key_before sorted.now }
     ensures place { IsPlaceAmong name.now sorted.now result }
@@ -33,8 +33,9 @@ fn add_keys<'a>(list: &mut Vec<Candidate<'a>>, sorted: &[NamedKey<'a>]) -> Resul
     Ok(())
 }
 
-/// Names with keys and others, each in byte order, in one list in byte order; of those that are alike, one with a key
-/// is the first. The others are few beside those with keys, which are not compared with one another again.
+/// The names of two lists, each in byte order, in one list in byte order. Of equal names, one with a key comes first.
+/// Names with keys are not compared with one another again: each name of `given` is searched for among them, and those
+/// before it are copied.
 ///
 /// # Errors
 ///

@@ -1,4 +1,4 @@
-//! How much the symbols of the output have in the symbol table, which is known before the table is written.
+//! The sizes of the symbol table of the output and of its names, which are known before the tables are written.
 
 ghost use Rattle.std.specs.Prelude.{◌≡◌, ◌+◌, ◌≤◌, IfOk, drop, length};
 ghost use Rattle.emit_values.specs.Sizes.{plus_symbol, plus_symbols};
@@ -8,12 +8,12 @@ use emit_relocate::value::SymbolValue;
 use ldmodel::memory::NoMemory;
 use std::alloc::AllocError;
 
-/// How many symbols have a value, and how many bytes their names have, each with a zero byte after it.
+/// The number of symbols that have a value, and of bytes of their names, each with a zero byte after it.
 #[derive(Clone, Copy, Debug)]
 pub struct SymbolSizes {
-    /// How many there are.
+    /// The number of symbols.
     pub count: u64,
-    /// How many bytes their names have.
+    /// The number of bytes of their names.
     pub names: u64,
 }
 
@@ -24,7 +24,7 @@ pub(crate) const NO_SYMBOLS: SymbolSizes = SymbolSizes { count: 0, names: 0 };
 ///
 /// # Errors
 ///
-/// If it is 2^64 or more: no memory holds so many bytes.
+/// If it is 2^64 or more: no memory holds that many bytes.
 pub fn plus(size: u64, more: u64) -> Result<u64, NoMemory>
     ensures { IfOk result (λ n. n ≡ size + more) }
 {

@@ -16,4 +16,4 @@ returns c =
     let two = written_both d _ _ _ middle one c.in_ok-extend_from_slice-3.ensures.items in
     let three = written_both d _ _ _ flags two c.in_ok-extend_from_slice-4.ensures.items in
     c.in_ok-push.ensures.items
-    ∙ written_last d _ _ _ _ three (section_spelled name middle n.0 n.1 n.2 flags c.section_numbers.ensures)
+    ∙ written_last d _ _ _ _ three (section_spelled name middle n.start n.load n.size flags c.section_numbers.ensures)

@@ -8,8 +8,8 @@ use Rattle.emit_text.proofs.maps.put_new_piece.Goals as goal
 
 pub returns-clause-text : goal.returns-clause-text
 returns-clause-text g c =
-    let x = c.args.piece.now in
-    let start = c.args.start in
+    let x = c.args.at.piece.now in
+    let start = c.args.at.start in
     let before = c.args.text.now.items ++ c.args.lines.now in
     let numbers = piece_numbers start x.size in
     let object = c.name-object.result.now in
