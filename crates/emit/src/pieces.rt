@@ -42,6 +42,13 @@ use place::indexed_layout::IndexedLayout;
 use place::numbered::are_numbered;
 use std::alloc::Global;
 
+/// An entry of a row at its address.
+#[derive(Clone, Copy)]
+struct PieceAt<'a> {
+    piece: &'a Piece,
+    start: u64,
+}
+
 /// An input section of `size` zeros at an address.
 fn zeros<'a>(size: u64, start: u64) -> ImagePiece<'a>
     ensures { (result.start ≡ start) × (result.size ≡ size) × (result.bytes.now ≡ []) × (result.fields.now ≡ [])
@@ -128,19 +135,19 @@ fn drawn_piece<'a>(
     project: &'a ProjectView<'_>,
     relocated: &'a Relocated,
     indexed_layout: &IndexedLayout,
-    piece: &Piece,
-    start: u64,
+    at: PieceAt<'_>,
     likely: &mut usize,
 ) -> ImagePiece<'a>
     ensures { (link : KnownLink) (stays : KeyOf → Bool) (w : PlacedPiece)
-        → link.project ≡ project.now → AreSources link stays indexed_layout.now relocated.now → stays piece.now.section
-        ≡ false
-        → IsPlacedAt project.now link.layout (piece_in project.now piece.now) start w
+        → link.project ≡ project.now → AreSources link stays indexed_layout.now relocated.now
+        → stays at.entry.piece.now.section ≡ false
+        → IsPlacedAt project.now link.layout (piece_in project.now at.entry.piece.now) at.entry.start w
         → IsDrawnPiece link.project link.layout w result }
 {
     // for the prover: brings in the invariant of `project`
     let _inputs = project.inputs();
     project.objects_are_named();
+    let PieceAt { piece, start } = at;
     let key = piece.section.object;
     match piece.section.part {
         Part::InCommon(_) => zeros(piece.size, start),
@@ -175,20 +182,20 @@ fn add_entry<'a, E: PreviousLinkInfo>(
     relocated: &'a Relocated,
     indexed_layout: &IndexedLayout,
     previous: &E,
-    piece: &Piece,
-    start: u64,
+    at: PieceAt<'_>,
     likely: &mut usize,
 ) -> Result<(), NoMemory>
     ensures { OnOk result ((link : KnownLink) (w : PlacedPiece) (whole : List Drawn) → link.project ≡ project.now
         → AreSources link (λ k. is_some (E.range previous.now k)) indexed_layout.now relocated.now
-        → IsPlacedAt project.now link.layout (piece_in project.now piece.now) start w → StandFor whole pieces.old.items
+        → IsPlacedAt project.now link.layout (piece_in project.now at.entry.piece.now) at.entry.start w
+        → StandFor whole pieces.old.items
         → (y : Drawn) × IsRowPiece link.project link.layout (λ k. is_some (E.range previous.now k)) w y
         × StandFor (whole ++ y ∷ []) pieces.new.items) }
 {
-    if previous.has_stayed(piece.section) {
-        return add_kept(pieces, piece.size, start);
+    if previous.has_stayed(at.piece.section) {
+        return add_kept(pieces, at.piece.size, at.start);
     }
-    let drawn = drawn_piece(project, relocated, indexed_layout, piece, start, likely);
+    let drawn = drawn_piece(project, relocated, indexed_layout, at, likely);
     add_drawn(pieces, drawn)
 }
 
@@ -200,16 +207,17 @@ fn add_unless_empty<'a, E: PreviousLinkInfo>(
     relocated: &'a Relocated,
     indexed_layout: &IndexedLayout,
     previous: &E,
-    piece: &Piece,
-    start: u64,
+    at: PieceAt<'_>,
     likely: &mut usize,
 ) -> Result<(), NoMemory>
     ensures { OnOk result ((link : KnownLink) (w : PlacedPiece) (whole : List Drawn) → link.project ≡ project.now
         → AreSources link (λ k. is_some (E.range previous.now k)) indexed_layout.now relocated.now
-        → IsPlacedAt project.now link.layout (piece_in project.now piece.now) start w → StandFor whole pieces.old.items
+        → IsPlacedAt project.now link.layout (piece_in project.now at.entry.piece.now) at.entry.start w
+        → StandFor whole pieces.old.items
         → (y : Drawn) × IsRowPiece link.project link.layout (λ k. is_some (E.range previous.now k)) w y
         × StandFor (whole ++ y ∷ []) pieces.new.items) }
 {
+    let piece = at.piece;
     if piece.size == 0 {
         return Ok(());
     }
@@ -219,8 +227,7 @@ fn add_unless_empty<'a, E: PreviousLinkInfo>(
         relocated,
         indexed_layout,
         previous,
-        piece,
-        start,
+        at,
         likely,
     )
 }
@@ -254,14 +261,14 @@ fn image_row<'a, E: PreviousLinkInfo>(
     let mut pieces = Vec::with_capacity(alloc, row.len())?;
     let mut likely: usize = 0;
     for (k, piece) in row.iter().enumerate() {
+        let start = start_at(starts, k);
         add_unless_empty(
             &mut pieces,
             project,
             relocated,
             indexed_layout,
             previous,
-            piece,
-            start_at(starts, k),
+            PieceAt { piece, start },
             &mut likely,
         )?;
     }

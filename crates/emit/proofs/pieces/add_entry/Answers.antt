@@ -16,7 +16,7 @@ returns-then-has_stayed g c =
     let kept = h whole stand in (
       kept.0,
       subst (λ pr. IsRowPiece pr l.layout stays w kept.0) (sym same)
-          (row_kept p l.layout stays c.args.piece.now c.args.start w kept.0 at
+          (row_kept p l.layout stays c.args.at.piece.now c.args.at.start w kept.0 at
           (sym c.has_stayed.ensures.is ∙ c.if-has_stayed.true) kept.1),
       kept.2,
     ))
@@ -33,7 +33,7 @@ returns g c =
     let drawn = c.drawn_piece-drawn.ensures l stays w same sources new at in (
       y,
       subst (λ pr. IsRowPiece pr l.layout stays w y) (sym same)
-          (row_drawn p l.layout stays c.args.piece.now c.args.start w y at new
+          (row_drawn p l.layout stays c.args.at.piece.now c.args.at.start w y at new
           (subst (λ pr. IsDrawnPiece pr l.layout w y) same drawn)),
       h whole stand drawn.unstayed,
     ))

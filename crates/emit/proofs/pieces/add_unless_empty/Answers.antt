@@ -13,9 +13,9 @@ returns-then-piece-eq0 g c =
     λ l w whole same sources at stand.
     let p = c.args.project.now in
     let stays : SectionKey → Bool = λ k. is_some (g.E.PreviousLinkInfo.range c.args.previous.now k) in
-    let r = c.args.piece.now in
+    let r = c.args.at.piece.now in
     let y : ImagePiece = record {
-      start = c.args.start;
+      start = c.args.at.start;
       size = 0;
       bytes = record { ref_ptr = (0, 0); now = [] };
       fields = record { ref_ptr = (0, 0); now = [] };
@@ -23,6 +23,6 @@ returns-then-piece-eq0 g c =
     } in (
       y,
       subst (λ pr. IsRowPiece pr l.layout stays w y) (sym same)
-          (row_empty p l.layout stays r c.args.start w y at c.if-piece-eq0.true refl refl refl refl refl),
+          (row_empty p l.layout stays r c.args.at.start w y at c.if-piece-eq0.true refl refl refl refl refl),
       stand_empty whole c.args.pieces.now.items y stand refl,
     )

@@ -21,11 +21,11 @@ loop-k-preserved g c link q same sources row =
     let rs = c.args.row.now in
     let starts = c.args.starts.now in
     let k = c.loop-k.k in
-    one_entry p link.project link.layout stays q (map (piece_in p) rs) starts k _ c.start_at.result
+    one_entry p link.project link.layout stays q (map (piece_in p) rs) starts k _ c.start_at-start.result
     c.loop-k.pieces.items _ row
     (omega (arith, c.loop-k-test.true, length-map rs (piece_in p)))
     (mapped_at (piece_in p) rs k _ (omega (arith, c.loop-k-test.true)) (sym (own_member rs k _)))
-    c.start_at.ensures
+    c.start_at-start.ensures
     (λ w whole at stand. c.in_ok-add_unless_empty.ensures link w whole same sources at stand)
     (c.loop-k.invariant link q same sources row)
 
