@@ -16,6 +16,7 @@ use Rattle.ldmodel.specs.OutputSymbols.{is_defined, output_symbol}
 use Rattle.ldmodel.specs.Project.{Project}
 use Rattle.ldmodel.specs.SymbolValues.{SymbolValue, name_value}
 use Rattle.ldmodel.specs.declared.names.Case.{Case}
+use Rattle.ldmodel.specs.declared.names.ObjectPlace.{ObjectPlace}
 use Rattle.emit_relocate.specs.Values.{value_of}
 use Rattle.emit_text.specs.Definer.{definer_of, defines}
 use Rattle.emit_text.specs.declared.definer.Definer.{Definer}
@@ -58,7 +59,7 @@ module _ (p : Project) (s : Layout) (src : Sources) (h : AreSources p s src) (na
     }
 
   -- of another name
-  module _ (case : Case) (definer : Definer) (row : NameRow) (given : Option ℕ)
+  module _ (case : Case ObjectPlace) (definer : Definer) (row : NameRow) (given : Option ℕ)
       (is : given ≡ value_in src.given.now name.now)
       (row_is : given ≡ script_value s name.now
       → shown_row row ≡ decided_row p s name.now (decision_of (λ key. key) case))

@@ -7,6 +7,7 @@ use Rattle.ldmodel.specs.Layout.{Layout, script_value}
 use Rattle.ldmodel.specs.Names.{Decision, decision, entry_symbol}
 use Rattle.ldmodel.specs.Project.{Project}
 use Rattle.ldmodel.specs.declared.names.Case.{Case}
+use Rattle.ldmodel.specs.declared.names.ObjectPlace.{ObjectPlace}
 use Rattle.symres.specs.SymbolTable.{SymbolTableState}
 use Rattle.emit_relocate.specs.KnownLink.{IsEntryCase}
 use Rattle.emit_values.specs.LinkView.{known_link}
@@ -18,7 +19,8 @@ no_entry p s a e = record {
   given_is = λ name h. let no : None ≡ Some name = e ∙ h in absurd (cc);
 }
 
-pub entry_named : (p : Project) (s : Layout) (a : SymbolTableState) (name : List ℕ) (c : Case) (given : Option ℕ)
+pub entry_named : (p : Project) (s : Layout) (a : SymbolTableState) (name : List ℕ) (c : Case ObjectPlace)
+    (given : Option ℕ)
     → Some name ≡ entry_symbol p → decision_of (λ key. key) c ≡ decision p name → given ≡ script_value s name
     → IsEntryCase (known_link p s a) (Some c) given
 entry_named p s a name c given e decided is = record {

@@ -25,6 +25,7 @@ use Rattle.ldmodel.specs.Tail.{header_of_part, header_of_place, kind_number}
 use Rattle.ldmodel.specs.declared.names.Case.{Case}
 use Rattle.ldmodel.specs.declared.names.Case.TheVariants as case
 use Rattle.ldmodel.specs.declared.names.Entry as code_entry
+use Rattle.ldmodel.specs.declared.names.ObjectPlace.{ObjectPlace}
 use Rattle.ldmodel.specs.declared.sections.Part.{Part}
 use Rattle.ldmodel.specs.declared.sections.Part.TheVariants.{InTable}
 use Rattle.ldmodel_laws.proofs.EachOf.{all_of_each}
@@ -156,13 +157,13 @@ row_by_decision p s name d e =
     record { value = decided_value p s name c; facts = facts p s c } in x) e
 
 module _ (l : KnownLink) (v : LinkView) (h : IsLinkView l v) where
-  decided_same : (c : Case) (name : List ℕ) → decision_of l.number c ≡ decision l.project name
+  decided_same : (c : Case ObjectPlace) (name : List ℕ) → decision_of l.number c ≡ decision l.project name
       → decision_of (λ key. key) c ≡ decision l.project name
   decided_same c name e =
       sym (ap (λ (f : ℕ → ℕ). decision_of f c) (ap (λ (m : KnownLink). m.number) h.link)) ∙ e
 
   -- the row of a name, by what its key stands for
-  pub row_named : (c : Case) (name : List ℕ) (x : code.NameRow)
+  pub row_named : (c : Case ObjectPlace) (name : List ℕ) (x : code.NameRow)
       → decision_of l.number c ≡ decision l.project name
       → shown_row x ≡ decided_row l.project l.layout name (decision_of (λ key. key) c)
       → shown_row x ≡ row_of l.project l.layout name
@@ -170,7 +171,7 @@ module _ (l : KnownLink) (v : LinkView) (h : IsLinkView l v) where
       is ∙ row_by_decision l.project l.layout name (decision_of (λ key. key) c) (decided_same c name e)
 
   -- a name, by its key
-  resolved_named : (k : ℕ) (c : Case) (x : code_rows.ResolvedName) → IsCaseUnder l k c
+  resolved_named : (k : ℕ) (c : Case ObjectPlace) (x : code_rows.ResolvedName) → IsCaseUnder l k c
       → x.definer ≡ definer_of (decision_of (λ key. key) c) → IsRowUnder l k x.row
       → (name : List ℕ) → l.name k ≡ Some name → shown_resolved x ≡ resolved l.project l.layout name
   resolved_named k c x case definer row name named =
@@ -180,7 +181,8 @@ module _ (l : KnownLink) (v : LinkView) (h : IsLinkView l v) where
       (row name named)
 
 -- what is read under the key of a name is the symbol that defines it
-pub symbol_at : (p : Project) (cases : List Case) (symbols : List (Option Symbol)) (k : ℕ) (c : Case)
+pub symbol_at : (p : Project) (cases : List (Case ObjectPlace)) (symbols : List (Option Symbol)) (k : ℕ)
+    (c : Case ObjectPlace)
     (x : Option Symbol) → symbols ≡ map (defining_symbol p) cases → slice_get cases k ≡ Some c → x ≡ get_or symbols k x
     → x ≡ defining_symbol p c
 symbol_at p cases symbols k c x e at read =
@@ -189,16 +191,17 @@ symbol_at p cases symbols k c x e at read =
     ∙ (slice_get-map (defining_symbol p) cases k ∙ ap (option_map (defining_symbol p)) at))
 
 -- what a name is that an entry defines, strongly or weakly
-pub entry_decided : (p : Project) (s : Layout) (name : List ℕ) (k : Case) (e : code_entry.Entry) (y : Option Symbol)
+pub entry_decided : (p : Project) (s : Layout) (name : List ℕ) (k : Case ObjectPlace) (e : code_entry.Entry ObjectPlace)
+    (y : Option Symbol)
     (x : code.NameRow) → (k ≡ case.Strong e) ⊎ (k ≡ case.Weak e)
     → (y ≡ symbol_of_entry p (entry_of (λ key. key) e) → shown_row x ≡ entry_row p s (entry_of (λ key. key) e))
     → y ≡ defining_symbol p k → shown_row x ≡ decided_row p s name (decision_of (λ key. key) k)
 entry_decided p s name k e y x (inl is) h symbol =
     h (symbol ∙ ap (defining_symbol p) is)
-    ∙ ap (λ (c : Case). decided_row p s name (decision_of (λ key. key) c)) (sym is)
+    ∙ ap (λ (c : Case ObjectPlace). decided_row p s name (decision_of (λ key. key) c)) (sym is)
 entry_decided p s name k e y x (inr is) h symbol =
     h (symbol ∙ ap (defining_symbol p) is)
-    ∙ ap (λ (c : Case). decided_row p s name (decision_of (λ key. key) c)) (sym is)
+    ∙ ap (λ (c : Case ObjectPlace). decided_row p s name (decision_of (λ key. key) c)) (sym is)
 
 -- ---- one more in a table
 
@@ -220,7 +223,7 @@ one_more l f g n old new x long e one all k name below is =
     ∙ pushed f old x k (g name) (λ m. all k name (omega (arith, m, long)) is)
     (λ last. one name (subst (λ i. l.name i ≡ Some name) (last ∙ long) is)) (omega (arith, below, long))
 
-module _ (l : KnownLink) (v : LinkView) (h : IsLinkView l v) (n : ℕ) (c : Case) (x : code_rows.ResolvedName)
+module _ (l : KnownLink) (v : LinkView) (h : IsLinkView l v) (n : ℕ) (c : Case ObjectPlace) (x : code_rows.ResolvedName)
     (case : IsCaseUnder l n c) (definer : x.definer ≡ definer_of (decision_of (λ key. key) c))
     (row : IsRowUnder l n x.row) where
   pub rows_more : (old new : List code_rows.ResolvedName) → length old ≡ n → new ≡ old ++ x ∷ []
@@ -236,7 +239,8 @@ module _ (l : KnownLink) (v : LinkView) (h : IsLinkView l v) (n : ℕ) (c : Case
       (λ name named. ap (λ (r : NameRow). r.value) (row name named)) all
 
 -- what one name more stands for
-pub cases_more : (l : KnownLink) (first : ℕ) (old new : List Case) (x : Case) (k : ℕ) → first + length old ≡ k
+pub cases_more : (l : KnownLink) (first : ℕ) (old new : List (Case ObjectPlace)) (x : Case ObjectPlace) (k : ℕ)
+    → first + length old ≡ k
     → new ≡ old ++ x ∷ [] → IsCaseUnder l k x → AreCasesFrom l first old → AreCasesFrom l first new
 cases_more l first old new x k at e one all j name below is =
     let long : length new ≡ length old + 1 = ap length e ∙ length-append old (x ∷ []) in
@@ -246,7 +250,8 @@ cases_more l first old new x k at e one all j name below is =
     (omega (arith, below, long))
 
 -- what the name of a key stands for, by its place
-pub case_from : (l : KnownLink) (first : ℕ) (cases : List Case) → AreCasesFrom l first cases → (j k : ℕ) (c : Case)
+pub case_from : (l : KnownLink) (first : ℕ) (cases : List (Case ObjectPlace)) → AreCasesFrom l first cases
+    → (j k : ℕ) (c : Case ObjectPlace)
     → first + j ≡ k → j < length cases → slice_get cases j ≡ Some c → IsCaseUnder l k c
 case_from l first cases h j k c is below at name named =
     same_Some _ _

@@ -13,6 +13,7 @@ use Rattle.ldmodel.specs.Live.{symbol_at}
 use Rattle.ldmodel.specs.Names.{is_local, symbol_tables}
 use Rattle.ldmodel.specs.Project.{NamedObject, Project}
 use Rattle.ldmodel.specs.declared.names.Case.{Case}
+use Rattle.ldmodel.specs.declared.names.ObjectPlace.{ObjectPlace}
 use Rattle.symres.specs.Decided.{HasCase}
 use Rattle.symres.specs.SymbolTable.{IsNameAt, IsSymbolTable, IsSeenAt, SymbolTableState}
 use Rattle.emit_relocate.specs.KnownLink.{KnownLink}
@@ -73,7 +74,7 @@ all_seen p a h i k s = go (slice_get p.objects i) refl s
         ))
         (λ t. table_at p.objects i o t e) s)
 
-pub case_within : (cases : List (Option Case)) (k n : ℕ) → n ≡ length cases → HasCase cases k → k < n
+pub case_within : (cases : List (Option (Case ObjectPlace))) (k n : ℕ) → n ≡ length cases → HasCase cases k → k < n
 case_within cases k n e h = ⊎_elim (λ lt. lt) (λ le. absurd (past le)) (cases_lt k n)
   where
     past : n ≤ k → ⊥

@@ -16,6 +16,7 @@ use Rattle.ldmodel.specs.Tail.{entry_header, entry_size, entry_type, header_of_p
 use Rattle.ldmodel.specs.Tail.{st_shndx, st_size, st_type_of}
 use Rattle.ldmodel.specs.declared.names.Case.{Case}
 use Rattle.ldmodel.specs.declared.names.Case.TheVariants as case
+use Rattle.ldmodel.specs.declared.names.ObjectPlace.{ObjectPlace}
 use Rattle.ldmodel.specs.declared.sections.Part.{Part}
 use Rattle.ldmodel.specs.declared.sections.Part.TheVariants.{InCommon}
 use Rattle.emit_relocate.specs.KnownLink.{KnownLink}
@@ -93,7 +94,7 @@ pub record IsPlaceOf (layout : Layout) (object : List ℕ) (symbol : Symbol) (x 
   pub section : x.section ≡ header_of_place layout object symbol.place
 
 -- the symbol of an object that defines a name, if one does
-abbrev pub defining_symbol : Project → Case → Option Symbol
+abbrev pub defining_symbol : Project → Case ObjectPlace → Option Symbol
 defining_symbol project (case.Strong e) = symbol_of_entry project (entry_of (λ key. key) e)
 defining_symbol project case.Script = None
 defining_symbol project (case.Common owner size align) = None
@@ -116,12 +117,12 @@ resolved project layout name =
     record { definer = definer_of (decision project name); row = row_of project layout name }
 
 -- what the name of a key stands for
-abbrev pub IsCaseUnder : KnownLink → ℕ → Case → Type 0
+abbrev pub IsCaseUnder : KnownLink → ℕ → Case ObjectPlace → Type 0
 IsCaseUnder link k x =
     (name : List ℕ) → link.name k ≡ Some name → decision_of link.number x ≡ decision link.project name
 
 -- the names with keys from `first` on have what they stand for one after the other
-abbrev pub AreCasesFrom : KnownLink → ℕ → List Case → Type 0
+abbrev pub AreCasesFrom : KnownLink → ℕ → List (Case ObjectPlace) → Type 0
 AreCasesFrom link first cases =
     (j : ℕ) (name : List ℕ) → j < length cases → link.name (first + j) ≡ Some name
     → option_map (decision_of link.number) (slice_get cases j) ≡ Some (decision link.project name)

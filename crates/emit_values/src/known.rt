@@ -60,14 +60,14 @@ impl<'a, 'p> LinkInfo for LinkView<'a, 'p> {
         if !sees(self.project, object, symbol) {
             return NameKey(0);
         }
-        self.symbol_table.key_of(object.0, symbol)
+        self.symbol_table.key_of(object, symbol)
     }
 
     fn name_limit(&self) -> usize {
         self.symbol_table.limit()
     }
 
-    fn case(&self, name: NameKey) -> Option<Case> {
+    fn case(&self, name: NameKey) -> Option<Case<ObjectPlace>> {
         self.symbol_table.case_of(name)
     }
 

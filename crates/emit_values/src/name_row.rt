@@ -16,7 +16,6 @@ ghost use Rattle.emit_values.specs.NameRows.{bare_row, block_row, decided_row, d
 ghost use Rattle.emit_values.specs.NameRows.{IsPlaceIn, IsPlaceOf};
 
 use elfobj::file::constants::SHN_ABS;
-use elfobj::relocation::SymbolIndex;
 use elfobj::symbol::{Symbol, SymbolKind, SymbolPlace};
 use emit_relocate::value::{SymbolValue, address_from};
 use ldmodel::memory::NoMemory;
@@ -148,12 +147,12 @@ fn standing_of(
 }
 
 /// The symbol of an entry, if there is such an entry.
-fn symbol_of(project: &ProjectView<'_>, entry: Entry) -> Option<Symbol>
+fn symbol_of(project: &ProjectView<'_>, entry: Entry<ObjectPlace>) -> Option<Symbol>
     ensures { result ≡ symbol_of_entry project.now (entry_of (λ key. key) entry) }
 {
-    match project.object(ObjectPlace(entry.key)) {
+    match project.object(entry.object) {
         None => None,
-        Some(object) => match object.symbols().get(entry.symbol as usize) {
+        Some(object) => match object.symbols().get(entry.symbol.0 as usize) {
             None => None,
             Some(symbol) => Some(*symbol),
         },
@@ -161,7 +160,7 @@ fn symbol_of(project: &ProjectView<'_>, entry: Entry) -> Option<Symbol>
 }
 
 /// The symbol of an object that defines a name, if one does.
-pub(crate) fn definition(project: &ProjectView<'_>, case: Case) -> Option<Symbol>
+pub(crate) fn definition(project: &ProjectView<'_>, case: Case<ObjectPlace>) -> Option<Symbol>
     ensures { result ≡ defining_symbol project.now case }
 {
     match case {
@@ -184,7 +183,7 @@ pub(crate) fn bare_row(value: SymbolValue) -> NameRow
 /// The row of a name that an entry of an object defines, which has this symbol.
 fn entry_row(
     indexed_layout: &IndexedLayout,
-    entry: Entry,
+    entry: Entry<ObjectPlace>,
     symbol: Option<Symbol>,
 ) -> Result<NameRow, NoMemory>
     ensures { IfOk result (λ x. (project : Project) (layout : Layout)
@@ -195,7 +194,7 @@ fn entry_row(
     match symbol {
         None => Ok(bare_row(SymbolValue::NotDefined)),
         Some(found) => {
-            let standing = standing_of(indexed_layout, ObjectPlace(entry.key), &found)?;
+            let standing = standing_of(indexed_layout, entry.object, &found)?;
             Ok(NameRow {
                 value: standing.value,
                 facts: SymbolFacts {
@@ -209,13 +208,17 @@ fn entry_row(
 }
 
 /// The row of a name that is a common block of this size.
-fn block_row(indexed_layout: &IndexedLayout, owner: Entry, size: u64) -> Result<NameRow, NoMemory>
+fn block_row(
+    indexed_layout: &IndexedLayout,
+    owner: Entry<ObjectPlace>,
+    size: u64,
+) -> Result<NameRow, NoMemory>
     ensures { IfOk result (λ x. (project : Project) (layout : Layout)
         → IsIndexedLayout project layout indexed_layout.now
         → shown_row x ≡ block_row project layout (entry_of (λ key. key) owner) size) }
 {
-    let object = ObjectPlace(owner.key);
-    let part = Part::InCommon(SymbolIndex(owner.symbol));
+    let object = owner.object;
+    let part = Part::InCommon(owner.symbol);
     let standing = standing_in(indexed_layout, SectionKey { object, part }, 0)?;
     Ok(NameRow {
         value: standing.value,
@@ -240,7 +243,7 @@ pub(crate) fn given_value(given: Option<u64>) -> SymbolValue
 /// The row of a name, by its resolution, the symbol that defines it, and the value that the script gives it.
 pub(crate) fn name_row(
     indexed_layout: &IndexedLayout,
-    case: Case,
+    case: Case<ObjectPlace>,
     symbol: Option<Symbol>,
     given: Option<u64>,
 ) -> Result<NameRow, NoMemory>

@@ -13,7 +13,7 @@ use emit_relocate::link_info::LinkInfo;
 use emit_relocate::value::SymbolValue;
 use emit_text::definer::Definer;
 use ldmodel::memory::NoMemory;
-use ldmodel::names::{Case, NameKey};
+use ldmodel::names::{Case, NameKey, ObjectPlace};
 use ldmodel_project::view::ProjectView;
 use std::alloc::Global;
 
@@ -39,7 +39,7 @@ pub(crate) struct NameRows {
 }
 
 /// The resolution of the name of a key. Without a name it has no meaning.
-fn case_under(link: &LinkView<'_, '_>, key: NameKey) -> Case
+fn case_under(link: &LinkView<'_, '_>, key: NameKey) -> Case<ObjectPlace>
     ensures { (l : KnownLink) → IsLinkView l link.now → IsCaseUnder l key.0 result }
 {
     match link.case(key) {
@@ -54,7 +54,7 @@ fn name_cases(
     link: &LinkView<'_, '_>,
     first: usize,
     end: usize,
-) -> Result<Vec<Case>, NoMemory>
+) -> Result<Vec<Case<ObjectPlace>>, NoMemory>
     requires { first ≤ end }
     ensures count { IfOk result (λ cases. first + length cases.items ≡ end) }
     ensures cases { IfOk result (λ cases. (l : KnownLink) → IsLinkView l link.now → AreCasesFrom l first cases.items) }
@@ -70,7 +70,7 @@ fn name_cases(
 fn definitions(
     alloc: Global,
     project: &ProjectView<'_>,
-    cases: &[Case],
+    cases: &[Case<ObjectPlace>],
 ) -> Result<Vec<Option<Symbol>>, NoMemory>
     ensures { IfOk result (λ v. v.items ≡ map (defining_symbol project.now) cases.now) }
 {
@@ -85,7 +85,7 @@ fn definitions(
 #[inline(always)]
 fn row_under(
     link: &LinkView<'_, '_>,
-    case: Case,
+    case: Case<ObjectPlace>,
     symbol: Option<Symbol>,
     key: NameKey,
 ) -> Result<NameRow, NoMemory>
@@ -134,7 +134,7 @@ fn add_block(
         let place = key - first;
         let case = cases[place];
         let row = row_under(link, case, symbols[place], NameKey(key))?;
-        let definer = Definer::of(case)?;
+        let definer = Definer::of(case);
         values.push_reserved(row.value);
         rows.push_reserved(ResolvedName { definer, row });
     }

@@ -26,7 +26,7 @@ use emit_relocate::value::SymbolValue;
 use emit_text::definer::Definer;
 use ldmodel::impossible::impossible;
 use ldmodel::memory::NoMemory;
-use ldmodel::names::{Case, NameKey};
+use ldmodel::names::{Case, NameKey, ObjectPlace};
 use ldscript::Script;
 use symres::SymbolTable;
 
@@ -44,7 +44,7 @@ pub(crate) struct Sources<'a> {
 }
 
 /// The row of a name that no object defines.
-fn row_by_script(case: Case, given: Option<u64>) -> Option<NameRow>
+fn row_by_script(case: Case<ObjectPlace>, given: Option<u64>) -> Option<NameRow>
     ensures { IfSome result (λ x. (project : Project) (layout : Layout) (name : List ℕ) → given
         ≡ script_value layout name
         → shown_row x ≡ decided_row project layout name (decision_of (λ key. key) case)) }
@@ -128,7 +128,7 @@ fn add_unnamed<'a>(
         // a name that an object defines has a key, but no contract here says that each such name has one
         return Err(impossible());
     };
-    let definer = Definer::of(case)?;
+    let definer = Definer::of(case);
     add_if_defined(list, name, definer, &row);
     Ok(())
 }

@@ -2,6 +2,7 @@ use Rattle.std.proofs.Common.{◌∙◌, ap, sym}
 use Rattle.std.proofs.lemmas.Result.{IfOk-weaker}
 use Rattle.ldmodel.specs.HandedOver.{decision_of}
 use Rattle.ldmodel.specs.declared.names.Case.{Case}
+use Rattle.ldmodel.specs.declared.names.ObjectPlace.{ObjectPlace}
 use Rattle.emit_values.specs.NameRows.{decided_row}
 use Rattle.emit_values.proofs.Rows.{entry_decided}
 use Rattle.emit_values.proofs.name_row.name_row.Goals as goal
@@ -18,5 +19,5 @@ returns-in-Common c =
     IfOk-weaker c.block_row.result _ _
     (λ x h p s name starts symbol given.
     h p s starts
-    ∙ ap (λ (k : Case). decided_row p s name (decision_of (λ key. key) k)) (sym c.in-Common.is))
+    ∙ ap (λ (k : Case ObjectPlace). decided_row p s name (decision_of (λ key. key) k)) (sym c.in-Common.is))
     c.block_row.ensures

@@ -27,19 +27,19 @@ loop-key-preserved c =
     (symbol_at l.project cases symbols place case c.index.result.now
     (c.in_ok-symbols.ensures ∙ ap (map (defining_symbol link.project.now)) c.deref.ensures.value
     ∙ ap (λ (p : Project). map (defining_symbol p) cases) (sym v.project)) at c.index.ensures) in
-    let x : ResolvedName = record { definer = c.in_ok-definer.definer; row = c.in_ok-row.row } in
+    let x : ResolvedName = record { definer = c.of-definer.result; row = c.in_ok-row.row } in
     record {
       rows_long = omega (arith, c.push_reserved-in-loop-key.ensures.len, c.loop-key.invariant.rows_long);
       rows_room = c.push_reserved-in-loop-key.ensures.capacity ∙ c.loop-key.invariant.rows_room;
       values_long = omega (arith, c.push_reserved.ensures.len, c.loop-key.invariant.values_long);
       values_room = c.push_reserved.ensures.capacity ∙ c.loop-key.invariant.values_room;
       rows = λ l v before.
-          rows_more l link v key case x (stands l v) c.in_ok-definer.ensures (row l v) c.loop-key.rows.items
+          rows_more l link v key case x (stands l v) c.of-definer.ensures (row l v) c.loop-key.rows.items
           c.push_reserved-in-loop-key.new.self.items
           (omega (arith, c.loop-key.invariant.rows_long, c.loop-key.rows.ok.0))
           c.push_reserved-in-loop-key.ensures.items (c.loop-key.invariant.rows l v before);
       values = λ l v before.
-          values_more l link v key case x (stands l v) c.in_ok-definer.ensures (row l v) c.loop-key.values.items
+          values_more l link v key case x (stands l v) c.of-definer.ensures (row l v) c.loop-key.values.items
           c.push_reserved.new.self.items (omega (arith, c.loop-key.invariant.values_long, c.loop-key.values.ok.0))
           c.push_reserved.ensures.items (c.loop-key.invariant.values l v before);
     }

@@ -6,18 +6,18 @@ pub returns-clause-symbol : goal.returns-clause-symbol
 returns-clause-symbol c p s h =
     let case = c.case_named-case.result in
     let decided = c.case_named-case.ensures.case p h.symbol_table h.script in
-    let definer = c.in_ok-definer.definer in
+    let definer = c.of-definer.result in
     let row = c.in-Some.ensures p s c.args.name.now in
     adds_one p s (symbol_with c.args.name definer c.in-Some.row) c.args.list.now.items c.add_if_defined.new.list.items
     (unnamed_symbol p s c.args.sources.now h c.args.name case definer c.in-Some.row c.value.result c.value.ensures row
-    c.in_ok-definer.ensures decided)
+    c.of-definer.ensures decided)
     (unnamed_facts p s c.args.sources.now h c.args.name case definer c.in-Some.row c.value.result c.value.ensures row
-    c.in_ok-definer.ensures decided)
+    c.of-definer.ensures decided)
     c.add_if_defined.ensures.added
 
 pub returns-clause-facts : goal.returns-clause-facts
 returns-clause-facts c p s h =
     let decided = c.case_named-case.ensures.case p h.symbol_table h.script in
     c.add_if_defined.ensures.facts p s
-    (unnamed_facts p s c.args.sources.now h c.args.name c.case_named-case.result c.in_ok-definer.definer c.in-Some.row
-    c.value.result c.value.ensures (c.in-Some.ensures p s c.args.name.now) c.in_ok-definer.ensures decided)
+    (unnamed_facts p s c.args.sources.now h c.args.name c.case_named-case.result c.of-definer.result c.in-Some.row
+    c.value.result c.value.ensures (c.in-Some.ensures p s c.args.name.now) c.of-definer.ensures decided)
