@@ -52,10 +52,7 @@ impl Project {
         ensures counted { ReadsAtMostOne meter.old meter.new }
         ensures read { OnOk result (ReadsAnObject meter.old meter.new) }
     {
-        let place = match self.place_to_add(name, at, &bytes) {
-            Ok(place) => place,
-            Err(refusal) => return Err(refusal),
-        };
+        let place = self.place_to_add(name, at, &bytes)?;
         match Object::read(self.alloc, bytes, meter) {
             Err((_bytes, why)) => Err(object_refused(why)),
             Ok(object) => staged(self.kept.grow_add(name, place, object)),
@@ -74,10 +71,7 @@ impl Project {
         ensures counted { ReadsAtMostOne meter.old meter.new }
         ensures read { OnOk result (ReadsAnObject meter.old meter.new) }
     {
-        let place = match self.place_to_replace(name, &bytes) {
-            Ok(place) => place,
-            Err(refusal) => return Err(refusal),
-        };
+        let place = self.place_to_replace(name, &bytes)?;
         match Object::read(self.alloc, bytes, meter) {
             Err((_bytes, why)) => Err(object_refused(why)),
             Ok(object) => staged(self.kept.grow_replace(name, place, object)),

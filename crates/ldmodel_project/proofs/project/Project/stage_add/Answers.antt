@@ -13,8 +13,8 @@ use Rattle.ldmodel_project.specs.Staging.{IsEditing}
 use Rattle.ldmodel_project.specs.declared.staged.Staged.{Staged}
 use Rattle.ldmodel.specs.declared.edit.EditRefusal.{EditRefusal}
 
-pub returns-in-Ok-read-clause-staged : goal.returns-in-Ok-read-clause-staged
-returns-in-Ok-read-clause-staged c =
+pub returns-in-Ok-clause-staged : goal.returns-in-Ok-clause-staged
+returns-in-Ok-clause-staged c =
     let old : ProjectState = record {
       contents = c.self.inside.kept;
       script = c.self.inside.script;
@@ -29,8 +29,8 @@ returns-in-Ok-read-clause-staged c =
     } in
     let change : Change = Add c.args.name.now c.args.at c.args.bytes.items in
     let objects : List NamedObject = objects_of old.contents.entries in
-    let o : NamedObject = record { name = c.args.name.now; object = c.in-Ok-read.object } in
-    let next : List NamedObject = insert objects c.in-Ok.place o in
+    let o : NamedObject = record { name = c.args.name.now; object = c.in-Ok.object } in
+    let next : List NamedObject = insert objects c.in_ok-place.place o in
     let same : old.contents.entries ≡ h.contents.entries =
     sym (ap (λ (k : Contents). k.entries) c.grow_add.ensures.same.same) in
     let project : held old ≡ held h =
@@ -38,19 +38,19 @@ returns-in-Ok-read-clause-staged c =
     record { objects = objects_of es; script = c.self.inside.script; options = c.self.inside.options } in p) same in
     let early_here : early_refusal (held c.args.self.now) change ≡ None =
     ap (λ (b : List ℕ). early_refusal (held c.args.self.now) (Add c.args.name.now c.args.at b))
-    (sym c.deref.ensures.value) ∙ c.in-Ok.ensures.ok in
+    (sym c.deref.ensures.value) ∙ c.in_ok-place.ensures.ok in
     let early_old = subst (λ (x : ProjectState). early_refusal (held x) change ≡ None)
     (sym c.self.view_is) early_here in
     let early = subst (λ (p : Project). early_refusal p change ≡ None) project early_old in
     let read : o ≡ new_object c.args.name.now c.args.bytes.items =
     ap (λ (d : ObjectData). let x : NamedObject = record { name = c.args.name.now; object = d } in
-    x) c.in-Ok-read.ensures.ok.1 in
+    x) c.in-Ok.ensures.ok.1 in
     let made : next ≡ insert (objects_of h.contents.entries) c.args.at (new_object c.args.name.now c.args.bytes.items) =
-    ap (λ (x : NamedObject). insert objects c.in-Ok.place x) read
-    ∙ (ap (λ (i : ℕ). insert objects i (new_object c.args.name.now c.args.bytes.items)) c.in-Ok.ensures.place.0
+    ap (λ (x : NamedObject). insert objects c.in_ok-place.place x) read
+    ∙ (ap (λ (i : ℕ). insert objects i (new_object c.args.name.now c.args.bytes.items)) c.in_ok-place.ensures.place.0
     ∙ ap (λ (es : List Listed). insert (objects_of es) c.args.at
     (new_object c.args.name.now c.args.bytes.items)) same) in
-    stages_objects h change next c.staged.result early (c.in-Ok-read.ensures.ok.0, ap (with_objects (held h)) made)
+    stages_objects h change next c.staged.result early (c.in-Ok.ensures.ok.0, ap (with_objects (held h)) made)
     (c.staged.ensures.ok h next c.grow_add.ensures.staged)
 
 -- a new object is touched, and stands at its place
@@ -60,8 +60,8 @@ new_stands : (r : Result Staged EditRefusal) (at place : ℕ) → place ≡ at �
 new_stands (Ok s) at place e touching after = (touching, after ∙ ap (λ (k : ℕ). Some k) e)
 new_stands (Err r) at place e touching after = touching
 
-pub returns-in-Ok-read-clause-named : goal.returns-in-Ok-read-clause-named
-returns-in-Ok-read-clause-named c =
-    new_stands c.staged.result c.args.at c.in-Ok.place c.in-Ok.ensures.place.0
+pub returns-in-Ok-clause-named : goal.returns-in-Ok-clause-named
+returns-in-Ok-clause-named c =
+    new_stands c.staged.result c.args.at c.in_ok-place.place c.in_ok-place.ensures.place.0
     (c.staged.ensures.touching None c.grow_add.ensures.touching)
-    (c.staged.ensures.after (Some c.in-Ok.place) c.grow_add.ensures.after)
+    (c.staged.ensures.after (Some c.in_ok-place.place) c.grow_add.ensures.after)
