@@ -107,22 +107,22 @@ impl<'a> ProjectView<'a> {
         self.options
     }
 
-    /// The name of the object of a key; no bytes for a key of none.
-    pub fn name(&self, key: ObjectPlace) -> &'a [u8]
-        ensures { result.now ≡ object_name self.now key.0 }
+    /// The name of the object at a place; no bytes for a place of none.
+    pub fn name(&self, place: ObjectPlace) -> &'a [u8]
+        ensures { result.now ≡ object_name self.now place.0 }
     {
-        match self.inputs.get(key.0) {
+        match self.inputs.get(place.0) {
             Some(input) => input.name,
             None => &[],
         }
     }
 
-    /// The object of a key.
-    pub fn object(&self, key: ObjectPlace) -> Option<&'a Object>
+    /// The object at a place.
+    pub fn object(&self, place: ObjectPlace) -> Option<&'a Object>
         ensures { option_copied result
-            ≡ option_map (λ (object : NamedObject). object.object) (slice_get self.now.objects key.0) }
+            ≡ option_map (λ (object : NamedObject). object.object) (slice_get self.now.objects place.0) }
     {
-        match self.inputs.get(key.0) {
+        match self.inputs.get(place.0) {
             Some(input) => Some(input.object),
             None => None,
         }
