@@ -11,15 +11,17 @@ use ldmodel::names::ObjectKey;
 use std::alloc::Global;
 use std::marker::Model;
 
-/// The keys of objects in an order, each once, with the place of each: both are found in constant time.
+/// The keys of objects in an order, each once. The key at a place is found in constant time; so is the place of a key
+/// once the order is indexed, and before that the keys are searched.
 #[derive(Drop)]
 pub struct Order {
     keys: Vec<usize>,
-    places: Vec<Option<usize>>,
+    // the place of each key under its number, if the order is indexed
+    places: Option<Vec<Option<usize>>>,
 }
 
 impl Model for Order {
-    ghost use Rattle.std.specs.Prelude.{ℕ, List};
+    ghost use Rattle.std.specs.Prelude.{ℕ, IfSome, List};
     ghost use Rattle.ldmodel_project.specs.Listing.{AreKeysDistinct};
     ghost use Rattle.ldmodel_project.specs.Order.{HasPlaces};
 
@@ -27,7 +29,8 @@ impl Model for Order {
 
     ghost view = { λ o. o.keys.items };
 
-    ghost invariant = { λ o. AreKeysDistinct o.keys.items × HasPlaces o.keys.items o.places.items };
+    ghost invariant = { λ o. AreKeysDistinct o.keys.items
+        × IfSome o.places (λ places. HasPlaces o.keys.items places.items) };
 }
 
 /// Notes where a key stands. Where the table has no place for the key, it grows so that the key's is the last: for keys
@@ -62,18 +65,32 @@ pub fn places_of(alloc: Global, keys: &[usize]) -> Result<Vec<Option<usize>>, No
 }
 
 impl Order {
-    /// These keys, in this order.
+    /// These keys, in this order, not indexed yet.
     ///
     /// # Errors
     ///
-    /// If memory runs out: it takes some for each key and for each number up to the greatest key.
+    /// If memory runs out: it takes some for each key.
     pub fn of(alloc: Global, keys: &[usize]) -> Result<Order, NoMemory>
         requires { AreKeysDistinct keys.now }
         ensures { IfOk result (λ order. order ≡ keys.now) }
     {
-        let places = places_of(alloc, keys)?;
         let keys = Vec::from_slice(alloc, keys)?;
-        Ok(Order { keys, places })
+        Ok(Order { keys, places: None })
+    }
+
+    /// Indexes the order: from then on the place of a key is found in constant time. If it is indexed already, nothing
+    /// is done.
+    ///
+    /// # Errors
+    ///
+    /// If memory runs out: it takes some for each number up to the greatest key.
+    pub fn index(&mut self, alloc: Global) -> Result<(), NoMemory>
+        ensures { self.new ≡ self.old }
+    {
+        if self.places.is_none() {
+            self.places = Some(places_of(alloc, &self.keys)?);
+        }
+        Ok(())
     }
 
     /// The number of keys.
@@ -114,7 +131,10 @@ impl Order {
     pub fn place_of(&self, key: ObjectKey) -> Option<usize>
         ensures { result ≡ position (nat_eq key.0) self.now }
     {
-        match self.places.get(key.0) {
+        let Some(places) = &self.places else {
+            return self.keys.iter().position(|other| *other == key.0);
+        };
+        match places.get(key.0) {
             Some(place) => *place,
             None => None,
         }

@@ -72,11 +72,24 @@ impl SymbolTable {
     {
         let objects = by_place(alloc, inputs)?;
         let keys = keys_of(alloc, &objects)?;
-        let order = Order::of(alloc, &keys)?;
+        let mut order = Order::of(alloc, &keys)?;
+        order.index(alloc)?;
         let decisions = Decisions::of(alloc, seed, &objects, script, meter)?;
         let symbol_table = SymbolTable { decisions, order };
         symbol_table.names_kept();
         Ok(symbol_table)
+    }
+
+    /// Indexes the places of the objects, for many calls of `case_of`: before that, each goes over the objects. If they
+    /// are indexed already, nothing is done.
+    ///
+    /// # Errors
+    ///
+    /// If memory runs out.
+    pub fn index_places(&mut self, alloc: Global) -> Result<(), NoMemory>
+        ensures { self.new ≡ self.old }
+    {
+        self.order.index(alloc)
     }
 
     /// A name is resolved alike among objects under their places and among the same objects under their keys. The call
@@ -130,7 +143,7 @@ impl SymbolTable {
         self.decisions.limit()
     }
 
-    /// How the name of a key is resolved, if the key has one. The time is constant.
+    /// How the name of a key is resolved, if the key has one. The time is constant if the places are indexed.
     #[inline(always)]
     pub fn case_of(&self, key: NameKey) -> Option<Case<ObjectPlace>>
         ensures { result ≡ case_at self.now.cases key.0 }

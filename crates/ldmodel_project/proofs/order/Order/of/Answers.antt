@@ -1,9 +1,7 @@
 use Rattle.std.proofs.Common.{ℕ, List, subst, sym}
 use Rattle.ldmodel_project.specs.Listing.{AreKeysDistinct}
-use Rattle.ldmodel_project.specs.Order.{HasPlaces}
 use Rattle.ldmodel_project.proofs.order.Order.of.Goals as goal
 
 pub invariant_of-result : goal.invariant_of-result
 invariant_of-result c =
-    subst (λ (keys : List ℕ). AreKeysDistinct keys × HasPlaces keys c.in_ok-places.places.items)
-    (sym c.in_ok-keys.ensures.items) (c.requires, c.in_ok-places.ensures)
+    (subst (λ (keys : List ℕ). AreKeysDistinct keys) (sym c.in_ok-keys.ensures.items) c.requires, tt)

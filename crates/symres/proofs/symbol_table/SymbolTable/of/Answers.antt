@@ -24,7 +24,7 @@ invariant_of-symbol_table c =
     ∙ ap (λ (xs : List KeyedObject). keys_of (tables_of xs)) c.deref-3.ensures.value
     ∙ keys_are c.args.inputs.now c.in_ok-objects.objects.items c.in_ok-keys.keys.items
     (c.in_ok-keys.ensures ∙ ap (map (λ (x : KeyedObject). x.key.0)) c.deref.ensures.value)
-    ∙ sym (c.in_ok-order.ensures ∙ c.deref-2.ensures.value)
+    ∙ sym (c.index.ensures ∙ c.in_ok-order.ensures ∙ c.deref-2.ensures.value)
 
 pub returns-clause-symbol_table : goal.returns-clause-symbol_table
 returns-clause-symbol_table c =

@@ -1,0 +1,7 @@
+use Rattle.std.proofs.Common.{ℕ, List, subst, sym}
+use Rattle.ldmodel_project.specs.Listing.{AreKeysDistinct}
+use Rattle.ldmodel_project.proofs.order.Order.index.Goals as goal
+
+pub places_of-requires : goal.places_of-requires
+places_of-requires c =
+    subst (λ (keys : List ℕ). AreKeysDistinct keys) (sym c.deref.ensures.value) c.self.invariant.0
