@@ -102,10 +102,7 @@ impl Plain {
     fn apply_edit(&mut self, edit: Edit<'_>, meter: &mut Meter) -> Result<Linked, EditRefusal>
         ensures { Applied self.old (change_of edit.entry) self.new result }
     {
-        let staged = match self.project.stage(edit, meter) {
-            Err(refusal) => return Err(refusal),
-            Ok(staged) => staged,
-        };
+        let staged = self.project.stage(edit, meter)?;
         match link_next(self.alloc, self.seed, &self.project, &staged, meter) {
             Err(_) => Err(EditRefusal::NoMemory),
             Ok(output) => {

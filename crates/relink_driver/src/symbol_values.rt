@@ -35,19 +35,19 @@ fn count_symbols(inputs: &[InputObject<'_>]) -> usize {
 fn add_object(
     link: &LinkView<'_, '_>,
     names: &[SymbolValue],
-    key: ObjectPlace,
+    place: ObjectPlace,
     object: &Object,
     values: &mut Vec<SymbolValue>,
 ) -> Result<(), NoMemory>
     ensures long { OnOk result (length values.new.items ≡ length values.old.items + length object.now.symbols) }
     ensures values { OnOk result ((l : KnownLink) (o : NamedObject) → IsLinkView l link.now → AreNameValues l names.now
-        → named_object l key ≡ Some o → o.object ≡ object.now
+        → named_object l place ≡ Some o → o.object ≡ object.now
         → map value_of values.new.items
         ≡ map value_of values.old.items ++ map (referenced_value l.project l.layout o) o.object.symbols) }
 {
     for (number, symbol) in object.symbols().iter().enumerate() {
         let index = SymbolIndex(number as u32);
-        let value = referenced_value(link, names, key, index, symbol);
+        let value = referenced_value(link, names, place, index, symbol);
         values.push(value)?;
     }
     Ok(())
