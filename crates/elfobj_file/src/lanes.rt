@@ -20,7 +20,7 @@ fn first_set(mask: u64) -> usize
     }
 }
 
-/// The length of the run of bytes from `at` on that may occur in a name, at most that of one load.
+/// How many bytes from `at` on may occur in a name, up to the first that may not; at most one load.
 #[inline(always)]
 pub(crate) fn graphic_run(bytes: &[u8], at: usize) -> usize
     requires { at + LANES ≤ length bytes.now }

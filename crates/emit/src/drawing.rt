@@ -120,10 +120,10 @@ fn draw_outputs(
 /// the input sections of which `previous` says that they stayed. In these only the patches are written, at their
 /// offsets in the file.
 ///
-/// If nothing stays, the canvas may hold anything before. Else it must hold the image of the previous link, only
-/// sections that stayed may be said to have, and the patches must be the fields in them whose symbol has another value:
-/// then the canvas holds the image of the new link after the call. If all sections that stayed are said to have,
-/// exactly the bytes outside of them and those of the patches are written.
+/// If nothing stays, the canvas may hold anything before. Else it must hold the image of the previous link, `previous`
+/// may report only sections that stayed, and the patches must be the fields in them whose symbol has another value.
+/// Then the canvas holds the image of the new link after the call. If `previous` reports all sections that stayed, the
+/// bytes outside of them and those of the patches are written, and no others.
 ///
 /// # Errors
 ///

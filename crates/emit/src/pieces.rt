@@ -175,7 +175,7 @@ fn drawn_piece<'a>(
 }
 
 /// Adds an entry of a row at an address: one that stays is joined to the one before it, where that stays too and no gap
-/// lies between. `likely` is as in `drawn_piece`. Fails where the entry is of no object.
+/// lies between. `likely` is as in `drawn_piece`. Fails if memory runs out.
 fn add_entry<'a, E: PreviousLinkInfo>(
     pieces: &mut Vec<ImagePiece<'a>>,
     project: &'a ProjectView<'_>,

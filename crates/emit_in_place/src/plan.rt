@@ -50,8 +50,8 @@ fn is_empty(kind: SectionKind, range: FileRange) -> bool
     range.length == 0 || matches!(kind, SectionKind::Nobits)
 }
 
-/// Whether these are as many bytes as a range of the file has, and the range ends at a limit at the latest; or nothing
-/// is written of a section of this kind there.
+/// Whether nothing is written of a section of this kind, or `bytes` is as long as `range`, which ends at `limit` or
+/// before.
 fn fits(kind: SectionKind, bytes: &[u8], range: FileRange, limit: usize) -> bool
     ensures fits { result ≡ true → HasBytes kind range → IsInFile limit bytes.now range }
     ensures none { result ≡ false → (HasBytes kind range → IsInFile limit bytes.now range) → ⊥ }
@@ -63,8 +63,8 @@ fn fits(kind: SectionKind, bytes: &[u8], range: FileRange, limit: usize) -> bool
     range.length == length as u64 && length <= limit && range.offset as usize <= limit - length
 }
 
-/// Whether a spot is that of a section of an object, which ends in the address space there, and of which all bytes that
-/// it has in the file lie below a limit. The time is constant.
+/// Whether `spot` is a section of `object` that ends below 2^64 and whose bytes in the file end at `limit` or before.
+/// The time is constant.
 fn can_stand(object: &Object, limit: usize, spot: LocatedSection) -> bool
     ensures stands { result ≡ true → CanStand object.now limit spot }
     ensures refused { result ≡ false → CanStand object.now limit spot → ⊥ }
@@ -187,7 +187,7 @@ fn plan_section<'a>(
     // for the prover: brings in that the count of fields fits a u64
     let _fields = meter.fields();
     if !can_stand(object, limit, spot) {
-        // No link has such a spot. Nothing says so of any list of spots, so `rewrite` refuses it
+        // no link has such a spot; no contract rules it out, so `rewrite_in_place` refuses it
         return Err(impossible());
     }
     let kind = object.sections()[spot.index.0].kind;

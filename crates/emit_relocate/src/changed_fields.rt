@@ -132,7 +132,7 @@ impl<'a, L: LinkInfo, E: PreviousLinkInfo> Links<'a, L, E> {
             return Ok(());
         }
         match self.previous.stayed(section.section_key()) {
-            // not so of a section that stayed
+            // unreachable: `has_stayed` said that it stayed
             None => Ok(()),
             Some(range) => {
                 self.add_moved(section, range, fields, meter)?;

@@ -107,8 +107,7 @@ fn block_end(first: usize, limit: usize) -> usize
     first + BLOCK
 }
 
-/// Adds the rows and the values of the names whose keys are not below `first`, but below `end`, to those of the names
-/// whose keys are below `first`. There is room for them.
+/// Appends the rows and the values of the keys `first..end` to those of the keys below `first`. There is room for them.
 fn add_block(
     alloc: Global,
     link: &LinkView<'_, '_>,

@@ -10,7 +10,7 @@ pub struct ObjectKey(pub usize);
 #[derive(Clone, Copy, Debug, PartialEq, Eq)]
 pub struct ObjectPlace(pub usize);
 
-/// The stable number of a symbol name, valid while an object declares it.
+/// The stable number of a symbol name, valid at least while an object declares it, until it is forgotten.
 #[derive(Clone, Copy, Debug, PartialEq, Eq)]
 pub struct NameKey(pub usize);
 

@@ -39,8 +39,8 @@ struct FilePlace {
     segment: usize,
 }
 
-/// Where an output section begins in the file. `number` is that of its segment, if it is not empty; an empty one begins
-/// at 0, and so would one past all segments; only empty ones are there.
+/// The file offset of an output section, which is in segment `number` unless it is empty. That of an empty one is 0, and
+/// only empty ones come after the last segment.
 fn step(segments: &[Segment], number: usize, section: &Placed) -> FilePlace
     requires { HaveRoom segments.now }
     ensures { (qs : List Placed) → offsets_in (section.now ∷ qs) (drop number segments.now)

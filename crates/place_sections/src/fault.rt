@@ -54,15 +54,22 @@ fn mention(alloc: Global, script: &Script, name: &[u8]) -> Result<MentionIndex, 
     }
 }
 
+/// An expression names what is not complete yet (F4).
 fn not_ready(alloc: Global, script: &Script, line: u32, name: &[u8]) -> PlaceFault
     ensures { Reports script.now (NotReady line name.now) result }
 {
     match mention(alloc, script, name) {
         Ok(name) => PlaceFault::First(Fault::NotReady { line, name }),
-        Err(_) => PlaceFault::NoMemory,
+        Err(refused) => PlaceFault::from(refused),
     }
 }
 
+/// A memory region is too small for an output section (F7).
+///
+/// # Errors
+///
+/// `NoMemory` if the script has no such section or region. It has both, since the layout read them there; no contract
+/// says so.
 fn region_full(script: &Script, section: &[u8], name: &[u8]) -> PlaceFault
     ensures { Reports script.now (RegionFull section.now name.now) result }
 {

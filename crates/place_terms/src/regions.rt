@@ -30,7 +30,7 @@ pub struct RegionState<'a> {
 pub struct Regions<'a> {
     script: &'a Script,
     list: Vec<RegionState<'a>>,
-    /// Whether each region stands under its number, as in a script of which the statements are taken in their order.
+    /// Whether the region at each index has that number. It has if statements are taken in their order.
     in_order: bool,
 }
 

@@ -81,7 +81,7 @@ impl<'a> AssignedSymbols<'a> {
         })
     }
 
-    /// Like `new`, but for a layout most of which is taken over, with this many symbols: few will be looked up.
+    /// Like `new`, for a layout whose first `count` symbols are taken over: few will be looked up.
     pub fn taken_over(
         alloc: Global,
         script: &'a Script,

@@ -48,7 +48,7 @@ fn add_starts(list: &mut Vec<u64>, pieces: &[PieceAt<'_>]) -> Result<(), AllocEr
     Ok(())
 }
 
-/// Where the input sections start, row by row, of which there are this many.
+/// The addresses of the input sections, row by row; there are `count` in all.
 pub fn starts_of(
     alloc: Global,
     count: usize,
@@ -76,6 +76,7 @@ pub fn counts_of(alloc: Global, parts: SectionParts<'_, '_>) -> Result<Vec<usize
     Ok(list)
 }
 
+/// Adds the data commands of an output section.
 fn add_data(
     list: &mut Vec<PlacedData>,
     section: OutputIndex,
@@ -94,6 +95,7 @@ fn add_data(
     Ok(())
 }
 
+/// Adds the data commands of an output section that is taken over from the previous layout.
 fn add_taken_data(
     list: &mut Vec<PlacedData>,
     section: OutputIndex,

@@ -45,7 +45,7 @@ fn hash_of(name: &[u8]) -> u64
     hash
 }
 
-/// Which mark of this number is that of a name.
+/// The index, below `count`, of the mark of a name.
 fn place_in(count: usize, name: &[u8]) -> usize
     requires { 0 < count }
     ensures value { result ≡ place_in count name.now }
