@@ -1,6 +1,6 @@
 -- How what a session keeps follows an edit.
 use Rattle.std.specs.Prelude.{◌≡◌, ◌+◌, ◌≤◌, ℕ, List, Option, IfSome}
-use Rattle.std.specs.Prelude.{vec_capacity, vec_len}
+use Rattle.std.specs.VecDeque.{deque_capacity, deque_len}
 use Rattle.elfobj.specs.Counts.{Counts}
 use Rattle.relink_driver.specs.RelinkOutcome.{HasPreviousImage}
 use Rattle.relink_driver.specs.StayedSections.{PreviousState}
@@ -71,7 +71,7 @@ pub record HasRoom (next : Listing) (x : ObjectChange) (tables : LinkTables) (c 
   -- the symbol table can be changed without memory
   pub names : IsReadyFor tables.symbol_table.kept x
   -- there is room for the matches of two more objects
-  pub matches : vec_len tables.matches + 2 ≤ vec_capacity tables.matches
+  pub matches : deque_len tables.matches + 2 ≤ deque_capacity tables.matches
   -- the keys of the next objects are in their order
   pub order : c.order ≡ keys_of next.entries
   -- the matches are those of the object that comes, if one does

@@ -23,6 +23,7 @@ use ldmodel_project::project::{Next, Project};
 use ldmodel_project::staged::Staged;
 use relink_driver::Canvas;
 use std::alloc::Global;
+use std::collections::VecDeque;
 use symres::SymbolTable;
 use symres::decisions::change::ObjectChange;
 
@@ -30,7 +31,8 @@ use symres::decisions::change::ObjectChange;
 #[derive(Drop)]
 pub(crate) struct LinkTables {
     pub(crate) symbol_table: SymbolTable,
-    pub(crate) matches: Vec<Matches>,
+    // in the order of the objects; both ends are quick to change, as while a project is opened
+    pub(crate) matches: VecDeque<Matches>,
 }
 
 /// What a change of one object puts into the tables, in memory that was taken ahead.
@@ -115,7 +117,7 @@ impl LinkTables {
         match link_next(
             alloc,
             &next,
-            &self.symbol_table,
+            &mut self.symbol_table,
             &self.matches,
             previous,
             canvas,
@@ -153,12 +155,13 @@ impl LinkTables {
     {
         let next = project.next(staged);
         let inputs = next.inputs(alloc)?;
-        let matches = match_all(alloc, &next.view(&inputs))?;
+        let found = match_all(alloc, &next.view(&inputs))?;
+        let matches = VecDeque::from_vec(found);
         self.symbol_table.redecide(next.script(), meter);
         match link_next(
             alloc,
             &next,
-            &self.symbol_table,
+            &mut self.symbol_table,
             &matches,
             previous,
             canvas,

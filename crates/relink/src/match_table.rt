@@ -1,6 +1,7 @@
 //! The matches of all objects, in the order of the objects.
 
-ghost use Rattle.std.specs.Prelude.{◌≡◌, ◌+◌, ◌<◌, ◌≤◌, IfOk, IfSome, vec_capacity, vec_len};
+ghost use Rattle.std.specs.Prelude.{◌≡◌, ◌+◌, ◌<◌, ◌≤◌, IfOk, IfSome, map};
+ghost use Rattle.std.specs.VecDeque.{deque_capacity, deque_len};
 ghost use Rattle.ldmodel_project.specs.Listing.{found_under};
 ghost use Rattle.relink.specs.Matches.{IsMatchedOr, exchanged, gone_at, put_at, taken_at};
 
@@ -10,6 +11,7 @@ use ldmodel::memory::NoMemory;
 use ldmodel::names::ObjectKey;
 use ldmodel_project::project::Next;
 use std::alloc::Global;
+use std::collections::VecDeque;
 
 /// The matches of the object under a key of the next project, if there is one.
 ///
@@ -31,26 +33,40 @@ pub(crate) fn match_under(
     Ok(Some(matches))
 }
 
+/// The matches of all objects, lent for a link.
+///
+/// # Errors
+///
+/// If memory runs out.
+pub(crate) fn lend_matches(
+    alloc: Global,
+    list: &VecDeque<Matches>,
+) -> Result<Vec<&Matches>, NoMemory>
+    ensures { IfOk result (λ lent. map (λ x. x.now) lent.items ≡ list.now.items) }
+{
+    list.iter().collect(alloc)
+}
+
 /// Removes the entry at a place, if there is a place.
-fn take_out(list: &mut Vec<Matches>, out: Option<usize>) -> Option<Matches>
-    requires { IfSome out (λ p. p < vec_len list.old) }
+fn take_out(list: &mut VecDeque<Matches>, out: Option<usize>) -> Option<Matches>
+    requires { IfSome out (λ p. p < deque_len list.old) }
     ensures items { list.new.items ≡ taken_at list.old.items out }
     ensures gone { result ≡ gone_at list.old.items out }
-    ensures len { vec_len list.new ≤ vec_len list.old }
-    ensures one { IfSome out (λ _. vec_len list.new + 1 ≡ vec_len list.old) }
-    ensures capacity { vec_capacity list.new ≡ vec_capacity list.old }
+    ensures len { deque_len list.new ≤ deque_len list.old }
+    ensures one { IfSome out (λ _. deque_len list.new + 1 ≡ deque_len list.old) }
+    ensures capacity { deque_capacity list.new ≡ deque_capacity list.old }
 {
     let place = out?;
-    Some(list.remove(place))
+    list.remove(place)
 }
 
 /// Puts in what comes at a place, if both are there. It takes no memory.
-fn put_in(list: &mut Vec<Matches>, into: Option<usize>, coming: Option<Matches>)
-    requires place { IfSome into (λ q. q ≤ vec_len list.old) }
-    requires room { vec_len list.old < vec_capacity list.old }
+fn put_in(list: &mut VecDeque<Matches>, into: Option<usize>, coming: Option<Matches>)
+    requires place { IfSome into (λ q. q ≤ deque_len list.old) }
+    requires room { deque_len list.old < deque_capacity list.old }
     ensures items { list.new.items ≡ put_at list.old.items into coming }
-    ensures len { vec_len list.new ≤ vec_len list.old + 1 }
-    ensures capacity { vec_capacity list.new ≡ vec_capacity list.old }
+    ensures len { deque_len list.new ≤ deque_len list.old + 1 }
+    ensures capacity { deque_capacity list.old ≤ deque_capacity list.new }
 {
     let Some(place) = into else {
         return;
@@ -64,21 +80,22 @@ fn put_in(list: &mut Vec<Matches>, into: Option<usize>, coming: Option<Matches>)
     }
 }
 
-/// Removes the entry at one place, and inserts the new one at another. It takes no memory.
+/// Removes the entry at one place, and inserts the new one at another. It takes no memory. At either end of the list it
+/// takes constant time.
 pub(crate) fn swap_matches(
-    list: &mut Vec<Matches>,
+    list: &mut VecDeque<Matches>,
     out: Option<usize>,
     into: Option<usize>,
     coming: Option<Matches>,
 ) -> Option<Matches>
-    requires out { IfSome out (λ p. p < vec_len list.old) }
-    requires into { IfSome into (λ q. IfSome out (λ _. q < vec_len list.old)) }
-    requires added { IfSome into (λ q. q ≤ vec_len list.old) }
-    requires room { vec_len list.old < vec_capacity list.old }
+    requires out { IfSome out (λ p. p < deque_len list.old) }
+    requires into { IfSome into (λ q. IfSome out (λ _. q < deque_len list.old)) }
+    requires added { IfSome into (λ q. q ≤ deque_len list.old) }
+    requires room { deque_len list.old < deque_capacity list.old }
     ensures items { list.new.items ≡ exchanged list.old.items out into coming }
     ensures gone { result ≡ gone_at list.old.items out }
-    ensures len { vec_len list.new ≤ vec_len list.old + 1 }
-    ensures capacity { vec_capacity list.new ≡ vec_capacity list.old }
+    ensures len { deque_len list.new ≤ deque_len list.old + 1 }
+    ensures capacity { deque_capacity list.old ≤ deque_capacity list.new }
 {
     let gone = take_out(list, out);
     put_in(list, into, coming);

@@ -23,6 +23,7 @@ use ldmodel_project::law::found_where_placed;
 use ldmodel_project::project::Project;
 use relink_driver::Canvas;
 use std::alloc::Global;
+use std::collections::VecDeque;
 use std::hash::RandomState;
 use std::marker::Model;
 use symres::SymbolTable;
@@ -77,7 +78,7 @@ fn tables_of_empty(
     let symbol_table = SymbolTable::of(alloc, seed, &[], project.script(), &mut Meter::new())?;
     Ok(LinkTables {
         symbol_table,
-        matches: Vec::new(alloc),
+        matches: VecDeque::new(alloc),
     })
 }
 
@@ -137,10 +138,7 @@ impl Session {
             meter.fields(),
             meter.bytes(),
         );
-        let staged = match self.project.stage(edit, meter) {
-            Err(refusal) => return Err(refusal),
-            Ok(staged) => staged,
-        };
+        let staged = self.project.stage(edit, meter)?;
         let same = puts_same(&self.project, &staged);
         if is_unchanged(&self.project, &staged, same) {
             return Ok(self.outcome.summary(&self.canvas));

@@ -12,9 +12,10 @@ ghost use Rattle.relink_driver.specs.RelinkOutcome.{HasPreviousImage};
 ghost use Rattle.relink_driver.specs.Reads.{ReadsNothing};
 
 use crate::lent_link::LentLink;
+use crate::match_table::lend_matches;
 use crate::name_list::{names_in_room, room_for_names};
 use crate::previous::{PreviousLink, UpdateOutcome, origins_for, view_previous};
-use gather::matches::{Matches, lend_all};
+use gather::matches::Matches;
 use ldmodel::memory::NoMemory;
 use ldmodel::meter::Meter;
 use ldmodel_project::law::found_where_placed;
@@ -25,6 +26,7 @@ use relink_driver::Canvas;
 use relink_driver::driver::{RelinkOutcome, relink};
 use relink_driver::name_faults::{entry_fault_line, name_fault_lines};
 use std::alloc::Global;
+use std::collections::VecDeque;
 use symres::SymbolTable;
 
 /// Links a project over the tables that are kept of it. `keys` are those of its objects. Fails if memory runs out:
@@ -34,14 +36,14 @@ fn link_keyed(
     project: &ProjectView<'_>,
     keys: &[usize],
     symbol_table: &SymbolTable,
-    matches: &[Matches],
+    matches: &VecDeque<Matches>,
     previous: Option<LentLink<'_>>,
     canvas: &mut Canvas,
     meter: &mut Meter,
 ) -> Result<UpdateOutcome, NoMemory>
     requires distinct { AreKeysDistinct keys.now }
     requires symbol_table { IsSymbolTable project.now symbol_table.now }
-    requires matches { AreMatched project.now matches.now }
+    requires matches { AreMatched project.now matches.now.items }
     requires previous { IfSome (lent_of previous) (HasPreviousImage project.now canvas.old.bytes) }
     ensures updated { IfOk result (λ r. (l : Listing) → project.now ≡ project_of l → keys.now ≡ keys_of l.entries
         → HasUpdateOutcome l (lent_of previous.entry) canvas.old.bytes canvas.new.bytes r) }
@@ -55,7 +57,7 @@ fn link_keyed(
     if let Some(text) = name_fault_lines(alloc, project, symbol_table)? {
         return Ok(UpdateOutcome::Faulty(text));
     }
-    let lent = lend_all(alloc, matches)?;
+    let lent = lend_matches(alloc, matches)?;
     let origins = places_of(alloc, keys)?;
     let inputs = project.inputs();
     let names = room_for_names(alloc, inputs)?;
@@ -86,14 +88,15 @@ fn link_keyed(
 pub(crate) fn link_next(
     alloc: Global,
     next: &Next<'_>,
-    symbol_table: &SymbolTable,
-    matches: &[Matches],
+    symbol_table: &mut SymbolTable,
+    matches: &VecDeque<Matches>,
     previous: Option<LentLink<'_>>,
     canvas: &mut Canvas,
     meter: &mut Meter,
 ) -> Result<UpdateOutcome, NoMemory>
-    requires kept { IsKept next.now symbol_table.now matches.now }
+    requires kept { IsKept next.now symbol_table.old matches.now.items }
     requires previous { IfSome (lent_of previous) (HasPreviousImage (project_of next.now) canvas.old.bytes) }
+    ensures same { symbol_table.new ≡ symbol_table.old }
     ensures updated { IfOk result (HasUpdateOutcome next.now
         (lent_of previous.entry) canvas.old.bytes canvas.new.bytes) }
     ensures unchanged { OnErr result (canvas.new.bytes ≡ canvas.old.bytes) }
@@ -105,6 +108,7 @@ pub(crate) fn link_next(
     if let Some(text) = entry_fault_line(alloc, next.script(), next.options(), symbol_table)? {
         return Ok(UpdateOutcome::Faulty(text));
     }
+    symbol_table.index_places(alloc)?;
     let inputs = next.inputs(alloc)?;
     let view = next.view(&inputs);
     link_keyed(
@@ -128,10 +132,10 @@ pub(crate) fn link_first(
     alloc: Global,
     project: &Project,
     symbol_table: &SymbolTable,
-    matches: &[Matches],
+    matches: &VecDeque<Matches>,
     canvas: &mut Canvas,
 ) -> Result<UpdateOutcome, NoMemory>
-    requires kept { IsKept (listing_of project.now) symbol_table.now matches.now }
+    requires kept { IsKept (listing_of project.now) symbol_table.now matches.now.items }
     ensures updated { IfOk result (HasUpdateOutcome (listing_of project.now) None canvas.old.bytes canvas.new.bytes) }
 {
     symbol_table.names_kept();

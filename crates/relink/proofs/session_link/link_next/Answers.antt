@@ -1,7 +1,7 @@
 use Rattle.std.proofs.Common.{◌∙◌, ap, map, refl, subst, sym}
 use Rattle.ldmodel.specs.Project.{Project}
 use Rattle.symres.specs.decisions.Change.{Table}
-use Rattle.symres.specs.SymbolTable.{IsSymbolTable}
+use Rattle.symres.specs.SymbolTable.{IsSymbolTable, SymbolTableState}
 use Rattle.ldmodel_project.specs.ProjectState.{project_of}
 use Rattle.relink.proofs.Followed.{of_some}
 use Rattle.relink.proofs.Following.{tables_of_objects}
@@ -20,6 +20,7 @@ returns-in-Some-clause-updated c =
 pub link_keyed-requires-clause-symbol_table : goal.link_keyed-requires-clause-symbol_table
 link_keyed-requires-clause-symbol_table c =
     let l = c.args.next.now in
-    subst (λ (p : Project). IsSymbolTable p c.args.symbol_table.now) (sym c.view-view.ensures)
+    subst (λ (t : SymbolTableState). IsSymbolTable c.view-view.result t) (sym c.index_places.ensures)
+    (subst (λ (p : Project). IsSymbolTable p c.args.symbol_table.now) (sym c.view-view.ensures)
     (c.names_kept.ensures (project_of l) c.requires.kept.names
-    (tables_of_objects l.entries ∙ ap (map (λ (t : Table). t.1)) (sym c.requires.kept.tables)))
+    (tables_of_objects l.entries ∙ ap (map (λ (t : Table). t.1)) (sym c.requires.kept.tables))))

@@ -1,7 +1,8 @@
 use Rattle.std.proofs.Common.{◌∙◌, ℕ, List, Option, ap, arith, length, map, refl, subst, sym}
-use Rattle.std.specs.Vec.{vec_len}
+use Rattle.std.specs.VecDeque.{deque_len}
 use Rattle.gather.specs.declared.matches.Matches.{Matches}
-use Rattle.symres.specs.decisions.Change.{Table, changed_tables}
+use Rattle.symres.specs.SymbolTable.{SymbolTableState}
+use Rattle.symres.specs.decisions.Change.{Table, changed_tables, reversed}
 use Rattle.symres.specs.decisions.Decisions.{AreKept}
 use Rattle.ldmodel_project.specs.ProjectState.{Listing, next_listing}
 use Rattle.ldmodel_project.specs.Listing.{keys_of}
@@ -35,7 +36,7 @@ swap_matches-gone-requires-clause-out c =
     let ms : List Matches = c.args.self.now.matches.items in
     let there = stands c.args.project.now c.args.staged.now c.args.key.0 c.object_change-change.result
     c.args.self.now.symbol_table ms c.object_change-change.ensures c.requires.given.kept in
-    out_within ms c.place_of-out.result (vec_len v)
+    out_within ms c.place_of-out.result (deque_len v)
     (subst (λ (p : Option ℕ). Stands ms p) (sym c.place_of-out.ensures) there)
     (omega (arith, v.ok.0, v.ok.1, ap (λ (l : List Matches). length l) c.make_room.ensures.same.matches))
 
@@ -49,7 +50,7 @@ swap_matches-gone-requires-clause-into c =
     let may = may_stand c.args.project.now c.args.staged.now c.args.key.0 x
     c.args.self.now.symbol_table ms c.requires.given.arranged c.requires.edited c.object_change-change.ensures
     c.requires.given.kept in
-    into_within ms c.place_of-out.result c.place_of-into.result (vec_len v)
+    into_within ms c.place_of-out.result c.place_of-into.result (deque_len v)
     (subst (λ (p : Option ℕ). Stands ms p) (sym c.place_of-out.ensures) there)
     (subst (λ (p : Option ℕ). MayStand ms p c.place_of-into.result) (sym c.place_of-out.ensures)
     (subst (λ (q : Option ℕ). MayStand ms (place_at x.out) q) (sym c.place_of-into.ensures) may))
@@ -65,7 +66,7 @@ swap_matches-gone-requires-clause-added c =
     let may = may_stand c.args.project.now c.args.staged.now c.args.key.0 x
     c.args.self.now.symbol_table ms c.requires.given.arranged c.requires.edited c.object_change-change.ensures
     c.requires.given.kept in
-    added_within ms (place_at x.out) c.place_of-into.result (vec_len v) there
+    added_within ms (place_at x.out) c.place_of-into.result (deque_len v) there
     (subst (λ (q : Option ℕ). MayStand ms (place_at x.out) q) (sym c.place_of-into.ensures) may)
     (omega (arith, v.ok.0, v.ok.1, ap (λ (l : List Matches). length l) c.make_room.ensures.same.matches))
 
@@ -88,9 +89,9 @@ link_next-requires-clause-kept c =
     (c.script-script.ensures ∙ ap (λ (l : Listing). l.script) c.next-next.ensures.next) c.change-order.ensures.kept)
     (coming_of h s c.args.key.0 c.next-next.result x coming c.next-next.ensures.next c.object_change-change.ensures.is
     c.in_ok-coming.ensures.room.coming) in
-    subst (λ (l : Listing). IsKept l c.change-order.new.self c.deref.result.now) (sym c.next-next.ensures.next)
-    (subst (λ (l : List Matches). IsKept (next_listing h s) c.change-order.new.self l)
-    (sym (c.deref.ensures.value ∙ items)) after)
+    subst (λ (l : Listing). IsKept l c.change-order.new.self c.swap_matches-gone.new.list.items)
+    (sym c.next-next.ensures.next)
+    (subst (λ (l : List Matches). IsKept (next_listing h s) c.change-order.new.self l) (sym items) after)
 
 pub swap_matches-requires-clause-out : goal.swap_matches-requires-clause-out
 swap_matches-requires-clause-out c =
@@ -110,7 +111,7 @@ swap_matches-requires-clause-out c =
     (coming_of h s c.args.key.0 c.next-next.result x coming c.next-next.ensures.next c.object_change-change.ensures.is
     c.in_ok-coming.ensures.room.coming) in
     let previous : List Matches = exchanged ms (place_at x.out) (place_at x.into) coming in
-    out_within previous c.place_of-into.result (vec_len v)
+    out_within previous c.place_of-into.result (deque_len v)
     (subst (λ (q : Option ℕ). Stands previous q) (sym c.place_of-into.ensures)
     (stands_after ms (place_at x.out) (place_at x.into) coming may both))
     (omega (arith, v.ok.0, v.ok.1, ap (λ (l : List Matches). length l) items))
@@ -135,7 +136,7 @@ swap_matches-requires-clause-into c =
     (coming_of h s c.args.key.0 c.next-next.result x coming c.next-next.ensures.next c.object_change-change.ensures.is
     c.in_ok-coming.ensures.room.coming) in
     let previous : List Matches = exchanged ms (place_at x.out) (place_at x.into) coming in
-    into_within previous c.place_of-into.result c.place_of-out.result (vec_len v)
+    into_within previous c.place_of-into.result c.place_of-out.result (deque_len v)
     (subst (λ (q : Option ℕ). Stands previous q) (sym c.place_of-into.ensures)
     (stands_after ms (place_at x.out) (place_at x.into) coming may both))
     (subst (λ (q : Option ℕ). MayStand previous q c.place_of-out.result) (sym c.place_of-into.ensures)
@@ -163,7 +164,7 @@ swap_matches-requires-clause-added c =
     (coming_of h s c.args.key.0 c.next-next.result x coming c.next-next.ensures.next c.object_change-change.ensures.is
     c.in_ok-coming.ensures.room.coming) in
     let previous : List Matches = exchanged ms (place_at x.out) (place_at x.into) coming in
-    added_within previous (place_at x.into) c.place_of-out.result (vec_len v)
+    added_within previous (place_at x.into) c.place_of-out.result (deque_len v)
     (stands_after ms (place_at x.out) (place_at x.into) coming may both)
     (subst (λ (p : Option ℕ). MayStand previous (place_at x.into) p) (sym c.place_of-out.ensures)
     (may_after ms (place_at x.out) (place_at x.into) coming there may both))
@@ -183,8 +184,11 @@ returns-in-Ok-clause-updated c =
     let previous : List Matches = exchanged ms (place_at x.out) (place_at x.into) coming in
     let kept = subst (λ (l : List Matches). IsKept (next_listing h s) c.put_in_order_if.new.symbol_table l) (sym items)
     (kept_forgetting (next_listing h s) c.change-order.new.self c.put_in_order_if.new.symbol_table previous
-    (c.put_in_order_if.ensures.tables ∙ c.forget_if.ensures.tables)
-    (λ script kept. c.put_in_order_if.ensures.kept script (c.forget_if.ensures.kept script kept))
+    (c.put_in_order_if.ensures.tables
+    ∙ (c.forget_if.ensures.tables
+    ∙ ap (λ (t : SymbolTableState). t.kept.names.objects) c.link_next.ensures.same))
+    (λ script kept. c.put_in_order_if.ensures.kept script (c.forget_if.ensures.kept script
+    (subst (λ (t : SymbolTableState). AreKept script t.kept) (sym c.link_next.ensures.same) kept)))
     (kept_after h s c.args.key.0 x c.args.self.now.symbol_table c.change-order.new.self ms coming
     c.requires.given.arranged c.requires.given.one c.requires.edited c.object_change-change.ensures
     c.requires.given.kept
@@ -225,7 +229,8 @@ returns-in-Err-clause-back c =
           c.requires.given.kept
           (c.change-order.ensures.objects
           ∙ ap (λ (ts : List Table). changed_tables ts x) c.make_room.ensures.same.objects)
-          c.undo.ensures.objects
+          (c.undo.ensures.objects
+          ∙ ap (λ (t : SymbolTableState). changed_tables t.kept.names.objects (reversed x)) c.link_next.ensures.same)
           (subst (λ (t : List Statement). AreKept t c.undo.new.self.kept)
           (c.script-script.ensures
           ∙ (ap (λ (l : Listing). l.script) c.next-next.ensures.next
@@ -236,3 +241,8 @@ returns-in-Err-clause-back c =
           previous;
       canvas = c.in-Err.ensures.unchanged;
     }
+
+pub undo-requires-clause-kept : goal.undo-requires-clause-kept
+undo-requires-clause-kept c =
+    subst (λ (t : SymbolTableState). AreKept c.script-script.result.now t.kept) (sym c.link_next.ensures.same)
+    c.change-order.ensures.kept
