@@ -113,7 +113,7 @@ SEEN = (""".text 90 90 e8 00 00 00 00
 f is symbol 1
 matches true
 taken by 0
-Strong(Entry { key: 0, symbol: 1 })
+Strong(Entry { object: ObjectKey(0), symbol: SymbolIndex(1) })
 Undefined
 known 0
 placed 401000 7 401000
