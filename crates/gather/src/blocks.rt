@@ -41,11 +41,10 @@ fn is_common(symbol: &Symbol) -> bool
     matches!(symbol.place, SymbolPlace::Common)
 }
 
-/// Adds the common block of a name, if it has one, to those of the object that owns it.
-fn add_block(all: &mut Vec<Vec<CommonBlock>>, case: Case<ObjectPlace>) -> Result<(), NoMemory>
-    ensures len { length all.new.items ≡ length all.old.items }
-    ensures added { OnOk result ((i : ℕ) → i < length all.old.items → blocks_at all.new.items i
-        ≡ blocks_at all.old.items i ++ option_to_list (block_here i (Some case))) }
+/// The common block that a name is resolved to, if the symbol of this number of the object at a place owns it.
+fn block_of_case(place: usize, number: u32, case: Case<ObjectPlace>) -> Option<CommonBlock>
+    ensures { (name : List ℕ) → option_map (block_of place name) result
+        ≡ inputs.block_of name (record { object = place; symbol = number }) (decision_of (λ key. key) case) }
 {
     match case {
         Case::Common { owner, size, align } => {

@@ -41,7 +41,7 @@ pub(crate) struct PreviousLink {
 /// What an edit does to the previous link.
 #[derive(Clone, Copy)]
 pub(crate) struct EditEffect {
-    /// Whether the edit is known to put no object that this link has already.
+    /// False if the edit may put an object that this link already has.
     pub known: bool,
     /// The key of the object that this link no longer has, if there is one.
     pub gone: Option<usize>,
@@ -123,8 +123,8 @@ impl PreviousLink {
         Some(place)
     }
 
-    /// Whether an object that is put under a key is known not to be in the previous link: that has no object of its
-    /// name, except perhaps one under the same key with other bytes.
+    /// True if the previous link has no object of the name of this one, except perhaps the object under the same key,
+    /// with other bytes.
     fn is_new(&self, project: &Project, key: ObjectKey, named: &NamedObject) -> bool
         ensures { result ≡ true → (old : List NamedObject)
             → self.now.names.names ≡ map (λ (object : NamedObject). object.name) old

@@ -115,7 +115,7 @@ impl<'a> Context<'a> {
         }
     }
 
-    /// Whether it is after the `:` of a head, or after parentheses that follow the `:`.
+    /// Whether the next piece follows the `:` of a head, or parentheses after it.
     pub fn follows_colon(&self) -> bool {
         matches!(
             mark_of(&self.last),
@@ -143,7 +143,7 @@ impl<'a> Context<'a> {
         self.is_overlay_seen
     }
 
-    /// The line of the `OVERLAY`, which is forgotten then.
+    /// Gives the line of the `OVERLAY`, 0 if none was found, and forgets it.
     pub fn take_overlay(&mut self) -> u32 {
         self.is_overlay_seen = false;
         self.overlay.take().unwrap_or(0)

@@ -255,6 +255,7 @@ impl<'a> Walk<'a> {
     /// `SECTIONS {` {item} `}`, after the first word
     fn pass_sections(&mut self) -> Result<(), Stop> {
         self.pass(Mark::OpenBrace, "`{` is expected after SECTIONS")?;
+        // each turn passes a token at least
         for _ in 0..=self.tokens.len() {
             if self.passes(Mark::Semicolon) {
                 continue;
