@@ -8,15 +8,24 @@ after the line. TITLE is the name without its number, so that a case keeps its f
 The file `list` has a line for each case in the order of the two files: SUBJECT/TITLE, then the words of its line, with
 `+M` after the name where a byte is repeated.
 """
+import functools
 import os
 import re
 from collections import Counter
 from typing import Iterator, NamedTuple
 
+from calculator import worked
+
 CRATE = os.path.join(os.path.dirname(os.path.realpath(__file__)), "..", "crates", "trylink")
 FOLDER = os.path.join(CRATE, "cases")
 LIST = "list"
 KINDS = (b"stream", b"list", b"counts", b"devices", b"steps", b"files", b"surface")
+
+
+@functools.cache
+def row_groups() -> list[str]:
+    """The group of each row of the calculator, by its number."""
+    return [group for group, _ in worked.rows_by_group()]
 
 
 class Case(NamedTuple):
@@ -29,9 +38,11 @@ class Case(NamedTuple):
 
     @property
     def title(self) -> str:
-        """What its files are called: the subject is the word before the number in the name of a stream or a list, else
-        the kind."""
+        """What its files are called: the subject is the word before the number in the name of a stream or a list, of a
+        row with its group below it, else the kind."""
         subject = self.name.partition("-")[0] if self.kind in ("stream", "list") else self.kind
+        if subject == "row":
+            subject = os.path.join(subject, row_groups()[int(self.name.partition(":")[0].partition("-")[2])])
         title = self.name.partition(":")[2] or self.name
         return os.path.join(subject, re.sub(r"[^A-Za-z0-9._]+", "-", title).strip("-.") or "none")
 

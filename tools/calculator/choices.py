@@ -351,8 +351,6 @@ def object_rows():
                   Options(orphans="discard"))
 
 
-def all_rows():
-    """Every row for a corner."""
-    for group in (script_rows, object_rows, value_rows, moving_rows, region_rows, name_rows, gathering_rows,
-                  segment_rows):
-        yield from group()
+GROUPS = (("scripts", script_rows), ("objects", object_rows), ("values", value_rows), ("moving", moving_rows),
+          ("regions", region_rows), ("names", name_rows), ("gathering", gathering_rows), ("segments", segment_rows))
+"""The rows for corners, by what they are of, in their order."""

@@ -395,18 +395,33 @@ def stream_rows():
     yield Row("a position past the end", [(b"add a.o 18446744073709551615 0\n", refused(3))])
 
 
+GROUPS = (("first", first_rows), ("names", name_rows), ("gathering", gathering_rows), ("layout", layout_rows),
+          ("expressions", expression_rows), ("edits", edit_rows), ("scripts", script_rows), ("streams", stream_rows),
+          *((f"corners-of-{name}", rows) for name, rows in choices.GROUPS))
+"""The worked rows and those for corners, by what they are of, in their order."""
+
+
 def all_rows():
     """Every worked row, and the rows for corners."""
-    for group in (first_rows, name_rows, gathering_rows, layout_rows, expression_rows, edit_rows, script_rows,
-                  stream_rows, choices.all_rows):
+    for _, group in GROUPS:
         yield from group()
 
 
+def rows_by_group():
+    """All of these, and the rows for the bytes of images, each with the name of its group."""
+    found = []
+    for name, group in GROUPS:
+        for row in group():
+            found.append(row)
+            yield name, row
+    for row in image_rows.all_rows(found):
+        yield "images", row
+
+
 def rows_with_images():
-    """All of these, and the rows for the bytes of images."""
-    found = list(all_rows())
-    yield from found
-    yield from image_rows.all_rows(found)
+    """The same without the names."""
+    for _, row in rows_by_group():
+        yield row
 
 
 def field_cases(result):
