@@ -58,6 +58,10 @@ pub fn is_in_front(places: &[PlacedKey], at: usize, key: ObjectKey) -> bool
     requires { AreSorted places.now }
     ensures { result ≡ is_below at (place_of places.now key.0) }
 {
+    // In the order in which a project is opened, each object is put before all others
+    if at == 0 {
+        return false;
+    }
     match find(places, key) {
         Some(place) => place < at,
         None => false,
