@@ -100,6 +100,7 @@ fn draw_outputs(
     ensures counted { OnOk result ((n : ℕ) × (meter.new ≡ raised meter.old counts.Bytes n)) }
     ensures unchanged { OnErr result (canvas.new.bytes ≡ canvas.old.bytes) }
 {
+    // for the prover: bring in these laws
     drawing_stands();
     drawing_is_image();
     joined_is_whole();

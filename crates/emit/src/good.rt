@@ -20,6 +20,7 @@ pub fn is_good(project: &ProjectView<'_>, link_layout: &LinkLayout)
         ≤ max_image_length
         → relocation_faults project.now layout ≡ [] → IsGood (record { project = project.now; layout = layout }) }
 {
+    // for the prover: brings in this law
     faultless_is_good();
     // for the prover: brings in the invariant of `project`
     let _inputs = project.inputs();

@@ -41,6 +41,7 @@ pub(crate) fn keys_of(
     let inputs = project.inputs();
     let mut keys = Vec::with_capacity(alloc, inputs.len())?;
     for (place, input) in inputs.iter().enumerate() {
+        // for the prover: brings in this law
         as_read(input.object);
         keys.push(ObjectPlace(place))?;
     }

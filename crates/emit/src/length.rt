@@ -44,7 +44,7 @@ fn section_names(sections: &[OutputSectionAt<'_>]) -> Result<u64, NoMemory>
     Ok(bytes)
 }
 
-/// The contents of the tail of an image. Fails if memory runs out, as it would for 2^64 bytes.
+/// The sizes of the tail of an image. Fails if memory runs out, and for 2^64 bytes or more, which no memory holds.
 fn tail_sizes(
     alloc: Global,
     project: &ProjectView<'_>,
@@ -54,6 +54,7 @@ fn tail_sizes(
         → IsLinkLayout project.now layout l
         → AreValues project.now layout table values.now → AreTailSizes project.now layout t) }
 {
+    // for the prover: brings in this law
     outputs_are_of_script();
     let symbols = values.sizes;
     let script = project.script();

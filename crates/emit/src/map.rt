@@ -70,6 +70,7 @@ pub fn map_text(
     ensures names { IfOk result (λ made. AreNamesOfRows members.now.project.now (λ key. key)
         (map vec_items rows.now) made.names.items) }
 {
+    // for the prover: bring in these laws
     placed_are_rows();
     outputs_are_of_script();
     let script = members.project().script();

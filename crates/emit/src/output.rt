@@ -128,6 +128,7 @@ pub(crate) fn outputs<'a>(
         → AllZip (IsJoinedRow project.now layout stays) layout.sections (map vec_items pieces.now)
         → AllZip (IsOutput project.now layout stays) layout.sections v.items) }
 {
+    // for the prover: bring in these laws
     layout_by_effects();
     outputs_are_of_script();
     let script = project.script();

@@ -102,6 +102,7 @@ fn image_sections<'a>(
         → AreNamed layout.sections
         → AllZip (IsOutput project layout stays) layout.sections outputs.now → AreDrawn project layout stays v.items) }
 {
+    // for the prover: brings in this law
     segments_by_neighbours();
     let mut sections = Vec::new(alloc);
     for output in outputs {

@@ -128,9 +128,9 @@ fn section_piece<'a>(
     }
 }
 
-/// An entry of a row at an address that is drawn anew; all zeros where it is of no object. `likely` is where its
-/// section is looked for first, and then where that of the next entry is likely to be: the sections of an object mostly
-/// stand in a row one after the other, as in the object.
+/// What is drawn of an entry: the bytes of its section, or zeros if it belongs to no object. `likely` is where to look
+/// for its section, and is updated for the next entry: the sections of an object mostly stand in a row one after the
+/// other, as in the object.
 fn drawn_piece<'a>(
     project: &'a ProjectView<'_>,
     relocated: &'a Relocated,
@@ -337,6 +337,7 @@ pub(crate) fn image_pieces<'a, E: PreviousLinkInfo>(
         → AllZip (IsJoinedRow project.now layout (λ k. is_some (E.range previous.now k))) layout.sections
         (map vec_items v.items)) }
 {
+    // for the prover: bring in these laws
     live_by_path();
     once_in_rows();
     placed_are_rows();

@@ -89,6 +89,7 @@ impl Relocated {
             → E.knows previous.now old (known_link project.now layout table)
             → IsRelocatedBeside old (E.range previous.now) project.now layout table relocated meter.old meter.new) }
     {
+        // for the prover: bring in these laws
         sections_end_below();
         all_is_evaluated();
         no_fault_is_missed();

@@ -30,6 +30,7 @@ pub fn draw(canvas: &mut Canvas, drawing: &Drawing<'_>, meter: &mut Meter) -> Re
     ensures counted { OnOk result (meter.new ≡ raised meter.old counts.Bytes (drawing_end drawing.now)) }
     ensures unchanged { OnErr result (canvas.new.bytes ≡ canvas.old.bytes) }
 {
+    // for the prover: brings in this law
     drawing_is_image();
     redraw(canvas, drawing, &[], meter)
 }

@@ -69,6 +69,7 @@ pub fn redraw(
         (patch_bytes patches.now + count_unstayed (drawing_spot drawing.now) (drawing_end drawing.now))) }
     ensures unchanged { OnErr result (canvas.new.bytes ≡ canvas.old.bytes) }
 {
+    // for the prover: bring in these laws
     drawing_is_image();
     kept_is_image();
     kept_is_not_drawn();

@@ -80,6 +80,7 @@ pub fn assertion_faults(
         → AreValues project.now layout table values.now
         → faults_in project.now faults.items ≡ definition.assertion_faults project.now layout) }
 {
+    // for the prover: bring in these laws
     layout_by_effects();
     outputs_are_of_script();
     let script = project.script();

@@ -26,6 +26,7 @@ fn put_given(
     requires { HasPlaces symbol_table.now table.old.items }
     ensures { IsPut symbol_table.now name.now value table.old.items table.new.items }
 {
+    // for the prover: brings in this law
     symbol_table.keys_decided();
     match symbol_table.key_named(name) {
         Some(key) => table[key.0] = value,
@@ -45,6 +46,7 @@ pub(crate) fn given_table(
 ) -> Result<Vec<Option<u64>>, NoMemory>
     ensures { IfOk result (λ table. IsGivenTable symbol_table.now (value_in values.now) table.items) }
 {
+    // for the prover: brings in this law
     symbol_table.keys_decided();
     let commands = values.script.all_directives(alloc)?;
     let mut table = no_values(alloc, symbol_table.limit())?;

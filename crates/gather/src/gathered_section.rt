@@ -158,7 +158,7 @@ fn add_object(
     add_blocks(sections, key, matches.common, blocks)
 }
 
-/// How many input sections these objects have, or the greatest number, for which there is no room.
+/// How many input sections these objects have; on overflow the greatest number, for which no allocation succeeds.
 fn count_sections(inputs: &[InputObject<'_>], blocks: &[Vec<CommonBlock>]) -> usize {
     let mut count: usize = 0;
     for input in inputs {

@@ -51,6 +51,7 @@ fn gather_live(
     requires table { IsTableOf project.now table }
     ensures { IfOk result (λ g. IsGathering project.now g) }
 {
+    // for the prover: brings in this law
     live_by_path();
     let sections = input_sections(alloc, project, matches, blocks)?;
     let options = project.options();
@@ -80,6 +81,7 @@ fn gather_all(
     requires table { IsTableOf project.now table }
     ensures { IfOk result (λ g. IsGathering project.now g) }
 {
+    // for the prover: brings in this law
     live_by_path();
     let script = project.script();
     let statements = script.input_statements(alloc)?;

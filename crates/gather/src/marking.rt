@@ -78,6 +78,7 @@ pub fn mark<R: References>(
         → marked marks.items (input_sections project)
         ≡ live project) }
 {
+    // for the prover: brings in this law
     live_by_path();
     reach(alloc, out, roots, references)
 }

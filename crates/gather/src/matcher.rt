@@ -17,10 +17,10 @@ use ldscript::tree::InputStatementAt;
 use std::alloc::Global;
 use std::marker::Model;
 
-/// A script, prepared for finding the statements that take sections. Statements whose file pattern is the name of
-/// another file cost the logarithm of the number of such files. Of the words of all other statements one section takes
-/// time linear in the number of those with wildcards and of those that are its very name, and logarithmic in the number
-/// of the rest.
+/// A script, prepared for finding the statements that take sections. For one section the time is
+/// - logarithmic in the number of files that statements name without wildcards, for the statements of other files;
+/// - for the words of the other statements, linear in the number of words with wildcards and of those that are the very
+///   name of the section, and logarithmic in the number of the rest.
 #[derive(Drop)]
 pub struct Matcher<'a> {
     script: &'a Script,

@@ -47,6 +47,7 @@ pub(crate) fn places_of(
     requires sections { AreGathered project.now sections.now }
     ensures { IfOk result (λ v. AreProjectPlaces project.now (place_under table.now v.items)) }
 {
+    // for the prover: brings in this law
     sections_apart();
     let mut places = vec![in alloc; None; table.len() as usize]?;
     for (place, section) in sections.iter().enumerate() {

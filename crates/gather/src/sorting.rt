@@ -85,6 +85,7 @@ fn sort_by_name(
 ) -> Result<(), NoMemory>
     ensures { OnOk result (Orders project.now (Some ByName) pieces.old.items pieces.new.items) }
 {
+    // for the prover: brings in this law
     row_by_order();
     let names = names_of(alloc, project, pieces)?;
     let mut places = places_of(alloc, &names, shared_start(&names))?;
@@ -103,6 +104,7 @@ fn alignment(piece: &Piece) -> u64
 fn sort_by_alignment(pieces: &mut Vec<Piece>) -> Result<(), NoMemory>
     ensures { (project : Project) → OnOk result (Orders project (Some ByAlignment) pieces.old.items pieces.new.items) }
 {
+    // for the prover: brings in this law
     row_by_order();
     pieces.sort_by(|a, b| alignment(b).cmp(&alignment(a)))
 }
@@ -119,6 +121,7 @@ pub(crate) fn order(
 {
     match sort {
         None => {
+            // for the prover: brings in this law
             row_by_order();
             Ok(())
         }

@@ -26,6 +26,7 @@ pub struct WordAt<'a> {
 fn is_match(pattern: &Pattern, name: &[u8]) -> bool
     ensures { result ≡ is_match pattern.now name.now }
 {
+    // for the prover: brings in this law
     match_by_splitting();
     pattern.is_any() || matches(pattern, name)
 }

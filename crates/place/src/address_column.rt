@@ -69,8 +69,8 @@ fn after(starts: &[u64], count: usize) -> &[u64]
     &starts[count.min(starts.len())..]
 }
 
-/// For each number of a table where its input section stands, if one of these rows has it. The rows are one after
-/// another, and their input sections start at these addresses.
+/// The address of each numbered input section that is in one of these rows. `starts` has the addresses of all rows, one
+/// after another.
 ///
 /// # Errors
 ///

@@ -72,6 +72,7 @@ impl IndexedLayout {
         ensures indexed_layout { IfOk result (λ x. (layout : Layout) → IsLinkLayout project.now layout x.link_layout
             → IsIndexedLayout project.now layout x) }
     {
+        // for the prover: bring in these laws
         nothing_meets();
         placed_are_rows();
         once_in_rows();

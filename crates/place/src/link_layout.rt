@@ -114,7 +114,7 @@ impl LinkLayout {
     /// image isn't tested: it is known only when the symbols have their values. The entries of the rows are counted as
     /// placed.
     ///
-    /// `kept` is a previous placement of the same script, with a row before which none differs. The layout is the same
+    /// `kept` is a previous placement of the same script, and the first row that differs from it. The layout is the same
     /// with and without it; with it only the entries of the rows from that one on are counted.
     ///
     /// # Errors
@@ -141,6 +141,7 @@ impl LinkLayout {
         ensures exact { IfOk result (λ l. meter.new
             ≡ raised meter.old Pieces (placed_from (first_of kept.entry) l.placement.counts)) }
     {
+        // for the prover: brings in this law
         outputs_are_of_script();
         // for the prover: brings in the invariant of `project.script()`
         let _statements = project.script().statements();

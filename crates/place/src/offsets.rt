@@ -39,8 +39,8 @@ struct FilePlace {
     segment: usize,
 }
 
-/// The file offset of an output section, which is in segment `number` unless it is empty. That of an empty one is 0, and
-/// only empty ones come after the last segment.
+/// The file offset of an output section, and the segment to try for the next one. An empty section has offset 0; any
+/// other is in segment `number`.
 fn step(segments: &[Segment], number: usize, section: &Placed) -> FilePlace
     requires { HaveRoom segments.now }
     ensures { (qs : List Placed) → offsets_in (section.now ∷ qs) (drop number segments.now)
@@ -84,6 +84,7 @@ pub(crate) fn offsets(
         → AreSegments layout.sections (model.segments layout.sections) segments.now
         → AllZip (IsOffset layout) layout.sections v.items) }
 {
+    // for the prover: brings in this law
     segments_by_neighbours();
     let mut offsets = Vec::with_capacity(alloc, sections.len())?;
     let mut number = 0;

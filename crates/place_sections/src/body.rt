@@ -336,6 +336,7 @@ impl<'d, 'a> CurrentOutput<'d, 'a> {
             (body_of naming here.new self.now) result }
         ensures counted { Counted here.old here.new self.now }
     {
+        // for the prover: brings in this law
         steps_stay_alike();
         for statement in body {
             self.place_statement(here, statement)?;

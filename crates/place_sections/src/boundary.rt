@@ -3,7 +3,7 @@
 ghost use Rattle.std.specs.Prelude.{◌≤◌, ◌*◌, ◌^◌};
 
 /// The state of a layout right before the statement of an output section, or after the last statement of SECTIONS.
-/// Beside the numbers of the output sections before it, the statements from there on depend on nothing else.
+/// The statements from there on depend on this and on the output sections before it, and on nothing else.
 #[derive(Clone, Copy)]
 pub(crate) struct Boundary {
     /// How many statements of SECTIONS come before it.

@@ -219,6 +219,7 @@ impl<'i, 'a> Input<'i, 'a> {
             items.now bs.items) }
         ensures many { IfOk result (λ bs. length bs.items ≡ length done.new.sections.list + 1) }
     {
+        // for the prover: brings in this law
         steps_stay_alike();
         let resumed = self.resume(here, done, items)?;
         let mut boundaries = resumed.boundaries;

@@ -98,6 +98,7 @@ fn lay_out(
     ensures faulty { IfErr result (λ f.
         Stops script.now (rows_named naming (map (λ v. v.items) rows.now)) (provided_names script.now provided.now) f) }
 {
+    // for the prover: brings in this law
     steps_stay_alike();
     let in_force = Provided::new(alloc, script, provided)?;
     let kept = ReusablePlacement::new(kept, provided);

@@ -125,6 +125,7 @@ impl<'i, 'a> Input<'i, 'a> {
             statements.now bs.items) }
         ensures many { IfOk result (λ bs. length bs.items ≡ length done.new.sections.list + 1) }
     {
+        // for the prover: brings in this law
         steps_stay_alike();
         let parts = ScriptParts::of(statements);
         self.place_statements(here, done, parts.before)?;

@@ -107,6 +107,7 @@ impl<'a> LayoutCursor<'a> {
             (section_step provided.now (row_named naming row.now) (layout_of naming self.old done.old) line output.now)
             (layout_of naming self.new done.new) result }
     {
+        // for the prover: brings in this law
         steps_stay_alike();
         let head = self.head(done, row, line, output)?;
         self.body(alloc, done, provided, row, starts, head, output)?;

@@ -36,7 +36,7 @@ impl Model for NameList {
     ghost invariant = { λ n. sum_by (λ k. k) n.lengths.items ≡ length n.text.items };
 }
 
-/// Whether a name may be at place `at`: if `is_same`, it is the name that is looked for, which may be only at `place`.
+/// Whether the name at `at` is allowed: it is another name than the one that is looked for, or `at` is `place`.
 fn is_allowed(is_same: bool, place: Option<usize>, at: usize) -> bool
     ensures { result ≡ true → is_same ≡ true → place ≡ Some at }
 {

@@ -41,7 +41,7 @@ pub(crate) struct PreviousLink {
 /// What an edit does to the previous link.
 #[derive(Clone, Copy)]
 pub(crate) struct EditEffect {
-    /// False if the edit may put an object that this link already has.
+    /// Whether it is known that the edit puts no object that this link has.
     pub known: bool,
     /// The key of the object that this link no longer has, if there is one.
     pub gone: Option<usize>,
@@ -220,7 +220,7 @@ fn changed_key(staged: &Staged) -> Option<usize>
     }
 }
 
-/// The key under which an object comes or goes; none if it is replaced by the same one.
+/// The key of the object that the edit adds, removes or changes; none if it is replaced by the same one.
 fn lost_key(staged: &Staged, same: bool) -> Option<usize>
     ensures { result ≡ lost_key same staged.now.objects.step }
 {
@@ -311,8 +311,8 @@ pub(crate) fn view_previous<'a>(
     Some(previous.view(from))
 }
 
-/// Keeps the previous link after an edit that led to a link with faults, without the origin of the object that came or
-/// went. If the previous link may have the object that came, it is dropped.
+/// After an edit whose link has faults: keeps the previous link, but forgets the origin of the edited object. If the
+/// previous link may have the object that came, it is dropped.
 fn keep_after_fault(previous: &mut Option<PreviousLink>, effect: EditEffect)
     ensures { IsAfterFault effect.known effect.gone effect.same_script previous.old previous.new }
 {

@@ -103,6 +103,7 @@ pub(crate) fn link_next(
     ensures reads { OnOk result (ReadsNothing meter.old meter.new) }
     ensures worked { IfOk result (HasWorked (project_of next.now) (lent_of previous.entry) meter.old meter.new) }
 {
+    // for the prover: brings in this law
     symbol_table.names_kept();
     // while a project is opened most links end here: its objects are gone over only after this
     if let Some(text) = entry_fault_line(alloc, next.script(), next.options(), symbol_table)? {
@@ -138,6 +139,7 @@ pub(crate) fn link_first(
     requires kept { IsKept (listing_of project.now) symbol_table.now matches.now.items }
     ensures updated { IfOk result (HasUpdateOutcome (listing_of project.now) None canvas.old.bytes canvas.new.bytes) }
 {
+    // for the prover: brings in this law
     symbol_table.names_kept();
     let inputs = project.inputs(alloc)?;
     let view = project.view(&inputs);

@@ -213,6 +213,7 @@ pub(crate) fn evaluate_relocations(
         (project_of context.entry) stayed_sections.now r meter.old meter.new) }
     ensures early { IfErr result (λ stop. EndsReadingNothing meter.old meter.new stop) }
 {
+    // for the prover: bring in these laws
     stayed_sections.is_complete();
     is_good(context.project, &stayed_sections.indexed_layout.link_layout);
     // for the prover: brings in the invariant of `context.project`
@@ -271,6 +272,7 @@ pub(crate) fn draw_output(
         (project_of context.entry) stayed_sections.now fields.now meter.old meter.new) }
     ensures unchanged { OnErr result (canvas.new.bytes ≡ canvas.old.bytes) }
 {
+    // for the prover: brings in this law
     stayed_sections.is_complete();
     // for the prover: brings in that the count of bytes fits a u64
     let _bytes = meter.bytes();

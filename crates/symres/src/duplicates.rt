@@ -118,6 +118,7 @@ impl SymbolTable {
         requires { count_by is_doubled self.now.kept.cases ≡ 0 }
         ensures { (project : Project) → IsSymbolTable project self.now → duplicates project ≡ [] }
     {
+        // for the prover: brings in this law
         self.decided_by_keys();
         // for the prover: brings in the invariant of `self.decisions`
         let _count = self.decisions.known();
@@ -128,6 +129,7 @@ impl SymbolTable {
         ensures { result ≡ false → (project : Project) → IsSymbolTable project self.now → duplicates project ≡ [] }
     {
         if self.decisions.doubled() == 0 {
+            // for the prover: brings in this law
             self.none_doubled();
             return false;
         }
@@ -196,6 +198,7 @@ impl SymbolTable {
         match self.doubled_key(place, object, number) {
             None => Ok(()),
             Some(key) => {
+                // for the prover: brings in this law
                 self.names_differ();
                 let entry = Entry {
                     object: place,

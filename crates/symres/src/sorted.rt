@@ -52,7 +52,7 @@ fn written(alloc: Global, text: &NameText) -> Result<Vec<NamedKey<'_>>, NoMemory
     Ok(list)
 }
 
-/// All known names, each with its key, in no promised order, if no text of them is kept.
+/// All known names with their keys, in no promised order. It is for when no text of names is kept.
 fn scattered(alloc: Global, decisions: &Decisions) -> Result<Vec<NamedKey<'_>>, NoMemory>
     ensures list { IfOk result (λ list. map named_number list.items ≡ decisions.now.names.order) }
 {
@@ -139,6 +139,7 @@ impl SymbolTable {
     pub fn sorted(&self, alloc: Global) -> Result<Vec<NamedKey<'_>>, NoMemory>
         ensures { IfOk result (λ list. AreSorted self.now list.items) }
     {
+        // for the prover: brings in this law
         names_of_objects();
         // for the prover: brings in the invariant of `self.decisions`
         let _count = self.decisions.known();

@@ -100,6 +100,7 @@ impl SymbolTable {
             → decision project name ≡ renumbered_decision (place_or_0 (keys_of self.now.kept.names.objects))
             (decision_in project.script self.now.kept.names name) }
     {
+        // for the prover: bring in these laws
         decision_by_keys();
         tables_by_place();
         // for the prover: brings in the invariant of `self.order`
@@ -170,6 +171,7 @@ impl SymbolTable {
             → decision_of (λ key. key) result
             ≡ decision project name.now }
     {
+        // for the prover: brings in this law
         self.decided_by_keys();
         place_case(&self.order, self.decisions.case_named(script, name))
     }

@@ -138,6 +138,7 @@ impl Decisions {
             → declares (symbols_or change.now.out) name ≡ false → declares (symbols_or change.now.into) name ≡ false
             → case_at self.new.cases k ≡ case_at self.old.cases k }
     {
+        // for the prover: brings in this law
         entered_again();
         // for the prover: brings in the invariant of `self.names`
         let _known = self.names.known();
