@@ -8,36 +8,36 @@ use Rattle.emit_text.specs.declared.definer.Definer.TheVariants as definer
 
 -- what defines a name that is resolved so
 abbrev pub definer_of : Decision → Definer
-definer_of (Strong entry) = definer.Object entry.object
+definer_of (Strong entry) = definer.Object (record { 0 = entry.object })
 definer_of Script = definer.Script
-definer_of (Common owner size alignment) = definer.Object owner.object
-definer_of (Weak entry) = definer.WeakOf entry.object
+definer_of (Common owner size alignment) = definer.Object (record { 0 = owner.object })
+definer_of (Weak entry) = definer.WeakOf (record { 0 = entry.object })
 definer_of Provided = definer.Script
 definer_of Undefined = definer.Nothing
 definer_of Duplicate = definer.Nothing
 
--- the same, where the object of a key has a number
+-- the same, if the object at a place has a number
 abbrev pub numbered : (number : ℕ → ℕ) → Definer → Definer
 numbered number definer.Nothing = definer.Nothing
 numbered number definer.Script = definer.Script
-numbered number (definer.Object key) = definer.Object (number key)
-numbered number (definer.WeakOf key) = definer.WeakOf (number key)
+numbered number (definer.Object place) = definer.Object (record { 0 = number place.0 })
+numbered number (definer.WeakOf place) = definer.WeakOf (record { 0 = number place.0 })
 
 abbrev pub defines : Definer → Bool
 defines definer.Nothing = false
 defines definer.Script = true
-defines (definer.Object key) = true
-defines (definer.WeakOf key) = true
+defines (definer.Object place) = true
+defines (definer.WeakOf place) = true
 
 abbrev pub is_weak : Definer → Bool
 is_weak definer.Nothing = false
 is_weak definer.Script = false
-is_weak (definer.Object key) = false
-is_weak (definer.WeakOf key) = true
+is_weak (definer.Object place) = false
+is_weak (definer.WeakOf place) = true
 
 -- the name of the object, or `script`
 abbrev pub owner_in : Project → Definer → List ℕ
 owner_in project definer.Nothing = codes "script"
 owner_in project definer.Script = codes "script"
-owner_in project (definer.Object place) = object_name project place
-owner_in project (definer.WeakOf place) = object_name project place
+owner_in project (definer.Object place) = object_name project place.0
+owner_in project (definer.WeakOf place) = object_name project place.0

@@ -8,7 +8,6 @@ use crate::definer::Definer;
 use crate::line_buffer::LineBuffer;
 use crate::map_line::put_symbol_line;
 use crate::members::Members;
-use ldmodel::names::ObjectPlace;
 use std::alloc::AllocError;
 
 /// A name, what defines it, and its value.
@@ -45,7 +44,7 @@ fn owner_name<M: Members>(members: &M, definer: Definer) -> &[u8]
     ensures { result.now ≡ owner_in (M.project members.now) (numbered (M.number members.now) definer) }
 {
     match definer {
-        Definer::Object(key) | Definer::WeakOf(key) => members.name(ObjectPlace(key as usize)),
+        Definer::Object(place) | Definer::WeakOf(place) => members.name(place),
         Definer::Script | Definer::Nothing => b"script",
     }
 }

@@ -6,24 +6,10 @@ use Rattle.gather.specs.declared.blocks.CommonBlock.{CommonBlock}
 use Rattle.ldmodel.specs.InputSections as model
 use Rattle.ldmodel.specs.Project.{NamedObject, Project}
 use Rattle.ldmodel.specs.Sections.{InputSection}
-use Rattle.ldmodel.specs.declared.names.Case.{Case}
-use Rattle.ldmodel.specs.declared.names.Case.TheVariants as case
-use Rattle.ldmodel.specs.declared.names.ObjectPlace.{ObjectPlace}
 
 -- the block as the definition has it, owned by object number i of this name
 abbrev pub block_of : ℕ → List ℕ → CommonBlock → InputSection
 block_of i name b = model.common_block name (record { object = i; symbol = b.symbol.0 }) b.size b.alignment
-
--- the common block that a name stands for, if object number i owns it
-abbrev pub block_here : ℕ → Option (Case ObjectPlace) → Option CommonBlock
-block_here i (Some (case.Common owner size align)) =
-    if owner.object.0 == i then Some (record { symbol = owner.symbol; size = size; alignment = align })
-    else None
-block_here i _ = None
-
--- the blocks of object number i
-abbrev pub blocks_at : List (Vec CommonBlock Global) → ℕ → List CommonBlock
-blocks_at all i = slice_index_or (map (λ (v : Vec CommonBlock Global). v.items) all) i []
 
 -- where a block of object number i comes among all parts of objects
 abbrev pub block_rank : ℕ → CommonBlock → ℕ × Bool × ℕ

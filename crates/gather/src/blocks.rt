@@ -18,7 +18,7 @@ use elfobj::relocation::SymbolIndex;
 use elfobj::symbol::{Symbol, SymbolPlace};
 use gather_sections::rank::Rank;
 use ldmodel::memory::NoMemory;
-use ldmodel::names::{Case, NameKey, ObjectPlace};
+use ldmodel::names::{Case, ObjectPlace};
 use ldmodel_project::view::ProjectView;
 use std::alloc::Global;
 use symres::SymbolTable;
@@ -48,10 +48,10 @@ fn block_of_case(place: usize, number: u32, case: Case<ObjectPlace>) -> Option<C
 {
     match case {
         Case::Common { owner, size, align } => {
-            if owner.object.0 >= all.len() {
-                return Ok(());
+            if owner.object.0 != place || owner.symbol.0 != number {
+                return None;
             }
-            all[owner.object.0].push(CommonBlock {
+            Some(CommonBlock {
                 symbol: owner.symbol,
                 size,
                 alignment: align,
@@ -61,14 +61,21 @@ fn block_of_case(place: usize, number: u32, case: Case<ObjectPlace>) -> Option<C
     }
 }
 
-/// Adds the common block of a case, if there is a case and it is common.
-fn add_if_named(
-    all: &mut Vec<Vec<CommonBlock>>,
-    case: Option<Case<ObjectPlace>>,
-) -> Result<(), NoMemory>
-    ensures len { length all.new.items ≡ length all.old.items }
-    ensures added { OnOk result ((i : ℕ) → i < length all.old.items → blocks_at all.new.items i
-        ≡ blocks_at all.old.items i ++ option_to_list (block_here i case)) }
+/// The common block that a symbol of the object at a place owns, if it owns one. Only a common symbol does, so the
+/// names of others are not looked up.
+fn block_of_symbol(
+    project: &ProjectView<'_>,
+    symbol_table: &SymbolTable,
+    place: usize,
+    object: &Object,
+    number: usize,
+) -> Option<CommonBlock>
+    requires symbol_table { IsSymbolTable project.now symbol_table.now }
+    requires object { IsObjectAt project.now place object.now }
+    requires number { number < length object.now.symbols }
+    ensures { (name : List ℕ) (d : NamedSymbol) → option_map (block_of place name) result
+        ≡ inputs.block_at project.now place (record { name = name; object = object.now })
+        (number, slice_index_or object.now.symbols number d) }
 {
     if !is_common(&object.symbols()[number]) {
         return None;
