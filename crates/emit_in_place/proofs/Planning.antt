@@ -305,7 +305,8 @@ within_more limit rs r h k =
     one own (suc j) d low = absurd (omega (arith, low))
 
 pub planned_more : (l : KnownLink) (o : NamedObject) (ts : List LocatedSection) (i : ℕ) (d : LocatedSection)
-    (rs : List PlannedSection) (r : PlannedSection) → i < length ts → AllZip (IsPlannedAt l o) (take i ts) (written_all rs)
+    (rs : List PlannedSection) (r : PlannedSection) → i < length ts
+    → AllZip (IsPlannedAt l o) (take i ts) (written_all rs)
     → IsPlannedAt l o (get_or ts i d) (written r)
     → AllZip (IsPlannedAt l o) (take (i + 1) ts) (written_all (rs ++ r ∷ []))
 planned_more l o ts i d rs r low h k =

@@ -99,7 +99,8 @@ more_raised m ws w =
 
 -- ---- what is planned lies within the file
 
-pub each_within : (limit : ℕ) (rs : List PlannedSection) (i : ℕ) (r : PlannedSection) → i < length rs → r ≡ get_or rs i r
+pub each_within : (limit : ℕ) (rs : List PlannedSection) (i : ℕ) (r : PlannedSection) → i < length rs
+    → r ≡ get_or rs i r
     → All (IsWithin limit) (written_all rs) → IsWithin limit (written r)
 each_within limit rs i r low is h =
     let many = length-map rs written in

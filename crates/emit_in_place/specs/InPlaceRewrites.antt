@@ -23,7 +23,8 @@ pub record IsBare (section : LinkedSection) : Type 0 where
   pub relocations : section.kind ≡ Nobits → section.relocations ≡ []
 
 -- the link comes of one of another project, at the same layout, by what the sections of the object of a place hold
-pub record IsInPlaceRewrite (old : Project) (link : KnownLink) (place : ObjectPlace) (object : NamedObject) : Type 0 where
+pub record IsInPlaceRewrite (old : Project) (link : KnownLink) (place : ObjectPlace) (object : NamedObject)
+    : Type 0 where
   pub rewritten : DiffersInContents old link.project (link.number place.0)
   pub frame : HasSameFrame old link.project link.layout
   pub object_is : named_object link place ≡ Some object

@@ -40,8 +40,8 @@ pub enum Rewrite {
 ///
 /// # Errors
 ///
-/// If memory runs out. A location that no link has, such as one past the end of the image, counts as that. The canvas is
-/// then as it was.
+/// If memory runs out. A location that no link has, such as one past the end of the image, counts as that. The canvas
+/// is then as it was.
 pub fn rewrite_in_place(
     alloc: Global,
     canvas: &mut Canvas,

@@ -93,8 +93,8 @@ impl<'a, L: LinkInfo, E: PreviousLinkInfo> Links<'a, L, E> {
         ensures { OnOk result ((old : GoodLink) (link : KnownLink) (s : ObjectSection)
             → AreLinks L.knows E.knows self.now old link → IsAtHand link section.now s
             → IsKeptAt old link (E.range self.now.previous.now) (section_key section.now.place s) range
-            → Adds link (IsRetained old link (section_key section.now.place s) range s) (results_of fields.old meter.old)
-            (results_of fields.new meter.new)) }
+            → Adds link (IsRetained old link (section_key section.now.place s) range s)
+            (results_of fields.old meter.old) (results_of fields.new meter.new)) }
     {
         // for the prover: brings in that the count of fields fits a u64
         let _fields = meter.fields();
@@ -280,8 +280,8 @@ fn count_sections<L: LinkInfo>(link: &L, objects: &[ObjectPlace]) -> usize {
     count
 }
 
-/// Evaluates relocations of input sections in the output: of a section that did not stay, all; of one that stayed, those
-/// whose symbol has another value than in the previous link. Each of these counts as one. The other fields are as they
+/// Evaluates relocations of input sections in the output: of a section that did not stay, all; of one that stayed,
+/// those whose symbol has another value than in the previous link. Each of these counts as one. The other fields are as they
 /// were. `objects` are the places of the objects, in their order, and `symbols` has the values of their symbols.
 ///
 /// # Errors

@@ -31,7 +31,8 @@ use Rattle.ldscript_statements.specs.declared.section.BodyCommand.{BodyCommand}
 use Rattle.ldscript_statements.specs.declared.section.BodyCommand.TheVariants as body
 use Rattle.ldscript_statements.specs.declared.section.BodyStatement.{BodyStatement}
 use Rattle.ldscript.proofs.Singles.{Single, tokens_same, words_same, pair_single, behind_tree, keys_differ}
-use Rattle.ldscript.proofs.Singles.{name_no_key, directive_single, dot_command_single, in_parentheses_single, marks_differ}
+use Rattle.ldscript.proofs.Singles.{name_no_key, directive_single, dot_command_single, in_parentheses_single}
+use Rattle.ldscript.proofs.Singles.{marks_differ}
 use Rattle.ldscript.proofs.Inputs.{pattern_no_key, word_no_mark, input_single, input_no_mark, kept_cases}
 use Rattle.ldscript.proofs.Inputs.{listed_to_brace}
 use Rattle.ldscript.proofs.Lists.{Listed, closing_single}

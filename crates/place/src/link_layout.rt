@@ -114,8 +114,8 @@ impl LinkLayout {
     /// image isn't tested: it is known only when the symbols have their values. The entries of the rows are counted as
     /// placed.
     ///
-    /// `kept` is a previous placement of the same script, and the first row that differs from it. The layout is the same
-    /// with and without it; with it only the entries of the rows from that one on are counted.
+    /// `kept` is a previous placement of the same script, and the first row that differs from it. The layout is the
+    /// same with and without it; with it only the entries of the rows from that one on are counted.
     ///
     /// # Errors
     ///

@@ -125,8 +125,8 @@ impl<'a> StayedSections<'a> {
         }
     }
 
-    /// A law: `find_range` finds only input sections that stayed and, if there is a previous link, all of them. The call does
-    /// nothing.
+    /// A law: `find_range` finds only input sections that stayed and, if there is a previous link, all of them. The
+    /// call does nothing.
     pub fn is_complete(&self)
         ensures complete { (old : GoodLink) (link : KnownLink) → AreStayedSections self.now old link
             → IsSome self.now.previous

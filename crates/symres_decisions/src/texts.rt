@@ -151,7 +151,8 @@ fn decide_name(
     requires room { HasPlaces names.now.names cases.old }
     ensures long { length cases.new ≡ length cases.old }
     ensures decided { (start : List (Option (Case ObjectKey))) (m : Counts) (seen : List (List ℕ))
-        (before : List NamedSymbol) (d : NamedSymbol) → AreOpen names.now.names start (declared_in object.now.symbols) seen
+        (before : List NamedSymbol) (d : NamedSymbol)
+        → AreOpen names.now.names start (declared_in object.now.symbols) seen
         → DecidedFor script.now names.now start cases.old m meter.old seen before
         → DecidedFor script.now names.now start cases.new m meter.new seen
         (before ++ slice_index_or object.now.symbols number d ∷ []) }

@@ -24,7 +24,8 @@ returns-then-has_misplaced_entry-clause-refused c =
     (wrong_table c.args.bytes.now c.args.table.now true
     (several_told c.args.bytes.now c.args.headers.now _ false c.requires.headers refl c.requires.one)
     c.requires.found
-    (wrong_by_entries c.args.bytes.now c.args.table.now c.deref.result.now (c.deref.ensures.value ∙ c.in_ok-entries.ensures)
+    (wrong_by_entries c.args.bytes.now c.args.table.now c.deref.result.now
+    (c.deref.ensures.value ∙ c.in_ok-entries.ensures)
     (sym c.has_misplaced_entry.ensures ∙ c.if-has_misplaced_entry.true))))
 
 pub bounds-headers-table : goal.bounds-headers-table

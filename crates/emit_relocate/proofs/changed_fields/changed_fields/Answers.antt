@@ -9,7 +9,8 @@ loop-place-preserved g c =
     λ old l k e all low order.
     let h = in_order l c.args.objects.now c.loop-place.place-index _ order
     (slice_get-get_or c.args.objects.now c.loop-place.place-index (record { 0 = 0 }) c.loop-place-test.true) in
-    object_at old l (g.E.PreviousLinkInfo.range c.args.previous.now) _ _ _ l.project.objects c.loop-place.place-index h.0 h.2
+    object_at old l (g.E.PreviousLinkInfo.range c.args.previous.now) _ _ _ l.project.objects c.loop-place.place-index
+    h.0 h.2
     (c.loop-place.invariant old l k e all low order)
     (c.in_ok-add_object_at.ensures old l h.0 (record { link = k; previous = e; symbols = all; below = low }) h.1)
 
