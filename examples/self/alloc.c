@@ -30,7 +30,8 @@ struct block {
 };
 
 static struct block *lists[LISTS];
-static uint64_t filled[LISTS / 64]; /* which lists have a block */
+static uint64_t filled[LISTS / 64]; /* which lists have a block, */
+static uint64_t words_filled;       /* and which words of that are not 0 */
 static struct block *top;           /* the last block, which is free and in no list */
 static char *end;
 
@@ -66,6 +67,7 @@ static void put(struct block *block, size_t size)
         block->next->previous = block;
     lists[list] = block;
     filled[list / 64] |= (uint64_t)1 << list % 64;
+    words_filled |= (uint64_t)1 << list / 64;
 }
 
 static void take_out(struct block *block)
@@ -75,25 +77,31 @@ static void take_out(struct block *block)
         block->next->previous = block->previous;
     if (block->previous)
         block->previous->next = block->next;
-    else if (!(lists[list] = block->next))
+    else if (!(lists[list] = block->next)) {
         filled[list / 64] &= ~((uint64_t)1 << list % 64);
+        if (!filled[list / 64])
+            words_filled &= ~((uint64_t)1 << list / 64);
+    }
 }
 
-/* The first block of its own list, if that is large enough, or of the next list that has one; or nothing. */
+/* The first block of its own list, if that is large enough, or of the next list that has one; or nothing. No size has
+ * one of the last 64 lists. */
 static struct block *find(size_t size)
 {
     size_t list = list_of(size);
     if (lists[list] && size_of(lists[list]) >= size)
         return lists[list];
     list++;
-    for (size_t number = list / 64; number < LISTS / 64; number++) {
-        uint64_t word = filled[number];
-        if (number == list / 64)
-            word &= -((uint64_t)1 << list % 64);
-        if (word)
-            return lists[number * 64 + (size_t)__builtin_ctzl(word)];
+    size_t number = list / 64;
+    uint64_t word = filled[number] & -((uint64_t)1 << list % 64);
+    if (!word) {
+        uint64_t words = words_filled & -((uint64_t)2 << number);
+        if (!words)
+            return NULL;
+        number = (size_t)__builtin_ctzl(words);
+        word = filled[number];
     }
-    return NULL;
+    return lists[number * 64 + (size_t)__builtin_ctzl(word)];
 }
 
 /* Makes this the last block, up to the end of the heap. */

@@ -167,6 +167,8 @@ static void walk(void)
         for (const struct block *each = lists[list]; each; each = each->next)
             listed++;
     }
+    for (size_t word = 0; word < LISTS / 64; word++)
+        CHECK((words_filled >> word & 1) == (filled[word] != 0));
     for (size_t number = 0; number < used_count; number++) {
         const unsigned char *bytes = used[number].bytes;
         mapped += bytes < (unsigned char *)room_start || bytes >= (unsigned char *)room_start + ROOM;
