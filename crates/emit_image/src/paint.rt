@@ -1,5 +1,5 @@
-//! The image, written span by span, each from the end of the one before: a run, an input section, a data command. A
-//! span that stays is skipped.
+//! The image, written from its beginning to its end: runs, bytes, input sections and data commands. An input section
+//! that stays is skipped.
 
 ghost use Rattle.std.specs.Prelude.{◌≡◌, ◌≤◌, ◌<◌, ◌+◌, ◌-◌, ◌%◌, ℕ, length, slice_index, false};
 ghost use Rattle.elfobj.specs.Raised.{raised};
@@ -7,42 +7,16 @@ ghost use Rattle.elfobj.specs.declared.meter.Count.TheVariants.{Bytes};
 ghost use Rattle.ldscript.specs.statements.Widths.{byte_count};
 ghost use Rattle.emit_image.specs.Drawing.{IsFilled, data_byte, piece_byte};
 ghost use Rattle.emit_image.specs.Painted.{IsPainted, IsReady};
-ghost use Rattle.emit_image.specs.Stretches.{Fills, content_byte};
 
 use crate::patched::{BUFFER_SIZE, write_piece};
 use crate::section::ImagePiece;
 use elfobj::Meter;
 use emit_fields::canvas::Canvas;
-use emit_fields::patch::Patch;
 use emit_fields::run::write_run;
 use ldmodel::placed::PlacedData;
 
 /// What lies between output sections, and in place of an input section without bytes.
 pub(crate) const ZERO: [u8; 1] = [0];
-
-/// What the bytes of a span are.
-#[derive(Clone, Copy)]
-pub enum Content<'a> {
-    /// A pattern of 1 to 8 bytes, over and over.
-    Fill(&'a [u8]),
-    /// The lowest bytes of a number, the lowest first.
-    Number(u64),
-    /// These bytes, with fields over them in the order of their offsets.
-    Bytes(&'a [u8], &'a [Patch]),
-}
-
-/// A span of the image.
-#[derive(Clone, Copy)]
-pub struct Span<'a> {
-    /// The offset of its first byte.
-    pub from: usize,
-    /// The offset past its last byte.
-    pub end: usize,
-    /// Whether its bytes stay as they are on the canvas.
-    pub stays: bool,
-    /// Its bytes.
-    pub content: Content<'a>,
-}
 
 /// The greatest length of a gap that is written at once, from a run of its byte.
 const SHORT: usize = 32;
@@ -92,36 +66,6 @@ fn write_fill(canvas: &mut Canvas, at: usize, n: usize, pattern: &[u8], meter: &
     }
 }
 
-/// Writes the bytes of a content from `from` up to `end`. An input section may be put together on `desk` before.
-#[inline(always)]
-fn write_content(
-    canvas: &mut Canvas,
-    desk: &mut [u8; BUFFER_SIZE],
-    from: usize,
-    end: usize,
-    content: &Content<'_>,
-    meter: &mut Meter,
-)
-    requires order { from ≤ end }
-    requires within { end ≤ length canvas.old.bytes }
-    requires fills { Fills (end - from) content.now }
-    ensures own { (i : ℕ) → i < end - from → slice_index canvas.new.bytes (from + i) ≡ content_byte content.now i }
-    ensures before { (o : ℕ) → o < from → slice_index canvas.new.bytes o ≡ slice_index canvas.old.bytes o }
-    ensures after { (o : ℕ) → end ≤ o → slice_index canvas.new.bytes o ≡ slice_index canvas.old.bytes o }
-    ensures len { length canvas.new.bytes ≡ length canvas.old.bytes }
-    ensures room { canvas.new.room ≡ canvas.old.room }
-    ensures counted { meter.new ≡ raised meter.old Bytes (end - from) }
-{
-    match content {
-        Content::Fill(pattern) => write_fill(canvas, from, end - from, pattern, meter),
-        Content::Number(value) => {
-            let bytes = value.to_le_bytes();
-            canvas.write(from, &bytes[..end - from], meter);
-        }
-        Content::Bytes(bytes, fields) => write_piece(canvas, desk, from, bytes, fields, meter),
-    }
-}
-
 /// How far the canvas grows at a time. Its new bytes are zeros at first; a block of them is still in the processor's
 /// cache when the bytes of the image are written over it.
 const BLOCK: usize = 65_536;
@@ -143,34 +87,10 @@ pub(crate) fn grow_to(canvas: &mut Canvas, least: usize, most: usize)
     }
 }
 
-/// Writes a span, unless it stays. The canvas grows with it, up to `limit`.
+/// Writes a run of a pattern up to `end`; nothing if it is empty. The canvas grows with it, up to `limit`.
 #[inline(always)]
-pub(crate) fn paint(
-    canvas: &mut Canvas,
-    desk: &mut [u8; BUFFER_SIZE],
-    limit: usize,
-    span: &Span<'_>,
-    meter: &mut Meter,
-)
-    requires ready { IsReady limit canvas.old }
-    requires order { span.now.from ≤ span.now.end }
-    requires within { span.now.end ≤ limit }
-    requires fills { Fills (span.now.end - span.now.from) span.now.content }
-    ensures ready { IsReady limit canvas.new }
-    ensures painted { IsPainted canvas.old.bytes canvas.new.bytes meter.old meter.new span.now.from span.now.end (λ o.
-        record { byte = content_byte span.now.content (o - span.now.from); stays = span.now.stays }) }
-{
-    grow_to(canvas, span.end, limit);
-    if span.stays {
-        return;
-    }
-    write_content(canvas, desk, span.from, span.end, &span.content, meter);
-}
-
-/// Writes a run of a pattern up to `end`; nothing if it is empty.
 pub(crate) fn paint_fill(
     canvas: &mut Canvas,
-    desk: &mut [u8; BUFFER_SIZE],
     limit: usize,
     from: usize,
     end: usize,
@@ -189,16 +109,57 @@ pub(crate) fn paint_fill(
     if from == end {
         return;
     }
-    let span = Span {
-        from,
-        end,
-        stays: false,
-        content: Content::Fill(pattern),
-    };
-    paint(canvas, desk, limit, &span, meter);
+    grow_to(canvas, end, limit);
+    write_fill(canvas, from, end - from, pattern, meter);
 }
 
-/// Writes an input section that is not empty.
+/// Writes bytes from `from` on. The canvas grows with them, up to `limit`.
+pub(crate) fn paint_bytes(
+    canvas: &mut Canvas,
+    limit: usize,
+    from: usize,
+    bytes: &[u8],
+    meter: &mut Meter,
+)
+    requires ready { IsReady limit canvas.old }
+    requires within { from + length bytes.now ≤ limit }
+    ensures ready { IsReady limit canvas.new }
+    ensures painted { IsPainted canvas.old.bytes canvas.new.bytes meter.old meter.new from (from + length bytes.now)
+        (λ o. record { byte = slice_index bytes.now (o - from); stays = false }) }
+{
+    grow_to(canvas, from + bytes.len(), limit);
+    canvas.write(from, bytes, meter);
+}
+
+/// Writes an input section that does not stay, within the length of the canvas.
+#[inline(always)]
+fn write_drawn(
+    canvas: &mut Canvas,
+    desk: &mut [u8; BUFFER_SIZE],
+    from: usize,
+    x: &ImagePiece<'_>,
+    meter: &mut Meter,
+)
+    requires within { from + x.now.size ≤ length canvas.old.bytes }
+    requires filled { IsFilled x.now }
+    ensures own { (i : ℕ) → i < x.now.size
+        → slice_index canvas.new.bytes (from + i) ≡ piece_byte (x.now.start + i) x.now }
+    ensures before { (o : ℕ) → o < from → slice_index canvas.new.bytes o ≡ slice_index canvas.old.bytes o }
+    ensures after { (o : ℕ) → from + x.now.size ≤ o
+        → slice_index canvas.new.bytes o ≡ slice_index canvas.old.bytes o }
+    ensures len { length canvas.new.bytes ≡ length canvas.old.bytes }
+    ensures room { canvas.new.room ≡ canvas.old.room }
+    ensures counted { meter.new ≡ raised meter.old Bytes x.now.size }
+{
+    if x.bytes.is_empty() {
+        write_fill(canvas, from, x.size as usize, &ZERO, meter);
+    } else {
+        write_piece(canvas, desk, from, x.bytes, x.fields, meter);
+    }
+}
+
+/// Writes an input section that is not empty, unless it stays. The canvas grows with it, up to `limit`.
+#[inline(always)]
 pub(crate) fn paint_piece(
     canvas: &mut Canvas,
     desk: &mut [u8; BUFFER_SIZE],
@@ -216,29 +177,16 @@ pub(crate) fn paint_piece(
     ensures painted { IsPainted canvas.old.bytes canvas.new.bytes meter.old meter.new from end (λ o.
         record { byte = piece_byte (x.now.start + (o - from)) x.now; stays = x.now.stays }) }
 {
-    if x.bytes.is_empty() {
-        let zeros = Span {
-            from,
-            end,
-            stays: x.stays,
-            content: Content::Fill(&ZERO),
-        };
-        paint(canvas, desk, limit, &zeros, meter);
+    grow_to(canvas, end, limit);
+    if x.stays {
         return;
     }
-    let span = Span {
-        from,
-        end,
-        stays: x.stays,
-        content: Content::Bytes(x.bytes, x.fields),
-    };
-    paint(canvas, desk, limit, &span, meter);
+    write_drawn(canvas, desk, from, x, meter);
 }
 
 /// Writes a data command.
 pub(crate) fn paint_data(
     canvas: &mut Canvas,
-    desk: &mut [u8; BUFFER_SIZE],
     limit: usize,
     from: usize,
     end: usize,
@@ -252,11 +200,7 @@ pub(crate) fn paint_data(
     ensures painted { IsPainted canvas.old.bytes canvas.new.bytes meter.old meter.new from end (λ o.
         record { byte = data_byte (d.now.start + (o - from)) d.now; stays = false }) }
 {
-    let span = Span {
-        from,
-        end,
-        stays: false,
-        content: Content::Number(d.value),
-    };
-    paint(canvas, desk, limit, &span, meter);
+    let bytes = d.value.to_le_bytes();
+    grow_to(canvas, end, limit);
+    canvas.write(from, &bytes[..end - from], meter);
 }

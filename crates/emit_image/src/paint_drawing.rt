@@ -5,7 +5,7 @@ ghost use Rattle.emit_image.specs.Drawing.{IsDrawing, IsOrderly, drawing_end, dr
 ghost use Rattle.emit_image.specs.Painted.{IsPainted, IsReady};
 ghost use Rattle.emit_image.specs.Reached.{after_zeros, part_image, section_image};
 
-use crate::paint::{Content, Span, ZERO, paint, paint_fill};
+use crate::paint::{ZERO, paint_bytes, paint_fill};
 use crate::paint_section::paint_section;
 use crate::patched::BUFFER_SIZE;
 use crate::section::{Drawing, ImagePart, ImageSection};
@@ -54,7 +54,7 @@ fn paint_next_section(
     ensures painted { IsPainted canvas.old.bytes canvas.new.bytes meter.old meter.new from (x.now.offset + x.now.size)
         (after_zeros x.now.offset (section_image x.now)) }
 {
-    paint_fill(canvas, desk, limit, from, x.offset as usize, &ZERO, meter);
+    paint_fill(canvas, limit, from, x.offset as usize, &ZERO, meter);
     paint_section(canvas, desk, limit, x, meter);
     (x.offset + x.size) as usize
 }
@@ -85,7 +85,6 @@ fn paint_sections(
 /// Writes the zeros before a part of the tail, and the part. Returns where it ends.
 fn paint_part(
     canvas: &mut Canvas,
-    desk: &mut [u8; BUFFER_SIZE],
     limit: usize,
     from: usize,
     part: &ImagePart<'_>,
@@ -101,22 +100,14 @@ fn paint_part(
         (after_zeros part.now.offset (part_image part.now)) }
 {
     let begin = part.offset as usize;
-    let end = begin + part.bytes.len();
-    paint_fill(canvas, desk, limit, from, begin, &ZERO, meter);
-    let span = Span {
-        from: begin,
-        end,
-        stays: false,
-        content: Content::Bytes(part.bytes, &[]),
-    };
-    paint(canvas, desk, limit, &span, meter);
-    end
+    paint_fill(canvas, limit, from, begin, &ZERO, meter);
+    paint_bytes(canvas, limit, begin, part.bytes, meter);
+    begin + part.bytes.len()
 }
 
 /// Writes the tail from where the output sections end. Returns where it ends.
 fn paint_tail(
     canvas: &mut Canvas,
-    desk: &mut [u8; BUFFER_SIZE],
     limit: usize,
     from: usize,
     d: &Drawing<'_>,
@@ -133,7 +124,7 @@ fn paint_tail(
 {
     let mut at = from;
     for part in d.tail {
-        at = paint_part(canvas, desk, limit, at, part, meter);
+        at = paint_part(canvas, limit, at, part, meter);
     }
     at
 }
@@ -148,13 +139,7 @@ pub(crate) fn paint_drawing(canvas: &mut Canvas, limit: usize, d: &Drawing<'_>, 
         (drawing_spot d.now) }
 {
     let mut desk = [0; BUFFER_SIZE];
-    let headers = Span {
-        from: 0,
-        end: d.headers.len(),
-        stays: false,
-        content: Content::Bytes(d.headers, &[]),
-    };
-    paint(canvas, &mut desk, limit, &headers, meter);
+    paint_bytes(canvas, limit, 0, d.headers, meter);
     let at = paint_sections(canvas, &mut desk, limit, d, meter);
-    let _end = paint_tail(canvas, &mut desk, limit, at, d, meter);
+    let _end = paint_tail(canvas, limit, at, d, meter);
 }

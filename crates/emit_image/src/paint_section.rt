@@ -40,7 +40,6 @@ fn place(x: &ImageSection<'_>, at: u64) -> usize
 #[inline(never)]
 fn paint_next_data(
     canvas: &mut Canvas,
-    desk: &mut [u8; BUFFER_SIZE],
     limit: usize,
     x: &ImageSection<'_>,
     cursor: SectionCursor,
@@ -65,16 +64,8 @@ fn paint_next_data(
     let d = &x.data_commands[cursor.data_commands];
     let end = d.start + u64::from(d.width.byte_count());
     let from = place(x, d.start);
-    paint_fill(
-        canvas,
-        desk,
-        limit,
-        place(x, cursor.at),
-        from,
-        x.fill,
-        meter,
-    );
-    paint_data(canvas, desk, limit, from, place(x, end), d, meter);
+    paint_fill(canvas, limit, place(x, cursor.at), from, x.fill, meter);
+    paint_data(canvas, limit, from, place(x, end), d, meter);
     SectionCursor {
         pieces: cursor.pieces,
         data_commands: cursor.data_commands + 1,
@@ -86,7 +77,6 @@ fn paint_next_data(
 #[inline(always)]
 fn paint_data_before(
     canvas: &mut Canvas,
-    desk: &mut [u8; BUFFER_SIZE],
     limit: usize,
     x: &ImageSection<'_>,
     cursor: SectionCursor,
@@ -111,7 +101,7 @@ fn paint_data_before(
         if x.data_commands[now.data_commands].start >= below {
             return now;
         }
-        now = paint_next_data(canvas, desk, limit, x, now, below, meter);
+        now = paint_next_data(canvas, limit, x, now, below, meter);
     }
     now
 }
@@ -139,10 +129,10 @@ fn paint_full_piece(
         (place_of x.now result.at) (section_image x.now) }
 {
     let piece = &x.pieces[cursor.pieces];
-    let now = paint_data_before(canvas, desk, limit, x, cursor, piece.start, meter);
+    let now = paint_data_before(canvas, limit, x, cursor, piece.start, meter);
     let end = piece.start + piece.size;
     let from = place(x, piece.start);
-    paint_fill(canvas, desk, limit, place(x, now.at), from, x.fill, meter);
+    paint_fill(canvas, limit, place(x, now.at), from, x.fill, meter);
     paint_piece(canvas, desk, limit, from, place(x, end), piece, meter);
     SectionCursor {
         pieces: now.pieces + 1,
@@ -183,6 +173,7 @@ fn paint_next_piece(
 }
 
 /// Writes an output section.
+#[inline(never)]
 pub(crate) fn paint_section(
     canvas: &mut Canvas,
     desk: &mut [u8; BUFFER_SIZE],
@@ -206,10 +197,9 @@ pub(crate) fn paint_section(
         cursor = paint_next_piece(canvas, desk, limit, x, cursor, meter);
     }
     let end = x.start + x.size;
-    let last = paint_data_before(canvas, desk, limit, x, cursor, end, meter);
+    let last = paint_data_before(canvas, limit, x, cursor, end, meter);
     paint_fill(
         canvas,
-        desk,
         limit,
         place(x, last.at),
         place(x, end),

@@ -14,18 +14,29 @@ pub(crate) fn no_names(alloc: Global, room: usize) -> Result<Vec<u8>, NoMemory>
     Ok(names)
 }
 
+/// Adds a name where there may be no room for it.
+#[inline(never)]
+fn grow_by_name(names: &mut Vec<u8>, name: &[u8]) -> Result<(), NoMemory>
+    ensures { OnOk result (names.new.items ≡ names.old.items ++ name.now ++ 0 ∷ []) }
+{
+    names.extend_from_slice(name)?;
+    names.push(0)?;
+    Ok(())
+}
+
 /// Adds a name, and returns where it begins.
+#[inline(always)]
 pub(crate) fn add_name(names: &mut Vec<u8>, name: &[u8]) -> Result<usize, NoMemory>
     ensures at { IfOk result (λ at. at ≡ length names.old.items) }
     ensures added { OnOk result (names.new.items ≡ names.old.items ++ name.now ++ 0 ∷ []) }
 {
     let at = names.len();
-    names.extend_from_slice(name)?;
-    // `push` makes a call even if there is room
-    if names.len() < names.capacity() {
+    // where there is room, both calls are a few instructions
+    if name.len() < names.capacity() - at {
+        names.extend_from_slice(name)?;
         names.push_reserved(0);
     } else {
-        names.push(0)?;
+        grow_by_name(names, name)?;
     }
     Ok(at)
 }

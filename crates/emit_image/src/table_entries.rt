@@ -43,6 +43,14 @@ fn put_entry(block: &mut [u8; BLOCK_SIZE], at: usize, entry: &[u8; ENTRY_SIZE])
     block[at..at + ENTRY_SIZE].copy_from_slice(entry);
 }
 
+/// Adds entries that were put together.
+#[inline(never)]
+fn add_block(bytes: &mut Vec<u8>, block: &[u8]) -> Result<(), NoMemory>
+    ensures { OnOk result (bytes.new.items ≡ bytes.old.items ++ block.now) }
+{
+    bytes.extend_from_slice(block)
+}
+
 impl Entries {
     /// No entries, with room for this number of bytes.
     pub(crate) fn with_capacity(alloc: Global, room: usize) -> Result<Entries, NoMemory>
@@ -61,7 +69,7 @@ impl Entries {
         ensures { OnOk result (self.new ≡ self.old ++ entry.now) }
     {
         if self.used > BLOCK_SIZE - ENTRY_SIZE {
-            self.bytes.extend_from_slice(&self.block[..self.used])?;
+            add_block(&mut self.bytes, &self.block[..self.used])?;
             self.used = 0;
         }
         put_entry(&mut self.block, self.used, entry);
@@ -78,7 +86,7 @@ impl Entries {
             block,
             used,
         } = self;
-        bytes.extend_from_slice(&block[..used])?;
+        add_block(&mut bytes, &block[..used])?;
         Ok(bytes)
     }
 }

@@ -1,13 +1,14 @@
-use Rattle.std.proofs.Common.{◌≡◌, ◌-◌, ℕ, length, ap, sym, ◌∙◌, false, arith}
+use Rattle.std.proofs.Common.{◌≡◌, ◌+◌, ◌-◌, ℕ, length, ap, sym, ◌∙◌, false, subst, arith}
 use Rattle.std.specs.Prelude.{slice_index}
 use Rattle.emit_image.specs.Drawing.{drawing_end, drawing_spot, end_of_sections}
+use Rattle.emit_image.specs.Painted.{IsPainted}
 use Rattle.emit_image.specs.Stretches.{Spot}
 use Rattle.emit_image.proofs.InDrawing.{header_spot, sections-end, parts_end}
 use Rattle.emit_image.proofs.Painting.{painted_as, painted_then}
 use Rattle.emit_image.proofs.paint_drawing.paint_drawing.Goals as goal
 
-pub paint-requires-clause-within : goal.paint-requires-clause-within
-paint-requires-clause-within c =
+pub paint_bytes-requires-clause-within : goal.paint_bytes-requires-clause-within
+paint_bytes-requires-clause-within c =
     let d = c.args.d.now in
     let end = sections-end (length d.headers.now) d.sections.now c.requires.drawing.sections in
     let last = parts_end _ d.tail.now c.requires.drawing.tail in
@@ -23,16 +24,19 @@ returns-clause-painted c =
     let d = c.args.d.now in
     let front : ℕ = length d.headers.now in
     let old = c.args.canvas.now.bytes in
-    let first = c.paint.new.canvas.bytes in
+    let first = c.paint_bytes.new.canvas.bytes in
     let second = c.paint_sections-at.new.canvas.bytes in
     let new = c.paint_tail-end.new.canvas.bytes in
     let m = c.args.meter.now in
-    let p = c.paint.new.meter in
+    let p = c.paint_bytes.new.meter in
     let q = c.paint_sections-at.new.meter in
     let n = c.paint_tail-end.new.meter in
     let mid : ℕ = end_of_sections front d.sections.now in
     let image : ℕ → Spot = λ o. record { byte = slice_index d.headers.now (o - 0); stays = false } in
-    let headers = painted_as old first m p 0 front image (drawing_spot d) c.paint.ensures.painted (omega arith)
+    let zero : 0 + front ≡ front = omega arith in
+    let painted : IsPainted old first m p 0 front image =
+    subst (λ (n : ℕ). IsPainted old first m p 0 n image) zero c.paint_bytes.ensures.painted in
+    let headers = painted_as old first m p 0 front image (drawing_spot d) painted (omega arith)
     (λ o a b.
     let back : o - 0 ≡ o = omega arith in
     ap (λ (i : ℕ). record { byte = slice_index d.headers.now i; stays = false }) back ∙ sym (header_spot d o b)) in
