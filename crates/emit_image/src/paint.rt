@@ -30,6 +30,7 @@ fn run_of(byte: u8) -> [u8; SHORT]
 }
 
 /// Writes at most 32 bytes of one value, from `at` on, at once.
+#[inline(always)]
 fn write_same(canvas: &mut Canvas, at: usize, n: usize, byte: u8, meter: &mut Meter)
     requires within { at + n ≤ length canvas.old.bytes }
     requires short { n ≤ 32 }
@@ -47,6 +48,7 @@ fn write_same(canvas: &mut Canvas, at: usize, n: usize, byte: u8, meter: &mut Me
 }
 
 /// Writes a pattern of 1 to 8 bytes over and over, `n` bytes from `at` on. Most gaps are short and of one byte.
+#[inline(always)]
 fn write_fill(canvas: &mut Canvas, at: usize, n: usize, pattern: &[u8], meter: &mut Meter)
     requires within { at + n ≤ length canvas.old.bytes }
     requires some { 0 < length pattern.now }
@@ -70,8 +72,9 @@ fn write_fill(canvas: &mut Canvas, at: usize, n: usize, pattern: &[u8], meter: &
 /// cache when the bytes of the image are written over it.
 const BLOCK: usize = 65_536;
 
-/// Makes a canvas of at most `most` bytes at least `least` long, by zeros.
-pub(crate) fn grow_to(canvas: &mut Canvas, least: usize, most: usize)
+/// Adds zeros to a canvas of at most `most` bytes: a block of them, or as many as make it `least` bytes long.
+#[inline(never)]
+fn grow(canvas: &mut Canvas, least: usize, most: usize)
     requires order { least ≤ most }
     requires short { length canvas.old.bytes ≤ most }
     requires room { most ≤ canvas.old.room }
@@ -82,8 +85,23 @@ pub(crate) fn grow_to(canvas: &mut Canvas, least: usize, most: usize)
     ensures room { canvas.old.room ≤ canvas.new.room }
 {
     let len = canvas.len();
-    if len < least {
-        canvas.resize_reserved(len.saturating_add(BLOCK).max(least).min(most));
+    canvas.resize_reserved(len.saturating_add(BLOCK).max(least).min(most));
+}
+
+/// Makes a canvas of at most `most` bytes at least `least` long, by zeros.
+#[inline(always)]
+pub(crate) fn grow_to(canvas: &mut Canvas, least: usize, most: usize)
+    requires order { least ≤ most }
+    requires short { length canvas.old.bytes ≤ most }
+    requires room { most ≤ canvas.old.room }
+    ensures reached { least ≤ length canvas.new.bytes }
+    ensures grown { length canvas.old.bytes ≤ length canvas.new.bytes }
+    ensures short { length canvas.new.bytes ≤ most }
+    ensures same { (o : ℕ) → slice_index canvas.new.bytes o ≡ slice_index canvas.old.bytes o }
+    ensures room { canvas.old.room ≤ canvas.new.room }
+{
+    if canvas.len() < least {
+        grow(canvas, least, most);
     }
 }
 
