@@ -12,9 +12,12 @@ use Rattle.ldmodel.specs.Project.{NamedObject}
 use Rattle.ldmodel.specs.Relocations.{Site, site_field_with, is_evaluated, site_field}
 use Rattle.ldmodel.specs.SymbolValues.{SymbolValue}
 use Rattle.ldmodel.specs.declared.fault.Fault as code
+use Rattle.ldmodel.specs.declared.fault.Fault.TheVariants as variant
 use Rattle.ldmodel.specs.declared.names.ObjectPlace.{ObjectPlace}
 use Rattle.emit_relocate.specs.KnownLink.{KnownLink, named_object}
 use Rattle.emit_relocate.specs.SymbolValues.{IsRow}
+use Rattle.emit_relocate.specs.declared.site.NoField.{NoField}
+use Rattle.emit_relocate.specs.declared.site.NoField.TheVariants.{Overflow, TargetNotInOutput, UndefinedSymbol}
 use Rattle.emit_relocate.specs.declared.site.PlacedInput.{PlacedInput}
 
 -- a section of an object, as the code has it at hand
@@ -57,6 +60,20 @@ abbrev pub IsEvaluated : KnownLink → Site → Result Patch code.Fault → Type
 IsEvaluated link site (Ok x) =
     (site_field link.project link.layout site ≡ Ok x.field) × (x.offset ≡ site.relocation.offset)
 IsEvaluated link site (Err f) = site_field link.project link.layout site ≡ Err (fault_of link.project link.number f)
+
+-- the fault of the relocation of a number that has no field
+abbrev pub fault_with : PlacedInput → ℕ → NoField → code.Fault
+fault_with m entry UndefinedSymbol =
+    variant.UndefinedSymbol (record { object = m.object; section = m.section; entry = entry })
+fault_with m entry TargetNotInOutput =
+    variant.TargetNotInOutput (record { object = m.object; section = m.section; entry = entry })
+fault_with m entry (Overflow value) =
+    variant.FieldOverflow (record { object = m.object; section = m.section; entry = entry }) value
+
+-- its field, or its fault
+abbrev pub with_fault : PlacedInput → ℕ → Result Patch NoField → Result Patch code.Fault
+with_fault m entry (Ok x) = Ok x
+with_fault m entry (Err reason) = Err (fault_with m entry reason)
 
 -- a field of a relocation, in its place
 pub record IsFieldOf (relocation : Relocation) (x : Patch) : Type 0 where

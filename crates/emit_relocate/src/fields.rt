@@ -1,6 +1,6 @@
 //! The fields of whole input sections, in one flat list, and the faults of their relocations.
 
-ghost use Rattle.std.specs.Prelude.{◌≡◌, ◌+◌, ◌<◌, ◌^◌, All, OnOk, Some, [], ◌∷◌, length, slice_get, true};
+ghost use Rattle.std.specs.Prelude.{◌≡◌, ◌++◌, ◌+◌, ◌<◌, ◌^◌, All, OnOk, Some, [], ◌∷◌, length, slice_get, true};
 ghost use Rattle.std.specs.Prelude.{vec_capacity, vec_len};
 ghost use Rattle.std.specs.List.Sorted.{IsNonDecreasingBy};
 ghost use Rattle.elfobj.specs.Profile.{AreApart};
@@ -9,9 +9,9 @@ ghost use Rattle.elfobj.specs.Sections.{LinkedSection};
 ghost use Rattle.ldmodel.specs.Project.{NamedObject};
 ghost use Rattle.emit_relocate.specs.Fields.{AreAdded, IsAdded, IsNext, IsTried, sites_among};
 ghost use Rattle.emit_relocate.specs.KnownLink.{KnownLink};
-ghost use Rattle.emit_relocate.specs.Sites.{AreEntriesFrom, IsPlaced};
+ghost use Rattle.emit_relocate.specs.Sites.{AreEntriesFrom, IsPlaced, fault_with};
 
-use crate::site::{PlacedInput, evaluate, is_evaluated};
+use crate::site::{NoField, PlacedInput, evaluate, fault_of, is_evaluated};
 use elfobj::Relocation;
 use emit_fields::patch::{Patch, in_order};
 use ldmodel::fault::Fault;
@@ -19,6 +19,21 @@ use ldmodel::impossible::impossible;
 use ldmodel::memory::NoMemory;
 use ldmodel::meter::Meter;
 use std::alloc::Global;
+
+/// Adds the fault of the relocation of number `entry`, which has no field.
+#[cold]
+#[inline(never)]
+pub(crate) fn add_fault(
+    section: &PlacedInput<'_>,
+    entry: u32,
+    reason: NoField,
+    faults: &mut Vec<Fault>,
+) -> Result<(), NoMemory>
+    ensures { OnOk result (faults.new.items ≡ faults.old.items ++ fault_with section.now entry reason ∷ []) }
+{
+    faults.push(fault_of(section, entry, reason))?;
+    Ok(())
+}
 
 /// Evaluates the relocation of number `entry`: adds its field, for which there is room, or its fault.
 #[inline(always)]
@@ -46,13 +61,13 @@ fn add_site(
     if !is_evaluated(relocation.kind) {
         return Ok(());
     }
-    match evaluate(section, entry, relocation, meter) {
+    match evaluate(section, relocation, meter) {
         Ok(field) => {
             fields.push_reserved(field);
             Ok(())
         }
-        Err(fault) => {
-            faults.push(fault)?;
+        Err(reason) => {
+            add_fault(section, entry, reason, faults)?;
             Ok(())
         }
     }

@@ -15,7 +15,7 @@ ghost use Rattle.emit_relocate.specs.Links.{IsStayedAt, site_at_hand, sites_at_h
 ghost use Rattle.emit_relocate.specs.Sites.{IsPlaced};
 ghost use Rattle.emit_relocate.specs.Values.{value_of};
 
-use crate::fields::check_numbers;
+use crate::fields::{add_fault, check_numbers};
 use crate::previous_link_info::{FileRange, PreviousLinkInfo};
 use crate::site::{PlacedInput, evaluate, is_evaluated, site_value};
 use crate::value::SymbolValue;
@@ -112,13 +112,13 @@ impl<'a, E: PreviousLinkInfo> StayedSection<'a, E> {
             patches.old.items patches.new.items faults.old.items faults.new.items meter.old meter.new) }
     {
         check_numbers(self.section.relocations)?;
-        match evaluate(&self.section, entry as u32, relocation, meter) {
+        match evaluate(&self.section, relocation, meter) {
             Ok(field) => {
                 add_in_file(self.range, field, patches)?;
                 Ok(())
             }
-            Err(fault) => {
-                faults.push(fault)?;
+            Err(reason) => {
+                add_fault(&self.section, entry as u32, reason, faults)?;
                 Ok(())
             }
         }

@@ -1,6 +1,6 @@
 //! Relocations of an input section in the output: each one's field, or its fault.
 
-ghost use Rattle.std.specs.Prelude.{◌≡◌, ◌≤◌, All, IfOk, ◌+◌, ◌<◌, ◌^◌, Some, [], ◌∷◌, length, option_copied};
+ghost use Rattle.std.specs.Prelude.{◌≡◌, ◌≤◌, All, IfOk, ◌+◌, ◌<◌, ◌^◌, Some, ℕ, [], ◌∷◌, length, option_copied};
 ghost use Rattle.std.specs.Prelude.{slice_get};
 ghost use Rattle.std.specs.Prelude.{true};
 ghost use Rattle.elfobj.specs.Raised.{raised};
@@ -12,6 +12,7 @@ ghost use Rattle.ldmodel.specs.Relocations.{Site, is_evaluated, site_value};
 ghost use Rattle.emit_relocate.specs.Fields.{evaluations, work_of};
 ghost use Rattle.emit_relocate.specs.KnownLink.{KnownLink};
 ghost use Rattle.emit_relocate.specs.Sites.{IsEvaluated, IsFieldOf, IsSectionOf, IsOutcome, IsSite, IsSiteAt};
+ghost use Rattle.emit_relocate.specs.Sites.{fault_with, with_fault};
 ghost use Rattle.emit_relocate.specs.Values.{value_of};
 
 use crate::value::SymbolValue;
@@ -90,39 +91,54 @@ pub fn site_value(section: &PlacedInput<'_>, symbol: SymbolIndex) -> SymbolValue
         .unwrap_or(SymbolValue::NotDefined)
 }
 
-/// The key of the relocation of number `entry` of a section.
-fn site_key(section: &PlacedInput<'_>, entry: u32) -> SiteKey
-    ensures { result ≡ record { object = section.now.object; section = section.now.section; entry = entry } }
+/// Why a relocation has no field.
+#[derive(Clone, Copy, Debug)]
+pub enum NoField {
+    /// Nothing defines its symbol.
+    UndefinedSymbol,
+    /// The section of its symbol is not in the output.
+    TargetNotInOutput,
+    /// Its value, modulo 2^64, is out of its range.
+    Overflow(u64),
+}
+
+/// The fault of a relocation of number `entry` of a section that has no field.
+pub fn fault_of(section: &PlacedInput<'_>, entry: u32, reason: NoField) -> Fault
+    ensures { result ≡ fault_with section.now entry reason }
 {
-    SiteKey {
+    let site = SiteKey {
         object: section.object,
         section: section.section,
         entry,
+    };
+    match reason {
+        NoField::UndefinedSymbol => Fault::UndefinedSymbol(site),
+        NoField::TargetNotInOutput => Fault::TargetNotInOutput(site),
+        NoField::Overflow(value) => Fault::FieldOverflow { site, value },
     }
 }
 
-/// The field of a relocation of number `entry` against a symbol of a value; or its fault.
+/// The field of a relocation against a symbol of a value, if it has one.
 #[inline(always)]
 fn field_with(
     section: &PlacedInput<'_>,
-    entry: u32,
     relocation: &Relocation,
     value: SymbolValue,
     meter: &mut Meter,
-) -> Result<Patch, Fault>
+) -> Result<Patch, NoField>
     requires evaluated { is_evaluated relocation.now.kind ≡ true }
     requires below { section.now.start + relocation.now.offset < 2 ^ 64 }
     ensures field { IfOk result (IsFieldOf relocation.now) }
-    ensures outcome { (link : KnownLink) (site : Site) → IsSiteAt link section.now entry site → site.relocation
-        ≡ relocation.now
-        → IsOutcome link site (value_of value) result }
+    ensures outcome { (link : KnownLink) (entry : ℕ) (site : Site) → IsSiteAt link section.now entry site
+        → site.relocation ≡ relocation.now
+        → IsOutcome link site (value_of value) (with_fault section.now entry result) }
     ensures counted { meter.new ≡ raised meter.old Fields (work_of (value_of value)) }
 {
     // for the prover: brings in that the count of fields fits a u64
     let _fields = meter.fields();
     match value {
-        SymbolValue::NotDefined => Err(Fault::UndefinedSymbol(site_key(section, entry))),
-        SymbolValue::NotInOutput => Err(Fault::TargetNotInOutput(site_key(section, entry))),
+        SymbolValue::NotDefined => Err(NoField::UndefinedSymbol),
+        SymbolValue::NotInOutput => Err(NoField::TargetNotInOutput),
         SymbolValue::Number(value) => {
             let place = section.start + relocation.offset;
             match field(relocation, value, place, meter) {
@@ -130,34 +146,29 @@ fn field_with(
                     offset: relocation.offset as usize,
                     field,
                 }),
-                Err(overflow) => Err(Fault::FieldOverflow {
-                    site: site_key(section, entry),
-                    value: overflow.value,
-                }),
+                Err(overflow) => Err(NoField::Overflow(overflow.value)),
             }
         }
     }
 }
 
-/// The field of a relocation of number `entry`, in its place; or its fault. The call counts one relocation if the
-/// symbol has a value.
+/// The field of a relocation, in its place, if it has one. The call counts one relocation if the symbol has a value.
 #[inline(always)]
 pub fn evaluate(
     section: &PlacedInput<'_>,
-    entry: u32,
     relocation: &Relocation,
     meter: &mut Meter,
-) -> Result<Patch, Fault>
+) -> Result<Patch, NoField>
     requires evaluated { is_evaluated relocation.now.kind ≡ true }
     requires below { section.now.start + relocation.now.offset < 2 ^ 64 }
     ensures field { IfOk result (IsFieldOf relocation.now) }
-    ensures evaluated { (link : KnownLink) (site : Site) → IsSiteAt link section.now entry site → site.relocation
-        ≡ relocation.now
-        → IsEvaluated link site result }
-    ensures counted { (link : KnownLink) (site : Site) → IsSiteAt link section.now entry site → site.relocation
+    ensures evaluated { (link : KnownLink) (entry : ℕ) (site : Site) → IsSiteAt link section.now entry site
+        → site.relocation ≡ relocation.now
+        → IsEvaluated link site (with_fault section.now entry result) }
+    ensures counted { (link : KnownLink) (site : Site) → IsSite link section.now site → site.relocation
         ≡ relocation.now
         → meter.new ≡ raised meter.old Fields (evaluations link (site ∷ [])) }
 {
     let value = site_value(section, relocation.symbol);
-    field_with(section, entry, relocation, value, meter)
+    field_with(section, relocation, value, meter)
 }

@@ -1,4 +1,5 @@
 use Rattle.std.proofs.Common.{arith, refl, sym, ◌∙◌}
+use Rattle.emit_relocate.specs.Sites.{fault_with}
 use Rattle.emit_relocate.proofs.Added.{at_entry, tried_fault, tried_field, tried_none}
 use Rattle.emit_relocate.proofs.fields.add_site.Goals as goal
 
@@ -12,17 +13,18 @@ pub returns-in-Ok-clause-tried : goal.returns-in-Ok-clause-tried
 returns-in-Ok-clause-tried c =
     λ l o x h.
     let at = at_entry l c.args.section.now o x c.args.relocation.now c.args.entry h c.requires.entry_is in
-    let field = c.in-Ok.ensures.evaluated l _ at refl in
+    let field = c.in-Ok.ensures.evaluated l _ _ at refl in
     tried_field l o x c.args.section.now.start c.args.relocation.now
     (sym c.is_evaluated.ensures ∙ c.if-not-is_evaluated.false)
     _ _ c.in-Ok.field _ _ _ field.0 field.1 c.push_reserved.ensures.items
-    (c.in-Ok.ensures.counted l _ at refl)
+    (c.in-Ok.ensures.counted l _ at.site refl)
 
-pub returns-in_ok-push-in-Err-clause-tried : goal.returns-in_ok-push-in-Err-clause-tried
-returns-in_ok-push-in-Err-clause-tried c =
+pub returns-in_ok-add_fault-in-Err-clause-tried : goal.returns-in_ok-add_fault-in-Err-clause-tried
+returns-in_ok-add_fault-in-Err-clause-tried c =
     λ l o x h.
     let at = at_entry l c.args.section.now o x c.args.relocation.now c.args.entry h c.requires.entry_is in
     tried_fault l o x c.args.section.now.start c.args.relocation.now
     (sym c.is_evaluated.ensures ∙ c.if-not-is_evaluated.false)
-    _ c.in-Err.fault _ _ _ _ (c.in-Err.ensures.evaluated l _ at refl) c.in_ok-push-in-Err.ensures.items
-    (c.in-Err.ensures.counted l _ at refl)
+    _ (fault_with c.args.section.now c.args.entry c.in-Err.reason) _ _ _ _
+    (c.in-Err.ensures.evaluated l _ _ at refl) c.in_ok-add_fault-in-Err.ensures
+    (c.in-Err.ensures.counted l _ at.site refl)

@@ -10,19 +10,16 @@ use Rattle.emit_relocate.proofs.site.field_with.Goals as goal
 
 pub returns-in-NotDefined-clause-outcome : goal.returns-in-NotDefined-clause-outcome
 returns-in-NotDefined-clause-outcome c =
-    λ l t h is. rw c.site_key.ensures
-    (undefined l c.args.section.now c.args.entry t h _ (ap value_of c.in-NotDefined.is))
+    λ l entry t h is. undefined l c.args.section.now entry t h _ (ap value_of c.in-NotDefined.is)
 
 pub returns-in-NotInOutput-clause-outcome : goal.returns-in-NotInOutput-clause-outcome
 returns-in-NotInOutput-clause-outcome c =
-    λ l t h is. rw c.site_key-in-NotInOutput.ensures
-    (missing l c.args.section.now c.args.entry t h _ (ap value_of c.in-NotInOutput.is))
+    λ l entry t h is. missing l c.args.section.now entry t h _ (ap value_of c.in-NotInOutput.is)
 
 pub returns-in-Err-clause-outcome : goal.returns-in-Err-clause-outcome
 returns-in-Err-clause-outcome c =
-    λ l t h is. rw c.site_key-in-Err.ensures
-    (overflow l c.args.section.now c.args.entry t h _ c.in-Number.value c.args.relocation.now
-    c.in-Err.overflow (ap value_of c.in-Number.is) is c.in-Err.ensures.field)
+    λ l entry t h is. overflow l c.args.section.now entry t h _ c.in-Number.value c.args.relocation.now
+    c.in-Err.overflow (ap value_of c.in-Number.is) is c.in-Err.ensures.field
 
 pub returns-in-NotDefined-clause-counted : goal.returns-in-NotDefined-clause-counted
 returns-in-NotDefined-clause-counted c =
