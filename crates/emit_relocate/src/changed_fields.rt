@@ -1,7 +1,7 @@
 //! The fields of input sections that did not stay, in one flat list; those that change in sections that stayed; and the
 //! faults of relocations. Without a previous link these are the fields of all objects.
 
-ghost use Rattle.std.specs.Prelude.{◌≡◌, IfOk, OnOk, Some, [], ◌∷◌};
+ghost use Rattle.std.specs.Prelude.{◌≡◌, IfOk, OnOk, Some, [], ◌∷◌, true};
 ghost use Rattle.ldmodel.specs.Project.{NamedObject};
 ghost use Rattle.ldmodel.specs.Stayed.{GoodLink};
 ghost use Rattle.emit_relocate.specs.Changes.{Adds, AreChanged, IsEvaluatedOf, IsRenewed, IsRetained, no_results};
@@ -9,6 +9,7 @@ ghost use Rattle.emit_relocate.specs.Changes.{results_of, section_key};
 ghost use Rattle.emit_relocate.specs.Filled.{EndBelow, IsOrder, ObjectSection, sections_in, sections_of};
 ghost use Rattle.emit_relocate.specs.KnownLink.{KnownLink, named_object};
 ghost use Rattle.emit_relocate.specs.Links.{AreLinks, IsAtHand, IsKeptAt, IsKnownAt};
+ghost use Rattle.emit_relocate.specs.PreviousLinkInfo.{HasSameValues};
 ghost use Rattle.emit_relocate.specs.SymbolValues.{HasSymbolValues};
 
 use crate::fields::add_fields;
@@ -112,36 +113,21 @@ impl<'a, L: LinkInfo, E: PreviousLinkInfo> Links<'a, L, E> {
         }
     }
 
-    /// Adds what changes in a section that is known to have stayed: the fields whose symbol has another value. There
-    /// are none if no symbol of the object has another value.
-    fn add_retained(
-        &self,
-        section: &InputSection<'_>,
-        fields: &mut ChangedFields,
-        meter: &mut Meter,
-    ) -> Result<(), NoMemory>
-        ensures { OnOk result ((old : GoodLink) (link : KnownLink) (s : ObjectSection)
+    /// Whether a section is known to have stayed, and no symbol of its object has another value.
+    fn is_unchanged(&self, section: &InputSection<'_>) -> bool
+        ensures { result ≡ true → (old : GoodLink) (link : KnownLink) (s : ObjectSection)
             → AreLinks L.knows E.knows self.now old link → IsAtHand link section.now s
             → IsKnownAt old link (E.range self.now.previous.now) (section_key section.now.place s)
-            → Adds link (IsEvaluatedOf old link (E.range self.now.previous.now) s) (results_of fields.old meter.old)
-            (results_of fields.new meter.new)) }
+            × HasSameValues old link section.now.place }
     {
-        // for the prover: brings in that the count of fields fits a u64
-        let _fields = meter.fields();
-        if !self.previous.is_dirty(section.place) {
-            return Ok(());
+        if self.previous.is_dirty(section.place) {
+            return false;
         }
-        match self.previous.stayed(section.section_key()) {
-            // unreachable: `has_stayed` said that it stayed
-            None => Ok(()),
-            Some(range) => {
-                self.add_moved(section, range, fields, meter)?;
-                Ok(())
-            }
-        }
+        self.previous.has_stayed(section.section_key())
     }
 
-    /// Adds what there is to evaluate of a section: nothing if it has no relocations.
+    /// Adds what there is to evaluate of a section: nothing if it has no relocations, or if it stayed and no symbol of
+    /// its object has another value; if it stayed, the fields whose symbol has another value; else all.
     fn add_evaluated(
         &self,
         alloc: Global,
@@ -159,12 +145,19 @@ impl<'a, L: LinkInfo, E: PreviousLinkInfo> Links<'a, L, E> {
         if section.object.relocations(section.index).is_empty() {
             return Ok(());
         }
-        if self.previous.has_stayed(section.section_key()) {
-            self.add_retained(section, fields, meter)?;
+        if self.is_unchanged(section) {
             return Ok(());
         }
-        self.add_renewed(alloc, section, fields, meter)?;
-        Ok(())
+        match self.previous.stayed(section.section_key()) {
+            None => {
+                self.add_renewed(alloc, section, fields, meter)?;
+                Ok(())
+            }
+            Some(range) => {
+                self.add_moved(section, range, fields, meter)?;
+                Ok(())
+            }
+        }
     }
 
     /// Adds what there is to evaluate of a section, and the end of its fields.

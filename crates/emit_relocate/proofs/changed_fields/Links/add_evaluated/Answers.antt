@@ -1,10 +1,9 @@
-use Rattle.std.proofs.Common.{None, ap, arith, subst, sym, ◌∙◌}
-use Rattle.std.specs.Prelude.{IfSome, is_some}
-use Rattle.ldmodel.specs.declared.sections.SectionKey.{SectionKey}
+use Rattle.std.proofs.Common.{None, Some, ap, arith, refl, subst, ◌∙◌}
 use Rattle.emit_relocate.specs.Changes.{results_of}
 use Rattle.emit_relocate.specs.PreviousLinkInfo.{HasStayedAt}
 use Rattle.emit_relocate.proofs.Bare.{bare_added, bare_at_hand}
-use Rattle.emit_relocate.proofs.Changing.{known_as, not_some}
+use Rattle.emit_relocate.proofs.Changing.{known_as, retained, retained_as}
+use Rattle.emit_relocate.proofs.Moving.{moved_in_none}
 use Rattle.emit_relocate.proofs.changed_fields.Links.add_evaluated.Goals as goal
 
 pub returns-then-is_empty : goal.returns-then-is_empty
@@ -16,21 +15,33 @@ returns-then-is_empty g c =
     (g.E.PreviousLinkInfo.range c.args.self.now.previous.now) c.args.section.now.place h.object_is
     (results_of c.args.fields.now c.args.meter.now) (omega (arith, c.fields-fields.type_inv, c.fields-fields.ensures))
 
-pub returns-then-has_stayed : goal.returns-then-has_stayed
-returns-then-has_stayed g c =
+pub returns-then-is_unchanged : goal.returns-then-is_unchanged
+returns-then-is_unchanged g c =
     λ old l s k h.
     let range = g.E.PreviousLinkInfo.range c.args.self.now.previous.now in
-    let same = c.section_key.ensures l s h in
-    c.in_ok-add_retained.ensures old l s k h (record {
-      known = ap (λ q. is_some (range q)) (sym same) ∙ sym c.has_stayed.ensures.is ∙ c.if-has_stayed.true;
-      stayed = subst (λ (q : SectionKey). IfSome (range q) (HasStayedAt old l q)) same
-          (c.has_stayed.ensures.sound old l k.previous);
-    })
+    let a = results_of c.args.fields.now c.args.meter.now in
+    let is = c.is_unchanged.ensures c.if-is_unchanged.true old l s k h in
+    retained_as old l range s c.args.section.now.place h.object_is is.0 a a (λ r kept.
+    retained old l range s _ r a a kept.stayed refl refl
+    (moved_in_none old l s c.args.section.now.place h.object_is is.1 r a.patches a.faults a.counts
+    (omega (arith, c.fields-fields.type_inv, c.fields-fields.ensures))))
 
-pub returns : goal.returns
-returns g c =
+pub returns-in_ok-add_renewed-in-None : goal.returns-in_ok-add_renewed-in-None
+returns-in_ok-add_renewed-in-None g c =
     λ old l s k h.
     let range = g.E.PreviousLinkInfo.range c.args.self.now.previous.now in
     known_as old l range s c.args.section.now.place h.object_is None
-    (not_some _ (sym c.has_stayed.ensures.is ∙ c.if-has_stayed.false) ∙ ap range (c.section_key.ensures l s h)) _ _
-    (c.in_ok-add_renewed.ensures old l s k h)
+    (c.in-None.ensures.range ∙ ap range (c.section_key.ensures l s h)) _ _
+    (c.in_ok-add_renewed-in-None.ensures old l s k h)
+
+pub returns-in_ok-add_moved-in-Some : goal.returns-in_ok-add_moved-in-Some
+returns-in_ok-add_moved-in-Some g c =
+    λ old l s k h.
+    let range = g.E.PreviousLinkInfo.range c.args.self.now.previous.now in
+    let same = c.section_key.ensures l s h in
+    let known = c.in-Some.ensures.range ∙ ap range same in
+    known_as old l range s c.args.section.now.place h.object_is (Some c.in-Some.range) known _ _
+    (c.in_ok-add_moved-in-Some.ensures old l s k h (record {
+      known = known;
+      stayed = subst (λ q. HasStayedAt old l q c.in-Some.range) same (c.in-Some.ensures.stayed old l k.previous);
+    }))
