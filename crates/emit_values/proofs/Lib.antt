@@ -1,6 +1,7 @@
 -- Lemmas of the crate.
 pub mod Seeing
 pub mod Rows
+pub mod Objects
 pub mod Giving
 pub mod EntryCase
 pub mod Listing

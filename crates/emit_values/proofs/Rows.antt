@@ -1,19 +1,17 @@
 -- What names are in the output.
 use Rattle.std.proofs.Common.{◌≡◌, ◌∙◌, ℕ, ◌+◌, ◌<◌, zero, suc, List, [], ◌∷◌, ◌++◌, length, flat_map, find, position}
-use Rattle.std.proofs.Common.{map, Option, Some, None, Bool, true, false, cond, ◌||◌, arith, get_or, slice_get}
-use Rattle.std.proofs.Common.{refl, sym, ap, subst, ◌⊎◌, inl, inr}
+use Rattle.std.proofs.Common.{Option, Some, None, Bool, true, false, cond, ◌||◌, arith, get_or, slice_get}
+use Rattle.std.proofs.Common.{refl, sym, ap, subst}
 use Rattle.std.specs.List.{list_any}
 use Rattle.std.specs.Option.{option_map, option_map_or}
-use Rattle.std.proofs.lemmas.List.{length-append}
 use Rattle.std.proofs.lemmas.List.Quantifiers.{position-Some}
-use Rattle.std.proofs.lemmas.Option.{get_or_from_slice_get, same_Some, slice_get-map}
 use Rattle.elfobj.specs.file.declared.constants.TheConstants.{SHN_ABS, STT_NOTYPE}
 use Rattle.elfobj.specs.declared.section.SectionIndex.{SectionIndex}
 use Rattle.elfobj.specs.declared.symbol.Symbol.{Symbol}
 use Rattle.elfobj.specs.declared.symbol.SymbolPlace.{SymbolPlace}
 use Rattle.elfobj.specs.declared.symbol.SymbolPlace.TheVariants as place
 use Rattle.ldmodel.specs.Each.{Each}
-use Rattle.ldmodel.specs.HandedOver.{decision_of, entry_of}
+use Rattle.ldmodel.specs.HandedOver.{decision_of}
 use Rattle.ldmodel.specs.Layout.{Layout, PlacedPiece, PlacedOutput}
 use Rattle.ldmodel.specs.NameFaults.{object_name}
 use Rattle.ldmodel.specs.Names.{Decision, Entry, decision}
@@ -23,8 +21,6 @@ use Rattle.ldmodel.specs.SymbolValues.{placed_part, symbol_of_entry}
 use Rattle.ldmodel.specs.SymbolValues as model
 use Rattle.ldmodel.specs.Tail.{header_of_part, header_of_place, kind_number}
 use Rattle.ldmodel.specs.declared.names.Case.{Case}
-use Rattle.ldmodel.specs.declared.names.Case.TheVariants as case
-use Rattle.ldmodel.specs.declared.names.Entry as code_entry
 use Rattle.ldmodel.specs.declared.names.ObjectPlace.{ObjectPlace}
 use Rattle.ldmodel.specs.declared.sections.Part.{Part}
 use Rattle.ldmodel.specs.declared.sections.Part.TheVariants.{InTable}
@@ -35,8 +31,8 @@ use Rattle.emit_relocate.specs.declared.value.SymbolValue as code_value
 use Rattle.emit_text.specs.Definer.{definer_of}
 use Rattle.emit_text.specs.declared.definer.Definer.{Definer}
 use Rattle.emit_values.specs.LinkView.{IsLinkView}
-use Rattle.emit_values.specs.NameRows.{IsPlaceIn, IsPlaceOf, NameRow, decided_row, defining_symbol, entry_row, facts}
-use Rattle.emit_values.specs.NameRows.{AreCasesFrom, AreResolvedBelow, AreValuesBelow, IsCaseUnder, IsRowUnder}
+use Rattle.emit_values.specs.NameRows.{IsPlaceIn, IsPlaceOf, NameRow, decided_row, entry_row, facts}
+use Rattle.emit_values.specs.NameRows.{AreResolvedBelow, AreValuesBelow, IsCaseUnder, IsRowUnder}
 use Rattle.emit_values.specs.NameRows.{Resolved, resolved, row_of, shown_resolved, shown_row}
 use Rattle.emit_values.specs.declared.link_view.LinkView.{LinkView}
 use Rattle.emit_values.specs.declared.name_row.NameRow as code
@@ -180,29 +176,6 @@ module _ (l : KnownLink) (v : LinkView) (h : IsLinkView l v) where
       ∙ ap (λ (r : NameRow). let y : Resolved = record { definer = definer_of (decision l.project name); row = r } in y)
       (row name named)
 
--- what is read under the key of a name is the symbol that defines it
-pub symbol_at : (p : Project) (cases : List (Case ObjectPlace)) (symbols : List (Option Symbol)) (k : ℕ)
-    (c : Case ObjectPlace)
-    (x : Option Symbol) → symbols ≡ map (defining_symbol p) cases → slice_get cases k ≡ Some c → x ≡ get_or symbols k x
-    → x ≡ defining_symbol p c
-symbol_at p cases symbols k c x e at read =
-    read ∙ get_or_from_slice_get symbols k (defining_symbol p c) x
-    (ap (λ (xs : List (Option Symbol)). slice_get xs k) e
-    ∙ (slice_get-map (defining_symbol p) cases k ∙ ap (option_map (defining_symbol p)) at))
-
--- what a name is that an entry defines, strongly or weakly
-pub entry_decided : (p : Project) (s : Layout) (name : List ℕ) (k : Case ObjectPlace) (e : code_entry.Entry ObjectPlace)
-    (y : Option Symbol)
-    (x : code.NameRow) → (k ≡ case.Strong e) ⊎ (k ≡ case.Weak e)
-    → (y ≡ symbol_of_entry p (entry_of (λ key. key) e) → shown_row x ≡ entry_row p s (entry_of (λ key. key) e))
-    → y ≡ defining_symbol p k → shown_row x ≡ decided_row p s name (decision_of (λ key. key) k)
-entry_decided p s name k e y x (inl is) h symbol =
-    h (symbol ∙ ap (defining_symbol p) is)
-    ∙ ap (λ (c : Case ObjectPlace). decided_row p s name (decision_of (λ key. key) c)) (sym is)
-entry_decided p s name k e y x (inr is) h symbol =
-    h (symbol ∙ ap (defining_symbol p) is)
-    ∙ ap (λ (c : Case ObjectPlace). decided_row p s name (decision_of (λ key. key) c)) (sym is)
-
 -- ---- one more in a table
 
 pushed : {X Y : Type 0} (f : X → Y) (xs : List X) (x : X) (k : ℕ) (y : Y)
@@ -237,23 +210,3 @@ module _ (l : KnownLink) (v : LinkView) (h : IsLinkView l v) (n : ℕ) (c : Case
   values_more old new long e all =
       one_more l value_of (name_value l.project l.layout) n old new x.row.value long e
       (λ name named. ap (λ (r : NameRow). r.value) (row name named)) all
-
--- what one name more stands for
-pub cases_more : (l : KnownLink) (first : ℕ) (old new : List (Case ObjectPlace)) (x : Case ObjectPlace) (k : ℕ)
-    → first + length old ≡ k
-    → new ≡ old ++ x ∷ [] → IsCaseUnder l k x → AreCasesFrom l first old → AreCasesFrom l first new
-cases_more l first old new x k at e one all j name below is =
-    let long : length new ≡ length old + 1 = ap length e ∙ length-append old (x ∷ []) in
-    ap (λ xs. option_map (decision_of l.number) (slice_get xs j)) e
-    ∙ pushed (decision_of l.number) old x j (decision l.project name) (λ m. all j name m is)
-    (λ last. one name (subst (λ i. l.name i ≡ Some name) (ap (λ i. first + i) last ∙ at) is))
-    (omega (arith, below, long))
-
--- what the name of a key stands for, by its place
-pub case_from : (l : KnownLink) (first : ℕ) (cases : List (Case ObjectPlace)) → AreCasesFrom l first cases
-    → (j k : ℕ) (c : Case ObjectPlace)
-    → first + j ≡ k → j < length cases → slice_get cases j ≡ Some c → IsCaseUnder l k c
-case_from l first cases h j k c is below at name named =
-    same_Some _ _
-    (sym (ap (option_map (decision_of l.number)) at)
-    ∙ h j name below (subst (λ i. l.name i ≡ Some name) (sym is) named))

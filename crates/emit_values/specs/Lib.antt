@@ -12,3 +12,4 @@ pub mod Sizes
 pub mod AssertedSymbols
 pub mod FinalScope
 pub mod Merged
+pub mod ObjectParts

@@ -1,21 +1,18 @@
 -- What names are in the output: their values, and what the symbol table says of them beside names, bindings and values.
-use Rattle.std.specs.Prelude.{◌≡◌, ◌+◌, ◌<◌, ◌≤◌, ℕ, List, Option, None, Some, Vec, length, slice_get, vec_capacity}
-use Rattle.std.specs.Prelude.{vec_len}
-use Rattle.std.specs.Global.{Global}
+use Rattle.std.specs.Prelude.{◌≡◌, ◌<◌, ℕ, List, Some, slice_get}
 use Rattle.std.specs.Option.{option_map}
 use Rattle.elfobj.specs.file.declared.constants.TheConstants.{SHN_ABS, STT_NOTYPE, STT_OBJECT}
 use Rattle.elfobj.specs.declared.symbol.Symbol.{Symbol}
-use Rattle.ldmodel.specs.HandedOver.{decision_of, entry_of}
+use Rattle.ldmodel.specs.HandedOver.{decision_of}
 use Rattle.ldmodel.specs.Layout.{Layout}
 use Rattle.ldmodel.specs.NameFaults.{object_name}
 use Rattle.ldmodel.specs.Names.{Decision, Entry, decision}
 use Rattle.ldmodel.specs.Project.{Project}
 use Rattle.ldmodel.specs.SymbolValues.{SymbolValue, address_in, decided_value, entry_value, name_value, own_value}
-use Rattle.ldmodel.specs.SymbolValues.{placed_part, symbol_index, symbol_of_entry}
+use Rattle.ldmodel.specs.SymbolValues.{placed_part, symbol_index}
 use Rattle.ldmodel.specs.Tail.{entry_header, entry_size, entry_type, header_of_part, header_of_place, kind_number}
 use Rattle.ldmodel.specs.Tail.{st_shndx, st_size, st_type_of}
 use Rattle.ldmodel.specs.declared.names.Case.{Case}
-use Rattle.ldmodel.specs.declared.names.Case.TheVariants as case
 use Rattle.ldmodel.specs.declared.names.ObjectPlace.{ObjectPlace}
 use Rattle.ldmodel.specs.declared.sections.Part.{Part}
 use Rattle.ldmodel.specs.declared.sections.Part.TheVariants.{InCommon}
@@ -93,16 +90,6 @@ pub record IsPlaceOf (layout : Layout) (object : List ℕ) (symbol : Symbol) (x 
   pub value : value_of x.value ≡ own_value layout object symbol.place symbol.value
   pub section : x.section ≡ header_of_place layout object symbol.place
 
--- the symbol of an object that defines a name, if one does
-abbrev pub defining_symbol : Project → Case ObjectPlace → Option Symbol
-defining_symbol project (case.Strong e) = symbol_of_entry project (entry_of (λ key. key) e)
-defining_symbol project case.Script = None
-defining_symbol project (case.Common owner size align) = None
-defining_symbol project (case.Weak e) = symbol_of_entry project (entry_of (λ key. key) e)
-defining_symbol project case.Provided = None
-defining_symbol project case.Undefined = None
-defining_symbol project case.Duplicate = None
-
 -- what defines a name, and what it is
 pub record Resolved : Type 0 where
   pub definer : Definer
@@ -120,12 +107,6 @@ resolved project layout name =
 abbrev pub IsCaseUnder : KnownLink → ℕ → Case ObjectPlace → Type 0
 IsCaseUnder link k x =
     (name : List ℕ) → link.name k ≡ Some name → decision_of link.number x ≡ decision link.project name
-
--- the names with keys from `first` on have what they stand for one after the other
-abbrev pub AreCasesFrom : KnownLink → ℕ → List (Case ObjectPlace) → Type 0
-AreCasesFrom link first cases =
-    (j : ℕ) (name : List ℕ) → j < length cases → link.name (first + j) ≡ Some name
-    → option_map (decision_of link.number) (slice_get cases j) ≡ Some (decision link.project name)
 
 -- the row of the name of a key
 abbrev pub IsRowUnder : KnownLink → ℕ → code.NameRow → Type 0
@@ -149,11 +130,3 @@ abbrev pub AreValuesBelow : KnownLink → ℕ → List code_value.SymbolValue �
 AreValuesBelow link n values =
     (k : ℕ) (name : List ℕ) → k < n → link.name k ≡ Some name
     → option_map value_of (slice_get values k) ≡ Some (name_value link.project link.layout name)
-
--- as many rows and values as this
-abbrev pub AreLong : ℕ → Vec code_rows.ResolvedName Global → Vec code_value.SymbolValue Global → Type 0
-AreLong n rows values = (vec_len rows ≡ n) × (vec_len values ≡ n)
-
--- room for as many as this
-abbrev pub HaveRoom : ℕ → Vec code_rows.ResolvedName Global → Vec code_value.SymbolValue Global → Type 0
-HaveRoom n rows values = (n ≤ vec_capacity rows) × (n ≤ vec_capacity values)

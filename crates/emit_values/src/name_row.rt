@@ -1,28 +1,35 @@
 //! What a name is in the output: its value, and what the symbol table says of it.
 
-ghost use Rattle.std.specs.Prelude.{◌≡◌, ◌+◌, ℕ, IfOk, List};
+ghost use Rattle.std.specs.Prelude.{◌≡◌, ◌+◌, ℕ, IfOk, List, Some};
 ghost use Rattle.std.specs.Option.{option_map};
 ghost use Rattle.elfobj.specs.file.declared.constants.TheConstants.{SHN_ABS};
 ghost use Rattle.ldmodel.specs.HandedOver.{decision_of, entry_of};
-ghost use Rattle.ldmodel.specs.Layout.{Layout, PlacedPiece, script_value};
+ghost use Rattle.ldmodel.specs.Layout.{Layout, PlacedPiece};
 ghost use Rattle.ldmodel.specs.NameFaults.{object_name};
 ghost use Rattle.ldmodel.specs.Project.{Project};
-ghost use Rattle.ldmodel.specs.SymbolValues.{placed_part, symbol_of_entry, value_or_undefined};
+ghost use Rattle.ldmodel.specs.SymbolValues.{placed_part, value_or_undefined};
 ghost use Rattle.ldmodel.specs.Tail.{header_of_part};
 ghost use Rattle.ldmodel.specs.declared.sections.SectionKey.{SectionKey as SectionKeyOf};
 ghost use Rattle.place.specs.IndexedLayout.{IsIndexedLayout, IsSectionAddress};
+ghost use Rattle.place.specs.declared.indexed_layout.IndexedLayout.{IndexedLayout as IndexedLayoutOf};
+ghost use Rattle.emit_relocate.specs.KnownLink.{KnownLink};
 ghost use Rattle.emit_relocate.specs.Values.{value_of};
-ghost use Rattle.emit_values.specs.NameRows.{bare_row, block_row, decided_row, defining_symbol, entry_row, shown_row};
+ghost use Rattle.emit_values.specs.LinkView.{IsLinkView};
+ghost use Rattle.emit_values.specs.NameRows.{bare_row, block_row, decided_row, entry_row, shown_row};
 ghost use Rattle.emit_values.specs.NameRows.{IsPlaceIn, IsPlaceOf};
+ghost use Rattle.emit_values.specs.ObjectParts.{AreAddresses, AreFor, AreSymbols};
 
+use crate::link_view::LinkView;
+use crate::object_parts::ObjectParts;
 use elfobj::file::constants::SHN_ABS;
+use elfobj::relocation::SymbolIndex;
 use elfobj::symbol::{Symbol, SymbolKind, SymbolPlace};
+use emit_relocate::link_info::LinkInfo;
 use emit_relocate::value::{SymbolValue, address_from};
 use ldmodel::memory::NoMemory;
-use ldmodel::names::{Case, Entry, ObjectPlace};
+use ldmodel::names::{Case, Entry, NameKey, ObjectPlace};
 use ldmodel::placed::OutputIndex;
 use ldmodel::sections::{Part, SectionKey};
-use ldmodel_project::view::ProjectView;
 use place::indexed_layout::{IndexedLayout, SectionAddress};
 use std::alloc::AllocError;
 
@@ -95,18 +102,13 @@ pub(crate) fn start_at(place: Option<SectionAddress>) -> Option<u64>
     }
 }
 
-/// The place of a symbol at an offset in an input section.
+/// The place of a symbol at an offset in an input section in this place.
 #[inline(always)]
-fn standing_in(
-    indexed_layout: &IndexedLayout,
-    key: SectionKey,
-    offset: u64,
-) -> Result<Standing, NoMemory>
-    ensures { IfOk result (λ x. (project : Project) (layout : Layout)
-        → IsIndexedLayout project layout indexed_layout.now
+fn standing_at(place: Option<SectionAddress>, offset: u64) -> Result<Standing, NoMemory>
+    ensures { IfOk result (λ x. (project : Project) (layout : Layout) (key : SectionKeyOf)
+        → IsSectionAddress project layout key place
         → IsPlaceIn layout (object_name project key.object.0) key.part offset x) }
 {
-    let place = indexed_layout.find(key);
     let section = header_at(place)?;
     Ok(Standing {
         value: address_from(start_at(place), offset),
@@ -126,47 +128,17 @@ fn standing_nowhere(value: SymbolValue) -> Standing
 }
 
 /// The place of a symbol of an object.
-fn standing_of(
-    indexed_layout: &IndexedLayout,
-    object: ObjectPlace,
-    symbol: &Symbol,
-) -> Result<Standing, NoMemory>
-    ensures { IfOk result (λ x. (project : Project) (layout : Layout)
-        → IsIndexedLayout project layout indexed_layout.now
-        → IsPlaceOf layout (object_name project object.0) symbol.now x) }
+#[inline(always)]
+fn standing_of(parts: ObjectParts<'_>, symbol: &Symbol) -> Result<Standing, NoMemory>
+    ensures { IfOk result (λ x. (project : Project) (layout : Layout) (indexed : IndexedLayoutOf)
+        → IsIndexedLayout project layout indexed → AreAddresses indexed parts.entry
+        → IsPlaceOf layout (object_name project parts.entry.place.0) symbol.now x) }
 {
     match symbol.place {
-        SymbolPlace::Section(number) => {
-            let part = Part::InTable(number);
-            standing_in(indexed_layout, SectionKey { object, part }, symbol.value)
-        }
+        SymbolPlace::Section(number) => standing_at(parts.address(number), symbol.value),
         SymbolPlace::Absolute => Ok(standing_nowhere(SymbolValue::Number(symbol.value))),
         SymbolPlace::Undefined => Ok(standing_nowhere(SymbolValue::Number(0))),
         SymbolPlace::Common => Ok(standing_nowhere(SymbolValue::NotDefined)),
-    }
-}
-
-/// The symbol of an entry, if there is such an entry.
-fn symbol_of(project: &ProjectView<'_>, entry: Entry<ObjectPlace>) -> Option<Symbol>
-    ensures { result ≡ symbol_of_entry project.now (entry_of (λ key. key) entry) }
-{
-    match project.object(entry.object) {
-        None => None,
-        Some(object) => match object.symbols().get(entry.symbol.0 as usize) {
-            None => None,
-            Some(symbol) => Some(*symbol),
-        },
-    }
-}
-
-/// The symbol of an object that defines a name, if one does.
-pub(crate) fn definition(project: &ProjectView<'_>, case: Case<ObjectPlace>) -> Option<Symbol>
-    ensures { result ≡ defining_symbol project.now case }
-{
-    match case {
-        Case::Strong(entry) | Case::Weak(entry) => symbol_of(project, entry),
-        Case::Common { .. } | Case::Script | Case::Provided => None,
-        Case::Undefined | Case::Duplicate => None,
     }
 }
 
@@ -180,21 +152,17 @@ pub(crate) fn bare_row(value: SymbolValue) -> NameRow
     }
 }
 
-/// The row of a name that an entry of an object defines, which has this symbol.
-fn entry_row(
-    indexed_layout: &IndexedLayout,
-    entry: Entry<ObjectPlace>,
-    symbol: Option<Symbol>,
-) -> Result<NameRow, NoMemory>
-    ensures { IfOk result (λ x. (project : Project) (layout : Layout)
-        → IsIndexedLayout project layout indexed_layout.now
-        → symbol ≡ symbol_of_entry project (entry_of (λ key. key) entry)
-        → shown_row x ≡ entry_row project layout (entry_of (λ key. key) entry)) }
+/// The row of a name that a symbol of this object defines.
+#[inline(always)]
+fn entry_row(parts: ObjectParts<'_>, symbol: SymbolIndex) -> Result<NameRow, NoMemory>
+    ensures { IfOk result (λ x. (project : Project) (layout : Layout) (indexed : IndexedLayoutOf)
+        → IsIndexedLayout project layout indexed → AreSymbols project parts.entry → AreAddresses indexed parts.entry
+        → shown_row x ≡ entry_row project layout (record { object = parts.entry.place.0; symbol = symbol.0 })) }
 {
-    match symbol {
+    match parts.symbols.get(symbol.0 as usize) {
         None => Ok(bare_row(SymbolValue::NotDefined)),
         Some(found) => {
-            let standing = standing_of(indexed_layout, entry.object, &found)?;
+            let standing = standing_of(parts, found)?;
             Ok(NameRow {
                 value: standing.value,
                 facts: SymbolFacts {
@@ -219,7 +187,7 @@ fn block_row(
 {
     let object = owner.object;
     let part = Part::InCommon(owner.symbol);
-    let standing = standing_in(indexed_layout, SectionKey { object, part }, 0)?;
+    let standing = standing_at(indexed_layout.find(SectionKey { object, part }), 0)?;
     Ok(NameRow {
         value: standing.value,
         facts: SymbolFacts {
@@ -240,22 +208,47 @@ pub(crate) fn given_value(given: Option<u64>) -> SymbolValue
     }
 }
 
-/// The row of a name, by its resolution, the symbol that defines it, and the value that the script gives it.
-pub(crate) fn name_row(
-    indexed_layout: &IndexedLayout,
+/// The object that defines a name with this resolution, if one does. It is looked up only if it is not that of `parts`.
+#[inline(always)]
+pub(crate) fn parts_for<'a>(
+    link: &LinkView<'a, '_>,
+    parts: ObjectParts<'a>,
     case: Case<ObjectPlace>,
-    symbol: Option<Symbol>,
-    given: Option<u64>,
-) -> Result<NameRow, NoMemory>
-    ensures { IfOk result (λ x. (project : Project) (layout : Layout) (name : List ℕ)
-        → IsIndexedLayout project layout indexed_layout.now → symbol ≡ defining_symbol project case
-        → given ≡ script_value layout name
-        → shown_row x ≡ decided_row project layout name (decision_of (λ key. key) case)) }
+) -> ObjectParts<'a>
+    requires symbols { AreSymbols link.now.project.now parts }
+    requires addresses { AreAddresses link.now.indexed_layout.now parts }
+    ensures object { AreFor case result }
+    ensures symbols { AreSymbols link.now.project.now result }
+    ensures addresses { AreAddresses link.now.indexed_layout.now result }
 {
     match case {
-        Case::Strong(entry) | Case::Weak(entry) => entry_row(indexed_layout, entry, symbol),
-        Case::Common { owner, size, .. } => block_row(indexed_layout, owner, size),
-        Case::Script | Case::Provided => Ok(bare_row(given_value(given))),
+        Case::Strong(entry) | Case::Weak(entry) => {
+            parts.or_of(link.project, link.indexed_layout, entry.object)
+        }
+        Case::Common { .. } | Case::Script | Case::Provided => parts,
+        Case::Undefined | Case::Duplicate => parts,
+    }
+}
+
+/// The row of the name of a key, by its resolution and the object that defines it, if one does. The value that the
+/// script gives the name is looked up only if the script defines it.
+#[inline(always)]
+pub(crate) fn name_row(
+    link: &LinkView<'_, '_>,
+    parts: ObjectParts<'_>,
+    case: Case<ObjectPlace>,
+    key: NameKey,
+) -> Result<NameRow, NoMemory>
+    requires object { AreFor case parts }
+    requires symbols { AreSymbols link.now.project.now parts }
+    requires addresses { AreAddresses link.now.indexed_layout.now parts }
+    ensures { IfOk result (λ x. (l : KnownLink) (name : List ℕ) → IsLinkView l link.now → l.name key.0 ≡ Some name
+        → shown_row x ≡ decided_row l.project l.layout name (decision_of (λ key. key) case)) }
+{
+    match case {
+        Case::Strong(entry) | Case::Weak(entry) => entry_row(parts, entry.symbol),
+        Case::Common { owner, size, .. } => block_row(link.indexed_layout, owner, size),
+        Case::Script | Case::Provided => Ok(bare_row(given_value(link.script_value(key)))),
         Case::Undefined | Case::Duplicate => Ok(bare_row(SymbolValue::NotDefined)),
     }
 }

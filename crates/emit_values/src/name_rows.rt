@@ -1,24 +1,19 @@
 //! What all names are in the output, each under its key.
 
-ghost use Rattle.std.specs.Prelude.{◌≡◌, ◌+◌, ◌<◌, ◌≤◌, IfOk, OnOk, length, map, vec_capacity};
+ghost use Rattle.std.specs.Prelude.{◌≡◌, IfOk};
 ghost use Rattle.emit_relocate.specs.KnownLink.{AreNameValues, KnownLink};
 ghost use Rattle.emit_values.specs.LinkView.{IsLinkView};
-ghost use Rattle.emit_values.specs.NameRows.{AreCasesFrom, AreLong, AreResolved, AreResolvedBelow, AreValuesBelow};
-ghost use Rattle.emit_values.specs.NameRows.{HaveRoom, IsCaseUnder, IsRowUnder, defining_symbol};
+ghost use Rattle.emit_values.specs.NameRows.{AreResolved, IsCaseUnder};
 
 use crate::link_view::LinkView;
-use crate::name_row::{NameRow, definition, name_row};
-use elfobj::symbol::Symbol;
+use crate::name_row::{NameRow, name_row, parts_for};
+use crate::object_parts::ObjectParts;
 use emit_relocate::link_info::LinkInfo;
 use emit_relocate::value::SymbolValue;
 use emit_text::definer::Definer;
 use ldmodel::memory::NoMemory;
 use ldmodel::names::{Case, NameKey, ObjectPlace};
-use ldmodel_project::view::ProjectView;
 use std::alloc::Global;
-
-/// How many names a block has.
-const BLOCK: usize = 128;
 
 /// What defines a name, and what it is in the output.
 #[derive(Clone, Copy, Debug)]
@@ -48,102 +43,8 @@ fn case_under(link: &LinkView<'_, '_>, key: NameKey) -> Case<ObjectPlace>
     }
 }
 
-/// What the names stand for whose keys are not below `first`, but below `end`.
-fn name_cases(
-    alloc: Global,
-    link: &LinkView<'_, '_>,
-    first: usize,
-    end: usize,
-) -> Result<Vec<Case<ObjectPlace>>, NoMemory>
-    requires { first ≤ end }
-    ensures count { IfOk result (λ cases. first + length cases.items ≡ end) }
-    ensures cases { IfOk result (λ cases. (l : KnownLink) → IsLinkView l link.now → AreCasesFrom l first cases.items) }
-{
-    let mut cases = Vec::with_capacity(alloc, end - first)?;
-    for key in first..end {
-        cases.push_reserved(case_under(link, NameKey(key)));
-    }
-    Ok(cases)
-}
-
-/// The symbols that define the names with these resolutions.
-fn definitions(
-    alloc: Global,
-    project: &ProjectView<'_>,
-    cases: &[Case<ObjectPlace>],
-) -> Result<Vec<Option<Symbol>>, NoMemory>
-    ensures { IfOk result (λ v. v.items ≡ map (defining_symbol project.now) cases.now) }
-{
-    let mut symbols = Vec::with_capacity(alloc, cases.len())?;
-    for case in cases {
-        symbols.push_reserved(definition(project, *case));
-    }
-    Ok(symbols)
-}
-
-/// The row of the name of a key, which stands for this case and which this symbol defines.
-#[inline(always)]
-fn row_under(
-    link: &LinkView<'_, '_>,
-    case: Case<ObjectPlace>,
-    symbol: Option<Symbol>,
-    key: NameKey,
-) -> Result<NameRow, NoMemory>
-    ensures { IfOk result (λ x. (l : KnownLink) → IsLinkView l link.now → IsCaseUnder l key.0 case
-        → symbol ≡ defining_symbol l.project case → IsRowUnder l key.0 x) }
-{
-    name_row(link.indexed_layout, case, symbol, link.script_value(key))
-}
-
-/// The end of the block of keys that begins with `first`, where all keys are below a limit.
-fn block_end(first: usize, limit: usize) -> usize
-    requires { first < limit }
-    ensures more { first < result }
-    ensures within { result ≤ limit }
-{
-    if limit - first <= BLOCK {
-        return limit;
-    }
-    first + BLOCK
-}
-
-/// Appends the rows and the values of the keys `first..end` to those of the keys below `first`. There is room for them.
-fn add_block(
-    alloc: Global,
-    link: &LinkView<'_, '_>,
-    first: usize,
-    end: usize,
-    rows: &mut Vec<ResolvedName>,
-    values: &mut Vec<SymbolValue>,
-) -> Result<(), NoMemory>
-    requires block { first ≤ end }
-    requires room { HaveRoom end rows.old values.old }
-    requires long { AreLong first rows.old values.old }
-    ensures long { OnOk result (AreLong end rows.new values.new) }
-    ensures rows_room { vec_capacity rows.new ≡ vec_capacity rows.old }
-    ensures values_room { vec_capacity values.new ≡ vec_capacity values.old }
-    ensures rows { OnOk result ((l : KnownLink) → IsLinkView l link.now → AreResolvedBelow l first rows.old.items
-        → AreResolvedBelow l end rows.new.items) }
-    ensures values { OnOk result ((l : KnownLink) → IsLinkView l link.now → AreValuesBelow l first values.old.items
-        → AreValuesBelow l end values.new.items) }
-{
-    let cases = name_cases(alloc, link, first, end)?;
-    let symbols = definitions(alloc, link.project, &cases)?;
-    for key in first..end {
-        let place = key - first;
-        let case = cases[place];
-        let row = row_under(link, case, symbols[place], NameKey(key))?;
-        let definer = Definer::of(case);
-        values.push_reserved(row.value);
-        rows.push_reserved(ResolvedName { definer, row });
-    }
-    Ok(())
-}
-
 /// What all names are. Keys are nearly in the order of the objects, so a pass over them reads memory nearly in its
-/// order. It goes block by block: first it looks up how the names of a block are resolved, then the symbols that define
-/// them, then their rows. So no look-up waits for one of another name, and each step finds in the cache what the step
-/// before it has read.
+/// order, and names of one object that stand side by side share its look-up.
 ///
 /// # Errors
 ///
@@ -155,11 +56,14 @@ pub(crate) fn name_rows(alloc: Global, link: &LinkView<'_, '_>) -> Result<NameRo
     let limit = link.name_limit();
     let mut values = Vec::with_capacity(alloc, limit)?;
     let mut rows = Vec::with_capacity(alloc, limit)?;
-    let mut first = 0;
-    while first < limit {
-        let end = block_end(first, limit);
-        add_block(alloc, link, first, end, &mut rows, &mut values)?;
-        first = end;
+    let mut parts = ObjectParts::of(link.project, link.indexed_layout, ObjectPlace(0));
+    for key in 0..limit {
+        let case = case_under(link, NameKey(key));
+        parts = parts_for(link, parts, case);
+        let row = name_row(link, parts, case, NameKey(key))?;
+        let definer = Definer::of(case);
+        values.push_reserved(row.value);
+        rows.push_reserved(ResolvedName { definer, row });
     }
     Ok(NameRows { rows, values })
 }
