@@ -48,7 +48,8 @@ pub address_of : (p : Project) (s : Layout) (indexed : IndexedLayout) (x : Objec
     → read ≡ slice_index_or x.addresses.now number.0 None
     → IsSectionAddress p s (table_key x.place number) read
 address_of p s indexed x number read starts are e =
-    subst (IsSectionAddress p s (table_key x.place number)) (sym (e ∙ are number)) (starts.places (table_key x.place number))
+    let key = table_key x.place number in
+    subst (IsSectionAddress p s key) (sym (e ∙ are number)) (starts.places key)
 
 module _ (p : Project) (s : Layout) (name : List ℕ) where
   -- what a name is that an entry of an object defines, strongly or weakly

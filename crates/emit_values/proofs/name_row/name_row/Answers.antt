@@ -24,7 +24,8 @@ returns-in-Common c =
     IfOk-weaker c.block_row.result _ _
     (λ x h l name v named.
     h l.project l.layout v.indexed_layout
-    ∙ ap (λ (k : Case ObjectPlace). decided_row l.project l.layout name (decision_of (λ key. key) k)) (sym c.in-Common.is))
+    ∙ ap (λ (k : Case ObjectPlace). decided_row l.project l.layout name (decision_of (λ key. key) k))
+    (sym c.in-Common.is))
     c.block_row.ensures
 
 pub returns-in-Script : goal.returns-in-Script
