@@ -1,5 +1,6 @@
 -- Lemmas of the crate.
 pub mod Appending
+pub mod Ends
 pub mod HexDigits
 pub mod MapLines
 pub mod Spelling

@@ -111,7 +111,7 @@ impl GrowingStrings {
             return self.push_long(text);
         }
         let begin = self.bytes.len() + self.last.len();
-        self.last.put(text);
+        self.last.put_name(text);
         let end = begin + text.len();
         self.spans.push(Span { begin, end })?;
         Ok(())

@@ -1,6 +1,6 @@
 //! Short parts of a text, put together beside it.
 
-ghost use Rattle.std.specs.Prelude.{◌≡◌, ◌≤◌, ◌++◌, ◌+◌, [], IfOk, OnOk, length, true};
+ghost use Rattle.std.specs.Prelude.{◌≡◌, ◌≤◌, ◌++◌, ◌+◌, [], IfOk, OnOk, cond, length, true};
 
 use std::alloc::AllocError;
 use std::marker::Model;
@@ -56,6 +56,41 @@ impl LineBuffer {
         let end = self.used + part.len();
         self.bytes[self.used..end].copy_from_slice(part);
         self.used = end;
+    }
+
+    /// Adds a part of N to 2 N bytes, for which there is room, by its first and its last N bytes, which are copied
+    /// without a call. Returns whether the part has such a length; if not, nothing is added.
+    #[inline(always)]
+    fn put_ends<const N: usize>(&mut self, part: &[u8]) -> bool
+        requires room { length self.old + length part.now ≤ 1024 }
+        requires short { N ≤ 16 }
+        ensures { self.new ≡ cond result (self.old ++ part.now) self.old }
+    {
+        let (Some(first), Some(last)) = (part.first_chunk::<N>(), part.last_chunk::<N>()) else {
+            return false;
+        };
+        if part.len() - N > N {
+            return false;
+        }
+        // copies of their own: so no test is made whether the ranges overlap
+        let (first, last) = (*first, *last);
+        let end = self.used + part.len();
+        self.bytes[self.used..self.used + N].copy_from_slice(&first);
+        self.bytes[end - N..end].copy_from_slice(&last);
+        self.used = end;
+        true
+    }
+
+    /// Adds a name, for which there is room. Most names are short.
+    #[inline(always)]
+    pub(crate) fn put_name(&mut self, name: &[u8])
+        requires { length self.old + length name.now ≤ 1024 }
+        ensures { self.new ≡ self.old ++ name.now }
+    {
+        if self.put_ends::<16>(name) || self.put_ends::<8>(name) || self.put_ends::<4>(name) {
+            return;
+        }
+        self.put(name);
     }
 
     /// Adds the bytes to a text, and begins anew. Fails if memory runs out.

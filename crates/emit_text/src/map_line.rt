@@ -85,22 +85,23 @@ fn put_number(lines: &mut LineBuffer, number: u64)
     lines.put(b" ");
 }
 
-/// The line of an input section that is too long to be put together beside the text.
+/// The line of an input section that is too long to be put together beside the text at once.
 fn put_long_piece_line(
     text: &mut Vec<u8>,
+    lines: &mut LineBuffer,
     start: u64,
     size: u64,
     names: &[u8],
 ) -> Result<(), AllocError>
-    ensures { OnOk result (text.new.items ≡ text.old.items ++ (piece_numbers start size ++ names.now)) }
+    ensures { OnOk result (text.new.items ++ lines.new
+        ≡ (text.old.items ++ lines.old) ++ (piece_numbers start size ++ names.now)) }
 {
-    text.extend_from_slice(b"piece ")?;
-    text.extend_from_slice(&hex_digits(start))?;
-    text.push(b' ')?;
-    text.extend_from_slice(&hex_digits(size))?;
-    text.push(b' ')?;
-    text.extend_from_slice(names)?;
-    Ok(())
+    lines.append(text, b"piece ")?;
+    lines.append(text, &hex_digits(start))?;
+    lines.append(text, b" ")?;
+    lines.append(text, &hex_digits(size))?;
+    lines.append(text, b" ")?;
+    lines.append(text, names)
 }
 
 /// `piece ADDRESS SIZE NAMES`, where the names are `OBJECT SECTION` with the end of the line.
@@ -116,49 +117,41 @@ pub(crate) fn put_piece_line(
         ≡ (text.old.items ++ lines.old) ++ (piece_numbers start size ++ names.now)) }
 {
     if !lines.make_room(text, names.len().saturating_add(PIECE_FRONT))? {
-        lines.move_to(text)?;
-        return put_long_piece_line(text, start, size, names);
+        return put_long_piece_line(text, lines, start, size, names);
     }
     lines.put(b"piece ");
     put_number(lines, start);
     put_number(lines, size);
-    lines.put(names);
+    lines.put_name(names);
     Ok(())
 }
 
-/// The value of a symbol, or dashes where it has none, and a space. There is room for them.
+/// The value of a symbol, or dashes where it has none.
 #[inline(always)]
-fn put_value(lines: &mut LineBuffer, value: Option<u64>)
-    requires { length lines.old + 17 ≤ 1024 }
-    ensures written { lines.new ≡ lines.old ++ (value_text value ++ 32 ∷ []) }
-    ensures length { length lines.new ≡ length lines.old + 17 }
+fn value_digits(value: Option<u64>) -> [u8; 16]
+    ensures { result ≡ value_text value }
 {
     match value {
-        Some(number) => put_number(lines, number),
-        None => lines.put(b"---------------- "),
+        Some(number) => hex_digits(number),
+        None => [b'-'; 16],
     }
 }
 
-/// The line of a symbol that is too long to be put together beside the text.
+/// The line of a symbol that is too long to be put together beside the text at once.
 fn put_long_symbol_line(
     text: &mut Vec<u8>,
+    lines: &mut LineBuffer,
     value: Option<u64>,
     name: &[u8],
     owner: &[u8],
 ) -> Result<(), AllocError>
-    ensures { OnOk result (text.new.items ≡ text.old.items ++ symbol_parts value name.now owner.now) }
+    ensures { OnOk result (text.new.items ++ lines.new
+        ≡ (text.old.items ++ lines.old) ++ symbol_parts value name.now owner.now) }
 {
-    text.extend_from_slice(b"symbol ")?;
-    match value {
-        Some(number) => text.extend_from_slice(&hex_digits(number))?,
-        None => text.extend_from_slice(b"----------------")?,
-    }
-    text.push(b' ')?;
-    text.extend_from_slice(name)?;
-    text.push(b' ')?;
-    text.extend_from_slice(owner)?;
-    text.push(b'\n')?;
-    Ok(())
+    lines.append(text, b"symbol ")?;
+    lines.append(text, &value_digits(value))?;
+    lines.append(text, b" ")?;
+    put_long_names(text, lines, name, owner)
 }
 
 /// `symbol VALUE NAME OWNER`
@@ -178,14 +171,14 @@ pub(crate) fn put_symbol_line(
         .saturating_add(owner.len())
         .saturating_add(SYMBOL_REST);
     if !lines.make_room(text, count)? {
-        lines.move_to(text)?;
-        return put_long_symbol_line(text, value, name, owner);
+        return put_long_symbol_line(text, lines, value, name, owner);
     }
     lines.put(b"symbol ");
-    put_value(lines, value);
-    lines.put(name);
+    lines.put(&value_digits(value));
     lines.put(b" ");
-    lines.put(owner);
+    lines.put_name(name);
+    lines.put(b" ");
+    lines.put_name(owner);
     lines.put(b"\n");
     Ok(())
 }
@@ -223,9 +216,9 @@ pub(crate) fn put_piece_names(
     if !lines.make_room(text, count.saturating_add(NAMES_REST))? {
         return put_long_names(text, lines, object, section);
     }
-    lines.put(object);
+    lines.put_name(object);
     lines.put(b" ");
-    lines.put(section);
+    lines.put_name(section);
     lines.put(b"\n");
     Ok(())
 }

@@ -13,11 +13,12 @@ returns c =
     let old = c.self.inside.bytes.items ++ c.self.inside.last in
     let new = c.make_room.new.text in
     let last = c.make_room.new.self in
-    let newer = c.put.new.self in
+    let newer = c.put_name.new.self in
     let same : new.items ++ last ≡ old = c.in_ok-make_room.ensures.same in
     let begin : c.len.result + c.len-2.result ≡ length (new.items ++ last) =
     omega (arith, c.len.ensures, c.len-2.ensures.is, new.ok.0, new.ok.1, length-append new.items last) in
-    let put : new.items ++ newer ≡ (new.items ++ last) ++ more = put_beside new.items last newer more c.put.ensures in
+    let put : new.items ++ newer ≡ (new.items ++ last) ++ more =
+    put_beside new.items last newer more c.put_name.ensures in
     let end : c.len.result + c.len-2.result + length more ≡ length (new.items ++ newer) =
     omega (arith, begin, ap length put, length-append (new.items ++ last) more) in
     ap (map (bytes_at (new.items ++ newer))) c.in_ok-push.ensures.items
