@@ -4,6 +4,7 @@ mod Kept
 mod Standings
 mod Ranges
 mod Columns
+mod Fixed
 mod Symbols
 mod Unmarked
 mod FoundSections

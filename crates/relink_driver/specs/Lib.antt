@@ -1,5 +1,6 @@
 pub mod Origins
 pub mod SectionLocation
+pub mod FixedOutputs
 pub mod LinkSnapshot
 pub mod DirtyObjects
 pub mod PreviousLink

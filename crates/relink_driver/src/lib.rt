@@ -3,9 +3,9 @@
 //!
 //! - `driver` over `passes`, `context`, `pass_error`: all passes of a link, in their order, over resolved names,
 //!   matches, and the previous link;
-//! - `link_snapshot`: what is kept of a link; `stayed_sections` over `stayed_column`: which input sections stayed, as
-//!   `emit_relocate` asks; `resume` over `row_changes` and `section_names`: the first row that differs; `dirty`: objects
-//!   with a symbol of another value;
+//! - `link_snapshot`: what is kept of a link; `stayed_sections` over `stayed_column` and `fixed_outputs`: which input
+//!   sections stayed, as `emit_relocate` asks; `resume` over `row_changes` and `section_names`: the first row that
+//!   differs; `dirty`: objects with a symbol of another value;
 //! - `in_place` over `outline`, `located`: the fast path, for a link that differs from the previous one only in the
 //!   contents of one object's sections;
 //! - `name_faults`: the fault lines of names; a link may end with them;
@@ -22,6 +22,7 @@ pub mod driver;
 pub mod exit_report;
 pub mod fault;
 pub mod file;
+mod fixed_outputs;
 pub mod from_files;
 mod from_scratch;
 mod in_place;

@@ -23,6 +23,7 @@ pub(crate) struct SectionLocation {
 
 /// The bytes in the file of an input section whose output section begins at `offset` of the file; an empty range if the
 /// output section has no file bytes. `None` if they begin past 2^64.
+#[inline(always)]
 #[tactic(auto, unfolding(crate::specs::SectionLocation::range_from))]
 fn range_from(section: &Placed, offset: u128, start: u64, size: u64) -> Option<FileRange>
     ensures { result ≡ range_from section.now offset start size }
@@ -43,6 +44,7 @@ fn range_from(section: &Placed, offset: u128, start: u64, size: u64) -> Option<F
 }
 
 /// The bytes in the file of the input section at this address; `None` if they begin past 2^64.
+#[inline(always)]
 pub(crate) fn range_at(link_layout: &LinkLayout, place: SectionAddress) -> Option<FileRange>
     ensures { result ≡ range_at link_layout.now place }
 {
@@ -53,6 +55,7 @@ pub(crate) fn range_at(link_layout: &LinkLayout, place: SectionAddress) -> Optio
 }
 
 /// The location of the input section at this address; `None` if its bytes in the file begin past 2^64.
+#[inline(always)]
 fn location_at(link_layout: &LinkLayout, address: SectionAddress) -> Option<SectionLocation>
     ensures { result ≡ location_of link_layout.now address }
 {
@@ -78,6 +81,7 @@ pub(crate) fn find_location(
 
 /// The bytes in the file of an input section that is at `now` and was at `before` in the previous link, if it stayed.
 /// Most sections that did not are at another address: their file ranges are not computed.
+#[inline(always)]
 pub(crate) fn range_if_stayed(
     previous: &LinkLayout,
     before: SectionAddress,

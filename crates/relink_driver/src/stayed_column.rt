@@ -1,15 +1,18 @@
 //! Which sections of the objects of a link stayed where the previous link has them: found once, for all of them.
 
-ghost use Rattle.std.specs.Prelude.{◌≡◌, IfOk, None, OnOk, Some, is_some, slice_index_or};
+ghost use Rattle.std.specs.Prelude.{◌≡◌, ◌&&◌, IfOk, None, OnOk, Some, is_some, false, slice_index_or};
+ghost use Rattle.relink_driver.specs.FixedOutputs.{AreFixedOutputs, same_address};
 ghost use Rattle.relink_driver.specs.PreviousLink.{previous_of, previous_state};
 ghost use Rattle.relink_driver.specs.StayedColumn.{IsRowAdded, IsStayedColumn, flag_of, kept_between, kept_number};
 ghost use Rattle.relink_driver.specs.StayedColumn.{stays_in};
 
+use crate::fixed_outputs::fixed_outputs;
 use crate::section_location::range_if_stayed;
 use crate::stayed_sections::PreviousView;
 use elfobj::section::SectionIndex;
 use ldmodel::memory::NoMemory;
 use ldmodel::names::ObjectPlace;
+use ldmodel::placed::OutputIndex;
 use place::LinkLayout;
 use place::indexed_layout::{IndexedLayout, SectionAddress};
 use std::alloc::Global;
@@ -33,13 +36,68 @@ pub(crate) struct StayedColumn {
     flags: Vec<bool>,
 }
 
+/// Whether two addresses are the same.
+#[inline(always)]
+fn is_same_address(before: SectionAddress, now: SectionAddress) -> bool
+    ensures { result ≡ same_address before now }
+{
+    before.start == now.start && before.size == now.size && before.section == now.section
+}
+
+/// The flag of an output section; not set past the end of the list.
+#[inline(always)]
+fn is_set(fixed: &[bool], section: OutputIndex) -> bool
+    ensures { result ≡ slice_index_or fixed.now section.0 false }
+{
+    fixed.get(section.0 as usize).copied().unwrap_or(false)
+}
+
+/// Whether an input section is at the same address in both links, in an output section whose flag is set.
+#[inline(always)]
+fn is_at_fixed(before: SectionAddress, now: SectionAddress, fixed: &[bool]) -> bool
+    ensures { result ≡ (same_address before now && slice_index_or fixed.now now.section.0 false) }
+{
+    is_same_address(before, now) && is_set(fixed, now.section)
+}
+
+/// The address that an input section starts at.
+fn start_of(address: SectionAddress) -> u64
+    ensures { result ≡ address.start }
+{
+    address.start
+}
+
+/// Whether an input section that is at `now` and was at `before` in the previous link stayed. `fixed` says of each
+/// output section whether it is known to start where it did. File ranges are computed only in the others.
+#[inline(always)]
+fn has_same_place(
+    previous: &LinkLayout,
+    before: SectionAddress,
+    link_layout: &LinkLayout,
+    now: SectionAddress,
+    fixed: &[bool],
+) -> bool
+    requires fixed { AreFixedOutputs previous.now link_layout.now fixed.now }
+    ensures { result ≡ is_some (kept_between previous.now (Some before) link_layout.now (Some now)) }
+{
+    // for the prover: brings in that an address fits a u64
+    let _start = start_of(now);
+    if is_at_fixed(before, now, fixed) {
+        return true;
+    }
+    range_if_stayed(previous, before, link_layout, now).is_some()
+}
+
 /// Whether an input section that is at `now` and was at `before` in the previous link stayed, if it was in both.
+#[inline(always)]
 fn is_stayed(
     previous: &LinkLayout,
     before: Option<SectionAddress>,
     link_layout: &LinkLayout,
     now: Option<SectionAddress>,
+    fixed: &[bool],
 ) -> bool
+    requires fixed { AreFixedOutputs previous.now link_layout.now fixed.now }
     ensures { result ≡ is_some (kept_between previous.now before link_layout.now now) }
 {
     let Some(before) = before else {
@@ -48,10 +106,11 @@ fn is_stayed(
     let Some(now) = now else {
         return false;
     };
-    range_if_stayed(previous, before, link_layout, now).is_some()
+    has_same_place(previous, before, link_layout, now, fixed)
 }
 
 /// The address of a section by its header number; none past the end of the list.
+#[inline(always)]
 fn address_at(addresses: &[Option<SectionAddress>], number: usize) -> Option<SectionAddress>
     ensures { result ≡ slice_index_or addresses.now number None }
 {
@@ -64,15 +123,17 @@ fn add_flags(
     before: &[Option<SectionAddress>],
     link_layout: &LinkLayout,
     now: &[Option<SectionAddress>],
+    fixed: &[bool],
     flags: &mut Vec<bool>,
 ) -> Result<(), NoMemory>
+    requires fixed { AreFixedOutputs previous.now link_layout.now fixed.now }
     ensures { OnOk result (IsRowAdded (λ k. is_some (kept_between previous.now (slice_index_or before.now k None)
         link_layout.now (slice_index_or now.now k None))) flags.old.items flags.new.items) }
 {
     for number in 0..now.len() {
         let stood = address_at(before, number);
         let lies = address_at(now, number);
-        flags.push(is_stayed(previous, stood, link_layout, lies))?;
+        flags.push(is_stayed(previous, stood, link_layout, lies, fixed))?;
     }
     Ok(())
 }
@@ -83,8 +144,11 @@ fn add_object(
     previous: &PreviousView<'_>,
     indexed_layout: &IndexedLayout,
     object: ObjectPlace,
+    fixed: &[bool],
     flags: &mut Vec<bool>,
 ) -> Result<(), NoMemory>
+    requires fixed { AreFixedOutputs previous.now.snapshot.now.indexed_layout.link_layout
+        indexed_layout.now.link_layout fixed.now }
     ensures { OnOk result (IsRowAdded (kept_number (previous_state previous.now) indexed_layout.now object.0)
         flags.old.items flags.new.items) }
 {
@@ -99,6 +163,7 @@ fn add_object(
         before,
         &indexed_layout.link_layout,
         now,
+        fixed,
         flags,
     )?;
     Ok(())
@@ -113,11 +178,19 @@ fn column_beside(
     ensures { IfOk result (IsStayedColumn (Some (previous_state previous.now)) indexed_layout.now) }
 {
     let objects = previous.from.len();
+    let stood = &previous.snapshot.indexed_layout;
+    let fixed = fixed_outputs(alloc, &stood.link_layout, &indexed_layout.link_layout)?;
     let mut rows = Vec::with_capacity(alloc, objects)?;
     let mut flags = Vec::new(alloc);
     for place in 0..objects {
         let begin = flags.len();
-        add_object(previous, indexed_layout, ObjectPlace(place), &mut flags)?;
+        add_object(
+            previous,
+            indexed_layout,
+            ObjectPlace(place),
+            &fixed,
+            &mut flags,
+        )?;
         let count = flags.len() - begin;
         rows.push(FlagRow { begin, count })?;
     }
@@ -147,7 +220,7 @@ impl StayedColumn {
     }
 
     /// The flag at a place in the row of an object.
-    #[inline]
+    #[inline(always)]
     fn flag(&self, row: FlagRow, number: usize) -> bool
         ensures { result ≡ flag_of self.now.flags.items row number }
     {
@@ -161,7 +234,7 @@ impl StayedColumn {
     }
 
     /// Whether a section of an object stayed.
-    #[inline]
+    #[inline(always)]
     pub(crate) fn has_stayed(&self, object: ObjectPlace, section: SectionIndex) -> bool
         ensures { result ≡ stays_in self.now object.0 section.0 }
     {

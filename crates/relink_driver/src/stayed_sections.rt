@@ -105,6 +105,7 @@ impl<'a> StayedSections<'a> {
     }
 
     /// The bytes in the file of an input section that stayed, by what both links have of it.
+    #[inline(never)]
     fn find_range(&self, section: SectionKey) -> Option<FileRange>
         ensures { result ≡ range_of self.now section }
     {
@@ -116,6 +117,7 @@ impl<'a> StayedSections<'a> {
     }
 
     /// Whether an input section stayed. For a section of an object this is read from the column.
+    #[inline(always)]
     fn is_known(&self, section: SectionKey) -> bool
         ensures { result ≡ is_some (range_of self.now section) }
     {
@@ -160,6 +162,7 @@ impl<'a> PreviousLinkInfo for StayedSections<'a> {
         range_at(&self.indexed_layout.link_layout, now)
     }
 
+    #[inline(always)]
     fn has_stayed(&self, section: SectionKey) -> bool {
         self.is_known(section)
     }
