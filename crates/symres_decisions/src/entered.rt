@@ -32,6 +32,16 @@ fn definition_count(objects: &[KeyedObject<'_>]) -> usize {
     count
 }
 
+/// Makes ready for these objects, as far as there is memory for it, so that entering them is quicker.
+fn expect_all(names: &mut Names, objects: &[KeyedObject<'_>])
+    ensures { names.new ≡ names.old }
+{
+    names.expect(definition_count(objects));
+    for keyed in objects {
+        names.expect_entries(keyed.object);
+    }
+}
+
 /// The names of these objects, in the order in which they became known.
 ///
 /// # Errors
@@ -46,7 +56,7 @@ pub fn enter_all(
     ensures objects { IfOk result (λ names. names.objects ≡ tables_of objects.now) }
 {
     let mut names = Names::new(alloc, seed);
-    names.expect(definition_count(objects));
+    expect_all(&mut names, objects);
     for (place, keyed) in objects.iter().enumerate() {
         names.add(keyed.key, place, keyed.object)?;
     }

@@ -2,6 +2,7 @@
 
 ghost use Rattle.std.specs.Prelude.{◌+◌, ◌≤◌, length};
 
+use crate::expected::Expected;
 use crate::symbol::is_visible;
 use elfobj::Object;
 use elfobj::relocation::SymbolIndex;
@@ -39,6 +40,8 @@ pub struct Hints {
     found: Vec<Hint>,
     // whether there were places to be found then
     is_told: bool,
+    // how many entries names are going to have
+    expected: Expected,
 }
 
 fn word_at(name: &[u8], at: usize) -> u64
@@ -175,6 +178,7 @@ impl Hints {
             count: 0,
             found: Vec::new(alloc),
             is_told: false,
+            expected: Expected::new(alloc),
         }
     }
 
@@ -183,6 +187,26 @@ impl Hints {
         let count = lines_for(names);
         if count > self.lines.len() {
             self.widen(count);
+        }
+        self.expected.expect(count);
+    }
+
+    /// Counts the entries that the names of an object are going to have.
+    pub fn expect_entries(&mut self, object: &Object) {
+        for number in 0..object.symbols().len() {
+            if is_visible(&object.symbols()[number]) {
+                let hash = hash_of(object.name_of(SymbolIndex(number as u32)));
+                self.expected.count(hash);
+            }
+        }
+    }
+
+    /// How many entries were counted for the name of a symbol, which is asked once. `symbol` is the number of non-local
+    /// symbols of its object before it.
+    pub fn take_entries(&mut self, symbol: usize) -> usize {
+        match self.found.get(symbol) {
+            Some(hint) => self.expected.take(hint.hash),
+            None => 0,
         }
     }
 
@@ -253,6 +277,7 @@ impl Hints {
     pub fn clear(&mut self) {
         self.lines = Vec::new(*self.lines.allocator());
         self.count = 0;
+        self.expected.clear();
     }
 
     /// Keeps half of the room free, if there is memory for it.

@@ -5,9 +5,10 @@
 //! - `name_table` with `hashing`, `name_order` over `prefix_key`: names and their numbers; `objects`, `rows`, `places`:
 //!   entries by object, by name and by place;
 //! - `lists` with `hints`, `repeats`, `symbol`: the symbols of an object that is entered, and guesses of the indices of
-//!   their names; `law`: what can be entered again.
+//!   their names; `expected`: how many entries names are going to have; `law`: what can be entered again.
 #![tactic(auto)]
 
+mod expected;
 mod hashing;
 mod hints;
 pub mod law;

@@ -102,14 +102,37 @@ impl Model for Names {
     ghost invariant = { λ a. IsJoined a.known.slots a.objects.objects (vec_len a.spare) (vec_capacity a.spare) };
 }
 
+/// Makes a row for the name of a symbol, with room for the entries that it is likely to get. `symbol` is the number of
+/// non-local symbols of its object before it.
+#[tactic(auto, using(crate::proofs::Ready::grows_refl, crate::proofs::Ready::grows_trans))]
+fn grow_row(
+    objects: &mut Objects,
+    name: usize,
+    symbol: usize,
+    hints: &mut Hints,
+) -> Result<(), NoMemory>
+    ensures same { GrowsRoom objects.old objects.new }
+    ensures ok { OnOk result (name < length objects.new.room) }
+{
+    objects.grow(name)?;
+    if objects.is_bare(name) {
+        objects.widen(name, hints.take_entries(symbol));
+    }
+    Ok(())
+}
+
 /// Makes rows for the names of these symbols.
 #[tactic(auto, using(crate::proofs::Ready::grows_refl, crate::proofs::Ready::grows_trans))]
-fn grow_rows(objects: &mut Objects, symbols: &[Numbered]) -> Result<(), NoMemory>
+fn grow_rows(
+    objects: &mut Objects,
+    symbols: &[Numbered],
+    hints: &mut Hints,
+) -> Result<(), NoMemory>
     ensures same { GrowsRoom objects.old objects.new }
     ensures ok { OnOk result (All (λ (s : Numbered). s.name < length objects.new.room) symbols.now) }
 {
-    for symbol in symbols {
-        objects.grow(symbol.name)?;
+    for (at, symbol) in symbols.iter().enumerate() {
+        grow_row(objects, symbol.name, at, hints)?;
     }
     Ok(())
 }
@@ -133,7 +156,7 @@ fn make_ready(
     list.clear();
     list.reserve(object.symbols().len())?;
     number_new(known, object, list, repeats, hints)?;
-    grow_rows(objects, list)?;
+    grow_rows(objects, list, hints)?;
     objects.reserve(list)
 }
 
@@ -374,6 +397,14 @@ impl Names {
         self.known.expect(names);
         self.objects.expect(names);
         self.hints.expect(names);
+    }
+
+    /// Counts the entries that the names of an object are going to have, so that there is room for all at once when it
+    /// and others are entered. The names of all of them were expected.
+    pub fn expect_entries(&mut self, object: &Object)
+        ensures { self.new ≡ self.old }
+    {
+        self.hints.expect_entries(object);
     }
 
     /// Gives the memory back that serves to enter many objects one after the other.

@@ -12,7 +12,7 @@ ghost use Rattle.symres_table.specs.declared.symbol.Declared.{Declared};
 ghost use Rattle.symres_table.specs.declared.symbol.Numbered.{Numbered};
 
 use crate::places::{PlacedKey, count_below, find, make_gap, move_down};
-use crate::rows::{add_all, grow_to, remove_all, reserve_all};
+use crate::rows::{add_all, grow_to, remove_all, reserve_all, widen};
 use crate::symbol::{Declared, Numbered};
 use ldmodel::names::{ObjectKey, ObjectPlace};
 use std::alloc::{AllocError, Global};
@@ -174,6 +174,22 @@ impl Objects {
         ensures same { GrowsRoom self.old self.new }
     {
         grow_to(&mut self.rows, name)
+    }
+
+    /// Whether no entry of a name has room yet.
+    pub fn is_bare(&self, name: usize) -> bool {
+        match self.rows.get(name) {
+            Some(row) => row.capacity() == 0,
+            None => true,
+        }
+    }
+
+    /// Makes room for this many more entries of a name, if there is memory for it.
+    pub fn widen(&mut self, name: usize, entries: usize)
+        requires { name < length self.old.room }
+        ensures { GrowsRoom self.old self.new }
+    {
+        widen(&mut self.rows, name, entries);
     }
 
     /// Makes room for an object with these symbols, none of them local.

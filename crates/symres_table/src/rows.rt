@@ -399,6 +399,17 @@ pub fn reserve_all(table: &mut Vec<Vec<Declared>>, symbols: &[Numbered]) -> Resu
     Ok(())
 }
 
+/// Makes room in a row for this many more entries, if there is memory for it.
+pub fn widen(table: &mut Vec<Vec<Declared>>, name: usize, entries: usize)
+    requires { name < length table.old.items }
+    ensures { RowsGrow table.old.items table.new.items }
+{
+    match table[name].reserve_exact(entries) {
+        Ok(()) => {}
+        Err(_refused) => {}
+    }
+}
+
 /// Makes empty rows up to a number.
 pub fn grow_to(table: &mut Vec<Vec<Declared>>, name: usize) -> Result<(), AllocError>
     ensures same { RowsGrow table.old.items table.new.items }

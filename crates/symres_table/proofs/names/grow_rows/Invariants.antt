@@ -4,8 +4,8 @@ use Rattle.symres_table.specs.declared.symbol.Numbered.{Numbered}
 use Rattle.symres_table.specs.Objects.{GrowsRoom}
 use Rattle.symres_table.proofs.names.grow_rows.Given as goal
 
-abbrev pub invariant-loop-symbol : goal.invariant-loop-symbol
-invariant-loop-symbol l = record {
+abbrev pub invariant-loop-at : goal.invariant-loop-at
+invariant-loop-at l = record {
   grow : GrowsRoom l.fn.objects l.objects;
-  within : All (λ (s : Numbered). s.name < length l.objects.room) (take l.symbol-index l.symbols);
+  within : All (λ (s : Numbered). s.name < length l.objects.room) (take l.at l.symbols);
 }

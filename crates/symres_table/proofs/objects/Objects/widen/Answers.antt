@@ -1,0 +1,29 @@
+use Rattle.std.proofs.Common.{arith, Vec, Global, refl}
+use Rattle.std.specs.Vec.{vec_capacity}
+use Rattle.std.proofs.lemmas.List.{length-map}
+use Rattle.symres_table.specs.declared.symbol.Declared.{Declared}
+use Rattle.symres_table.proofs.Growing.{kept_grown, room_grown}
+use Rattle.symres_table.proofs.objects.Objects.widen.Goals as goal
+
+pub invariant_of-self : goal.invariant_of-self
+invariant_of-self c =
+    kept_grown c.self.inside.order.items c.self.inside.rows.items c.widen.new.table.items c.self.inside.places.items
+    c.self.invariant c.widen.ensures
+
+pub returns : goal.returns
+returns c =
+    let a = c.self.inside in
+    let rows = a.rows.items in
+    let rows' = c.widen.new.table.items in
+    rw (← c.self.view_is) record {
+      objects = refl;
+      rows = omega (
+        arith,
+        c.widen.ensures.long,
+        length-map rows (λ (v : Vec Declared Global). vec_capacity v),
+        length-map rows' (λ (v : Vec Declared Global). vec_capacity v),
+      );
+      room = room_grown rows rows' c.widen.ensures;
+      order = omega arith;
+      places = omega arith;
+    }
