@@ -1,0 +1,5 @@
+use Rattle.std.proofs.Common.{◌≡◌}
+use Rattle.symres_decisions.proofs.entered.expect_all.Given as goal
+
+abbrev pub invariant-loop-keyed : goal.invariant-loop-keyed
+invariant-loop-keyed l = l.names ≡ l.fn.names
