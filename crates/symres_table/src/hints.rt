@@ -3,6 +3,7 @@
 ghost use Rattle.std.specs.Prelude.{◌+◌, ◌≤◌, length};
 
 use crate::expected::Expected;
+use crate::name_table::NameTable;
 use crate::symbol::is_visible;
 use elfobj::Object;
 use elfobj::relocation::SymbolIndex;
@@ -22,6 +23,10 @@ type Line = [Hint; 8];
 
 /// How many lines there are at first.
 const FIRST_LINES: usize = 16;
+
+/// How many places for counts of entries there are for each line of hints: eight or more for a name, so that few names
+/// share one.
+const PLACES_A_LINE: usize = 32;
 
 /// From how many bytes on a name is hashed by its first and its last bytes alone, and by how many of each.
 const LONG: usize = 64;
@@ -129,14 +134,12 @@ fn lines_for(hints: usize) -> usize {
         .max(FIRST_LINES)
 }
 
-/// The place that a line has for a hash, from 1, or 0 if there is none. The line is read to its end, so that a
-/// processor need not predict where the hash is.
+/// The place that a line has for a hash, from 1, or 0 if there is none. If there are several, it is of no use. The line
+/// is read to its end without a branch, so that a processor need not predict where the hash is.
 fn place_on(line: &Line, hash: u32) -> u32 {
     let mut place = 0;
     for hint in line.iter() {
-        if hint.hash == hash {
-            place = hint.place;
-        }
+        place |= hint.place.wrapping_mul((hint.hash == hash) as u32);
     }
     place
 }
@@ -188,7 +191,7 @@ impl Hints {
         if count > self.lines.len() {
             self.widen(count);
         }
-        self.expected.expect(count);
+        self.expected.expect(count.saturating_mul(PLACES_A_LINE));
     }
 
     /// Counts the entries that the names of an object are going to have.
@@ -227,11 +230,16 @@ impl Hints {
         Ok(())
     }
 
-    /// How many of the names that were looked up last have a likely place.
-    pub fn found(&self) -> usize {
+    /// How many of the names that were looked up last have a likely place. The first byte of each name there is read:
+    /// little else is done for it, so that a processor waits for the memory of many at once, and has the names when
+    /// they are compared. No name has a zero byte.
+    pub fn found(&self, known: &NameTable) -> usize {
         let mut count: usize = 0;
         for hint in self.found.iter() {
-            count = count.saturating_add((hint.place > 0) as usize);
+            if hint.place > 0 {
+                let first = known.first_byte(hint.place as usize - 1);
+                count = count.saturating_add((first != Some(0)) as usize);
+            }
         }
         count
     }

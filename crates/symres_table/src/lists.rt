@@ -441,7 +441,7 @@ fn number_hinted(
 ) -> Result<Vec<Numbered>, AllocError>
     ensures { IfOk result (λ list. AreOf known.now.slots object.now.symbols list.items) }
 {
-    let mut list = Vec::with_capacity(known.allocator(), hints.found())?;
+    let mut list = Vec::with_capacity(known.allocator(), hints.found(known))?;
     let mut seen: usize = 0;
     for number in 0..object.symbols().len() {
         if is_visible(&object.symbols()[number]) {

@@ -205,6 +205,15 @@ impl NameTable {
         }
     }
 
+    /// The first byte of the name at an index of the list of names, if it has one.
+    #[inline(always)]
+    pub fn first_byte(&self, place: usize) -> Option<u8> {
+        match self.numbers.get_index(place) {
+            Some((key, _number)) => key.first().copied(),
+            None => None,
+        }
+    }
+
     /// The number of a name, if it is the one at an index of the list of names.
     #[inline(always)]
     pub fn number_if(&self, place: usize, name: &[u8]) -> Option<usize>
