@@ -123,11 +123,7 @@ fn grow_row(
 
 /// Makes rows for the names of these symbols.
 #[tactic(auto, using(crate::proofs::Ready::grows_refl, crate::proofs::Ready::grows_trans))]
-fn grow_rows(
-    objects: &mut Objects,
-    symbols: &[Numbered],
-    hints: &mut Hints,
-) -> Result<(), NoMemory>
+fn grow_rows(objects: &mut Objects, symbols: &[Numbered], hints: &mut Hints) -> Result<(), NoMemory>
     ensures same { GrowsRoom objects.old objects.new }
     ensures ok { OnOk result (All (λ (s : Numbered). s.name < length objects.new.room) symbols.now) }
 {
