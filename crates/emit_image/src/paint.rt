@@ -72,24 +72,7 @@ fn write_fill(canvas: &mut Canvas, at: usize, n: usize, pattern: &[u8], meter: &
 /// cache when the bytes of the image are written over it.
 const BLOCK: usize = 65_536;
 
-/// Adds zeros to a canvas of at most `most` bytes: a block of them, or as many as make it `least` bytes long.
-#[inline(never)]
-fn grow(canvas: &mut Canvas, least: usize, most: usize)
-    requires order { least ≤ most }
-    requires short { length canvas.old.bytes ≤ most }
-    requires room { most ≤ canvas.old.room }
-    ensures reached { least ≤ length canvas.new.bytes }
-    ensures grown { length canvas.old.bytes ≤ length canvas.new.bytes }
-    ensures short { length canvas.new.bytes ≤ most }
-    ensures same { (o : ℕ) → slice_index canvas.new.bytes o ≡ slice_index canvas.old.bytes o }
-    ensures room { canvas.old.room ≤ canvas.new.room }
-{
-    let len = canvas.len();
-    canvas.resize_reserved(len.saturating_add(BLOCK).max(least).min(most));
-}
-
 /// Makes a canvas of at most `most` bytes at least `least` long, by zeros.
-#[inline(always)]
 pub(crate) fn grow_to(canvas: &mut Canvas, least: usize, most: usize)
     requires order { least ≤ most }
     requires short { length canvas.old.bytes ≤ most }
@@ -100,8 +83,9 @@ pub(crate) fn grow_to(canvas: &mut Canvas, least: usize, most: usize)
     ensures same { (o : ℕ) → slice_index canvas.new.bytes o ≡ slice_index canvas.old.bytes o }
     ensures room { canvas.old.room ≤ canvas.new.room }
 {
-    if canvas.len() < least {
-        grow(canvas, least, most);
+    let len = canvas.len();
+    if len < least {
+        canvas.resize_reserved(len.saturating_add(BLOCK).max(least).min(most));
     }
 }
 

@@ -74,8 +74,8 @@ fn paint_next_data(
 }
 
 /// Writes the data commands to come that start below `below`. The input sections to come start at `below` or later.
-#[inline(never)]
-fn paint_waiting_data(
+#[inline(always)]
+fn paint_data_before(
     canvas: &mut Canvas,
     limit: usize,
     x: &ImageSection<'_>,
@@ -106,35 +106,6 @@ fn paint_waiting_data(
     now
 }
 
-/// Does the same as `paint_waiting_data`. Most output sections have no data command.
-#[inline(always)]
-fn paint_data_before(
-    canvas: &mut Canvas,
-    limit: usize,
-    x: &ImageSection<'_>,
-    cursor: SectionCursor,
-    below: u64,
-    meter: &mut Meter,
-) -> SectionCursor
-    requires orderly { IsOrderly x.now }
-    requires reached { IsReached x.now cursor.pieces cursor.data_commands cursor.at }
-    requires ready { IsReady limit canvas.old }
-    requires within { x.now.offset + x.now.size ≤ limit }
-    requires pieces { PiecesFrom x.now cursor.pieces below }
-    ensures reached { IsReached x.now result.pieces result.data_commands result.at }
-    ensures pieces { result.pieces ≡ cursor.pieces }
-    ensures data_commands { DataFrom x.now result.data_commands below }
-    ensures up { cursor.at ≤ result.at }
-    ensures ready { IsReady limit canvas.new }
-    ensures painted { IsPainted canvas.old.bytes canvas.new.bytes meter.old meter.new (place_of x.now cursor.at)
-        (place_of x.now result.at) (section_image x.now) }
-{
-    if cursor.data_commands >= x.data_commands.len() {
-        return cursor;
-    }
-    paint_waiting_data(canvas, limit, x, cursor, below, meter)
-}
-
 /// Writes the next input section, which is not empty, the data commands before it, and the gaps.
 fn paint_full_piece(
     canvas: &mut Canvas,
@@ -161,11 +132,10 @@ fn paint_full_piece(
     let now = paint_data_before(canvas, limit, x, cursor, piece.start, meter);
     let end = piece.start + piece.size;
     let from = place(x, piece.start);
-    let to = place(x, end);
     paint_fill(canvas, limit, place(x, now.at), from, x.fill, meter);
-    paint_piece(canvas, desk, limit, from, to, piece, meter);
+    paint_piece(canvas, desk, limit, from, place(x, end), piece, meter);
     SectionCursor {
-        pieces: cursor.pieces + 1,
+        pieces: now.pieces + 1,
         data_commands: now.data_commands,
         at: end,
     }

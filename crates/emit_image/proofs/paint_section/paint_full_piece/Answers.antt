@@ -1,4 +1,4 @@
-use Rattle.std.proofs.Common.{◌<◌, ◌≤◌, ℕ, get_or, subst, arith}
+use Rattle.std.proofs.Common.{◌+◌, ◌<◌, ◌≤◌, ℕ, get_or, sym, subst, arith}
 use Rattle.emit_image.specs.Drawing.{piece_byte, piece_end}
 use Rattle.emit_image.specs.Reached.{IsReached, place_of, section_image}
 use Rattle.emit_image.specs.declared.section.ImagePiece.{ImagePiece}
@@ -23,8 +23,8 @@ place-from-requires-clause-high c =
     c.requires.some in
     omega (arith, within)
 
-pub place-to-requires-clause-high : goal.place-to-requires-clause-high
-place-to-requires-clause-high c =
+pub place-requires-2-clause-high : goal.place-requires-2-clause-high
+place-requires-2-clause-high c =
     piece-within c.args.x.now c.args.cursor.pieces c.index-x-cursor.result c.requires.orderly c.requires.some
 
 pub paint_fill-requires-clause-within : goal.paint_fill-requires-clause-within
@@ -37,7 +37,7 @@ pub paint_piece-requires-clause-within : goal.paint_piece-requires-clause-within
 paint_piece-requires-clause-within c =
     let within = piece-within c.args.x.now c.args.cursor.pieces c.index-x-cursor.result c.requires.orderly
     c.requires.some in
-    omega (arith, within, c.place-to.ensures, c.requires.within)
+    omega (arith, within, c.place-2.ensures, c.requires.within)
 
 pub returns-clause-reached : goal.returns-clause-reached
 returns-clause-reached c =
@@ -48,8 +48,10 @@ returns-clause-reached c =
     let e = c.paint_data_before-now.ensures in
     let r : IsReached x k now.data_commands now.at =
     subst (λ (n : ℕ). IsReached x n now.data_commands now.at) e.pieces e.reached in
-    reached-piece x k now.data_commands now.at c.index-x-cursor.result q.orderly r q.some
-    (q.full c.index-x-cursor.result) e.data_commands
+    let after = reached-piece x k now.data_commands now.at c.index-x-cursor.result q.orderly r q.some
+    (q.full c.index-x-cursor.result) e.data_commands in
+    subst (λ (n : ℕ). IsReached x (n + 1) now.data_commands
+    (piece_end (get_or x.pieces.now k c.index-x-cursor.result))) (sym e.pieces) after
 
 pub returns-clause-painted : goal.returns-clause-painted
 returns-clause-painted c =
@@ -75,8 +77,8 @@ returns-clause-painted c =
     record { byte = piece_byte a y; stays = y.stays }) c.paint_data_before-now.new.canvas.bytes
     c.paint_fill.new.canvas.bytes c.paint_piece.new.canvas.bytes c.paint_data_before-now.new.meter
     c.paint_fill.new.meter c.paint_piece.new.meter
-    c.place.result c.place-from.result c.place-to.result r above up
+    c.place.result c.place-from.result c.place-2.result r above up
     (pieces-from x k c.index-x-cursor.result q.orderly q.some) e.data_commands
     (piece_spot x k now.data_commands now.at c.index-x-cursor.result q.orderly r q.some full e.data_commands)
-    c.place.ensures c.place-from.ensures c.place-to.ensures
+    c.place.ensures c.place-from.ensures c.place-2.ensures
     c.paint_fill.ensures.painted c.paint_piece.ensures.painted)
