@@ -25,4 +25,5 @@ pub mod Starting
 pub mod OwnWords
 pub mod Knowing
 mod Ranked
+pub mod SameInputs
 pub mod AllTaken

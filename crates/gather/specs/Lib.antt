@@ -9,6 +9,7 @@ pub mod Graphs
 pub mod LiveMarks
 pub mod Apart
 pub mod GatheredSections
+pub mod SameInputs
 pub mod SharedStarts
 pub mod NamedPieces
 pub mod RowPieces

@@ -32,6 +32,7 @@ mod referring;
 mod rooms;
 pub mod roots;
 pub mod rows;
+pub mod same_inputs;
 mod section_names;
 mod shared_start;
 mod sorting;

@@ -1,5 +1,7 @@
 //! Input statements: which sections of which files go here.
 
+ghost use Rattle.std.specs.Prelude.{◌≡◌, true};
+
 use crate::sequence::Sequence;
 use ldscript_terms::pattern::Pattern;
 
@@ -41,4 +43,55 @@ pub struct InputStatement {
     pub line: u32,
     /// What it takes.
     pub input: Input,
+}
+
+/// Whether two lists have the same patterns, one by one.
+fn are_same_patterns(one: &[Pattern], other: &[Pattern]) -> bool
+    ensures { result ≡ true → one.now ≡ other.now }
+{
+    if one.len() != other.len() {
+        return false;
+    }
+    for number in 0..one.len() {
+        if !one[number].is_same(&other[number]) {
+            return false;
+        }
+    }
+    true
+}
+
+/// Whether two words are written with the same patterns.
+fn is_same_word(one: &SectionWord, other: &SectionWord) -> bool
+    ensures { result ≡ true → one.now ≡ other.now }
+{
+    one.pattern.is_same(&other.pattern)
+        && are_same_patterns(one.excluded.as_slice(), other.excluded.as_slice())
+}
+
+/// Whether two lists have the same words, one by one.
+fn are_same_words(one: &[SectionWord], other: &[SectionWord]) -> bool
+    ensures { result ≡ true → one.now ≡ other.now }
+{
+    if one.len() != other.len() {
+        return false;
+    }
+    for number in 0..one.len() {
+        if !is_same_word(&one[number], &other[number]) {
+            return false;
+        }
+    }
+    true
+}
+
+impl Input {
+    /// Whether another statement takes the same sections of the same files in the same order, written with the same
+    /// patterns. It takes no memory.
+    pub fn is_same(&self, other: &Input) -> bool
+        ensures { result ≡ true → self.now ≡ other.now }
+    {
+        self.keep == other.keep
+            && self.sort == other.sort
+            && self.file.is_same(&other.file)
+            && are_same_words(self.sections.as_slice(), other.sections.as_slice())
+    }
 }

@@ -1,6 +1,6 @@
 //! A pattern of names.
 
-ghost use Rattle.std.specs.Prelude.{◌≡◌, ◌↔◌, ◌∷◌, [], ℕ, IsTrue, IfOk, IfSome, List, MatchOption, None, Some};
+ghost use Rattle.std.specs.Prelude.{◌≡◌, ◌↔◌, ◌∷◌, [], ℕ, IsTrue, IfOk, IfSome, List, MatchOption, None, Some, true};
 ghost use Rattle.ldscript_terms.specs.Parts.{Part, AnyRun};
 ghost use Rattle.ldscript_terms.specs.Forms.{IsForm, parts_in};
 ghost use Rattle.ldscript_terms.specs.Spelling.{SpellsPattern, IsPatternOf};
@@ -93,6 +93,21 @@ impl Pattern {
         match &self.form {
             Form::Exact(_) => false,
             Form::Wild(word) => is_star(word.as_bytes()),
+        }
+    }
+
+    /// Whether another pattern is written with the same bytes, and so matches the same names. It takes no memory.
+    pub fn is_same(&self, other: &Pattern) -> bool
+        ensures { result ≡ true → self.now ≡ other.now }
+    {
+        match (&self.form, &other.form) {
+            (Form::Exact(name), Form::Exact(of_other)) => {
+                is_same(name.as_bytes(), of_other.as_bytes())
+            }
+            (Form::Wild(word), Form::Wild(of_other)) => {
+                is_same(word.as_bytes(), of_other.as_bytes())
+            }
+            _ => false,
         }
     }
 }

@@ -3,7 +3,8 @@ use Rattle.std.proofs.Common.{◌≡◌, ◌∙◌, ◌≤◌, ℕ, List, [], �
 use Rattle.std.proofs.Common.{Option, Some, None, length, map, suc}
 use Rattle.std.proofs.Common.{refl, ap, sym, subst, arith}
 use Rattle.std.specs.List.{AllZip}
-use Rattle.std.specs.Prelude.{IfSome, is_some, unwrap_or}
+use Rattle.std.specs.Option.{option_map_or}
+use Rattle.std.specs.Prelude.{IfSome, MatchOption, Vec, is_some, unwrap_or}
 use Rattle.std.proofs.lemmas.List.{length-map}
 use Rattle.elfobj.specs.Symbols.{NamedSymbol}
 use Rattle.gather.specs.ProjectMatches.{IsMatched}
@@ -199,6 +200,31 @@ entries_stay entries s arranged edited =
     let next : List Listed = next_entries entries s in
     sym (filter_all next)
     ∙ (subst (λ (t : Option ℕ). unedited t next ≡ unedited t entries) edited arranged.others ∙ filter_all entries)
+
+-- matches under one script are matches under another, where each is
+zip_under : (one other : List Statement)
+    → ((object : NamedObject) (x : Matches) → IsMatched one object x → IsMatched other object x)
+    → (objects : List NamedObject) (ms : List Matches)
+    → AllZip (IsMatched one) objects ms → AllZip (IsMatched other) objects ms
+zip_under one other under [] [] zip = zip
+zip_under one other under [] (m ∷ ms) zip = zip
+zip_under one other under (o ∷ os) [] zip = zip
+zip_under one other under (o ∷ os) (m ∷ ms) zip = under o m zip.0 , zip_under one other under os ms zip.1
+
+-- the matches for the next script: new ones, or those that were there
+pub matches_renewed : (h : ProjectState) (s : Staged) (ms : List Matches) (found : Option (Vec Matches))
+    → ChangesOneObject h.contents.entries s.objects → edited_key s.objects.step ≡ None
+    → AllZip (IsMatched h.script) (objects_of h.contents.entries) ms
+    → MatchOption found ((object : NamedObject) (x : Matches)
+    → IsMatched h.script object x → IsMatched (next_listing h s).script object x)
+    (λ all. AllZip (IsMatched (next_listing h s).script) (objects_of (next_listing h s).entries) all.items)
+    → AllZip (IsMatched (next_listing h s).script) (objects_of (next_listing h s).entries)
+    (option_map_or (λ all. all.items) found ms)
+matches_renewed h s ms None arranged edited kept under =
+    subst (λ (es : List Listed). AllZip (IsMatched (next_listing h s).script) (objects_of es) ms)
+    (sym (entries_stay h.contents.entries s.objects arranged edited))
+    (zip_under h.script (next_listing h s).script under (objects_of h.contents.entries) ms kept)
+matches_renewed h s ms (Some all) arranged edited kept matched = matched
 
 -- what is kept after an edit of the script
 pub kept_scripted : (h : ProjectState) (s : Staged) (a b : SymbolTableState) (ms all : List Matches)

@@ -11,10 +11,10 @@ ghost use Rattle.ldscript.specs.statements.declared.statement.Statement.{Stateme
 
 use crate::change::{object_change, place_of};
 use crate::lent_link::LentLink;
-use crate::match_table::{match_under, swap_matches};
+use crate::match_table::{match_under, matches_if_other, put_back, put_new, swap_matches};
 use crate::previous::UpdateOutcome;
 use crate::session_link::link_next;
-use gather::matches::{Matches, match_all};
+use gather::matches::Matches;
 use ldmodel::memory::NoMemory;
 use ldmodel::meter::Meter;
 use ldmodel::names::ObjectKey;
@@ -136,8 +136,9 @@ impl LinkTables {
         }
     }
 
-    /// Updates the tables for an edit of no object, as one of the script, and links the next project. Fails if
-    /// memory runs out: then the tables are those of the project before the edit.
+    /// Updates the tables for an edit of no object, as one of the script, and links the next project. Objects are
+    /// matched anew only if the script has other input statements. Fails if memory runs out: then the tables are those
+    /// of the project before the edit.
     fn update_for_script(
         &mut self,
         alloc: Global,
@@ -154,24 +155,21 @@ impl LinkTables {
         ensures back { OnErr result (IsRolledBack project.now self.new canvas.old.bytes canvas.new.bytes) }
     {
         let next = project.next(staged);
-        let inputs = next.inputs(alloc)?;
-        let found = match_all(alloc, &next.view(&inputs))?;
-        let matches = VecDeque::from_vec(found);
+        let found = matches_if_other(alloc, project.script(), &next)?;
+        let before = put_new(&mut self.matches, found);
         self.symbol_table.redecide(next.script(), meter);
         match link_next(
             alloc,
             &next,
             &mut self.symbol_table,
-            &matches,
+            &self.matches,
             previous,
             canvas,
             meter,
         ) {
-            Ok(updated) => {
-                self.matches = matches;
-                Ok(updated)
-            }
+            Ok(updated) => Ok(updated),
             Err(refused) => {
+                put_back(&mut self.matches, before);
                 self.symbol_table.redecide(project.script(), meter);
                 Err(refused)
             }

@@ -1,17 +1,25 @@
 //! The matches of all objects, in the order of the objects.
 
-ghost use Rattle.std.specs.Prelude.{◌≡◌, ◌+◌, ◌<◌, ◌≤◌, IfOk, IfSome, map};
+ghost use Rattle.std.specs.Prelude.{◌≡◌, ◌+◌, ◌<◌, ◌≤◌, IfOk, IfSome, MatchOption, map};
+ghost use Rattle.std.specs.Option.{option_map_or};
 ghost use Rattle.std.specs.VecDeque.{deque_capacity, deque_len};
+ghost use Rattle.gather.specs.ProjectMatches.{AreMatched, IsMatched};
+ghost use Rattle.gather.specs.declared.matches.Matches.{Matches as MatchesOf};
+ghost use Rattle.ldmodel.specs.Project.{NamedObject};
 ghost use Rattle.ldmodel_project.specs.Listing.{found_under};
+ghost use Rattle.ldmodel_project.specs.ProjectState.{project_of};
 ghost use Rattle.relink.specs.Matches.{IsMatchedOr, exchanged, gone_at, put_at, taken_at};
 
 use gather::Matcher;
-use gather::matches::{Matches, match_object};
+use gather::matches::{Matches, match_all, match_object};
+use gather::same_inputs::have_same_inputs;
 use ldmodel::memory::NoMemory;
 use ldmodel::names::ObjectKey;
 use ldmodel_project::project::Next;
+use ldscript::Script;
 use std::alloc::Global;
 use std::collections::VecDeque;
+use std::mem;
 
 /// The matches of the object under a key of the next project, if there is one.
 ///
@@ -31,6 +39,52 @@ pub(crate) fn match_under(
     let matcher = Matcher::new(alloc, next.script())?;
     let matches = match_object(alloc, &matcher, named.name(), named.object())?;
     Ok(Some(matches))
+}
+
+/// The matches of all objects under the script of the next project; none if its input statements are those of the
+/// script before, under which no object is matched anew.
+///
+/// # Errors
+///
+/// If memory runs out.
+pub(crate) fn matches_if_other(
+    alloc: Global,
+    before: &Script,
+    next: &Next<'_>,
+) -> Result<Option<Vec<Matches>>, NoMemory>
+    ensures { IfOk result (λ found. MatchOption found ((object : NamedObject) (x : MatchesOf)
+        → IsMatched before.now object x → IsMatched next.now.script object x)
+        (λ all. AreMatched (project_of next.now) all.items)) }
+{
+    if have_same_inputs(alloc, before, next.script())? {
+        return Ok(None);
+    }
+    let inputs = next.inputs(alloc)?;
+    let found = match_all(alloc, &next.view(&inputs))?;
+    Ok(Some(found))
+}
+
+/// Puts new matches in the place of the list, if there are any, and returns the list that was there. It takes no memory.
+pub(crate) fn put_new(
+    list: &mut VecDeque<Matches>,
+    found: Option<Vec<Matches>>,
+) -> Option<VecDeque<Matches>>
+    ensures items { list.new.items ≡ option_map_or (λ all. all.items) found list.old.items }
+    ensures before { option_map_or (λ was. was.items) result list.new.items ≡ list.old.items }
+{
+    match found {
+        None => None,
+        Some(found) => Some(mem::replace(list, VecDeque::from_vec(found))),
+    }
+}
+
+/// Puts back a list that was replaced, if one was. It takes no memory.
+pub(crate) fn put_back(list: &mut VecDeque<Matches>, before: Option<VecDeque<Matches>>)
+    ensures { list.new.items ≡ option_map_or (λ was. was.items) before list.old.items }
+{
+    if let Some(before) = before {
+        *list = before;
+    }
 }
 
 /// The matches of all objects, lent for a link.
