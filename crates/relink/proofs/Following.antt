@@ -4,7 +4,8 @@ use Rattle.std.proofs.Common.{Option, Some, None, length, map, suc}
 use Rattle.std.proofs.Common.{refl, ap, sym, subst, arith}
 use Rattle.std.specs.List.{AllZip}
 use Rattle.std.specs.Option.{option_map_or}
-use Rattle.std.specs.Prelude.{IfSome, MatchOption, Vec, is_some, unwrap_or}
+use Rattle.std.specs.Prelude.{IfSome, Vec, is_some, unwrap_or}
+use Rattle.std.specs.Global.{Global}
 use Rattle.std.proofs.lemmas.List.{length-map}
 use Rattle.elfobj.specs.Symbols.{NamedSymbol}
 use Rattle.gather.specs.ProjectMatches.{IsMatched}
@@ -27,7 +28,7 @@ use Rattle.ldmodel_project.specs.declared.staged.StagedObjects.{StagedObjects}
 use Rattle.ldscript.specs.statements.declared.statement.Statement.{Statement}
 use Rattle.relink.specs.Change.{IsChange, place_at}
 use Rattle.relink.specs.Kept.{IsKept}
-use Rattle.relink.specs.Matches.{IsMatchedOr, exchanged, gone_at, taken_at}
+use Rattle.relink.specs.Matches.{IsMatchedOr, Renews, exchanged, gone_at, taken_at}
 use Rattle.relink.proofs.Exchanged.{MayStand, Stands, comes_some, exchanged_back, zip_put, zip_taken}
 use Rattle.relink.proofs.Lists.{zip_length}
 
@@ -209,15 +210,12 @@ zip_under : (one other : List Statement)
 zip_under one other under [] [] zip = zip
 zip_under one other under [] (m ∷ ms) zip = zip
 zip_under one other under (o ∷ os) [] zip = zip
-zip_under one other under (o ∷ os) (m ∷ ms) zip = under o m zip.0 , zip_under one other under os ms zip.1
+zip_under one other under (o ∷ os) (m ∷ ms) zip = (under o m zip.0, zip_under one other under os ms zip.1)
 
 -- the matches for the next script: new ones, or those that were there
-pub matches_renewed : (h : ProjectState) (s : Staged) (ms : List Matches) (found : Option (Vec Matches))
+pub matches_renewed : (h : ProjectState) (s : Staged) (ms : List Matches) (found : Option (Vec Matches Global))
     → ChangesOneObject h.contents.entries s.objects → edited_key s.objects.step ≡ None
-    → AllZip (IsMatched h.script) (objects_of h.contents.entries) ms
-    → MatchOption found ((object : NamedObject) (x : Matches)
-    → IsMatched h.script object x → IsMatched (next_listing h s).script object x)
-    (λ all. AllZip (IsMatched (next_listing h s).script) (objects_of (next_listing h s).entries) all.items)
+    → AllZip (IsMatched h.script) (objects_of h.contents.entries) ms → Renews h.script (next_listing h s) found
     → AllZip (IsMatched (next_listing h s).script) (objects_of (next_listing h s).entries)
     (option_map_or (λ all. all.items) found ms)
 matches_renewed h s ms None arranged edited kept under =
@@ -238,6 +236,21 @@ kept_scripted h s a b ms all arranged edited kept same names matched = record {
   names = names;
   matches = matched;
 }
+
+-- what is kept after an edit of the script, with the matches for the next one
+pub kept_renewed : (h : ProjectState) (s : Staged) (l : Listing) (script : List Statement) (a b : SymbolTableState)
+    (ms now : List Matches) (found : Option (Vec Matches Global))
+    → ChangesOneObject h.contents.entries s.objects → edited_key s.objects.step ≡ None → IsKept (listing_of h) a ms
+    → l ≡ next_listing h s → script ≡ h.script → Renews script l found → b.kept.names ≡ a.kept.names
+    → AreKept (next_listing h s).script b.kept → now ≡ option_map_or (λ all. all.items) found ms
+    → IsKept (next_listing h s) b now
+kept_renewed h s l script a b ms now found arranged edited kept next before renews same names is =
+    let renewed : Renews h.script (next_listing h s) found =
+    subst (λ (x : Listing). Renews h.script x found) next
+    (subst (λ (t : List Statement). Renews t l found) before renews) in
+    subst (λ (x : List Matches). IsKept (next_listing h s) b x) (sym is)
+    (kept_scripted h s a b ms (option_map_or (λ all. all.items) found ms) arranged edited kept same names
+    (matches_renewed h s ms found arranged edited kept.matches renewed))
 
 -- what is kept of no objects
 no_entries : (es : List Listed) → objects_of es ≡ [] → es ≡ []

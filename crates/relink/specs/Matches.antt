@@ -1,8 +1,10 @@
 -- The matches of all objects, in the order of the objects, while one object changes.
-use Rattle.std.specs.Prelude.{ℕ, ⊤, List, Option, Some, None, insert, remove, slice_get}
-use Rattle.gather.specs.ProjectMatches.{IsMatched}
+use Rattle.std.specs.Prelude.{ℕ, ⊤, List, Option, Some, None, Vec, insert, remove, slice_get}
+use Rattle.std.specs.Global.{Global}
+use Rattle.gather.specs.ProjectMatches.{AreMatched, IsMatched}
 use Rattle.gather.specs.declared.matches.Matches.{Matches}
 use Rattle.ldmodel.specs.Project.{NamedObject}
+use Rattle.ldmodel_project.specs.ProjectState.{Listing, project_of}
 use Rattle.ldscript.specs.statements.declared.statement.Statement.{Statement}
 
 -- the matches of an object, if there is one
@@ -30,3 +32,8 @@ put_at ms (Some q) (Some m) = insert ms q m
 
 abbrev pub exchanged : List Matches → (out into : Option ℕ) → Option Matches → List Matches
 exchanged ms out into coming = put_at (taken_at ms out) into coming
+
+-- the matches of all objects under the script of the next project; none where those under the script before serve
+abbrev pub Renews : List Statement → Listing → Option (Vec Matches Global) → Type 0
+Renews before next None = (object : NamedObject) (x : Matches) → IsMatched before object x → IsMatched next.script object x
+Renews before next (Some all) = AreMatched (project_of next) all.items

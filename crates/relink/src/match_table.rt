@@ -1,14 +1,10 @@
 //! The matches of all objects, in the order of the objects.
 
-ghost use Rattle.std.specs.Prelude.{◌≡◌, ◌+◌, ◌<◌, ◌≤◌, IfOk, IfSome, MatchOption, map};
+ghost use Rattle.std.specs.Prelude.{◌≡◌, ◌+◌, ◌<◌, ◌≤◌, IfOk, IfSome, map};
 ghost use Rattle.std.specs.Option.{option_map_or};
 ghost use Rattle.std.specs.VecDeque.{deque_capacity, deque_len};
-ghost use Rattle.gather.specs.ProjectMatches.{AreMatched, IsMatched};
-ghost use Rattle.gather.specs.declared.matches.Matches.{Matches as MatchesOf};
-ghost use Rattle.ldmodel.specs.Project.{NamedObject};
 ghost use Rattle.ldmodel_project.specs.Listing.{found_under};
-ghost use Rattle.ldmodel_project.specs.ProjectState.{project_of};
-ghost use Rattle.relink.specs.Matches.{IsMatchedOr, exchanged, gone_at, put_at, taken_at};
+ghost use Rattle.relink.specs.Matches.{IsMatchedOr, Renews, exchanged, gone_at, put_at, taken_at};
 
 use gather::Matcher;
 use gather::matches::{Matches, match_all, match_object};
@@ -52,9 +48,7 @@ pub(crate) fn matches_if_other(
     before: &Script,
     next: &Next<'_>,
 ) -> Result<Option<Vec<Matches>>, NoMemory>
-    ensures { IfOk result (λ found. MatchOption found ((object : NamedObject) (x : MatchesOf)
-        → IsMatched before.now object x → IsMatched next.now.script object x)
-        (λ all. AreMatched (project_of next.now) all.items)) }
+    ensures { IfOk result (Renews before.now next.now) }
 {
     if have_same_inputs(alloc, before, next.script())? {
         return Ok(None);

@@ -1,0 +1,9 @@
+use Rattle.std.proofs.Common.{List, subst}
+use Rattle.gather.specs.ProjectMatches.{IsMatched}
+use Rattle.ldscript.specs.statements.declared.statement.Statement.{Statement}
+use Rattle.relink.proofs.match_table.matches_if_other.Goals as goal
+
+pub returns-then-branch : goal.returns-then-branch
+returns-then-branch c object x matched =
+    subst (λ (script : List Statement). IsMatched script object x) c.script.ensures
+    (c.in_ok-have_same_inputs.ensures c.if-branch.true object x matched)
