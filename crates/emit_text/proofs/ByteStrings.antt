@@ -1,6 +1,6 @@
 -- Texts in a list that grows.
 use Rattle.std.proofs.Common.{◌≡◌, ◌∙◌, ◌≤◌, ◌-◌, ◌++◌, ◌∷◌, [], ℕ, List, ap, arith, drop, length, map, refl}
-use Rattle.std.proofs.Common.{append_assoc, sym, take}
+use Rattle.std.proofs.Common.{Some, append_assoc, get_or, slice_get, suc, sym, take, zero}
 use Rattle.std.specs.List.{All}
 use Rattle.std.proofs.Math.Seq.{drop-append_seam, take-length}
 use Rattle.std.proofs.lemmas.List.Elements.{All-append, All-cons, All-head, All-nil, All-tail}
@@ -24,6 +24,11 @@ texts_stay bytes more (s ∷ ss) h =
     ap (λ x. x ∷ map (bytes_at (bytes ++ more)) ss) (text_stays bytes more s (All-head within s ss h))
     ∙ ap (λ xs. bytes_at bytes s ∷ xs) (texts_stay bytes more ss (All-tail within s ss h))
 
+-- so of a longer list of bytes
+pub texts_kept : (bytes more new : List ℕ) (spans : List Span) → new ≡ bytes ++ more
+    → All (StandsIn (length bytes)) spans → map (bytes_at new) spans ≡ map (bytes_at bytes) spans
+texts_kept bytes more new spans n h = ap (λ t. map (bytes_at t) spans) n ∙ texts_stay bytes more spans h
+
 -- what came is the text of its span
 text_new : (bytes more : List ℕ)
     → take (length (bytes ++ more) - length bytes) (drop (length bytes) (bytes ++ more)) ≡ more
@@ -42,6 +47,21 @@ text_added bytes more new spans s n b e h =
     ∙ ap (λ x. map (bytes_at bytes) spans ++ x ∷ [])
     (ap (λ m. take (m - s.begin) (drop s.begin (bytes ++ more))) (e ∙ ap length n)
     ∙ ap (λ m. take (length (bytes ++ more) - m) (drop m (bytes ++ more))) b ∙ text_new bytes more)
+
+-- the text of a span among those that are known
+known_text : (bytes : List ℕ) (known : List Span) (n : ℕ) (d : Span) (text : List ℕ)
+    → slice_get (map (bytes_at bytes) known) n ≡ Some text → bytes_at bytes (get_or known n d) ≡ text
+known_text bytes [] n d text e = absurd (cc)
+known_text bytes (s ∷ ss) zero d text e = cc
+known_text bytes (s ∷ ss) (suc n) d text e = known_text bytes ss n d text e
+
+-- so the list grows by such a text
+pub known_added : (bytes : List ℕ) (known spans new : List Span) (n : ℕ) (d : Span) (text : List ℕ)
+    → new ≡ spans ++ get_or known n d ∷ [] → slice_get (map (bytes_at bytes) known) n ≡ Some text
+    → map (bytes_at bytes) new ≡ map (bytes_at bytes) spans ++ text ∷ []
+known_added bytes known spans new n d text a e =
+    ap (map (bytes_at bytes)) a ∙ map-append (bytes_at bytes) spans (get_or known n d ∷ [])
+    ∙ ap (λ x. map (bytes_at bytes) spans ++ x ∷ []) (known_text bytes known n d text e)
 
 -- spans lie within a text that is longer
 pub stand_longer : (n m : ℕ) (spans : List Span) → n ≤ m → All (StandsIn n) spans → All (StandsIn m) spans

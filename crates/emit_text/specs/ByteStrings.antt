@@ -10,3 +10,8 @@ bytes_at bytes s = take (s.end - s.begin) (drop s.begin bytes)
 pub record StandsIn (count : ℕ) (s : Span) : Type 0 where
   pub order : s.begin ≤ s.end
   pub within : s.end ≤ count
+
+-- byte strings that are known already, and those that are added to a list, some of them from among the former
+pub record Growing : Type 0 where
+  pub known : List (List ℕ)
+  pub added : List (List ℕ)

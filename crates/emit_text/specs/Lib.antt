@@ -5,3 +5,4 @@ pub mod Naming
 pub mod ShownMap
 pub mod MapOf
 pub mod ByteStrings
+pub mod KnownNames

@@ -1,6 +1,6 @@
 //! Byte strings in an order.
 
-ghost use Rattle.std.specs.Prelude.{◌≡◌, ◌++◌, ◌∷◌, [], IfOk, OnOk, slice_get};
+ghost use Rattle.std.specs.Prelude.{◌≡◌, ◌++◌, ◌∷◌, [], IfOk, OnOk, Some, slice_get};
 ghost use Rattle.std.specs.Option.{option_map};
 
 use crate::line_buffer::LineBuffer;
@@ -11,6 +11,9 @@ use std::marker::Model;
 
 /// How many bytes of room there are at first for each string: the names of an object and of a section.
 const STRING_ROOM: usize = 32;
+
+/// How many bytes of room there are at first for strings beside those of another list.
+const NEW_ROOM: usize = 4096;
 
 /// The range of a byte string among others.
 #[derive(Clone, Copy)]
@@ -26,6 +29,8 @@ pub struct Span {
 pub struct ByteStrings {
     bytes: Vec<u8>,
     spans: Vec<Span>,
+    /// How many bytes the strings have together.
+    used: usize,
 }
 
 impl Model for ByteStrings {
@@ -47,73 +52,102 @@ impl ByteStrings {
         let span = self.spans.get(number)?;
         Some(&self.bytes[span.begin..span.end])
     }
+
+    /// Whether the strings have at least half of the bytes. If not, a list that begins with these bytes keeps many for
+    /// nothing.
+    pub(crate) fn is_dense(&self) -> bool {
+        self.bytes.len() / 2 <= self.used
+    }
 }
 
-/// Byte strings in an order, to which more are added. The bytes of the last ones are put together beside those of the
-/// others.
+/// Byte strings in an order, to which more are added. They can begin with the bytes of another list, whose strings are
+/// then added by their ranges alone. The bytes of the last ones are put together beside those of the others.
 #[derive(Drop)]
-pub(crate) struct GrowingStrings {
+pub(crate) struct GrowingStrings<'a> {
+    /// The ranges of the strings of the other list.
+    known: &'a [Span],
     bytes: Vec<u8>,
     last: LineBuffer,
     spans: Vec<Span>,
+    /// How many bytes the strings have together, not counting those of the other list that are not added.
+    used: usize,
 }
 
-impl Model for GrowingStrings {
+impl<'a> Model for GrowingStrings<'a> {
     ghost use Rattle.std.specs.Prelude.{◌++◌, All, List, length, map, ℕ};
-    ghost use Rattle.emit_text.specs.ByteStrings.{StandsIn, bytes_at};
+    ghost use Rattle.emit_text.specs.ByteStrings.{Growing, StandsIn, bytes_at};
 
-    ghost Value = { List (List ℕ) };
+    ghost Value = { Growing };
 
-    ghost view = { λ t. map (bytes_at (t.bytes.items ++ t.last)) t.spans.items };
+    ghost view = { λ t. record {
+      known = map (bytes_at (t.bytes.items ++ t.last)) t.known.now;
+      added = map (bytes_at (t.bytes.items ++ t.last)) t.spans.items;
+    } };
 
-    ghost invariant = { λ t. All (StandsIn (length (t.bytes.items ++ t.last))) t.spans.items };
+    ghost invariant = { λ t. All (StandsIn (length (t.bytes.items ++ t.last))) t.known.now
+        × All (StandsIn (length (t.bytes.items ++ t.last))) t.spans.items };
 }
 
-impl GrowingStrings {
+impl<'a> GrowingStrings<'a> {
     /// An empty list, with room for this many strings of common length.
     ///
     /// # Errors
     ///
     /// If memory runs out.
-    pub(crate) fn with_capacity(alloc: Global, count: usize) -> Result<GrowingStrings, NoMemory>
-        ensures { IfOk result (λ t. t ≡ []) }
+    pub(crate) fn with_capacity(alloc: Global, count: usize) -> Result<GrowingStrings<'a>, NoMemory>
+        ensures { IfOk result (λ t. t.added ≡ []) }
     {
         let spans = Vec::with_capacity(alloc, count)?;
         let bytes = Vec::with_capacity(alloc, count.saturating_mul(STRING_ROOM))?;
         Ok(GrowingStrings {
+            known: &[],
             bytes,
             last: LineBuffer::new(),
             spans,
+            used: 0,
         })
     }
 
-    /// Adds a string that may be longer than what is put together.
-    fn push_long(&mut self, text: &[u8]) -> Result<(), NoMemory>
-        ensures { OnOk result (self.new ≡ self.old ++ text.now ∷ []) }
+    /// An empty list that begins with the bytes of another, with room for this many ranges.
+    ///
+    /// # Errors
+    ///
+    /// If memory runs out.
+    pub(crate) fn beside(
+        alloc: Global,
+        strings: &'a ByteStrings,
+        count: usize,
+    ) -> Result<GrowingStrings<'a>, NoMemory>
+        ensures known { IfOk result (λ t. t.known ≡ strings.now) }
+        ensures added { IfOk result (λ t. t.added ≡ []) }
     {
-        let begin = self.bytes.len() + self.last.len();
-        self.last.append(&mut self.bytes, text)?;
-        let end = self.bytes.len() + self.last.len();
-        self.spans.push(Span { begin, end })?;
-        Ok(())
+        let spans = Vec::with_capacity(alloc, count)?;
+        let room = strings.bytes.len().saturating_add(NEW_ROOM);
+        let mut bytes = Vec::with_capacity(alloc, room)?;
+        bytes.extend_from_slice(&strings.bytes)?;
+        Ok(GrowingStrings {
+            known: &strings.spans,
+            bytes,
+            last: LineBuffer::new(),
+            spans,
+            used: 0,
+        })
     }
 
-    /// Adds a string.
+    /// Adds `text`, which is the string of this number in the other list.
     ///
     /// # Errors
     ///
     /// If memory runs out.
     #[inline(always)]
-    pub(crate) fn push(&mut self, text: &[u8]) -> Result<(), NoMemory>
-        ensures { OnOk result (self.new ≡ self.old ++ text.now ∷ []) }
+    pub(crate) fn push_known(&mut self, number: usize, text: &[u8]) -> Result<(), NoMemory>
+        requires { slice_get self.old.known number ≡ Some text.now }
+        ensures known { OnOk result (self.new.known ≡ self.old.known) }
+        ensures added { OnOk result (self.new.added ≡ self.old.added ++ text.now ∷ []) }
     {
-        if !self.last.make_room(&mut self.bytes, text.len())? {
-            return self.push_long(text);
-        }
-        let begin = self.bytes.len() + self.last.len();
-        self.last.put_name(text);
-        let end = begin + text.len();
-        self.spans.push(Span { begin, end })?;
+        let known = self.known;
+        self.spans.push(known[number])?;
+        self.used = self.used.wrapping_add(text.len());
         Ok(())
     }
 
@@ -123,12 +157,15 @@ impl GrowingStrings {
     ///
     /// If memory runs out.
     pub(crate) fn push_names(&mut self, object: &[u8], section: &[u8]) -> Result<(), NoMemory>
-        ensures { OnOk result (self.new ≡ self.old ++ (object.now ++ 32 ∷ [] ++ section.now ++ 10 ∷ []) ∷ []) }
+        ensures known { OnOk result (self.new.known ≡ self.old.known) }
+        ensures added { OnOk result (self.new.added
+            ≡ self.old.added ++ (object.now ++ 32 ∷ [] ++ section.now ++ 10 ∷ []) ∷ []) }
     {
         let begin = self.bytes.len() + self.last.len();
         put_piece_names(&mut self.bytes, &mut self.last, object, section)?;
         let end = self.bytes.len() + self.last.len();
         self.spans.push(Span { begin, end })?;
+        self.used = self.used.wrapping_add(end.wrapping_sub(begin));
         Ok(())
     }
 
@@ -138,14 +175,16 @@ impl GrowingStrings {
     ///
     /// If memory runs out.
     pub(crate) fn finish(self) -> Result<ByteStrings, NoMemory>
-        ensures { IfOk result (λ strings. strings ≡ self) }
+        ensures { IfOk result (λ strings. strings ≡ self.entry.added) }
     {
         let GrowingStrings {
+            known: _,
             mut bytes,
             mut last,
             spans,
+            used,
         } = self;
         last.move_to(&mut bytes)?;
-        Ok(ByteStrings { bytes, spans })
+        Ok(ByteStrings { bytes, spans, used })
     }
 }

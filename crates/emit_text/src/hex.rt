@@ -10,13 +10,18 @@ use std::simd::prelude::*;
 pub fn hex_digits(value: u64) -> [u8; 16]
     ensures { result ≡ hex value }
 {
-    // the low half of each byte is a digit: of the first eight every other one from the last but one, of the others
-    // every other one from the last
-    let halves = u64x2::from_array([value >> 4, value]).to_le_bytes() & u8x16::splat(15);
-    let first_of_its_kind = halves
+    // the highest byte first: then the digits are the halves of the bytes in their order, the high half of each first,
+    // and one instruction of any x86-64 puts eight high halves and eight low halves side by side
+    let swapped = value.swap_bytes();
+    let high = u64x2::from_array([swapped >> 4, 0]).to_le_bytes();
+    let low = u64x2::from_array([swapped, 0]).to_le_bytes();
+    let both = high.shuffle(
+        low,
+        [0, 16, 1, 17, 2, 18, 3, 19, 4, 20, 5, 21, 6, 22, 7, 23],
+    );
+    let halves = both & u8x16::splat(15);
+    let past_nine = halves
         .simd_gt(u8x16::splat(9))
-        .select(u8x16::splat(b'a' - 10), u8x16::splat(b'0'));
-    (halves + first_of_its_kind)
-        .swizzle([7, 15, 6, 14, 5, 13, 4, 12, 3, 11, 2, 10, 1, 9, 0, 8])
-        .to_array()
+        .select(u8x16::splat(b'a' - b'0' - 10), u8x16::splat(0));
+    (halves + u8x16::splat(b'0') + past_nine).to_array()
 }

@@ -3,7 +3,8 @@
 //!
 //! - `faults`, `fault_line`: fault lines; `maps`, `map_line`: the map; `line`, `line_buffer`, `hex`: how lines are
 //!   written;
-//! - `definer`: what defines a symbol; `byte_strings`: the names in a map, kept for the next;
+//! - `definer`: what defines a symbol; `byte_strings`: the names in a map, kept for the next, which finds them by
+//!   `known_row`;
 //! - `members`, `script_names`, `named`, `symbols`, `assertion`: where names come from.
 #![tactic(auto)]
 
@@ -13,6 +14,7 @@ pub mod definer;
 mod fault_line;
 pub mod faults;
 mod hex;
+pub mod known_row;
 mod line;
 mod line_buffer;
 mod map_line;

@@ -1,15 +1,19 @@
 //! The map.
 
-ghost use Rattle.std.specs.Prelude.{◌≡◌, ◌++◌, ◌∷◌, [], OnOk, IfOk, length, map, take};
+ghost use Rattle.std.specs.Prelude.{◌≡◌, ◌++◌, ◌∷◌, [], ℕ, List, OnOk, IfOk, IfSome, Some, length, map, slice_get};
+ghost use Rattle.std.specs.Prelude.{take};
 ghost use Rattle.std.specs.Vec.{vec_items};
 ghost use Rattle.ldscript.specs.Numbered.{shown_sections};
 ghost use Rattle.ldmodel.specs.Layout.{Layout};
 ghost use Rattle.ldmodel.specs.MapText.{map_text};
+ghost use Rattle.ldmodel.specs.Project.{Project};
+ghost use Rattle.emit_text.specs.KnownNames.{IsKnownRow};
 ghost use Rattle.emit_text.specs.MapOf.{IsMapOf};
 ghost use Rattle.emit_text.specs.ShownMap.{AreNamesOfRows, letters, names_of, piece_text, pieces_text, row_names};
 ghost use Rattle.emit_text.specs.ShownMap.{section_text, sections_text, shown_map};
 
 use crate::byte_strings::{ByteStrings, GrowingStrings};
+use crate::known_row::{KnownNames, KnownRow};
 use crate::line_buffer::LineBuffer;
 use crate::map_line::{
     SectionNumbers, put_entry_line, put_piece_line, put_piece_names, put_section_line,
@@ -82,15 +86,16 @@ struct Likely {
 fn put_new_piece<M: Members>(
     text: &mut Vec<u8>,
     lines: &mut LineBuffer,
-    names: &mut GrowingStrings,
+    names: &mut GrowingStrings<'_>,
     members: &M,
     at: PieceAt<'_>,
     likely: usize,
 ) -> Result<usize, AllocError>
     ensures text { OnOk result (text.new.items ++ lines.new ≡ (text.old.items ++ lines.old)
         ++ piece_text (M.project members.now) (M.number members.now) at.entry.piece.now at.entry.start) }
-    ensures names { OnOk result (names.new
-        ≡ names.old ++ names_of (M.project members.now) (M.number members.now) at.entry.piece.now.section ∷ []) }
+    ensures known { OnOk result (names.new.known ≡ names.old.known) }
+    ensures names { OnOk result (names.new.added
+        ≡ names.old.added ++ names_of (M.project members.now) (M.number members.now) at.entry.piece.now.section ∷ []) }
 {
     let key = at.piece.section;
     let object = members.name(key.object);
@@ -101,28 +106,75 @@ fn put_new_piece<M: Members>(
     Ok(place)
 }
 
+/// The names of an input section in a row of a previous map, if there is one.
+#[inline(always)]
+fn find_known<'a>(
+    known: Option<KnownRow<'a>>,
+    likely: usize,
+    section: SectionKey,
+) -> Option<KnownNames<'a>>
+    ensures names { IfSome result (λ found. (project : Project) (number : ℕ → ℕ)
+        → IfSome known.entry (λ row. IsKnownRow project number row) → found.names.now ≡ names_of project number section) }
+    ensures listed { IfSome result (λ found. (strings : List (List ℕ))
+        → IfSome known.entry (λ row. strings ≡ row.names.now) → slice_get strings found.at ≡ Some found.names.now) }
+{
+    let row = known?;
+    row.find(likely, section)
+}
+
+/// A row of a previous map whose names are worth being kept together: their bytes become the first ones of the next.
+fn worth_keeping<'a>(known: Option<KnownRow<'a>>) -> Option<KnownRow<'a>>
+    ensures { (project : Project) (number : ℕ → ℕ) → IfSome known.entry (λ row. IsKnownRow project number row)
+        → IfSome result (λ row. IsKnownRow project number row) }
+{
+    let row = known?;
+    if row.names.is_dense() {
+        Some(row)
+    } else {
+        None
+    }
+}
+
+/// The names of a row before its first line.
+fn no_names<'a>(
+    alloc: Global,
+    known: Option<KnownRow<'a>>,
+    count: usize,
+) -> Result<GrowingStrings<'a>, NoMemory>
+    ensures known { IfOk result (λ names. IfSome known.entry (λ row. names.known ≡ row.names.now)) }
+    ensures added { IfOk result (λ names. names.added ≡ []) }
+{
+    match known {
+        Some(row) => GrowingStrings::beside(alloc, row.names, count),
+        None => GrowingStrings::with_capacity(alloc, count),
+    }
+}
+
 /// `piece ADDRESS SIZE OBJECT SECTION`, and its names beside it: those of a previous map, where it has them. Returns
 /// where the next are likely.
 #[inline(always)]
 fn put_piece<M: Members>(
     text: &mut Vec<u8>,
     lines: &mut LineBuffer,
-    names: &mut GrowingStrings,
+    names: &mut GrowingStrings<'_>,
     members: &M,
-    row: usize,
+    known: Option<KnownRow<'_>>,
     at: PieceAt<'_>,
     likely: Likely,
 ) -> Result<Likely, AllocError>
+    requires names { IfSome known (λ row. IsKnownRow (M.project members.now) (M.number members.now) row) }
+    requires listed { IfSome known (λ row. names.old.known ≡ row.names.now) }
     ensures text { OnOk result (text.new.items ++ lines.new ≡ (text.old.items ++ lines.old)
         ++ piece_text (M.project members.now) (M.number members.now) at.entry.piece.now at.entry.start) }
-    ensures names { OnOk result (names.new
-        ≡ names.old ++ names_of (M.project members.now) (M.number members.now) at.entry.piece.now.section ∷ []) }
+    ensures known { OnOk result (names.new.known ≡ names.old.known) }
+    ensures names { OnOk result (names.new.added
+        ≡ names.old.added ++ names_of (M.project members.now) (M.number members.now) at.entry.piece.now.section ∷ []) }
 {
-    if let Some(known) = members.known_names(row, likely.known, at.piece.section) {
-        names.push(known.names)?;
-        put_piece_line(text, lines, at.start, at.piece.size, known.names)?;
+    if let Some(found) = find_known(known, likely.known, at.piece.section) {
+        names.push_known(found.at, found.names)?;
+        put_piece_line(text, lines, at.start, at.piece.size, found.names)?;
         return Ok(Likely {
-            known: known.at.wrapping_add(1),
+            known: found.at.wrapping_add(1),
             section: likely.section,
         });
     }
@@ -138,17 +190,18 @@ fn put_pieces<M: Members>(
     alloc: Global,
     text: &mut Vec<u8>,
     members: &M,
-    number: usize,
+    known: Option<KnownRow<'_>>,
     row: &[Piece],
     starts: &[u64],
 ) -> Result<ByteStrings, AllocError>
+    requires { IfSome known (λ row. IsKnownRow (M.project members.now) (M.number members.now) row) }
     ensures text { OnOk result (text.new.items
         ≡ text.old.items ++ pieces_text (M.project members.now) (M.number members.now) row.now starts.now) }
     ensures names { IfOk result (λ names. names
         ≡ row_names (M.project members.now) (M.number members.now) (take (length starts.now) row.now)) }
 {
     let mut lines = LineBuffer::new();
-    let mut names = GrowingStrings::with_capacity(alloc, row.len())?;
+    let mut names = no_names(alloc, known, row.len())?;
     let mut likely = Likely {
         known: 0,
         section: 0,
@@ -158,7 +211,7 @@ fn put_pieces<M: Members>(
             piece: &row[i],
             start: starts[i],
         };
-        likely = put_piece(text, &mut lines, &mut names, members, number, at, likely)?;
+        likely = put_piece(text, &mut lines, &mut names, members, known, at, likely)?;
     }
     lines.move_to(text)?;
     let kept = names.finish()?;
@@ -191,7 +244,8 @@ fn put_sections<M: Members>(
         };
         let placed = &parts.placement.sections[k];
         put_section(text, section.section.name.as_bytes(), placed)?;
-        let of_row = put_pieces(alloc, text, members, k, row, starts)?;
+        let known = worth_keeping(members.known_row(k));
+        let of_row = put_pieces(alloc, text, members, known, row, starts)?;
         names.push(of_row)?;
         starts = &starts[row.len().min(starts.len())..];
     }

@@ -1,10 +1,12 @@
 -- The lines of a row.
 use Rattle.std.proofs.Common.{◌≡◌, ◌∙◌, ◌∷◌, [], ◌++◌, ◌+◌, ◌<◌, ◌≤◌, drop, get_or, length, min, zero, suc, ℕ, List}
-use Rattle.std.proofs.Common.{refl, arith}
+use Rattle.std.proofs.Common.{arith, refl, subst, sym}
+use Rattle.std.specs.Prelude.{IfSome}
 use Rattle.std.proofs.lemmas.List.{at_drop_more}
 use Rattle.ldmodel.specs.Project.{Project}
 use Rattle.ldmodel.specs.declared.rows.Piece.{Piece}
 use Rattle.emit_text.specs.ShownMap.{piece_text, pieces_text}
+use Rattle.emit_text.specs.declared.known_row.KnownRow.{KnownRow}
 use Rattle.emit_text.proofs.Appending.{written_step, written_end}
 use Rattle.emit_text.proofs.MapRows.{all_names, more_names}
 use Rattle.emit_text.proofs.maps.put_pieces.Goals as goal
@@ -40,6 +42,8 @@ loop-i-preserved g c =
     record {
       text = written_step _ _ _ _ _ _ c.in_ok-likely.ensures.text
           (more_pieces p number row c.args.starts.now c.loop-i.i _ _ (omega arith)) c.loop-i.invariant.text;
+      known = subst (λ strings. IfSome c.args.known (λ (row : KnownRow). strings ≡ row.names.now))
+          (sym c.in_ok-likely.ensures.known) c.loop-i.invariant.known;
       names = more_names p number row [] _ _ c.loop-i.i _ (omega arith) c.loop-i.invariant.names
           c.in_ok-likely.ensures.names;
     }

@@ -1,5 +1,8 @@
--- With the lines still to come, the text is the whole one; the names are those of the pieces so far.
+-- With the lines still to come, the text is the whole one; the names are those of the pieces so far, and beside them
+-- stand those of the known row.
 use Rattle.std.proofs.Common.{◌≡◌, ◌++◌, drop, take}
+use Rattle.std.specs.Prelude.{IfSome}
+use Rattle.emit_text.specs.declared.known_row.KnownRow.{KnownRow}
 use Rattle.emit_text.specs.ShownMap.{pieces_text, row_names}
 use Rattle.emit_text.proofs.maps.put_pieces.Given as goal
 
@@ -9,5 +12,6 @@ invariant-loop-i g l = record {
       ++ pieces_text (g.M.Members.project l.members) (g.M.Members.number l.members) (drop l.i l.row) (drop l.i l.starts)
       ≡ l.initial.text.items
       ++ pieces_text (g.M.Members.project l.members) (g.M.Members.number l.members) l.row l.starts;
-  names : l.names ≡ row_names (g.M.Members.project l.members) (g.M.Members.number l.members) (take l.i l.row);
+  known : IfSome l.known (λ (row : KnownRow). l.names.known ≡ row.names.now);
+  names : l.names.added ≡ row_names (g.M.Members.project l.members) (g.M.Members.number l.members) (take l.i l.row);
 }
