@@ -34,7 +34,7 @@ use emit_relocate::previous_link_info::PreviousLinkInfo;
 use ldmodel::memory::NoMemory;
 use ldmodel::names::ObjectPlace;
 use ldmodel::rows::Piece;
-use ldmodel::sections::Part;
+use ldmodel::sections::{Part, SectionKey};
 use ldmodel_laws::gathering::{live_by_path, once_in_rows};
 use ldmodel_laws::layout::placed_are_rows;
 use ldmodel_project::view::ProjectView;
@@ -174,6 +174,26 @@ fn drawn_piece<'a>(
     }
 }
 
+/// Whether a common block stayed. It is looked up by its key, which a call is lent.
+#[inline(never)]
+fn common_has_stayed<E: PreviousLinkInfo>(previous: &E, section: SectionKey) -> bool
+    ensures { result ≡ is_some (E.range previous.now section) }
+{
+    previous.has_stayed(section)
+}
+
+/// Whether an entry of a row stayed. The few common blocks are looked up apart: for the others no key need be kept in
+/// memory.
+#[inline(always)]
+fn has_stayed<E: PreviousLinkInfo>(previous: &E, piece: &Piece) -> bool
+    ensures { result ≡ is_some (E.range previous.now piece.now.section) }
+{
+    match piece.section.part {
+        Part::InTable(_) => previous.has_stayed(piece.section),
+        Part::InCommon(_) => common_has_stayed(previous, piece.section),
+    }
+}
+
 /// Adds an entry of a row at an address: one that stays is joined to the one before it, where that stays too and no gap
 /// lies between. `likely` is as in `drawn_piece`. Fails if memory runs out.
 fn add_entry<'a, E: PreviousLinkInfo>(
@@ -192,7 +212,7 @@ fn add_entry<'a, E: PreviousLinkInfo>(
         → (y : Drawn) × IsRowPiece link.project link.layout (λ k. is_some (E.range previous.now k)) w y
         × StandFor (whole ++ y ∷ []) pieces.new.items) }
 {
-    if previous.has_stayed(at.piece.section) {
+    if has_stayed(previous, at.piece) {
         return add_kept(pieces, at.piece.size, at.start);
     }
     let drawn = drawn_piece(project, relocated, indexed_layout, at, likely);

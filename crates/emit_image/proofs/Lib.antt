@@ -1,3 +1,4 @@
+pub mod Ends
 pub mod Entries
 pub mod HeaderNames
 pub mod TailOfLink

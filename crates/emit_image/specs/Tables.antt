@@ -67,7 +67,7 @@ symbol_table_of symbols =
 -- the symbol table of these symbols, and their names
 pub record AreTablesOf (symbols : List TableSymbol) (tables : SymbolTables) : Type 0 where
   pub entries : tables.entries ≡ symbol_table_of symbols
-  pub names : tables.names.items ≡ string_table (names_of symbols)
+  pub names : tables.names ≡ string_table (names_of symbols)
 
 -- the flags of an output section
 abbrev pub flags_of : Placed → ℕ

@@ -14,6 +14,26 @@ use elfobj::Meter;
 use emit_fields::canvas::Canvas;
 use emit_fields::patch::Patch;
 
+/// Writes a field. One of eight bytes is copied as one word, as one of four is by `Canvas::write`.
+#[inline(always)]
+fn write_field(canvas: &mut Canvas, at: usize, field: &[u8], meter: &mut Meter)
+    requires { at + length field.now ≤ length canvas.old.bytes }
+    ensures written { (i : ℕ) → i < length field.now
+        → slice_index canvas.new.bytes (at + i) ≡ slice_index field.now i }
+    ensures before { (o : ℕ) → o < at → slice_index canvas.new.bytes o ≡ slice_index canvas.old.bytes o }
+    ensures after { (o : ℕ) → at + length field.now ≤ o
+        → slice_index canvas.new.bytes o ≡ slice_index canvas.old.bytes o }
+    ensures len { length canvas.new.bytes ≡ length canvas.old.bytes }
+    ensures room { canvas.new.room ≡ canvas.old.room }
+    ensures counted { meter.new ≡ raised meter.old Bytes (length field.now) }
+{
+    if let [a, b, c, d, e, f, g, h] = field {
+        canvas.write(at, &[*a, *b, *c, *d, *e, *f, *g, *h], meter);
+    } else {
+        canvas.write(at, field, meter);
+    }
+}
+
 /// Writes patches at their places in the file; the canvas grows if they lie past it. If the patches have the
 /// bytes of an image, bytes of the canvas that were right for that image stay right, and the patched bytes become
 /// right.
@@ -35,7 +55,7 @@ fn write_patches(canvas: &mut Canvas, patches: &[Patch], end: usize, meter: &mut
     for patch in patches {
         let field = patch.field.bytes();
         grow_to(canvas, patch.offset + field.len(), end);
-        canvas.write(patch.offset, field, meter);
+        write_field(canvas, patch.offset, field, meter);
     }
 }
 

@@ -1,8 +1,8 @@
 //! The image: its headers, its tail (symbol table, names, section headers), and drawing it. Takes layout, symbols and
 //! fields; all growth comes before a byte of the canvas changes.
 //!
-//! - `headers`: ELF header and program headers; `tail` over `symbols`, `table_entries`, `strings`, `sections`,
-//!   `number`: the tail;
+//! - `headers`: ELF header and program headers; `tail` over `symbols`, `table_entries`, `table_names`,
+//!   `strings`, `sections`, `number`: the tail;
 //! - `section`: what is drawn; `row`: sections that stayed side by side as one;
 //! - `redraw`, `draw`: over the image of a previous link, of which what stayed is kept, or anew; `commit`: the patches,
 //!   and then what does not stay, by `paint_drawing` over `paint_section` over `paint`, `patched`; `law`.
@@ -24,4 +24,5 @@ pub mod sections;
 pub mod strings;
 pub mod symbols;
 mod table_entries;
+mod table_names;
 pub mod tail;

@@ -47,6 +47,24 @@ fn write_same(canvas: &mut Canvas, at: usize, n: usize, byte: u8, meter: &mut Me
     canvas.write(at, &run[..n], meter);
 }
 
+/// Writes a pattern of 1 to 8 bytes over and over, `n` bytes from `at` on, however many they are. It stands apart from
+/// the loop over input sections, which has the more registers so.
+#[inline(never)]
+fn write_long(canvas: &mut Canvas, at: usize, n: usize, pattern: &[u8], meter: &mut Meter)
+    requires within { at + n ≤ length canvas.old.bytes }
+    requires some { 0 < length pattern.now }
+    requires most { length pattern.now ≤ 8 }
+    ensures written { (i : ℕ) → i < n
+        → slice_index canvas.new.bytes (at + i) ≡ slice_index pattern.now (i % length pattern.now) }
+    ensures before { (o : ℕ) → o < at → slice_index canvas.new.bytes o ≡ slice_index canvas.old.bytes o }
+    ensures after { (o : ℕ) → at + n ≤ o → slice_index canvas.new.bytes o ≡ slice_index canvas.old.bytes o }
+    ensures len { length canvas.new.bytes ≡ length canvas.old.bytes }
+    ensures room { canvas.new.room ≡ canvas.old.room }
+    ensures counted { meter.new ≡ raised meter.old Bytes n }
+{
+    write_run(canvas, at, n, pattern, meter);
+}
+
 /// Writes a pattern of 1 to 8 bytes over and over, `n` bytes from `at` on. Most gaps are short and of one byte.
 #[inline(always)]
 fn write_fill(canvas: &mut Canvas, at: usize, n: usize, pattern: &[u8], meter: &mut Meter)
@@ -64,7 +82,7 @@ fn write_fill(canvas: &mut Canvas, at: usize, n: usize, pattern: &[u8], meter: &
     if pattern.len() == 1 && n <= SHORT {
         write_same(canvas, at, n, pattern[0], meter);
     } else {
-        write_run(canvas, at, n, pattern, meter);
+        write_long(canvas, at, n, pattern, meter);
     }
 }
 
@@ -72,7 +90,24 @@ fn write_fill(canvas: &mut Canvas, at: usize, n: usize, pattern: &[u8], meter: &
 /// cache when the bytes of the image are written over it.
 const BLOCK: usize = 65_536;
 
+/// Makes a canvas that is shorter than `least` at least that long, and at most `most` bytes, by zeros.
+#[inline(never)]
+fn grow(canvas: &mut Canvas, least: usize, most: usize)
+    requires order { least ≤ most }
+    requires short { length canvas.old.bytes ≤ most }
+    requires room { most ≤ canvas.old.room }
+    ensures reached { least ≤ length canvas.new.bytes }
+    ensures grown { length canvas.old.bytes ≤ length canvas.new.bytes }
+    ensures short { length canvas.new.bytes ≤ most }
+    ensures same { (o : ℕ) → slice_index canvas.new.bytes o ≡ slice_index canvas.old.bytes o }
+    ensures room { canvas.old.room ≤ canvas.new.room }
+{
+    let len = canvas.len().saturating_add(BLOCK);
+    canvas.resize_reserved(len.max(least).min(most));
+}
+
 /// Makes a canvas of at most `most` bytes at least `least` long, by zeros.
+#[inline(always)]
 pub(crate) fn grow_to(canvas: &mut Canvas, least: usize, most: usize)
     requires order { least ≤ most }
     requires short { length canvas.old.bytes ≤ most }
@@ -83,14 +118,42 @@ pub(crate) fn grow_to(canvas: &mut Canvas, least: usize, most: usize)
     ensures same { (o : ℕ) → slice_index canvas.new.bytes o ≡ slice_index canvas.old.bytes o }
     ensures room { canvas.old.room ≤ canvas.new.room }
 {
-    let len = canvas.len();
-    if len < least {
-        canvas.resize_reserved(len.saturating_add(BLOCK).max(least).min(most));
+    if canvas.len() < least {
+        grow(canvas, least, most);
     }
 }
 
-/// Writes a run of a pattern up to `end`; nothing if it is empty. The canvas grows with it, up to `limit`.
+/// Writes a run of a pattern up to `end`; nothing if it is empty. The canvas first grows to `reach`, and up to `limit`.
 #[inline(always)]
+pub(crate) fn paint_gap(
+    canvas: &mut Canvas,
+    limit: usize,
+    from: usize,
+    end: usize,
+    reach: usize,
+    pattern: &[u8],
+    meter: &mut Meter,
+)
+    requires ready { IsReady limit canvas.old }
+    requires order { from ≤ end }
+    requires reach { end ≤ reach }
+    requires within { reach ≤ limit }
+    requires some { 0 < length pattern.now }
+    requires few { length pattern.now ≤ 8 }
+    ensures ready { IsReady limit canvas.new }
+    ensures reached { reach ≤ length canvas.new.bytes }
+    ensures painted { IsPainted canvas.old.bytes canvas.new.bytes meter.old meter.new from end (λ o.
+        record { byte = slice_index pattern.now ((o - from) % length pattern.now); stays = false }) }
+{
+    grow_to(canvas, reach, limit);
+    if from == end {
+        return;
+    }
+    write_fill(canvas, from, end - from, pattern, meter);
+}
+
+/// Writes a run of a pattern up to `end`; nothing if it is empty. The canvas grows with it, up to `limit`.
+#[inline(never)]
 pub(crate) fn paint_fill(
     canvas: &mut Canvas,
     limit: usize,
@@ -108,11 +171,7 @@ pub(crate) fn paint_fill(
     ensures painted { IsPainted canvas.old.bytes canvas.new.bytes meter.old meter.new from end (λ o.
         record { byte = slice_index pattern.now ((o - from) % length pattern.now); stays = false }) }
 {
-    if from == end {
-        return;
-    }
-    grow_to(canvas, end, limit);
-    write_fill(canvas, from, end - from, pattern, meter);
+    paint_gap(canvas, limit, from, end, end, pattern, meter);
 }
 
 /// Writes bytes from `from` on. The canvas grows with them, up to `limit`.
@@ -154,32 +213,28 @@ fn write_drawn(
     ensures counted { meter.new ≡ raised meter.old Bytes x.now.size }
 {
     if x.bytes.is_empty() {
-        write_fill(canvas, from, x.size as usize, &ZERO, meter);
+        write_long(canvas, from, x.size as usize, &ZERO, meter);
     } else {
         write_piece(canvas, desk, from, x.bytes, x.fields, meter);
     }
 }
 
-/// Writes an input section that is not empty, unless it stays. The canvas grows with it, up to `limit`.
+/// Writes an input section that is not empty, unless it stays, within the length of the canvas.
 #[inline(always)]
 pub(crate) fn paint_piece(
     canvas: &mut Canvas,
     desk: &mut [u8; BUFFER_SIZE],
-    limit: usize,
     from: usize,
-    end: usize,
     x: &ImagePiece<'_>,
     meter: &mut Meter,
 )
-    requires ready { IsReady limit canvas.old }
-    requires end { from + x.now.size ≡ end }
-    requires within { end ≤ limit }
+    requires within { from + x.now.size ≤ length canvas.old.bytes }
     requires filled { IsFilled x.now }
-    ensures ready { IsReady limit canvas.new }
-    ensures painted { IsPainted canvas.old.bytes canvas.new.bytes meter.old meter.new from end (λ o.
+    ensures len { length canvas.new.bytes ≡ length canvas.old.bytes }
+    ensures room { canvas.new.room ≡ canvas.old.room }
+    ensures painted { IsPainted canvas.old.bytes canvas.new.bytes meter.old meter.new from (from + x.now.size) (λ o.
         record { byte = piece_byte (x.now.start + (o - from)) x.now; stays = x.now.stays }) }
 {
-    grow_to(canvas, end, limit);
     if x.stays {
         return;
     }

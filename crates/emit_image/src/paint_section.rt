@@ -8,7 +8,7 @@ ghost use Rattle.emit_image.specs.Painted.{IsPainted, IsReady};
 ghost use Rattle.emit_image.specs.Reached.{DataFrom, IsReached, PiecesFrom, place_of, section_image};
 ghost use Rattle.emit_image.specs.declared.section.ImagePiece.{ImagePiece};
 
-use crate::paint::{paint_data, paint_fill, paint_piece};
+use crate::paint::{paint_data, paint_fill, paint_gap, paint_piece};
 use crate::patched::BUFFER_SIZE;
 use crate::section::ImageSection;
 use elfobj::Meter;
@@ -23,6 +23,18 @@ pub struct SectionCursor {
     pub data_commands: usize,
     /// The address up to which they reach.
     pub at: u64,
+}
+
+/// A copy, made field by field.
+#[inline(always)]
+fn copy_of(cursor: SectionCursor) -> SectionCursor
+    ensures { result ≡ cursor }
+{
+    SectionCursor {
+        pieces: cursor.pieces,
+        data_commands: cursor.data_commands,
+        at: cursor.at,
+    }
 }
 
 /// Where an address of an output section lies in the file.
@@ -74,8 +86,8 @@ fn paint_next_data(
 }
 
 /// Writes the data commands to come that start below `below`. The input sections to come start at `below` or later.
-#[inline(always)]
-fn paint_data_before(
+#[inline(never)]
+fn paint_some_data(
     canvas: &mut Canvas,
     limit: usize,
     x: &ImageSection<'_>,
@@ -106,6 +118,62 @@ fn paint_data_before(
     now
 }
 
+/// Calls `paint_some_data` with a copy of the cursor: so that of the caller stays in registers.
+#[inline(always)]
+fn paint_data_apart(
+    canvas: &mut Canvas,
+    limit: usize,
+    x: &ImageSection<'_>,
+    cursor: SectionCursor,
+    below: u64,
+    meter: &mut Meter,
+) -> SectionCursor
+    requires orderly { IsOrderly x.now }
+    requires reached { IsReached x.now cursor.pieces cursor.data_commands cursor.at }
+    requires ready { IsReady limit canvas.old }
+    requires within { x.now.offset + x.now.size ≤ limit }
+    requires pieces { PiecesFrom x.now cursor.pieces below }
+    ensures reached { IsReached x.now result.pieces result.data_commands result.at }
+    ensures pieces { result.pieces ≡ cursor.pieces }
+    ensures data_commands { DataFrom x.now result.data_commands below }
+    ensures up { cursor.at ≤ result.at }
+    ensures ready { IsReady limit canvas.new }
+    ensures painted { IsPainted canvas.old.bytes canvas.new.bytes meter.old meter.new (place_of x.now cursor.at)
+        (place_of x.now result.at) (section_image x.now) }
+{
+    let now = paint_some_data(canvas, limit, x, copy_of(cursor), below, meter);
+    copy_of(now)
+}
+
+/// Writes the data commands to come that start below `below`, as `paint_some_data` does. Most sections have none.
+#[inline(always)]
+fn paint_data_before(
+    canvas: &mut Canvas,
+    limit: usize,
+    x: &ImageSection<'_>,
+    cursor: SectionCursor,
+    below: u64,
+    meter: &mut Meter,
+) -> SectionCursor
+    requires orderly { IsOrderly x.now }
+    requires reached { IsReached x.now cursor.pieces cursor.data_commands cursor.at }
+    requires ready { IsReady limit canvas.old }
+    requires within { x.now.offset + x.now.size ≤ limit }
+    requires pieces { PiecesFrom x.now cursor.pieces below }
+    ensures reached { IsReached x.now result.pieces result.data_commands result.at }
+    ensures pieces { result.pieces ≡ cursor.pieces }
+    ensures data_commands { DataFrom x.now result.data_commands below }
+    ensures up { cursor.at ≤ result.at }
+    ensures ready { IsReady limit canvas.new }
+    ensures painted { IsPainted canvas.old.bytes canvas.new.bytes meter.old meter.new (place_of x.now cursor.at)
+        (place_of x.now result.at) (section_image x.now) }
+{
+    if cursor.data_commands == x.data_commands.len() {
+        return cursor;
+    }
+    paint_data_apart(canvas, limit, x, cursor, below, meter)
+}
+
 /// Writes the next input section, which is not empty, the data commands before it, and the gaps.
 fn paint_full_piece(
     canvas: &mut Canvas,
@@ -132,10 +200,11 @@ fn paint_full_piece(
     let now = paint_data_before(canvas, limit, x, cursor, piece.start, meter);
     let end = piece.start + piece.size;
     let from = place(x, piece.start);
-    paint_fill(canvas, limit, place(x, now.at), from, x.fill, meter);
-    paint_piece(canvas, desk, limit, from, place(x, end), piece, meter);
+    let reach = place(x, end);
+    paint_gap(canvas, limit, place(x, now.at), from, reach, x.fill, meter);
+    paint_piece(canvas, desk, from, piece, meter);
     SectionCursor {
-        pieces: now.pieces + 1,
+        pieces: cursor.pieces + 1,
         data_commands: now.data_commands,
         at: end,
     }

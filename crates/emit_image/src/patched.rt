@@ -52,8 +52,39 @@ fn put_together(whole: &mut [u8; BUFFER_SIZE], bytes: &[u8], patches: &[Patch])
     }
 }
 
+/// Writes an input section as `write_piece` does, however many fields lie in it. It stands apart from the loop over
+/// input sections, which has the more registers so.
+#[inline(never)]
+fn write_with_fields(
+    canvas: &mut Canvas,
+    desk: &mut [u8; BUFFER_SIZE],
+    at: usize,
+    bytes: &[u8],
+    patches: &[Patch],
+    meter: &mut Meter,
+)
+    requires within { at + length bytes.now ≤ length canvas.old.bytes }
+    requires order { AreInOrder 0 (length bytes.now) patches.now }
+    ensures written { (i : ℕ) → i < length bytes.now
+        → slice_index canvas.new.bytes (at + i) ≡ patched_byte bytes.now patches.now i }
+    ensures before { (o : ℕ) → o < at → slice_index canvas.new.bytes o ≡ slice_index canvas.old.bytes o }
+    ensures after { (o : ℕ) → at + length bytes.now ≤ o
+        → slice_index canvas.new.bytes o ≡ slice_index canvas.old.bytes o }
+    ensures len { length canvas.new.bytes ≡ length canvas.old.bytes }
+    ensures room { canvas.new.room ≡ canvas.old.room }
+    ensures counted { meter.new ≡ raised meter.old Bytes (length bytes.now) }
+{
+    if bytes.len() > BUFFER_SIZE {
+        write_patched(canvas, at, bytes, patches, meter);
+        return;
+    }
+    put_together(desk, bytes, patches);
+    canvas.write(at, &desk[..bytes.len()], meter);
+}
+
 /// Writes an input section from `at` on: the bytes of the fields that lie in it, and its own between them, each byte
 /// once. It may be assembled in `desk`, whose contents have no meaning before and after.
+#[inline(always)]
 pub(crate) fn write_piece(
     canvas: &mut Canvas,
     desk: &mut [u8; BUFFER_SIZE],
@@ -75,12 +106,7 @@ pub(crate) fn write_piece(
 {
     if patches.is_empty() {
         canvas.write(at, bytes, meter);
-        return;
+    } else {
+        write_with_fields(canvas, desk, at, bytes, patches, meter);
     }
-    if bytes.len() > BUFFER_SIZE {
-        write_patched(canvas, at, bytes, patches, meter);
-        return;
-    }
-    put_together(desk, bytes, patches);
-    canvas.write(at, &desk[..bytes.len()], meter);
 }

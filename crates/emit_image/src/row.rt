@@ -29,8 +29,8 @@ fn joined_size(last: &ImagePiece<'_>, size: u64, start: u64) -> Option<u64>
     if !last.stays {
         return None;
     }
-    let end = last.start.checked_add(last.size)?;
-    if end != start {
+    let reach = start.checked_sub(last.start)?;
+    if reach != last.size {
         return None;
     }
     last.size.checked_add(size)

@@ -4,8 +4,8 @@ ghost use Rattle.std.specs.Prelude.{◌≡◌, ◌+◌, ◌*◌, ◌≤◌, IfOk
 ghost use Rattle.ldmodel.specs.Tail.{SymbolEntry, kind_number, symbol_bytes};
 ghost use Rattle.emit_image.specs.Tables.{AreTablesOf, binding_number};
 
-use crate::strings::{add_name, no_names};
 use crate::table_entries::{ENTRY_SIZE, Entries};
+use crate::table_names::Names;
 use elfobj::file::constants::{
     STB_GLOBAL, STB_WEAK, STT_FILE, STT_FUNC, STT_NOTYPE, STT_OBJECT, STT_SECTION,
 };
@@ -34,7 +34,7 @@ pub struct TableSymbol<'a> {
 #[derive(Drop)]
 pub struct SymbolTables {
     entries: Entries,
-    names: Vec<u8>,
+    names: Names,
 }
 
 /// The type of a symbol; a common one is data in the output.
@@ -102,7 +102,7 @@ impl SymbolTables {
         let mut entries = Entries::with_capacity(alloc, room)?;
         entries.push(&[0; ENTRY_SIZE])?;
         let room = names.saturating_add(symbols).saturating_add(1);
-        let names = no_names(alloc, room)?;
+        let names = Names::with_capacity(alloc, room)?;
         Ok(SymbolTables { entries, names })
     }
 
@@ -116,16 +116,18 @@ impl SymbolTables {
         ensures { OnOk result ((symbols : List SymbolOf) → AreTablesOf symbols self.old
             → AreTablesOf (symbols ++ x.now ∷ []) self.new) }
     {
-        let at = add_name(&mut self.names, x.name)?;
+        // the entry first: so no more than the name is kept until the name is added
+        let at = self.names.len();
         self.entries.push(&symbol_entry(at as u64, x))?;
+        self.names.push(x.name)?;
         Ok(())
     }
 
     /// The entries, and the names.
     pub(crate) fn into_bytes(self) -> Result<(Vec<u8>, Vec<u8>), NoMemory>
-        ensures { IfOk result (λ bytes. (bytes.0.items ≡ self.entries) × (bytes.1.items ≡ self.names.items)) }
+        ensures { IfOk result (λ bytes. (bytes.0.items ≡ self.entries) × (bytes.1.items ≡ self.names)) }
     {
         let SymbolTables { entries, names } = self;
-        Ok((entries.into_bytes()?, names))
+        Ok((entries.into_bytes()?, names.into_bytes()?))
     }
 }

@@ -179,7 +179,7 @@ fn put_tables(
 /// The three tables past the end of the loaded part of the file.
 fn place_tables(end: u64, symbols: SymbolTables, header_names: Vec<u8>) -> Result<Tables, NoMemory>
     ensures symbols { IfOk result (λ t. t.symbols ≡ part_at (next_multiple_of end 8) symbols.entries) }
-    ensures symbol_names { IfOk result (λ t. t.symbol_names ≡ part_at (end_of_part t.symbols) symbols.names.items) }
+    ensures symbol_names { IfOk result (λ t. t.symbol_names ≡ part_at (end_of_part t.symbols) symbols.names) }
     ensures header_names { IfOk result (λ t. t.header_names ≡ part_at (end_of_part t.symbol_names) header_names.items) }
 {
     let (entries, names) = symbols.into_bytes()?;

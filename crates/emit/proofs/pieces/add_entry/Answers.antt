@@ -17,7 +17,7 @@ returns-then-has_stayed g c =
       kept.0,
       subst (λ pr. IsRowPiece pr l.layout stays w kept.0) (sym same)
           (row_kept p l.layout stays c.args.at.piece.now c.args.at.start w kept.0 at
-          (sym c.has_stayed.ensures.is ∙ c.if-has_stayed.true) kept.1),
+          (sym c.has_stayed.ensures ∙ c.if-has_stayed.true) kept.1),
       kept.2,
     ))
     c.add_kept.ensures
@@ -26,7 +26,7 @@ pub returns : goal.returns
 returns g c =
     let p = c.args.project.now in
     let stays : SectionKey → Bool = λ k. is_some (g.E.PreviousLinkInfo.range c.args.previous.now k) in
-    let new = sym c.has_stayed.ensures.is ∙ c.if-has_stayed.false in
+    let new = sym c.has_stayed.ensures ∙ c.if-has_stayed.false in
     let y = c.drawn_piece-drawn.result in
     on_ok_weaker c.add_drawn.result
     (λ h l w whole same sources at stand.

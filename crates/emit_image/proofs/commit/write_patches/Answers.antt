@@ -6,12 +6,12 @@ use Rattle.emit_image.proofs.commit.write_patches.Goals as goal
 
 pub loop-patch-preserved : goal.loop-patch-preserved
 loop-patch-preserved c =
-    let w = c.write.ensures in
+    let w = c.write_field.ensures in
     let g = c.grow_to.ensures in
     record {
       patched = λ image all.
           patch_on_as image c.args.patches.now c.loop-patch.patch-index c.args.canvas.now.bytes
-          c.loop-patch.canvas.bytes c.write.new.self.bytes
+          c.loop-patch.canvas.bytes c.write_field.new.canvas.bytes
           c.patch-item.result c.loop-patch-test.true c.patch-item.is all (c.loop-patch.invariant.patched image all)
           (record {
             own = rw c.bytes-field.ensures at w.written;
@@ -21,7 +21,7 @@ loop-patch-preserved c =
       short = omega (arith, w.len, g.short);
       room = omega (arith, w.room, g.room, c.loop-patch.invariant.room);
       counted = count_on c.args.patches.now c.loop-patch.patch-index c.args.meter.now c.loop-patch.meter
-          c.write.new.meter c.patch-item.result c.loop-patch-test.true c.patch-item.is
+          c.write_field.new.meter c.patch-item.result c.loop-patch-test.true c.patch-item.is
           c.loop-patch.invariant.counted (rw c.bytes-field.ensures at w.counted);
     }
 

@@ -1,4 +1,4 @@
-use Rattle.std.proofs.Common.{◌+◌, ◌<◌, ◌≤◌, ℕ, get_or, sym, subst, arith}
+use Rattle.std.proofs.Common.{◌+◌, ◌<◌, ◌≤◌, ℕ, get_or, subst, arith}
 use Rattle.emit_image.specs.Drawing.{piece_byte, piece_end}
 use Rattle.emit_image.specs.Reached.{IsReached, place_of, section_image}
 use Rattle.emit_image.specs.declared.section.ImagePiece.{ImagePiece}
@@ -23,21 +23,28 @@ place-from-requires-clause-high c =
     c.requires.some in
     omega (arith, within)
 
-pub place-requires-2-clause-high : goal.place-requires-2-clause-high
-place-requires-2-clause-high c =
+pub place-reach-requires-clause-high : goal.place-reach-requires-clause-high
+place-reach-requires-clause-high c =
     piece-within c.args.x.now c.args.cursor.pieces c.index-x-cursor.result c.requires.orderly c.requires.some
 
-pub paint_fill-requires-clause-within : goal.paint_fill-requires-clause-within
-paint_fill-requires-clause-within c =
+pub paint_gap-requires-clause-within : goal.paint_gap-requires-clause-within
+paint_gap-requires-clause-within c =
     let within = piece-within c.args.x.now c.args.cursor.pieces c.index-x-cursor.result c.requires.orderly
     c.requires.some in
-    omega (arith, within, c.place-from.ensures, c.requires.within)
+    omega (arith, within, c.place-reach.ensures, c.requires.within)
 
 pub paint_piece-requires-clause-within : goal.paint_piece-requires-clause-within
 paint_piece-requires-clause-within c =
-    let within = piece-within c.args.x.now c.args.cursor.pieces c.index-x-cursor.result c.requires.orderly
-    c.requires.some in
-    omega (arith, within, c.place-2.ensures, c.requires.within)
+    let q = c.requires in
+    let x = c.args.x.now in
+    let k = c.args.cursor.pieces in
+    let now = c.paint_data_before-now.result in
+    let e = c.paint_data_before-now.ensures in
+    let r : IsReached x k now.data_commands now.at =
+    subst (λ (n : ℕ). IsReached x n now.data_commands now.at) e.pieces e.reached in
+    let above = start_above x k now.data_commands now.at c.index-x-cursor.result q.orderly r q.some
+    (q.full c.index-x-cursor.result) e.data_commands in
+    omega (arith, above, e.reached.low, c.place-from.ensures, c.place-reach.ensures, c.paint_gap.ensures.reached)
 
 pub returns-clause-reached : goal.returns-clause-reached
 returns-clause-reached c =
@@ -48,10 +55,8 @@ returns-clause-reached c =
     let e = c.paint_data_before-now.ensures in
     let r : IsReached x k now.data_commands now.at =
     subst (λ (n : ℕ). IsReached x n now.data_commands now.at) e.pieces e.reached in
-    let after = reached-piece x k now.data_commands now.at c.index-x-cursor.result q.orderly r q.some
-    (q.full c.index-x-cursor.result) e.data_commands in
-    subst (λ (n : ℕ). IsReached x (n + 1) now.data_commands
-    (piece_end (get_or x.pieces.now k c.index-x-cursor.result))) (sym e.pieces) after
+    reached-piece x k now.data_commands now.at c.index-x-cursor.result q.orderly r q.some
+    (q.full c.index-x-cursor.result) e.data_commands
 
 pub returns-clause-painted : goal.returns-clause-painted
 returns-clause-painted c =
@@ -67,6 +72,7 @@ returns-clause-painted c =
     let above = start_above x k now.data_commands now.at c.index-x-cursor.result q.orderly r q.some full
     e.data_commands in
     let up : y.start ≤ piece_end y = omega arith in
+    let low : x.start ≤ y.start = omega (arith, above, e.reached.low) in
     let first : place_of x c.args.cursor.at ≤ place_of x now.at = omega (arith, e.up, q.reached.low) in
     let second : place_of x now.at ≤ place_of x (piece_end y) = omega (arith, above, up) in
     painted_then c.args.canvas.now.bytes c.paint_data_before-now.new.canvas.bytes c.paint_piece.new.canvas.bytes
@@ -75,10 +81,10 @@ returns-clause-painted c =
     e.painted
     (gap_and_part x k now.data_commands now.at y.start (piece_end y) (λ a.
     record { byte = piece_byte a y; stays = y.stays }) c.paint_data_before-now.new.canvas.bytes
-    c.paint_fill.new.canvas.bytes c.paint_piece.new.canvas.bytes c.paint_data_before-now.new.meter
-    c.paint_fill.new.meter c.paint_piece.new.meter
-    c.place.result c.place-from.result c.place-2.result r above up
+    c.paint_gap.new.canvas.bytes c.paint_piece.new.canvas.bytes c.paint_data_before-now.new.meter
+    c.paint_gap.new.meter c.paint_piece.new.meter
+    c.place.result c.place-from.result (c.place-from.result + y.size) r above up
     (pieces-from x k c.index-x-cursor.result q.orderly q.some) e.data_commands
     (piece_spot x k now.data_commands now.at c.index-x-cursor.result q.orderly r q.some full e.data_commands)
-    c.place.ensures c.place-from.ensures c.place-2.ensures
-    c.paint_fill.ensures.painted c.paint_piece.ensures.painted)
+    c.place.ensures c.place-from.ensures (omega (arith, c.place-from.ensures, low))
+    c.paint_gap.ensures.painted c.paint_piece.ensures.painted)

@@ -9,6 +9,6 @@ returns c = λ xs are. record {
   entries = c.in_ok-push.ensures
       ∙ ap (λ (bs : List ℕ). bs ++ c.symbol_entry.result) are.entries
       ∙ ap (λ (bs : List ℕ). symbol_table_of xs ++ bs) c.symbol_entry.ensures
-      ∙ sym (entry_more xs c.args.x.now _ (c.in_ok-at.ensures.at ∙ ap (λ (ns : List ℕ). length ns) are.names));
-  names = names_more xs c.args.x.now _ _ are.names c.in_ok-at.ensures.added;
+      ∙ sym (entry_more xs c.args.x.now _ (c.len-at.ensures ∙ ap (λ (ns : List ℕ). length ns) are.names));
+  names = names_more xs c.args.x.now _ _ are.names c.in_ok-push-2.ensures;
 }

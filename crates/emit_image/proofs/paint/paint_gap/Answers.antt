@@ -1,13 +1,14 @@
 use Rattle.std.proofs.Common.{◌%◌, length, slice_index, false, refl, arith}
 use Rattle.emit_image.proofs.Painting.{painted_own}
-use Rattle.emit_image.proofs.paint.paint_fill.Goals as goal
+use Rattle.emit_image.proofs.paint.paint_gap.Goals as goal
 
 pub returns-clause-painted : goal.returns-clause-painted
 returns-clause-painted c =
     let pattern = c.args.pattern.now in
     let order = c.requires.order in
+    let g = c.grow_to.ensures in
     let r = c.write_fill.ensures in
     painted_own c.args.canvas.now.bytes c.grow_to.new.canvas.bytes c.write_fill.new.canvas.bytes c.args.meter.now
     c.write_fill.new.meter c.args.from c.args.end (λ i. slice_index pattern (i % length pattern)) false order refl
-    c.grow_to.ensures.same c.grow_to.ensures.reached r.written r.before (λ o h. r.after o (omega (arith, h, order)))
-    r.len r.counted
+    g.same (omega (arith, g.reached, c.requires.reach)) r.written r.before
+    (λ o h. r.after o (omega (arith, h, order))) r.len r.counted

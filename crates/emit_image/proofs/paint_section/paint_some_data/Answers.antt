@@ -4,7 +4,7 @@ use Rattle.ldscript.specs.statements.declared.section.Width.TheVariants.{Byte}
 use Rattle.emit_image.specs.Reached.{place_of, section_image}
 use Rattle.emit_image.proofs.InSection.{data-from}
 use Rattle.emit_image.proofs.Painting.{painted_then}
-use Rattle.emit_image.proofs.paint_section.paint_data_before.Goals as goal
+use Rattle.emit_image.proofs.paint_section.paint_some_data.Goals as goal
 
 abbrev none : PlacedData
 none = record { section = record { 0 = 0 }; start = 0; width = Byte; value = 0 }

@@ -1,7 +1,7 @@
 use Rattle.std.proofs.Common.{◌≡◌, ◌≤◌}
 use Rattle.emit_image.specs.Painted.{IsPainted, IsReady}
 use Rattle.emit_image.specs.Reached.{IsReached, place_of, section_image}
-use Rattle.emit_image.proofs.paint_section.paint_data_before.Given as goal
+use Rattle.emit_image.proofs.paint_section.paint_some_data.Given as goal
 
 abbrev pub invariant-loop-k : goal.invariant-loop-k
 invariant-loop-k l = record {
