@@ -117,7 +117,8 @@ symbol_is : (p : Project) (s : Layout) (x : OutputSymbol) → HasFacts p s x →
 symbol_is p s x facts h = record {
   definer = numbered_same (definer_in x.row) ∙ facts.definer;
   value = λ d.
-      subst (λ (v : SymbolValue). IsValue v (number_of (value_in x.row))) (ap (λ (y : model.OutputSymbol). y.value) h.is)
+      subst (λ (v : SymbolValue). IsValue v (number_of (value_in x.row)))
+      (ap (λ (y : model.OutputSymbol). y.value) h.is)
       (value_is (value_in x.row));
   declared = λ d. contained_in x.name.now (declared_names p) h.declared;
 }

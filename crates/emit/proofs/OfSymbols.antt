@@ -47,7 +47,8 @@ one_symbol p s xs x v y old new e pushed facts name weak kind section val size h
     record { name = x.name.now; decision = decision p x.name.now; value = v } in
     let is : valued p x ≡ Some z =
     ap (λ (w : SymbolValue). let y : model.OutputSymbol =
-    record { name = x.name.now; decision = decision p x.name.now; value = value_of w } in with_value y (value_of w)) e in
+    record { name = x.name.now; decision = decision p x.name.now; value = value_of w } in with_value y (value_of w))
+    e in
     record {
       symbols = h.symbols ++ y ∷ [];
       each = subst (λ o. AllZip (IsTableSymbol p s) (xs ++ cons_option o []) (h.symbols ++ y ∷ [])) (sym is)

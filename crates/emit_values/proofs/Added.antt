@@ -87,7 +87,8 @@ has_row p s src h name k named e =
 
 -- a symbol that was added if something defines its name is in the output if its name stands for something
 pub adds_one : (p : Project) (s : Layout) (x : OutputSymbol) (old new : List OutputSymbol)
-    → shown_symbol p x ≡ output_symbol p s x.name.now → HasFacts p s x → AddsIf (defines (rows.definer_in x.row)) x old new
+    → shown_symbol p x ≡ output_symbol p s x.name.now → HasFacts p s x
+    → AddsIf (defines (rows.definer_in x.row)) x old new
     → AddsSymbols p s (x.name.now ∷ []) old new
 adds_one p s x old new is facts added =
     ap (shown p) added ∙ map-append (shown_symbol p) old (cond (defines (rows.definer_in x.row)) (x ∷ []) [])

@@ -135,10 +135,12 @@ names_are script cs given by_name list commands names moved order first =
     let long : length sorted ≡ length by_name = length-map by_name (λ (x : Bor (List ℕ)). x.now) in
     let all : List (List ℕ) = distinct_first sorted (length by_name) in
     record {
-      order = asc_pairs (texts list) (subst Asc (sym first) (first_asc sorted up (length by_name) (omega (arith, long))));
+      order = asc_pairs (texts list)
+          (subst Asc (sym first) (first_asc sorted up (length by_name) (omega (arith, long))));
       complete = λ z c.
           let there : Contains sorted z =
-          Contains-permutation (texts given) sorted z (IsPermutation-map (λ (x : Bor (List ℕ)). x.now) given by_name moved)
+          Contains-permutation (texts given) sorted z
+          (IsPermutation-map (λ (x : Bor (List ℕ)). x.now) given by_name moved)
           (subst (λ (ns : List (List ℕ)). Contains ns z) (sym (names ∙ ap all_given commands)) c) in
           subst (λ (ns : List (List ℕ)). Contains ns z) (sym first)
           (contained_in z all

@@ -71,7 +71,8 @@ partitioned name xs up i j d l h earlier =
     let y = (get_or xs j d).name.now in
     is_at_most x name
     (names_order.chain name y x (before_it y name earlier)
-    (sorted_far key_before (ranks_by nat_list_cmp_total (λ (z : NamedKey). z.name.now)) xs (sorted_keys xs up) i j d l h))
+    (sorted_far key_before (ranks_by nat_list_cmp_total (λ (z : NamedKey). z.name.now)) xs (sorted_keys xs up) i j d l
+    h))
 
 pub place_among : (name : Name) (xs : List NamedKey) (n : ℕ)
     → IsPartitionPoint (λ x. comes_by name x ≡ true) (λ x. comes_by name x ≡ false) xs n → IsPlaceAmong name xs n

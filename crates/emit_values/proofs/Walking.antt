@@ -1,5 +1,6 @@
 -- Two lists of names in byte order that are merged step by step.
-use Rattle.std.proofs.Common.{◌≡◌, ◌∙◌, ℕ, ◌+◌, ◌<◌, ◌≤◌, zero, suc, List, [], ◌∷◌, ◌++◌, ◌⊎◌, length, take, drop, get_or}
+use Rattle.std.proofs.Common.{◌≡◌, ◌∙◌, ℕ, ◌+◌, ◌<◌, ◌≤◌, zero, suc, List, [], ◌∷◌, ◌++◌, ◌⊎◌, length, take}
+use Rattle.std.proofs.Common.{drop, get_or}
 use Rattle.std.proofs.Common.{ap, append_assoc, append-nil, arith, inl, inr, refl, subst, sym, ⊎_elim, ◌-◌}
 use Rattle.std.proofs.Common.{Bool, cond, false, true}
 use Rattle.std.specs.Prelude.{bytes_eq}

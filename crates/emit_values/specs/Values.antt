@@ -19,8 +19,11 @@ use Rattle.emit_values.specs.declared.values.Values.{Values}
 
 -- a symbol of a project
 abbrev pub shown_symbol : Project → OutputSymbol → model.OutputSymbol
-shown_symbol project symbol =
-    record { name = symbol.name.now; decision = decision project symbol.name.now; value = value_of (value_in symbol.row) }
+shown_symbol project symbol = record {
+  name = symbol.name.now;
+  decision = decision project symbol.name.now;
+  value = value_of (value_in symbol.row);
+}
 
 -- it has what defines its name, and what the symbol table says of what the name stands for
 pub record HasFacts (project : Project) (layout : Layout) (symbol : OutputSymbol) : Type 0 where

@@ -2,7 +2,8 @@
 
 ghost use Rattle.std.specs.Prelude.{◌≡◌, ◌<◌, ◌++◌, IfOk, OnOk, length};
 ghost use Rattle.ldscript.specs.statements.Numbered.{shown_directives};
-ghost use Rattle.emit_values.specs.ScriptNames.{all_given, distinct_first, is_repeat, names_given, texts, AreScriptNames};
+ghost use Rattle.emit_values.specs.ScriptNames.{all_given, distinct_first, is_repeat, names_given, texts};
+ghost use Rattle.emit_values.specs.ScriptNames.{AreScriptNames};
 
 use ldmodel::memory::NoMemory;
 use ldscript::Script;

@@ -12,7 +12,7 @@ use emit_text::definer::Definer;
 use ldmodel::names::ObjectPlace;
 
 /// A case of `Definer`, without the object.
-#[derive(Clone, Copy, Debug, PartialEq, Eq)]
+#[derive(Clone, Copy, Debug)]
 enum DefinerKind {
     Nothing,
     Script,
@@ -21,7 +21,7 @@ enum DefinerKind {
 }
 
 /// A case of `SymbolValue`, without the number.
-#[derive(Clone, Copy, Debug, PartialEq, Eq)]
+#[derive(Clone, Copy, Debug)]
 enum ValueKind {
     Number,
     NotDefined,

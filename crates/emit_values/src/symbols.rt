@@ -194,8 +194,8 @@ fn add_given<'a>(
     plus_last(counted, list, count)
 }
 
-/// Adds the symbols of names with keys, and after them that of a name that the script gives a value to, unless it is the
-/// last of them, to those that are counted.
+/// Adds the symbols of names with keys, and after them that of a name that the script gives a value to, unless it is
+/// the last of them, to those that are counted.
 fn add_up_to<'a>(
     sources: &Sources<'_>,
     before: &[NamedKey<'a>],

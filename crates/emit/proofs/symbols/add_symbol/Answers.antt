@@ -9,5 +9,6 @@ pub returns-in_ok-push-in-Number : goal.returns-in_ok-push-in-Number
 returns-in_ok-push-in-Number c p s xs facts h =
     one_symbol p s xs c.args.symbol.now c.in-Number.value _ c.args.tables.now _ (sym c.value.ensures ∙ c.in-Number.is)
     c.in_ok-push-in-Number.ensures facts refl (c.is_weak.ensures ∙ ap is_weak c.definer.ensures)
-    (ap (λ (f : SymbolFacts). f.kind) c.facts-facts.ensures) (ap (λ (f : SymbolFacts). f.section) c.facts-facts.ensures) refl
+    (ap (λ (f : SymbolFacts). f.kind) c.facts-facts.ensures)
+    (ap (λ (f : SymbolFacts). f.section) c.facts-facts.ensures) refl
     (ap (λ (f : SymbolFacts). f.size) c.facts-facts.ensures) h
