@@ -33,6 +33,7 @@ use Rattle.emit_text.specs.MapOf.{AreSymbolsOf, IsMapOf, IsSymbolOf, IsValue, sy
 use Rattle.emit_text.specs.declared.maps.LinkMap.{LinkMap}
 use Rattle.emit_text.specs.declared.maps.MapParts.{MapParts}
 use Rattle.emit_text.specs.declared.symbols.MapSymbol.{MapSymbol}
+use Rattle.emit_values.specs.SymbolRows.{definer_in, value_in}
 use Rattle.emit_values.specs.Values.{AreValues, HasFacts, shown_symbol}
 use Rattle.emit_values.specs.declared.values.OutputSymbol.{OutputSymbol}
 use Rattle.emit_values.specs.declared.values.Values.{Values}
@@ -114,10 +115,11 @@ numbered_same (definer.WeakOf key) = refl
 symbol_is : (p : Project) (s : Layout) (x : OutputSymbol) → HasFacts p s x → IsListed p s (shown_symbol p x)
     → IsSymbolOf p (λ key. key) s (map_symbol x)
 symbol_is p s x facts h = record {
-  definer = numbered_same x.definer ∙ facts.definer;
+  definer = numbered_same (definer_in x.row) ∙ facts.definer;
   value = λ d.
-      subst (λ (v : SymbolValue). IsValue v (number_of x.value)) (ap (λ (y : model.OutputSymbol). y.value) h.is)
-      (value_is x.value);
+      subst (λ (v : SymbolValue). IsValue v (number_of (value_in x.row)))
+      (ap (λ (y : model.OutputSymbol). y.value) h.is)
+      (value_is (value_in x.row));
   declared = λ d. contained_in x.name.now (declared_names p) h.declared;
 }
 

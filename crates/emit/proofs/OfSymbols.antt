@@ -7,13 +7,17 @@ use Rattle.std.proofs.lemmas.List.Elements.{filter_map-append}
 use Rattle.ldmodel.specs.Layout.{Layout}
 use Rattle.ldmodel.specs.Names.{Decision, Strong, Script, Common, Weak, Provided, Undefined, Duplicate, decision}
 use Rattle.ldmodel.specs.Project.{Project}
-use Rattle.ldmodel.specs.Tail.{ValuedSymbol, kind_number, st_binding}
+use Rattle.ldmodel.specs.OutputSymbols as model
+use Rattle.ldmodel.specs.Tail.{ValuedSymbol, kind_number, st_binding, with_value}
 use Rattle.emit_image.specs.Tables.{AreTablesOf, IsTableSymbol, binding_number}
 use Rattle.emit_image.specs.declared.symbols.SymbolTables.{SymbolTables}
 use Rattle.emit_image.specs.declared.symbols.TableSymbol.{TableSymbol}
+use Rattle.emit_relocate.specs.Values.{value_of}
+use Rattle.emit_relocate.specs.declared.value.SymbolValue.{SymbolValue}
 use Rattle.emit_relocate.specs.declared.value.SymbolValue.TheVariants as value
 use Rattle.emit_text.specs.Definer.{definer_of, is_weak}
 use Rattle.emit_values.specs.NameRows.{Facts}
+use Rattle.emit_values.specs.SymbolRows.{definer_in, value_in}
 use Rattle.emit_values.specs.Values.{HasFacts}
 use Rattle.emit_values.specs.declared.values.OutputSymbol.{OutputSymbol}
 use Rattle.ldmodel_laws.proofs.EachOf.{zip_more}
@@ -32,16 +36,19 @@ weak_as Duplicate = refl
 
 -- one symbol more, if it has a value
 pub one_symbol : (p : Project) (s : Layout) (xs : List ValuedSymbol) (x : OutputSymbol) (v : ℕ)
-    (y : TableSymbol) (old new : SymbolTables) → x.value ≡ value.Number v
+    (y : TableSymbol) (old new : SymbolTables) → value_in x.row ≡ value.Number v
     → ((ys : List TableSymbol) → AreTablesOf ys old → AreTablesOf (ys ++ y ∷ []) new) → HasFacts p s x
     → y.name.now ≡ x.name.now
-    → y.weak ≡ is_weak x.definer → y.kind ≡ x.facts.kind
-    → y.section ≡ x.facts.section → y.value ≡ v → y.size ≡ x.facts.size
+    → y.weak ≡ is_weak (definer_in x.row) → y.kind ≡ x.row.kind
+    → y.section ≡ x.row.section → y.value ≡ v → y.size ≡ x.row.size
     → AreTablesFor p s xs old → AreTablesFor p s (xs ++ cons_option (valued p x) []) new
 one_symbol p s xs x v y old new e pushed facts name weak kind section val size h =
     let z : ValuedSymbol =
     record { name = x.name.now; decision = decision p x.name.now; value = v } in
-    let is : valued p x ≡ Some z = ap (λ w. valued p (record x { value = w })) e in
+    let is : valued p x ≡ Some z =
+    ap (λ (w : SymbolValue). let y : model.OutputSymbol =
+    record { name = x.name.now; decision = decision p x.name.now; value = value_of w } in with_value y (value_of w))
+    e in
     record {
       symbols = h.symbols ++ y ∷ [];
       each = subst (λ o. AllZip (IsTableSymbol p s) (xs ++ cons_option o []) (h.symbols ++ y ∷ [])) (sym is)

@@ -21,6 +21,7 @@ use Rattle.ldscript.specs.statements.Numbered.{shown_sections}
 use Rattle.ldscript.specs.statements.Numbering.{OutputSectionAt, output_sections}
 use Rattle.ldscript.specs.statements.declared.numbering.OutputSectionAt as code_section
 use Rattle.emit_values.specs.Sizes.{plus_symbol, plus_symbols, plus_value}
+use Rattle.emit_values.specs.SymbolRows.{value_in}
 use Rattle.emit_values.specs.Values.{AreValues, shown_symbol}
 use Rattle.emit_values.specs.declared.sizes.SymbolSizes.{SymbolSizes}
 use Rattle.emit_values.specs.declared.values.OutputSymbol.{OutputSymbol}
@@ -45,7 +46,7 @@ plus_none t =
 
 sizes_are : (p : Project) (t : SymbolSizes) (xs : List OutputSymbol) → plus_symbols t xs ≡ plus t (valued_in p xs)
 sizes_are p t [] = plus_none t
-sizes_are p t (x ∷ xs) = sizes_are p (plus_symbol t x) xs ∙ by_value (value_of x.value)
+sizes_are p t (x ∷ xs) = sizes_are p (plus_symbol t x) xs ∙ by_value (value_of (value_in x.row))
   where
     by_value : (v : SymbolValue)
         → plus (plus_value t x.name.now v) (valued_in p xs)

@@ -3,6 +3,7 @@ use Rattle.std.specs.Prelude.{ℕ, ◌+◌, List, length, sum_by, Option, filter
 use Rattle.ldmodel.specs.Project.{Project}
 use Rattle.ldmodel.specs.Tail.{ValuedSymbol, with_value}
 use Rattle.emit_relocate.specs.Values.{value_of}
+use Rattle.emit_values.specs.SymbolRows.{value_in}
 use Rattle.emit_values.specs.Values.{shown_symbol}
 use Rattle.emit_values.specs.declared.values.OutputSymbol.{OutputSymbol}
 
@@ -12,7 +13,7 @@ names_size names = sum_by (λ name. length name + 1) names
 
 -- the symbol of a project, if it has a value
 abbrev pub valued : Project → OutputSymbol → Option ValuedSymbol
-valued project symbol = with_value (shown_symbol project symbol) (value_of symbol.value)
+valued project symbol = with_value (shown_symbol project symbol) (value_of (value_in symbol.row))
 
 abbrev pub valued_in : Project → List OutputSymbol → List ValuedSymbol
 valued_in project xs = filter_map (valued project) xs

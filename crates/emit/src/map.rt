@@ -44,8 +44,8 @@ impl<'a> MapSymbols for ListedSymbols<'a> {
         let symbol = &self.symbols[place];
         MapSymbol {
             name: symbol.name,
-            definer: symbol.definer,
-            value: symbol.value.number(),
+            definer: symbol.row.definer(),
+            value: symbol.row.value().number(),
         }
     }
 }

@@ -23,16 +23,17 @@ fn add_symbol(tables: &mut SymbolTables, symbol: &OutputSymbol<'_>) -> Result<()
         → HasFacts project layout symbol.now → AreTablesFor project layout xs tables.old
         → AreTablesFor project layout (xs ++ cons_option (valued project symbol.now) []) tables.new) }
 {
-    match symbol.value {
+    let facts = symbol.row.facts();
+    match symbol.row.value() {
         SymbolValue::NotDefined | SymbolValue::NotInOutput => Ok(()),
         SymbolValue::Number(value) => {
             tables.push(&TableSymbol {
                 name: symbol.name,
-                weak: symbol.definer.is_weak(),
-                kind: symbol.facts.kind,
-                section: symbol.facts.section,
+                weak: symbol.row.definer().is_weak(),
+                kind: facts.kind,
+                section: facts.section,
                 value,
-                size: symbol.facts.size,
+                size: facts.size,
             })?;
             Ok(())
         }

@@ -19,21 +19,20 @@ use Rattle.ldmodel.specs.declared.names.Case.{Case}
 use Rattle.ldmodel.specs.declared.names.ObjectPlace.{ObjectPlace}
 use Rattle.emit_relocate.specs.Values.{value_of}
 use Rattle.emit_text.specs.Definer.{definer_of, defines}
-use Rattle.emit_text.specs.declared.definer.Definer.{Definer}
 use Rattle.emit_text.proofs.Definers.{defines_as}
 use Rattle.symres.specs.table.State.{IsNamed}
-use Rattle.emit_values.specs.NameRows.{Resolved, decided_row, resolved, shown_resolved, shown_row}
+use Rattle.emit_values.specs.NameRows.{Resolved, decided_row, resolved, shown_in, shown_resolved}
 use Rattle.emit_values.specs.NameRows as model_row
 use Rattle.emit_values.specs.ScriptValues.{value_in}
 use Rattle.emit_values.specs.Symbols.{AddsIf, AddsSymbols, AreSources, KeepsFacts, defined, shown, symbol_with}
 use Rattle.emit_values.specs.Values.{HasFacts, shown_symbol}
-use Rattle.emit_values.specs.declared.name_row.NameRow.{NameRow}
-use Rattle.emit_values.specs.declared.name_rows.ResolvedName.{ResolvedName}
+use Rattle.emit_values.specs.SymbolRows as rows
+use Rattle.emit_values.specs.declared.symbol_row.SymbolRow.{SymbolRow}
 use Rattle.emit_values.specs.declared.symbols.Sources.{Sources}
 use Rattle.emit_values.specs.declared.values.OutputSymbol.{OutputSymbol}
 
 -- it is the symbol of a name
-same_symbol : (p : Project) (s : Layout) (x : OutputSymbol) → value_of x.value ≡ name_value p s x.name.now
+same_symbol : (p : Project) (s : Layout) (x : OutputSymbol) → value_of (rows.value_in x.row) ≡ name_value p s x.name.now
     → shown_symbol p x ≡ output_symbol p s x.name.now
 same_symbol p s x v =
     ap (λ (w : SymbolValue). let y : model.OutputSymbol =
@@ -41,7 +40,7 @@ same_symbol p s x v =
 
 module _ (p : Project) (s : Layout) (src : Sources) (h : AreSources p s src) (name : Bor (List ℕ)) where
   -- of a name with a key
-  module _ (k : ℕ) (named : IsNamed src.symbol_table.now.names k name.now) (x : ResolvedName)
+  module _ (k : ℕ) (named : IsNamed src.symbol_table.now.names k name.now) (x : SymbolRow)
       (within : k < length src.rows.now) (read : x ≡ get_or src.rows.now k x) where
     is : shown_resolved x ≡ resolved p s name.now
     is =
@@ -49,31 +48,31 @@ module _ (p : Project) (s : Layout) (src : Sources) (h : AreSources p s src) (na
         (ap (option_map shown_resolved) (sym (slice_get_read src.rows.now (length src.rows.now) k x refl within read))
         ∙ h.rows k name.now named)
 
-    pub named_symbol : shown_symbol p (symbol_with name x.definer x.row) ≡ output_symbol p s name.now
-    named_symbol = same_symbol p s (symbol_with name x.definer x.row) (ap (λ (r : Resolved). r.row.value) is)
+    pub named_symbol : shown_symbol p (symbol_with name x) ≡ output_symbol p s name.now
+    named_symbol = same_symbol p s (symbol_with name x) (ap (λ (r : Resolved). r.row.value) is)
 
-    pub named_facts : HasFacts p s (symbol_with name x.definer x.row)
+    pub named_facts : HasFacts p s (symbol_with name x)
     named_facts = record {
       definer = ap (λ (r : Resolved). r.definer) is;
       facts = ap (λ (r : Resolved). r.row.facts) is;
     }
 
   -- of another name
-  module _ (case : Case ObjectPlace) (definer : Definer) (row : NameRow) (given : Option ℕ)
+  module _ (case : Case ObjectPlace) (row : SymbolRow) (given : Option ℕ)
       (is : given ≡ value_in src.given.now name.now)
       (row_is : given ≡ script_value s name.now
-      → shown_row row ≡ decided_row p s name.now (decision_of (λ key. key) case))
-      (definer_is : definer ≡ definer_of (decision_of (λ key. key) case))
+      → shown_in row ≡ decided_row p s name.now (decision_of (λ key. key) case))
+      (definer_is : rows.definer_in row ≡ definer_of (decision_of (λ key. key) case))
       (decided : decision_of (λ key. key) case ≡ decision p name.now) where
-    by_script : shown_row row ≡ decided_row p s name.now (decision p name.now)
+    by_script : shown_in row ≡ decided_row p s name.now (decision p name.now)
     by_script = row_is (is ∙ h.given.found name.now) ∙ ap (decided_row p s name.now) decided
 
-    pub unnamed_symbol : shown_symbol p (symbol_with name definer row) ≡ output_symbol p s name.now
+    pub unnamed_symbol : shown_symbol p (symbol_with name row) ≡ output_symbol p s name.now
     unfolding name_value
     unnamed_symbol =
-        same_symbol p s (symbol_with name definer row) (ap (λ (r : model_row.NameRow). r.value) by_script)
+        same_symbol p s (symbol_with name row) (ap (λ (r : model_row.NameRow). r.value) by_script)
 
-    pub unnamed_facts : HasFacts p s (symbol_with name definer row)
+    pub unnamed_facts : HasFacts p s (symbol_with name row)
     unnamed_facts = record {
       definer = definer_is ∙ ap definer_of decided;
       facts = ap (λ (r : model_row.NameRow). r.facts) by_script;
@@ -88,11 +87,12 @@ has_row p s src h name k named e =
 
 -- a symbol that was added if something defines its name is in the output if its name stands for something
 pub adds_one : (p : Project) (s : Layout) (x : OutputSymbol) (old new : List OutputSymbol)
-    → shown_symbol p x ≡ output_symbol p s x.name.now → HasFacts p s x → AddsIf (defines x.definer) x old new
+    → shown_symbol p x ≡ output_symbol p s x.name.now → HasFacts p s x
+    → AddsIf (defines (rows.definer_in x.row)) x old new
     → AddsSymbols p s (x.name.now ∷ []) old new
 adds_one p s x old new is facts added =
-    ap (shown p) added ∙ map-append (shown_symbol p) old (cond (defines x.definer) (x ∷ []) [])
-    ∙ ap (λ (ys : List model.OutputSymbol). shown p old ++ ys) (one (defines x.definer)
+    ap (shown p) added ∙ map-append (shown_symbol p) old (cond (defines (rows.definer_in x.row)) (x ∷ []) [])
+    ∙ ap (λ (ys : List model.OutputSymbol). shown p old ++ ys) (one (defines (rows.definer_in x.row))
     (ap defines facts.definer ∙ defines_as (decision p x.name.now)))
   where
     one : (b : Bool) → b ≡ is_defined (decision p x.name.now)

@@ -1,11 +1,11 @@
 -- The names that stand for something are declared, and symbols of them in byte order are those of the output.
-use Rattle.std.proofs.Common.{◌≡◌, ◌∙◌, ℕ, suc, ◌+◌, ◌⊎◌, List, [], ◌∷◌, ◌++◌, length, map, filter, get_or}
-use Rattle.std.proofs.Common.{ap, sym, subst, refl, arith, Bool, true, false, cond, inl, inr}
-use Rattle.std.specs.Prelude.{Option, Some, None, bytes_eq, Contains}
-use Rattle.std.proofs.lemmas.List.{get_or_default, length-map, map-append}
+use Rattle.std.proofs.Common.{◌≡◌, ◌∙◌, ℕ, suc, ◌⊎◌, List, [], ◌∷◌, ◌++◌, map, filter, ap, append_assoc, append-nil}
+use Rattle.std.proofs.Common.{sym, refl, Bool, true, false, cond, inl, inr}
+use Rattle.std.specs.Prelude.{Option, Some, None, bytes_eq}
+use Rattle.std.proofs.lemmas.List.{map-append}
 use Rattle.std.proofs.lemmas.List.Elements.{filter-append}
 use Rattle.std.proofs.lemmas.Slice.Eq.{bytes_eq-Decides}
-use Rattle.emit_text.proofs.ByteOrder.{Asc, In, Name, contained_in, distinct_once, filtered_asc, filtered_in}
+use Rattle.emit_text.proofs.ByteOrder.{Asc, In, Name, distinct_once, filtered_asc, filtered_in}
 use Rattle.emit_text.proofs.ByteOrder.{in_filtered, in_sorted, same_list, sorted_asc, sorted_in}
 use Rattle.ldscript.specs.statements.Given.{assigned_from, assigned_here, given_as, provided_from}
 use Rattle.ldscript.specs.statements.Numbering.{AssignmentAt, DirectiveAt, assigned_by, assigned_in, all_directives}
@@ -20,12 +20,8 @@ use Rattle.ldmodel.specs.OutputSymbols.{in_byte_order, is_defined, output_symbol
 use Rattle.ldmodel.specs.Project.{Project}
 use Rattle.ldmodel.specs.ScriptNames.{assigned_names, is_assigned, is_assignment, is_provided}
 use Rattle.ldmodel.specs.ScriptNames.{provided_names}
-use Rattle.symres.specs.SymbolTable.{IsSymbolTable, SymbolTableState}
-use Rattle.emit_values.specs.Candidates.{names_of, AreCandidates}
-use Rattle.emit_values.specs.Symbols.{AddsSymbols, defined, defined_symbols, distinct_first, fresh, shown}
-use Rattle.emit_values.specs.declared.candidate.Candidate.{Candidate}
+use Rattle.emit_values.specs.Symbols.{AddsSymbols, defined, defined_symbols, shown}
 use Rattle.emit_values.specs.declared.values.OutputSymbol.{OutputSymbol}
-use Rattle.emit_values.proofs.Distinct.{first_asc, first_in, names_up}
 use Rattle.emit_values.proofs.Listing.{declared_in}
 
 -- ---- what stands for something is declared
@@ -126,34 +122,31 @@ same_symbols p s ns up all =
     filtered_in test z ns (all z (in_sorted z (declared_names p) f.0)) f.1) in
     defined_by_name p s ns ∙ (ap (map (output_symbol p s)) same ∙ sym (defined_by_name p s sorted))
 
--- ---- candidates
+-- ---- names one after another
 
--- all candidates are seen to
-pub symbols_are : (p : Project) (s : Layout) (a : SymbolTableState) (script : List Statement) (xs : List Candidate) (n :
-    ℕ)
-    → AreCandidates a script xs → IsSymbolTable p a → p.script ≡ script → n ≡ length xs
-    → defined_symbols p s (distinct_first (names_of xs) n) ≡ output_symbols p s
-symbols_are p s a script xs n h symbol_table same all =
-    let names : List Name = names_of xs in
-    let long : length names ≡ length xs = length-map xs (λ (x : Candidate). x.name.now) in
-    same_symbols p s (distinct_first names n) (first_asc names (names_up xs h.order) n (omega (arith, all, long)))
-    (λ z i.
-    let c = h.complete p symbol_table same z (contained_in z (declared_names p) i) in
-    subst (λ (w : Name). In w (distinct_first names n)) (there names z c)
-    (first_in names (names_up xs h.order) n c.0 (omega (arith, c.1, all, long))))
-  where
-    there : (ns : List Name) (z : Name) (c : Contains ns z) → get_or ns c.0 [] ≡ z
-    there ns z c = get_or_default ns c.0 [] z c.1 ∙ c.2
+defined_append : (p : Project) (s : Layout) (ms ns : List Name)
+    → defined_symbols p s (ms ++ ns) ≡ defined_symbols p s ms ++ defined_symbols p s ns
+defined_append p s ms ns =
+    ap defined (map-append (output_symbol p s) ms ns)
+    ∙ filter-append (λ (x : model.OutputSymbol). is_defined x.decision) (map (output_symbol p s) ms)
+    (map (output_symbol p s) ns)
 
--- the next candidate
-pub symbols_more : (p : Project) (s : Layout) (names : List Name) (n : ℕ) (old new : List OutputSymbol)
-    → AddsSymbols p s (fresh names n) old new → shown p old ≡ defined_symbols p s (distinct_first names n)
-    → shown p new ≡ defined_symbols p s (distinct_first names (n + 1))
-symbols_more p s names n old new added h =
-    let suc_is : suc n ≡ n + 1 = omega arith in
+pub symbols_join : (p : Project) (s : Layout) (ms ns : List Name) (xs ys zs : List OutputSymbol)
+    → AddsSymbols p s ms xs ys → AddsSymbols p s ns ys zs → AddsSymbols p s (ms ++ ns) xs zs
+symbols_join p s ms ns xs ys zs h k =
+    k
+    ∙ (ap (λ (l : List model.OutputSymbol). l ++ defined_symbols p s ns) h
+    ∙ (append_assoc (shown p xs) (defined_symbols p s ms) (defined_symbols p s ns)
+    ∙ ap (λ (l : List model.OutputSymbol). shown p xs ++ l) (sym (defined_append p s ms ns))))
+
+pub symbols_none : (p : Project) (s : Layout) (xs : List OutputSymbol) → AddsSymbols p s [] xs xs
+symbols_none p s xs = sym (append-nil (shown p xs))
+
+-- the symbols of all names
+pub symbols_are : (p : Project) (s : Layout) (names : List Name) (old new : List OutputSymbol) → Asc names
+    → ((z : Name) → In z (declared_names p) → In z names) → old ≡ [] → AddsSymbols p s names old new
+    → shown p new ≡ output_symbols p s
+symbols_are p s names old new up all none added =
     added
-    ∙ (ap (λ (xs : List model.OutputSymbol). xs ++ defined_symbols p s (fresh names n)) h
-    ∙ (sym (filter-append (λ (x : model.OutputSymbol). is_defined x.decision)
-    (map (output_symbol p s) (distinct_first names n)) (map (output_symbol p s) (fresh names n)))
-    ∙ (ap defined (sym (map-append (output_symbol p s) (distinct_first names n) (fresh names n)))
-    ∙ ap (λ k. defined_symbols p s (distinct_first names k)) suc_is)))
+    ∙ (ap (λ (xs : List OutputSymbol). shown p xs ++ defined_symbols p s names) none
+    ∙ same_symbols p s names up all)

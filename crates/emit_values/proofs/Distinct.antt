@@ -3,6 +3,7 @@ use Rattle.std.proofs.Common.{◌≡◌, ◌≢◌, ◌∙◌, ℕ, zero, suc, �
 use Rattle.std.proofs.Common.{get_or, ap, sym, subst, refl, arith, Bool, true, false, cond, inl, inr, ⊎_elim}
 use Rattle.std.proofs.Common.{append-nil}
 use Rattle.std.specs.Prelude.{bytes_eq, nat_lt, ◌&&◌}
+use Rattle.std.specs.Borrow.{Bor}
 use Rattle.std.specs.Cmp.{IsStrictWeakOrder}
 use Rattle.std.specs.Cmp.Lexicographic.{nat_list_cmp_total}
 use Rattle.std.specs.List.Sorted.{IsSortedBy}
@@ -13,24 +14,26 @@ use Rattle.std.proofs.lemmas.Slice.Eq.{bytes_eq-Decides}
 use Rattle.emit_text.proofs.ByteOrder.{Asc, In, Lt, Name, append_asc, append_in, in_append, lt_from_not_before}
 use Rattle.emit_text.proofs.ByteOrder.{lt_trans}
 use Rattle.ldmodel.specs.OutputSymbols.{is_before}
-use Rattle.emit_values.specs.Candidates.{comes_before, names_of}
-use Rattle.emit_values.specs.Symbols.{distinct_first, fresh, is_repeat}
-use Rattle.emit_values.specs.declared.candidate.Candidate.{Candidate}
+use Rattle.emit_values.specs.ScriptNames.{distinct_first, fresh, is_repeat, texts}
 
 pub before_order : IsStrictWeakOrder is_before
 before_order = ranks_by nat_list_cmp_total (λ (x : Name). x)
 
--- names of candidates that are sorted
-pub names_up : (xs : List Candidate) → IsSortedBy comes_before xs → IsSortedBy is_before (names_of xs)
-names_up [] h k d low high = absurd (omega (arith, high))
-names_up (x ∷ xs) h k d low high =
-    let f : Candidate → Name = λ (y : Candidate). y.name.now in
-    let all : List Candidate = x ∷ xs in
+-- the one text comes before the other in byte order
+abbrev pub text_before : Bor Name → Bor Name → Bool
+text_before x y = is_before x.now y.now
+
+-- sorted texts
+pub texts_up : (xs : List (Bor Name)) → IsSortedBy text_before xs → IsSortedBy is_before (texts xs)
+texts_up [] h k d low high = absurd (omega (arith, high))
+texts_up (x ∷ xs) h k d low high =
+    let f : Bor Name → Name = λ (y : Bor Name). y.now in
+    let all : List (Bor Name) = x ∷ xs in
     let within : k + 1 < length all = subst (λ n. k + 1 < n) (length-map all f) high in
-    let later : get_or (names_of all) (k + 1) d ≡ f (get_or all (k + 1) x) = get_or-map f all (k + 1) x d within in
-    let here : get_or (names_of all) k d ≡ f (get_or all k x) =
+    let later : get_or (texts all) (k + 1) d ≡ f (get_or all (k + 1) x) = get_or-map f all (k + 1) x d within in
+    let here : get_or (texts all) k d ≡ f (get_or all k x) =
     get_or-map f all k x d (omega (arith, within)) in
-    ap (λ (n : Name). is_before n (get_or (names_of all) k d)) later
+    ap (λ (n : Name). is_before n (get_or (texts all) k d)) later
     ∙ (ap (λ (n : Name). is_before (f (get_or all (k + 1) x)) n) here ∙ h k x low within)
 
 not_same : (a b : Name) → bytes_eq a b ≡ false → a ≢ b

@@ -13,7 +13,8 @@ pub mod Declared
 pub mod Looking
 pub mod Failing
 pub mod Searching
-pub mod Merging
-pub mod Ordered
+pub mod Rising
+pub mod Picking
+pub mod Walking
 pub mod Counted
-pub mod MergedNames
+pub mod Placing

@@ -1,13 +1,14 @@
--- The names that may be symbols of the output.
+-- The names that are declared: those of objects, and those that the script gives values to.
 use Rattle.std.proofs.Common.{◌≡◌, ◌∙◌, ℕ, ◌+◌, ◌<◌, List, [], ◌∷◌, ◌++◌, length, map, take, get_or, ap, sym, subst}
-use Rattle.std.proofs.Common.{refl, append_assoc, append-nil, arith, ◌⊎◌, inl, inr, ⊎_elim}
+use Rattle.std.proofs.Common.{append_assoc, append-nil, arith, ◌⊎◌, inl, inr, ⊎_elim}
+use Rattle.std.specs.Prelude.{Contains}
+use Rattle.std.specs.Borrow.{Bor}
 use Rattle.std.specs.List.Sorted.{IsPermutation, IsSortedBy}
-use Rattle.std.proofs.lemmas.List.{get_or_default, map-append}
+use Rattle.std.proofs.lemmas.List.{get_or_default, length-map, map-append}
 use Rattle.std.proofs.lemmas.List.Concat.{flat_map-append}
-use Rattle.std.proofs.lemmas.List.Elements.{All-append, All-map}
-use Rattle.std.proofs.lemmas.List.Sorted.{All-permutation, Contains-permutation, IsPermutation-append_right}
-use Rattle.std.proofs.lemmas.List.Sorted.{IsPermutation-map, IsPermutation-trans}
-use Rattle.emit_text.proofs.ByteOrder.{In, append_in, contained_in, distinct_in, in_append, in_contained, in_distinct}
+use Rattle.std.proofs.lemmas.List.Sorted.{Contains-permutation, IsPermutation-map}
+use Rattle.emit_text.proofs.ByteOrder.{Asc, In, append_in, contained_in, distinct_in, in_append, in_contained}
+use Rattle.emit_text.proofs.ByteOrder.{in_distinct}
 use Rattle.ldscript.specs.statements.Numbering.{AssignmentAt, DirectiveAt, assigned_by, assigned_in, all_directives}
 use Rattle.ldscript.specs.statements.Numbering.{provided_by}
 use Rattle.ldscript.specs.statements.Numbering.{provided_in}
@@ -17,30 +18,25 @@ use Rattle.ldscript.specs.statements.declared.directive.Directive.{Directive}
 use Rattle.ldscript.specs.statements.declared.directive.Directive.TheVariants as directive
 use Rattle.ldscript.specs.statements.declared.statement.Statement.{Statement}
 use Rattle.ldmodel.specs.Names.{declared_names, names_in_objects}
+use Rattle.ldmodel.specs.OutputSymbols.{is_before}
 use Rattle.ldmodel.specs.Project.{Project}
 use Rattle.ldmodel.specs.ScriptNames.{assigned_names, provided_names}
 use Rattle.symres.specs.SymbolTable.{IsSymbolTable, SymbolTableState}
 use Rattle.symres.specs.Sorted.{AreSorted}
 use Rattle.symres.specs.declared.sorted.NamedKey.{NamedKey}
-use Rattle.emit_values.specs.Candidates.{all_given, comes_before, names_given, names_of, with_key, AreCandidates}
-use Rattle.emit_values.specs.Candidates.{AreKeyed}
-use Rattle.emit_values.specs.Candidates.{HasKeyOr}
-use Rattle.emit_values.specs.Merged.{Merged, NotAfter}
-use Rattle.emit_values.specs.declared.candidate.Candidate.{Candidate}
+use Rattle.emit_values.specs.ScriptNames.{AreScriptNames, all_given, distinct_first, names_given, texts}
+use Rattle.emit_values.specs.Symbols.{keyed_names}
+use Rattle.emit_values.proofs.Distinct.{first_asc, first_in, text_before, texts_up}
 use Rattle.emit_values.proofs.Giving.{no_key, take_more}
-use Rattle.emit_values.proofs.MergedNames.{comes_before_order, sorted_candidates, sorted_keys}
-use Rattle.emit_values.proofs.Merging.{merges_permutation, merges_sorted}
+use Rattle.emit_values.proofs.Rising.{asc_pairs}
 
-pub more_keys : (first : List Candidate) (xs : List NamedKey) (i : ℕ) (x : NamedKey) (old new : List Candidate)
-    → i < length xs → x ≡ get_or xs i no_key → new ≡ old ++ with_key x ∷ [] → old ≡ first ++ map with_key (take i xs)
-    → new ≡ first ++ map with_key (take (i + 1) xs)
-more_keys first xs i x old new within is added h =
-    added
-    ∙ (ap (λ ys. ys ++ with_key x ∷ []) h
-    ∙ (append_assoc first (map with_key (take i xs)) (with_key x ∷ [])
-    ∙ ap (λ (ys : List Candidate). first ++ ys)
-    (sym (ap (map with_key) (take_more xs i x within (sym (is ∙ get_or_default xs i no_key x within)))
-    ∙ map-append with_key (take i xs) (x ∷ [])))))
+-- one more name with a key
+pub names_more : (xs : List NamedKey) (i : ℕ) → i < length xs
+    → keyed_names (take (i + 1) xs) ≡ keyed_names (take i xs) ++ (get_or xs i no_key).name.now ∷ []
+names_more xs i within =
+    let x : NamedKey = get_or xs i no_key in
+    ap keyed_names (take_more xs i x within (sym (get_or_default xs i no_key x within)))
+    ∙ map-append (λ (y : NamedKey). y.name.now) (take i xs) (x ∷ [])
 
 -- one more command
 pub more_given : (first : List (List ℕ)) (commands : List code.DirectiveAt) (i : ℕ) (x : code.DirectiveAt)
@@ -94,10 +90,6 @@ in_provided z (c ∷ cs) i =
     here line (directive.Provide a) j = j
     here line (directive.Assert a) j = absurd j
 
-names_with_keys : (xs : List NamedKey) → names_of (map with_key xs) ≡ map (λ (x : NamedKey). x.name.now) xs
-names_with_keys [] = refl
-names_with_keys (x ∷ xs) = ap (λ ns. x.name.now ∷ ns) (names_with_keys xs)
-
 -- a declared name is one that objects declare or that the script assigns or provides
 pub in_declared : (p : Project) (z : List ℕ) → In z (declared_names p)
     → In z (names_in_objects p.objects) ⊎ (In z (assigned_names p.script) ⊎ In z (provided_names p.script))
@@ -132,55 +124,42 @@ provided_given : (script : List Statement) (z : List ℕ) → In z (provided_nam
 unfolding provided_names
 provided_given script z i = in_provided z (all_directives script) i
 
--- the names of objects and of a script, sorted
-pub candidates_are : (a : SymbolTableState) (script : List Statement) (xs : List NamedKey) (cs : List DirectiveAt)
-    (first list sorted : List Candidate) → AreSorted a xs → cs ≡ all_directives script → first ≡ map with_key xs
-    → names_of list ≡ names_of first ++ all_given cs → ((b : SymbolTableState) → AreKeyed b first → AreKeyed b list)
-    → IsPermutation list sorted → IsSortedBy comes_before sorted → AreCandidates a script sorted
-candidates_are a script xs cs first list sorted up commands keys names keyed moved order = record {
-  order = order;
-  keyed =
-      All-permutation (λ (x : Candidate). HasKeyOr a x.name.now x.key) list sorted moved
-      (keyed a (subst (AreKeyed a) (sym keys)
-      (All-map (λ (x : Candidate). HasKeyOr a x.name.now x.key) with_key xs up.named)));
-  distinct = up.distinct;
-  complete = λ p symbol_table same z c.
-      Contains-permutation (names_of list) (names_of sorted) z
-      (IsPermutation-map (λ (x : Candidate). x.name.now) list sorted moved)
-      (contained_in z (names_of list) (subst (In z) (sym names)
-      (append_in z (names_of first) (all_given cs)
-      (⊎_elim (λ i. inl (by_object p symbol_table z i)) (λ i. inr (by_script p same z i))
-      (in_declared p z (in_contained z (declared_names p) c))))));
-}
-  where
-    by_object : (p : Project) → IsSymbolTable p a → (z : List ℕ) → In z (names_in_objects p.objects)
-        → In z (names_of first)
-    by_object p symbol_table z i =
-        subst (In z) (sym (ap names_of keys ∙ names_with_keys xs))
-        (in_contained z (map (λ (x : NamedKey). x.name.now) xs)
-        (up.declared p symbol_table z (contained_in z (names_in_objects p.objects) i)))
+-- the names that the commands give values to, sorted, each once
+pub names_are : (script : List Statement) (cs : List DirectiveAt) (given by_name list : List (Bor (List ℕ)))
+    → cs ≡ all_directives script → texts given ≡ all_given cs → IsPermutation given by_name
+    → IsSortedBy text_before by_name → texts list ≡ distinct_first (texts by_name) (length by_name)
+    → AreScriptNames script (texts list)
+names_are script cs given by_name list commands names moved order first =
+    let sorted : List (List ℕ) = texts by_name in
+    let up : IsSortedBy is_before sorted = texts_up by_name order in
+    let long : length sorted ≡ length by_name = length-map by_name (λ (x : Bor (List ℕ)). x.now) in
+    let all : List (List ℕ) = distinct_first sorted (length by_name) in
+    record {
+      order = asc_pairs (texts list)
+          (subst Asc (sym first) (first_asc sorted up (length by_name) (omega (arith, long))));
+      complete = λ z c.
+          let there : Contains sorted z =
+          Contains-permutation (texts given) sorted z
+          (IsPermutation-map (λ (x : Bor (List ℕ)). x.now) given by_name moved)
+          (subst (λ (ns : List (List ℕ)). Contains ns z) (sym (names ∙ ap all_given commands)) c) in
+          subst (λ (ns : List (List ℕ)). Contains ns z) (sym first)
+          (contained_in z all
+          (subst (λ (w : List ℕ). In w all) (get_or_default sorted there.0 [] z there.1 ∙ there.2)
+          (first_in sorted up (length by_name) there.0 (omega (arith, there.1, long)))));
+    }
 
-    by_script : (p : Project) → p.script ≡ script → (z : List ℕ)
-        → In z (assigned_names p.script) ⊎ In z (provided_names p.script) → In z (all_given cs)
-    by_script p same z i =
-        subst (In z) (ap (λ (t : List Statement). all_given (all_directives t)) same ∙ ap all_given (sym commands))
-        (⊎_elim (λ j. assigned_given p.script z j) (λ j. provided_given p.script z j) i)
-
-pub none_keyed : (xs : List Candidate) → xs ≡ [] → (b : SymbolTableState) → AreKeyed b xs
-none_keyed xs none b = subst (AreKeyed b) (sym none) (λ i d w. absurd (omega (arith, w)))
-
--- the names of objects, and those of a script at their places
-pub merged_are : (a : SymbolTableState) (script : List Statement) (xs : List NamedKey) (cs : List DirectiveAt)
-    (given by_name list : List Candidate) → AreSorted a xs → cs ≡ all_directives script
-    → names_of given ≡ all_given cs → ((b : SymbolTableState) → AreKeyed b given) → IsPermutation given by_name
-    → IsSortedBy comes_before by_name → Merged xs by_name list → AreCandidates a script list
-merged_are a script xs cs given by_name list up commands names keyed moved order merged =
-    let first : List Candidate = map with_key xs in
-    candidates_are a script xs cs first (first ++ given) list up commands refl
-    (map-append (λ (x : Candidate). x.name.now) first given ∙ ap (λ (ns : List (List ℕ)). names_of first ++ ns) names)
-    (λ b h. All-append (λ (x : Candidate). HasKeyOr b x.name.now x.key) first given h (keyed b))
-    (IsPermutation-trans (first ++ given) (first ++ by_name) list
-    (IsPermutation-append_right first given by_name moved)
-    (merges_permutation (NotAfter comes_before) first by_name list merged))
-    (merges_sorted comes_before comes_before_order first by_name list merged
-    (sorted_candidates xs (sorted_keys xs up.order)) order)
+-- a declared name has a key, or the script gives it a value
+pub declared_of : (p : Project) (a : SymbolTableState) (xs : List NamedKey) (script : List Statement)
+    (given : List (List ℕ)) → AreSorted a xs → AreScriptNames script given → IsSymbolTable p a → p.script ≡ script
+    → (z : List ℕ) → In z (declared_names p) → In z (keyed_names xs) ⊎ In z given
+declared_of p a xs script given sorted names symbol_table same z i =
+    ⊎_elim
+    (λ j.
+    inl (in_contained z (keyed_names xs)
+    (sorted.declared p symbol_table z (contained_in z (names_in_objects p.objects) j))))
+    (λ j.
+    inr (in_contained z given
+    (names.complete z (contained_in z (all_given (all_directives script))
+    (subst (λ (t : List Statement). In z (all_given (all_directives t))) same
+    (⊎_elim (λ k. assigned_given p.script z k) (λ k. provided_given p.script z k) j))))))
+    (in_declared p z i)

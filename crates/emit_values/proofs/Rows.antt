@@ -33,10 +33,10 @@ use Rattle.emit_text.specs.declared.definer.Definer.{Definer}
 use Rattle.emit_values.specs.LinkView.{IsLinkView}
 use Rattle.emit_values.specs.NameRows.{IsPlaceIn, IsPlaceOf, NameRow, decided_row, entry_row, facts}
 use Rattle.emit_values.specs.NameRows.{AreResolvedBelow, AreValuesBelow, IsCaseUnder, IsRowUnder}
-use Rattle.emit_values.specs.NameRows.{Resolved, resolved, row_of, shown_resolved, shown_row}
+use Rattle.emit_values.specs.NameRows.{Resolved, resolved, row_of, shown_in, shown_resolved}
+use Rattle.emit_values.specs.SymbolRows.{definer_in, value_in}
 use Rattle.emit_values.specs.declared.link_view.LinkView.{LinkView}
-use Rattle.emit_values.specs.declared.name_row.NameRow as code
-use Rattle.emit_values.specs.declared.name_rows.ResolvedName as code_rows
+use Rattle.emit_values.specs.declared.symbol_row.SymbolRow as code_rows
 use Rattle.emit_values.specs.declared.name_row.Standing.{Standing}
 
 -- ---- the header of the output section that a part of an object stands in
@@ -159,19 +159,19 @@ module _ (l : KnownLink) (v : LinkView) (h : IsLinkView l v) where
       sym (ap (λ (f : ℕ → ℕ). decision_of f c) (ap (λ (m : KnownLink). m.number) h.link)) ∙ e
 
   -- the row of a name, by what its key stands for
-  pub row_named : (c : Case ObjectPlace) (name : List ℕ) (x : code.NameRow)
+  pub row_named : (c : Case ObjectPlace) (name : List ℕ) (x : code_rows.SymbolRow)
       → decision_of l.number c ≡ decision l.project name
-      → shown_row x ≡ decided_row l.project l.layout name (decision_of (λ key. key) c)
-      → shown_row x ≡ row_of l.project l.layout name
+      → shown_in x ≡ decided_row l.project l.layout name (decision_of (λ key. key) c)
+      → shown_in x ≡ row_of l.project l.layout name
   row_named c name x e is =
       is ∙ row_by_decision l.project l.layout name (decision_of (λ key. key) c) (decided_same c name e)
 
   -- a name, by its key
-  resolved_named : (k : ℕ) (c : Case ObjectPlace) (x : code_rows.ResolvedName) → IsCaseUnder l k c
-      → x.definer ≡ definer_of (decision_of (λ key. key) c) → IsRowUnder l k x.row
+  resolved_named : (k : ℕ) (c : Case ObjectPlace) (x : code_rows.SymbolRow) → IsCaseUnder l k c
+      → definer_in x ≡ definer_of (decision_of (λ key. key) c) → IsRowUnder l k x
       → (name : List ℕ) → l.name k ≡ Some name → shown_resolved x ≡ resolved l.project l.layout name
   resolved_named k c x case definer row name named =
-      ap (λ (d : Definer). let y : Resolved = record { definer = d; row = shown_row x.row } in y)
+      ap (λ (d : Definer). let y : Resolved = record { definer = d; row = shown_in x } in y)
       (definer ∙ ap definer_of (decided_same c name (case name named)))
       ∙ ap (λ (r : NameRow). let y : Resolved = record { definer = definer_of (decision l.project name); row = r } in y)
       (row name named)
@@ -196,17 +196,17 @@ one_more l f g n old new x long e one all k name below is =
     ∙ pushed f old x k (g name) (λ m. all k name (omega (arith, m, long)) is)
     (λ last. one name (subst (λ i. l.name i ≡ Some name) (last ∙ long) is)) (omega (arith, below, long))
 
-module _ (l : KnownLink) (v : LinkView) (h : IsLinkView l v) (n : ℕ) (c : Case ObjectPlace) (x : code_rows.ResolvedName)
-    (case : IsCaseUnder l n c) (definer : x.definer ≡ definer_of (decision_of (λ key. key) c))
-    (row : IsRowUnder l n x.row) where
-  pub rows_more : (old new : List code_rows.ResolvedName) → length old ≡ n → new ≡ old ++ x ∷ []
+module _ (l : KnownLink) (v : LinkView) (h : IsLinkView l v) (n : ℕ) (c : Case ObjectPlace) (x : code_rows.SymbolRow)
+    (case : IsCaseUnder l n c) (definer : definer_in x ≡ definer_of (decision_of (λ key. key) c))
+    (row : IsRowUnder l n x) where
+  pub rows_more : (old new : List code_rows.SymbolRow) → length old ≡ n → new ≡ old ++ x ∷ []
       → AreResolvedBelow l n old → AreResolvedBelow l (n + 1) new
   rows_more old new long e all =
       one_more l shown_resolved (resolved l.project l.layout) n old new x long e
       (resolved_named l v h n c x case definer row) all
 
-  pub values_more : (old new : List code_value.SymbolValue) → length old ≡ n → new ≡ old ++ x.row.value ∷ []
+  pub values_more : (old new : List code_value.SymbolValue) → length old ≡ n → new ≡ old ++ (value_in x) ∷ []
       → AreValuesBelow l n old → AreValuesBelow l (n + 1) new
   values_more old new long e all =
-      one_more l value_of (name_value l.project l.layout) n old new x.row.value long e
+      one_more l value_of (name_value l.project l.layout) n old new (value_in x) long e
       (λ name named. ap (λ (r : NameRow). r.value) (row name named)) all

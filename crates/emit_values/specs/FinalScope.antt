@@ -13,11 +13,12 @@ use Rattle.emit_relocate.specs.Values.{value_of}
 use Rattle.place.specs.terms.Scopes.{region_numbers, section_numbers}
 use Rattle.emit_values.specs.declared.values.OutputSymbol.{OutputSymbol}
 use Rattle.emit_values.specs.AssertedSymbols.{found_symbol}
+use Rattle.emit_values.specs.SymbolRows.{value_in}
 use Rattle.emit_values.specs.declared.final_scope.FinalScope.{FinalScope}
 
 -- the value of a symbol that was found
 abbrev pub number_of : Option OutputSymbol → Option ℕ
-number_of found = option_and_then (λ (symbol : OutputSymbol). number_if_any (value_of symbol.value)) found
+number_of found = option_and_then (λ (symbol : OutputSymbol). number_if_any (value_of (value_in symbol.row))) found
 
 -- the member of a number
 abbrev pub numbered : {A : Type 0} → List A → Option ℕ → Option A

@@ -6,10 +6,10 @@ pub mod GivenTable
 pub mod LinkView
 pub mod Values
 pub mod NameRows
-pub mod Candidates
+pub mod ScriptNames
 pub mod Symbols
 pub mod Sizes
 pub mod AssertedSymbols
 pub mod FinalScope
-pub mod Merged
+pub mod SymbolRows
 pub mod ObjectParts

@@ -22,9 +22,10 @@ use Rattle.emit_relocate.specs.declared.value.SymbolValue as code_value
 use Rattle.emit_text.specs.Definer.{definer_of}
 use Rattle.emit_text.specs.declared.definer.Definer.{Definer}
 use Rattle.emit_values.specs.declared.name_row.NameRow as code
-use Rattle.emit_values.specs.declared.name_rows.ResolvedName as code_rows
 use Rattle.emit_values.specs.declared.name_row.Standing.{Standing}
 use Rattle.emit_values.specs.declared.name_row.SymbolFacts.{SymbolFacts}
+use Rattle.emit_values.specs.declared.symbol_row.SymbolRow as code_rows
+use Rattle.emit_values.specs.SymbolRows.{definer_in, facts_in, value_in}
 
 -- st_type, st_shndx and st_size of a symbol of the output
 pub record Facts : Type 0 where
@@ -47,6 +48,10 @@ pub record NameRow : Type 0 where
 
 abbrev pub shown_row : code.NameRow → NameRow
 shown_row x = record { value = value_of x.value; facts = shown_facts x.facts }
+
+-- the same, of a row
+abbrev pub shown_in : code_rows.SymbolRow → NameRow
+shown_in x = record { value = value_of (value_in x); facts = shown_facts (facts_in x) }
 
 -- where no object defines it
 abbrev pub bare_row : SymbolValue → NameRow
@@ -95,8 +100,8 @@ pub record Resolved : Type 0 where
   pub definer : Definer
   pub row : NameRow
 
-abbrev pub shown_resolved : code_rows.ResolvedName → Resolved
-shown_resolved x = record { definer = x.definer; row = shown_row x.row }
+abbrev pub shown_resolved : code_rows.SymbolRow → Resolved
+shown_resolved x = record { definer = definer_in x; row = shown_in x }
 
 -- a name of a project
 abbrev pub resolved : Project → Layout → List ℕ → Resolved
@@ -109,18 +114,18 @@ IsCaseUnder link k x =
     (name : List ℕ) → link.name k ≡ Some name → decision_of link.number x ≡ decision link.project name
 
 -- the row of the name of a key
-abbrev pub IsRowUnder : KnownLink → ℕ → code.NameRow → Type 0
+abbrev pub IsRowUnder : KnownLink → ℕ → code_rows.SymbolRow → Type 0
 IsRowUnder link k x =
-    (name : List ℕ) → link.name k ≡ Some name → shown_row x ≡ row_of link.project link.layout name
+    (name : List ℕ) → link.name k ≡ Some name → shown_in x ≡ row_of link.project link.layout name
 
 -- each name has what defines it, and what it is, under its key
-abbrev pub AreResolved : KnownLink → List code_rows.ResolvedName → Type 0
+abbrev pub AreResolved : KnownLink → List code_rows.SymbolRow → Type 0
 AreResolved link rows =
     (k : ℕ) (name : List ℕ) → link.name k ≡ Some name
     → option_map shown_resolved (slice_get rows k) ≡ Some (resolved link.project link.layout name)
 
 -- the same of the names with keys below a number
-abbrev pub AreResolvedBelow : KnownLink → ℕ → List code_rows.ResolvedName → Type 0
+abbrev pub AreResolvedBelow : KnownLink → ℕ → List code_rows.SymbolRow → Type 0
 AreResolvedBelow link n rows =
     (k : ℕ) (name : List ℕ) → k < n → link.name k ≡ Some name
     → option_map shown_resolved (slice_get rows k) ≡ Some (resolved link.project link.layout name)

@@ -2,6 +2,7 @@
 use Rattle.std.specs.Prelude.{ℕ, ◌+◌, List, [], ◌∷◌, length}
 use Rattle.ldmodel.specs.SymbolValues.{SymbolValue, Number, NotDefined, NotInOutput}
 use Rattle.emit_relocate.specs.Values.{value_of}
+use Rattle.emit_values.specs.SymbolRows.{value_in}
 use Rattle.emit_values.specs.declared.sizes.SymbolSizes.{SymbolSizes}
 use Rattle.emit_values.specs.declared.values.OutputSymbol.{OutputSymbol}
 
@@ -12,7 +13,7 @@ plus_value t name NotDefined = t
 plus_value t name NotInOutput = t
 
 abbrev pub plus_symbol : SymbolSizes → OutputSymbol → SymbolSizes
-plus_symbol t symbol = plus_value t symbol.name.now (value_of symbol.value)
+plus_symbol t symbol = plus_value t symbol.name.now (value_of (value_in symbol.row))
 
 -- these symbols more
 abbrev pub plus_symbols : SymbolSizes → List OutputSymbol → SymbolSizes

@@ -1,26 +1,31 @@
 -- The symbols of the output, name by name.
-use Rattle.std.specs.Prelude.{◌≡◌, ℕ, ◌-◌, ◌⊎◌, zero, suc, List, [], ◌∷◌, ◌++◌, map, filter, Bool, ◌&&◌, bytes_eq}
-use Rattle.std.specs.Prelude.{All, if◌then◌else◌, nat_lt, slice_index_or}
+use Rattle.std.specs.Prelude.{◌≡◌, ℕ, ◌⊎◌, List, [], ◌∷◌, ◌++◌, map, filter, Bool, true, false}
+use Rattle.std.specs.Prelude.{All, bytes_eq, if◌then◌else◌}
 use Rattle.std.specs.Prelude.{◌+◌, ◌≤◌, Vec, vec_capacity, vec_len}
 use Rattle.std.specs.Global.{Global}
 use Rattle.std.specs.Borrow.{Bor}
+use Rattle.std.specs.List.{AllPairs}
+use Rattle.std.specs.List.Sorted.{IsPartitionPoint}
 use Rattle.ldmodel.specs.Layout.{Layout}
 use Rattle.ldmodel.specs.OutputSymbols as model
-use Rattle.ldmodel.specs.OutputSymbols.{is_defined, output_symbol}
+use Rattle.ldmodel.specs.OutputSymbols.{is_before, is_defined, output_symbol}
 use Rattle.ldmodel.specs.Project.{Project}
 use Rattle.symres.specs.SymbolTable.{IsSymbolTable}
-use Rattle.emit_text.specs.declared.definer.Definer.{Definer}
+use Rattle.symres.specs.declared.sorted.NamedKey.{NamedKey}
+use Rattle.symres.specs.table.State.{IsNamed}
 use Rattle.emit_values.specs.LinkView.{known_link}
 use Rattle.emit_values.specs.NameRows.{AreResolved}
 use Rattle.emit_values.specs.ScriptValues.{AreScriptValues}
+use Rattle.emit_values.specs.Sizes.{plus_symbols}
 use Rattle.emit_values.specs.Values.{HasFacts, shown_symbol}
-use Rattle.emit_values.specs.declared.name_row.NameRow.{NameRow}
+use Rattle.emit_values.specs.declared.sizes.SymbolSizes.{SymbolSizes}
+use Rattle.emit_values.specs.declared.symbol_row.SymbolRow.{SymbolRow}
 use Rattle.emit_values.specs.declared.symbols.Sources.{Sources}
 use Rattle.emit_values.specs.declared.values.OutputSymbol.{OutputSymbol}
 
 -- the symbol of a name with a row
-abbrev pub symbol_with : Bor (List ℕ) → Definer → NameRow → OutputSymbol
-symbol_with name definer row = record { name = name; definer = definer; value = row.value; facts = row.facts }
+abbrev pub symbol_with : Bor (List ℕ) → SymbolRow → OutputSymbol
+symbol_with name row = record { name = name; row = row }
 
 abbrev pub shown : Project → List OutputSymbol → List model.OutputSymbol
 shown project xs = map (shown_symbol project) xs
@@ -63,15 +68,47 @@ IsWithinRoom old new = (vec_len new ≤ vec_len old + 1) × (vec_capacity new �
 abbrev pub AddsAtMost : List ℕ → (old new : List OutputSymbol) → Type 0
 AddsAtMost name old new = (names_in new ≡ names_in old) ⊎ (names_in new ≡ names_in old ++ name ∷ [])
 
--- the name at a place is that before it
-abbrev pub is_repeat : List (List ℕ) → ℕ → Bool
-is_repeat names k = nat_lt 0 k && bytes_eq (slice_index_or names (k - 1) []) (slice_index_or names k [])
+-- names with keys
+abbrev pub keyed_names : List NamedKey → List (List ℕ)
+keyed_names xs = map (λ (x : NamedKey). x.name.now) xs
 
--- the name at a place, unless it is that before it
-abbrev pub fresh : List (List ℕ) → ℕ → List (List ℕ)
-fresh names k = if is_repeat names k then [] else slice_index_or names k [] ∷ []
+-- they stand in byte order, each once
+abbrev pub AreUp : List NamedKey → Type 0
+AreUp xs = AllPairs (λ (x y : NamedKey). is_before x.name.now y.name.now ≡ true) xs
 
--- the first n names, without repeats
-abbrev pub distinct_first : List (List ℕ) → ℕ → List (List ℕ)
-distinct_first names zero = []
-distinct_first names (suc n) = distinct_first names n ++ fresh names n
+-- each has its key
+abbrev pub AreKeyed : Sources → List NamedKey → Type 0
+AreKeyed sources xs = All (λ (x : NamedKey). IsNamed sources.symbol_table.now.names x.key.0 x.name.now) xs
+
+-- no name before this place comes after a name, and all from it on do
+abbrev pub IsPlaceAmong : List ℕ → List NamedKey → ℕ → Type 0
+IsPlaceAmong name xs n =
+    IsPartitionPoint (λ (x : NamedKey). is_before name x.name.now ≡ false)
+    (λ (x : NamedKey). is_before name x.name.now ≡ true) xs n
+
+-- the last name is this one
+abbrev pub ends_with : List (List ℕ) → List ℕ → Bool
+ends_with [] name = false
+ends_with (x ∷ []) name = bytes_eq x name
+ends_with (x ∷ y ∷ ys) name = ends_with (y ∷ ys) name
+
+-- names, and another after them unless it is the last of them
+abbrev pub with_name : List (List ℕ) → List ℕ → List (List ℕ)
+with_name names name = names ++ (if ends_with names name then [] else name ∷ [])
+
+-- some of these names, in their order
+abbrev pub Picks : List (List ℕ) → List (List ℕ) → Type 0
+Picks [] picked = picked ≡ []
+Picks (name ∷ names) picked =
+    Picks names picked ⊎ ((rest : List (List ℕ)) × (picked ≡ name ∷ rest) × Picks names rest)
+
+-- symbols of some of these names were added
+abbrev pub AddsSome : List (List ℕ) → (old new : List OutputSymbol) → Type 0
+AddsSome names old new =
+    (picked : List (List ℕ)) × Picks names picked × (names_in new ≡ names_in old ++ picked)
+
+-- what was counted of the symbols before is now counted of all
+abbrev pub KeepsCount : SymbolSizes → SymbolSizes → (old new : List OutputSymbol) → Type 0
+KeepsCount before after old new =
+    before ≡ plus_symbols (record { count = 0; names = 0 }) old
+    → after ≡ plus_symbols (record { count = 0; names = 0 }) new

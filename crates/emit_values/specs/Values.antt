@@ -13,18 +13,22 @@ use Rattle.emit_text.specs.Definer.{definer_of}
 use Rattle.emit_values.specs.LinkView.{known_link}
 use Rattle.emit_values.specs.NameRows.{facts, shown_facts}
 use Rattle.emit_values.specs.Sizes.{plus_symbols}
+use Rattle.emit_values.specs.SymbolRows.{definer_in, facts_in, value_in}
 use Rattle.emit_values.specs.declared.values.OutputSymbol.{OutputSymbol}
 use Rattle.emit_values.specs.declared.values.Values.{Values}
 
 -- a symbol of a project
 abbrev pub shown_symbol : Project → OutputSymbol → model.OutputSymbol
-shown_symbol project symbol =
-    record { name = symbol.name.now; decision = decision project symbol.name.now; value = value_of symbol.value }
+shown_symbol project symbol = record {
+  name = symbol.name.now;
+  decision = decision project symbol.name.now;
+  value = value_of (value_in symbol.row);
+}
 
 -- it has what defines its name, and what the symbol table says of what the name stands for
 pub record HasFacts (project : Project) (layout : Layout) (symbol : OutputSymbol) : Type 0 where
-  pub definer : symbol.definer ≡ definer_of (decision project symbol.name.now)
-  pub facts : shown_facts symbol.facts ≡ facts project layout (decision project symbol.name.now)
+  pub definer : definer_in symbol.row ≡ definer_of (decision project symbol.name.now)
+  pub facts : shown_facts (facts_in symbol.row) ≡ facts project layout (decision project symbol.name.now)
 
 -- they are those of the project at a layout, where names have the keys of a table
 pub record AreValues (project : Project) (layout : Layout) (table : SymbolTableState) (v : Values) : Type 0 where

@@ -30,7 +30,7 @@ impl<'a, 'b> Scope for FinalScope<'a, 'b> {
 
     fn symbol(&self, name: &[u8]) -> Option<u64> {
         match self.symbols.find(name) {
-            Some(symbol) => symbol.value.number(),
+            Some(symbol) => symbol.row.value().number(),
             None => None,
         }
     }

@@ -15,17 +15,21 @@ ghost use Rattle.place.specs.declared.indexed_layout.IndexedLayout.{IndexedLayou
 ghost use Rattle.emit_relocate.specs.KnownLink.{KnownLink};
 ghost use Rattle.emit_relocate.specs.Values.{value_of};
 ghost use Rattle.emit_values.specs.LinkView.{IsLinkView};
-ghost use Rattle.emit_values.specs.NameRows.{bare_row, block_row, decided_row, entry_row, shown_row};
+ghost use Rattle.emit_text.specs.Definer.{definer_of};
+ghost use Rattle.emit_values.specs.NameRows.{bare_row, block_row, decided_row, entry_row, shown_in, shown_row};
+ghost use Rattle.emit_values.specs.SymbolRows.{definer_in};
 ghost use Rattle.emit_values.specs.NameRows.{IsPlaceIn, IsPlaceOf};
 ghost use Rattle.emit_values.specs.ObjectParts.{AreAddresses, AreFor, AreSymbols};
 
 use crate::link_view::LinkView;
 use crate::object_parts::ObjectParts;
+use crate::symbol_row::SymbolRow;
 use elfobj::file::constants::SHN_ABS;
 use elfobj::relocation::SymbolIndex;
 use elfobj::symbol::{Symbol, SymbolKind, SymbolPlace};
 use emit_relocate::link_info::LinkInfo;
 use emit_relocate::value::{SymbolValue, address_from};
+use emit_text::definer::Definer;
 use ldmodel::memory::NoMemory;
 use ldmodel::names::{Case, Entry, NameKey, ObjectPlace};
 use ldmodel::placed::OutputIndex;
@@ -231,24 +235,42 @@ pub(crate) fn parts_for<'a>(
 }
 
 /// The row of the name of a key, by its resolution and the object that defines it, if one does. The value that the
-/// script gives the name is looked up only if the script defines it.
+/// script gives the name is looked up only if the script defines it. What defines the name is told apart here too: so
+/// the cases are told apart once.
 #[inline(always)]
 pub(crate) fn name_row(
     link: &LinkView<'_, '_>,
     parts: ObjectParts<'_>,
     case: Case<ObjectPlace>,
     key: NameKey,
-) -> Result<NameRow, NoMemory>
+) -> Result<SymbolRow, NoMemory>
     requires object { AreFor case parts }
     requires symbols { AreSymbols link.now.project.now parts }
     requires addresses { AreAddresses link.now.indexed_layout.now parts }
-    ensures { IfOk result (λ x. (l : KnownLink) (name : List ℕ) → IsLinkView l link.now → l.name key.0 ≡ Some name
-        → shown_row x ≡ decided_row l.project l.layout name (decision_of (λ key. key) case)) }
+    ensures definer { IfOk result (λ x. definer_in x ≡ definer_of (decision_of (λ key. key) case)) }
+    ensures row { IfOk result (λ x. (l : KnownLink) (name : List ℕ) → IsLinkView l link.now → l.name key.0 ≡ Some name
+        → shown_in x ≡ decided_row l.project l.layout name (decision_of (λ key. key) case)) }
 {
     match case {
-        Case::Strong(entry) | Case::Weak(entry) => entry_row(parts, entry.symbol),
-        Case::Common { owner, size, .. } => block_row(link.indexed_layout, owner, size),
-        Case::Script | Case::Provided => Ok(bare_row(given_value(link.script_value(key)))),
-        Case::Undefined | Case::Duplicate => Ok(bare_row(SymbolValue::NotDefined)),
+        Case::Strong(entry) => {
+            let row = entry_row(parts, entry.symbol)?;
+            Ok(SymbolRow::of(Definer::Object(entry.object), row))
+        }
+        Case::Weak(entry) => {
+            let row = entry_row(parts, entry.symbol)?;
+            Ok(SymbolRow::of(Definer::WeakOf(entry.object), row))
+        }
+        Case::Common { owner, size, .. } => {
+            let row = block_row(link.indexed_layout, owner, size)?;
+            Ok(SymbolRow::of(Definer::Object(owner.object), row))
+        }
+        Case::Script | Case::Provided => {
+            let row = bare_row(given_value(link.script_value(key)));
+            Ok(SymbolRow::of(Definer::Script, row))
+        }
+        Case::Undefined | Case::Duplicate => {
+            let row = bare_row(SymbolValue::NotDefined);
+            Ok(SymbolRow::of(Definer::Nothing, row))
+        }
     }
 }

@@ -6,29 +6,20 @@ ghost use Rattle.emit_values.specs.LinkView.{IsLinkView};
 ghost use Rattle.emit_values.specs.NameRows.{AreResolved, IsCaseUnder};
 
 use crate::link_view::LinkView;
-use crate::name_row::{NameRow, name_row, parts_for};
+use crate::name_row::{name_row, parts_for};
 use crate::object_parts::ObjectParts;
+use crate::symbol_row::SymbolRow;
 use emit_relocate::link_info::LinkInfo;
 use emit_relocate::value::SymbolValue;
-use emit_text::definer::Definer;
 use ldmodel::memory::NoMemory;
 use ldmodel::names::{Case, NameKey, ObjectPlace};
 use std::alloc::Global;
 
-/// What defines a name, and what it is in the output.
-#[derive(Clone, Copy, Debug)]
-pub(crate) struct ResolvedName {
-    /// What defines it.
-    pub definer: Definer,
-    /// What it is.
-    pub row: NameRow,
-}
-
 /// All names of the output, each under its key. A row under a key without a name has no meaning.
 #[derive(Drop)]
 pub(crate) struct NameRows {
-    /// What defines them, and what they are.
-    pub rows: Vec<ResolvedName>,
+    /// What they are.
+    pub rows: Vec<SymbolRow>,
     /// Their values.
     pub values: Vec<SymbolValue>,
 }
@@ -61,9 +52,8 @@ pub(crate) fn name_rows(alloc: Global, link: &LinkView<'_, '_>) -> Result<NameRo
         let case = case_under(link, NameKey(key));
         parts = parts_for(link, parts, case);
         let row = name_row(link, parts, case, NameKey(key))?;
-        let definer = Definer::of(case);
-        values.push_reserved(row.value);
-        rows.push_reserved(ResolvedName { definer, row });
+        values.push_reserved(row.value());
+        rows.push_reserved(row);
     }
     Ok(NameRows { rows, values })
 }

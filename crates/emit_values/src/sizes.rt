@@ -35,7 +35,7 @@ pub fn plus(size: u64, more: u64) -> Result<u64, NoMemory>
 fn plus_symbol(sizes: SymbolSizes, symbol: &OutputSymbol<'_>) -> Result<SymbolSizes, NoMemory>
     ensures { IfOk result (λ t. t ≡ plus_symbol sizes symbol.now) }
 {
-    match symbol.value {
+    match symbol.row.value() {
         SymbolValue::Number(_) => {
             let names = plus(sizes.names, symbol.name.len() as u64 + 1)?;
             let count = plus(sizes.count, 1)?;

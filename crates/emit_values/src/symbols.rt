@@ -1,26 +1,28 @@
 //! The symbols of the output: the defined names, in byte order.
 
-ghost use Rattle.std.specs.Prelude.{◌≡◌, ◌<◌, ◌≤◌, ◌++◌, ◌∷◌, [], ℕ, All, IfOk, IfSome, List, OnOk, bytes_eq, length};
-ghost use Rattle.std.specs.Prelude.{slice_index_or, vec_capacity, vec_len};
+ghost use Rattle.std.specs.Prelude.{◌≡◌, ◌<◌, ◌≤◌, ◌++◌, ◌∷◌, [], ℕ, All, IfOk, IfSome, List, OnOk, length};
+ghost use Rattle.std.specs.Prelude.{vec_capacity, vec_len};
 ghost use Rattle.ldmodel.specs.HandedOver.{decision_of};
 ghost use Rattle.ldmodel.specs.Layout.{Layout, script_value};
 ghost use Rattle.ldmodel.specs.OutputSymbols.{output_symbols};
 ghost use Rattle.ldmodel.specs.Project.{Project};
-ghost use Rattle.symres.specs.table.State.{AreDistinct, IsNamed};
+ghost use Rattle.symres.specs.Sorted.{AreSorted};
+ghost use Rattle.symres.specs.table.State.{IsNamed};
 ghost use Rattle.emit_text.specs.Definer.{defines};
 ghost use Rattle.emit_values.specs.AssertedSymbols.{AreInOrder};
-ghost use Rattle.emit_values.specs.Candidates.{names_of, AreCandidates, HasKeyOr};
 ghost use Rattle.emit_values.specs.NameRows.{decided_row, shown_row};
+ghost use Rattle.emit_values.specs.ScriptNames.{texts, AreScriptNames};
 ghost use Rattle.emit_values.specs.Sizes.{plus_symbols};
-ghost use Rattle.emit_values.specs.Symbols.{fresh, is_repeat, shown, AddsAtMost, AddsIf, AddsSymbols};
-ghost use Rattle.emit_values.specs.Symbols.{AreSources, IsWithinRoom, KeepsFacts, symbol_with};
+ghost use Rattle.emit_values.specs.SymbolRows.{definer_in};
+ghost use Rattle.emit_values.specs.Symbols.{ends_with, keyed_names, shown, AddsAtMost, AddsIf, AddsSome, AddsSymbols};
+ghost use Rattle.emit_values.specs.Symbols.{AreKeyed, AreSources, AreUp, IsPlaceAmong, IsWithinRoom, KeepsCount};
+ghost use Rattle.emit_values.specs.Symbols.{KeepsFacts, symbol_with, with_name};
 ghost use Rattle.emit_values.specs.Values.{HasFacts};
 
-use crate::candidate::Candidate;
 use crate::name_row::{NameRow, bare_row, given_value};
-use crate::name_rows::ResolvedName;
 use crate::script_values::ScriptValues;
 use crate::sizes::{NO_SYMBOLS, SymbolSizes, plus_last};
+use crate::symbol_row::SymbolRow;
 use crate::values::OutputSymbol;
 use emit_relocate::value::SymbolValue;
 use emit_text::definer::Definer;
@@ -29,6 +31,7 @@ use ldmodel::memory::NoMemory;
 use ldmodel::names::{Case, NameKey, ObjectPlace};
 use ldscript::Script;
 use symres::SymbolTable;
+use symres::sorted::NamedKey;
 
 /// What the symbols of the output are made of.
 #[derive(Clone, Copy)]
@@ -38,7 +41,7 @@ pub(crate) struct Sources<'a> {
     /// The resolutions of names.
     pub symbol_table: &'a SymbolTable,
     /// What defines names, and what they are in the output, under their keys.
-    pub rows: &'a [ResolvedName],
+    pub rows: &'a [SymbolRow],
     /// The values that the script gives names.
     pub given: &'a ScriptValues<'a>,
 }
@@ -58,29 +61,20 @@ fn row_by_script(case: Case<ObjectPlace>, given: Option<u64>) -> Option<NameRow>
 
 /// Adds the symbol of a name with a row, if something defines the name. There is room for it.
 #[inline(always)]
-fn add_if_defined<'a>(
-    list: &mut Vec<OutputSymbol<'a>>,
-    name: &'a [u8],
-    definer: Definer,
-    row: &NameRow,
-)
+fn add_if_defined<'a>(list: &mut Vec<OutputSymbol<'a>>, name: &'a [u8], row: &SymbolRow)
     requires { vec_len list.old < vec_capacity list.old }
-    ensures added { AddsIf (defines definer) (symbol_with name.entry definer row.now) list.old.items list.new.items }
+    ensures added { AddsIf (defines (definer_in row.now)) (symbol_with name.entry row.now) list.old.items
+        list.new.items }
     ensures facts { (project : Project) (layout : Layout)
-        → HasFacts project layout (symbol_with name.entry definer row.now)
+        → HasFacts project layout (symbol_with name.entry row.now)
         → KeepsFacts project layout list.old.items list.new.items }
     ensures name { AddsAtMost name.now list.old.items list.new.items }
     ensures room { IsWithinRoom list.old list.new }
 {
-    if !definer.defines() {
+    if !row.definer().defines() {
         return;
     }
-    list.push_reserved(OutputSymbol {
-        name,
-        definer,
-        value: row.value,
-        facts: row.facts,
-    });
+    list.push_reserved(OutputSymbol { name, row: *row });
 }
 
 /// Adds the symbol of a name with a key. There is room for it.
@@ -101,10 +95,10 @@ fn add_named<'a>(
     ensures room { IsWithinRoom list.old list.new }
 {
     // in the tables of a link each key of a name has a row
-    let Some(resolved) = sources.rows.get(key.0) else {
+    let Some(row) = sources.rows.get(key.0) else {
         return;
     };
-    add_if_defined(list, name, resolved.definer, &resolved.row);
+    add_if_defined(list, name, row);
 }
 
 /// Adds the symbol of a name without a key, for which there is room. The name is looked up.
@@ -129,102 +123,119 @@ fn add_unnamed<'a>(
         return Err(impossible());
     };
     let definer = Definer::of(case);
-    add_if_defined(list, name, definer, &row);
+    let defined = SymbolRow::of(definer, row);
+    add_if_defined(list, name, &defined);
     Ok(())
 }
 
-/// Adds the symbol of a candidate, for which there is room.
-#[inline(always)]
-fn add_symbol<'a>(
-    sources: &Sources<'_>,
-    candidate: &Candidate<'a>,
-    list: &mut Vec<OutputSymbol<'a>>,
-) -> Result<(), NoMemory>
-    requires keyed { HasKeyOr sources.now.symbol_table.now candidate.now.name.now candidate.now.key }
-    requires room { vec_len list.old < vec_capacity list.old }
-    ensures symbol { OnOk result ((project : Project) (layout : Layout) → AreSources project layout sources.now
-        → AddsSymbols project layout (candidate.now.name.now ∷ []) list.old.items list.new.items) }
-    ensures facts { OnOk result ((project : Project) (layout : Layout) → AreSources project layout sources.now
-        → KeepsFacts project layout list.old.items list.new.items) }
-    ensures name { OnOk result (AddsAtMost candidate.now.name.now list.old.items list.new.items) }
-    ensures room { IsWithinRoom list.old list.new }
+/// The number of names, in a list in byte order, that do not come after a name. The time is logarithmic.
+fn count_up_to(sorted: &[NamedKey<'_>], name: &[u8]) -> usize
+    requires { AreUp sorted.now }
+    ensures place { IsPlaceAmong name.now sorted.now result }
+    ensures within { result ≤ length sorted.now }
 {
-    match candidate.key {
-        Some(key) => {
-            add_named(sources, candidate.name, key, list);
-            Ok(())
-        }
-        None => add_unnamed(sources, candidate.name, list),
-    }
+    sorted.partition_point(|named| named.name <= name)
 }
 
-/// Whether two candidates have one name. Where both have keys, these are compared, so that no name is read.
-fn have_one_name(sources: &Sources<'_>, one: &Candidate<'_>, other: &Candidate<'_>) -> bool
-    requires distinct { AreDistinct sources.now.symbol_table.now.names }
-    requires one { HasKeyOr sources.now.symbol_table.now one.now.name.now one.now.key }
-    requires other { HasKeyOr sources.now.symbol_table.now other.now.name.now other.now.key }
-    ensures { result ≡ bytes_eq one.now.name.now other.now.name.now }
+/// Whether the last of these names is this one.
+fn ends_with(sorted: &[NamedKey<'_>], name: &[u8]) -> bool
+    ensures { result ≡ ends_with (keyed_names sorted.now) name.now }
 {
-    match one.key {
-        None => one.name == other.name,
-        Some(key) => match other.key {
-            None => one.name == other.name,
-            Some(of_other) => key.0 == of_other.0,
-        },
-    }
-}
-
-/// Whether the name at a place is that before it.
-fn is_repeat(sources: &Sources<'_>, candidates: &[Candidate<'_>], place: usize) -> bool
-    requires place { place < length candidates.now }
-    requires candidates { AreCandidates sources.now.symbol_table.now sources.now.script.now candidates.now }
-    ensures { result ≡ is_repeat (names_of candidates.now) place }
-{
-    if place == 0 {
+    if sorted.is_empty() {
         return false;
     }
-    have_one_name(sources, &candidates[place - 1], &candidates[place])
+    sorted[sorted.len() - 1].name == name
 }
 
-/// Adds the symbol of the candidate at a place, unless its name is that before it. There is room for it.
-#[inline(always)]
-fn add_unless_repeat<'a>(
+/// Adds the symbols of names with keys to those that are counted. Each is counted while it is in the cache.
+fn add_keyed<'a>(
     sources: &Sources<'_>,
-    candidates: &[Candidate<'a>],
-    place: usize,
+    names: &[NamedKey<'a>],
     list: &mut Vec<OutputSymbol<'a>>,
-) -> Result<(), NoMemory>
-    requires place { place < length candidates.now }
-    requires candidates { AreCandidates sources.now.symbol_table.now sources.now.script.now candidates.now }
-    requires room { vec_len list.old < vec_capacity list.old }
-    ensures symbol { OnOk result ((project : Project) (layout : Layout) → AreSources project layout sources.now
-        → AddsSymbols project layout (fresh (names_of candidates.now) place) list.old.items list.new.items) }
+    counted: SymbolSizes,
+) -> Result<SymbolSizes, NoMemory>
+    requires { AreKeyed sources.now names.now }
+    ensures symbols { OnOk result ((project : Project) (layout : Layout) → AreSources project layout sources.now
+        → AddsSymbols project layout (keyed_names names.now) list.old.items list.new.items) }
     ensures facts { OnOk result ((project : Project) (layout : Layout) → AreSources project layout sources.now
         → KeepsFacts project layout list.old.items list.new.items) }
-    ensures name { OnOk result
-        (AddsAtMost (slice_index_or (names_of candidates.now) place []) list.old.items list.new.items) }
-    ensures room { IsWithinRoom list.old list.new }
+    ensures picked { OnOk result (AddsSome (keyed_names names.now) list.old.items list.new.items) }
+    ensures sizes { IfOk result (λ t. (project : Project) (layout : Layout) → AreSources project layout sources.now
+        → KeepsCount counted t list.old.items list.new.items) }
 {
-    if is_repeat(sources, candidates, place) {
-        return Ok(());
+    list.reserve(names.len())?;
+    let mut sizes = counted;
+    for named in names {
+        let count = list.len();
+        add_named(sources, named.name, named.key, list);
+        sizes = plus_last(sizes, list, count)?;
     }
-    add_symbol(sources, &candidates[place], list)
+    Ok(sizes)
 }
 
-/// Adds the symbols of the output, in byte order of their names, to an empty list with room for all candidates. Each is
-/// counted while it is in the cache.
+/// Adds the symbol of a name that the script gives a value to, to those that are counted.
+fn add_given<'a>(
+    sources: &Sources<'_>,
+    name: &'a [u8],
+    list: &mut Vec<OutputSymbol<'a>>,
+    counted: SymbolSizes,
+) -> Result<SymbolSizes, NoMemory>
+    ensures symbols { OnOk result ((project : Project) (layout : Layout) → AreSources project layout sources.now
+        → AddsSymbols project layout (name.now ∷ []) list.old.items list.new.items) }
+    ensures facts { OnOk result ((project : Project) (layout : Layout) → AreSources project layout sources.now
+        → KeepsFacts project layout list.old.items list.new.items) }
+    ensures picked { OnOk result (AddsSome (name.now ∷ []) list.old.items list.new.items) }
+    ensures sizes { IfOk result (λ t. (project : Project) (layout : Layout) → AreSources project layout sources.now
+        → KeepsCount counted t list.old.items list.new.items) }
+{
+    list.reserve(1)?;
+    let count = list.len();
+    add_unnamed(sources, name, list)?;
+    plus_last(counted, list, count)
+}
+
+/// Adds the symbols of names with keys, and after them that of a name that the script gives a value to, unless it is
+/// the last of them, to those that are counted.
+fn add_up_to<'a>(
+    sources: &Sources<'_>,
+    before: &[NamedKey<'a>],
+    name: &'a [u8],
+    list: &mut Vec<OutputSymbol<'a>>,
+    counted: SymbolSizes,
+) -> Result<SymbolSizes, NoMemory>
+    requires { AreKeyed sources.now before.now }
+    ensures symbols { OnOk result ((project : Project) (layout : Layout) → AreSources project layout sources.now
+        → AddsSymbols project layout (with_name (keyed_names before.now) name.now) list.old.items list.new.items) }
+    ensures facts { OnOk result ((project : Project) (layout : Layout) → AreSources project layout sources.now
+        → KeepsFacts project layout list.old.items list.new.items) }
+    ensures picked { OnOk result
+        (AddsSome (with_name (keyed_names before.now) name.now) list.old.items list.new.items) }
+    ensures sizes { IfOk result (λ t. (project : Project) (layout : Layout) → AreSources project layout sources.now
+        → KeepsCount counted t list.old.items list.new.items) }
+{
+    let sizes = add_keyed(sources, before, list, counted)?;
+    if ends_with(before, name) {
+        return Ok(sizes);
+    }
+    add_given(sources, name, list, sizes)
+}
+
+/// Adds the symbols of the output, in byte order of their names, to an empty list. `sorted` has the names with keys and
+/// `given` the names that the script gives values to, both in byte order, each name once. They are merged as they are
+/// added: a name of `given` is searched for among those with keys, which are not compared with one another.
 ///
 /// # Errors
 ///
 /// If memory runs out.
 pub(crate) fn add_symbols<'a>(
     sources: &Sources<'_>,
-    candidates: &[Candidate<'a>],
+    sorted: &[NamedKey<'a>],
+    given: &[&'a [u8]],
     list: &mut Vec<OutputSymbol<'a>>,
 ) -> Result<SymbolSizes, NoMemory>
-    requires candidates { AreCandidates sources.now.symbol_table.now sources.now.script.now candidates.now }
+    requires sorted { AreSorted sources.now.symbol_table.now sorted.now }
+    requires given { AreScriptNames sources.now.script.now (texts given.now) }
     requires empty { list.old.items ≡ [] }
-    requires room { length candidates.now ≤ vec_capacity list.old }
     ensures symbols { OnOk result ((project : Project) (layout : Layout) → AreSources project layout sources.now
         → shown project list.new.items ≡ output_symbols project layout) }
     ensures facts { OnOk result ((project : Project) (layout : Layout) → AreSources project layout sources.now
@@ -234,10 +245,12 @@ pub(crate) fn add_symbols<'a>(
         → t ≡ plus_symbols (record { count = 0; names = 0 }) list.new.items) }
 {
     let mut sizes = NO_SYMBOLS;
-    for place in 0..candidates.len() {
-        let count = list.len();
-        add_unless_repeat(sources, candidates, place, list)?;
-        sizes = plus_last(sizes, list, count)?;
+    let mut at: usize = 0;
+    for name in given {
+        let left = &sorted[at..];
+        let count = count_up_to(left, name);
+        sizes = add_up_to(sources, &left[..count], name, list, sizes)?;
+        at += count;
     }
-    Ok(sizes)
+    add_keyed(sources, &sorted[at..], list, sizes)
 }

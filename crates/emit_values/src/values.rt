@@ -10,17 +10,16 @@ ghost use Rattle.emit_values.specs.AssertedSymbols.{AreInOrder};
 ghost use Rattle.emit_values.specs.LinkView.{IsLinkView, known_link};
 ghost use Rattle.emit_values.specs.ScriptValues.{AreScriptValues};
 
-use crate::candidate::candidates;
 use crate::given::GivenValues;
 use crate::link_view::LinkView;
-use crate::name_row::SymbolFacts;
 use crate::name_rows::{NameRows, name_rows};
+use crate::script_names::script_names;
 use crate::script_values::ScriptValues;
 use crate::sizes::SymbolSizes;
+use crate::symbol_row::SymbolRow;
 use crate::symbols::{Sources, add_symbols};
 use emit_relocate::symbol::entry_point;
 use emit_relocate::value::SymbolValue;
-use emit_text::definer::Definer;
 use ldmodel::memory::NoMemory;
 use ldmodel_project::view::ProjectView;
 use std::alloc::Global;
@@ -31,12 +30,8 @@ use symres::SymbolTable;
 pub struct OutputSymbol<'a> {
     /// The name.
     pub name: &'a [u8],
-    /// What defines it.
-    pub definer: Definer,
-    /// Its value, if it has one.
-    pub value: SymbolValue,
-    /// What the symbol table says of it.
-    pub facts: SymbolFacts,
+    /// What it is.
+    pub row: SymbolRow,
 }
 
 /// The values of the names of a link, and the symbols of its output.
@@ -95,9 +90,10 @@ impl<'a> Values<'a> {
             → AreValues project.now layout symbol_table.now values) }
     {
         let script = project.script();
-        let candidates = candidates(alloc, symbol_table, script, &given.sorted)?;
+        let names = script_names(alloc, script)?;
         // allocated before the rows: the symbols are kept, and the rows are freed
-        let mut symbols = Vec::with_capacity(alloc, candidates.len())?;
+        let count = given.sorted.len().saturating_add(names.len());
+        let mut symbols = Vec::with_capacity(alloc, count)?;
         let NameRows { rows, values } = name_rows(alloc, link)?;
         let entry = entry_value(project, symbol_table, &given.values, link);
         let sources = Sources {
@@ -106,7 +102,7 @@ impl<'a> Values<'a> {
             rows: &rows,
             given: &given.values,
         };
-        let sizes = add_symbols(&sources, &candidates, &mut symbols)?;
+        let sizes = add_symbols(&sources, &given.sorted, &names, &mut symbols)?;
         Ok(Values {
             names: values,
             entry,

@@ -1,5 +1,4 @@
-use Rattle.std.proofs.Common.{◌∙◌, ap, subst, sym}
-use Rattle.std.proofs.lemmas.Result.{IfOk-weaker}
+use Rattle.std.proofs.Common.{◌∙◌, ap, inl, inr, subst, sym}
 use Rattle.ldmodel.specs.HandedOver.{decision_of}
 use Rattle.ldmodel.specs.Project.{Project}
 use Rattle.ldmodel.specs.SymbolValues.{value_or_undefined}
@@ -10,26 +9,32 @@ use Rattle.emit_values.specs.ObjectParts.{AreSymbols}
 use Rattle.emit_values.proofs.Objects.{entry_decided, script_decided}
 use Rattle.emit_values.proofs.name_row.name_row.Goals as goal
 
-pub returns-in-Strong : goal.returns-in-Strong
-returns-in-Strong c =
-    IfOk-weaker c.entry_row.result _ _
-    (λ x h l name v named.
-    entry_decided l.project l.layout name c.args.case c.in-Strong.entry c.args.parts x c.in-Strong.is c.requires.object
-    (h l.project l.layout c.args.link.now.indexed_layout.now v.indexed_layout
-    (subst (λ (p : Project). AreSymbols p c.args.parts) (sym v.project) c.requires.symbols) c.requires.addresses))
-    c.entry_row.ensures
+pub returns-in_ok-row-in-Strong-clause-row : goal.returns-in_ok-row-in-Strong-clause-row
+returns-in_ok-row-in-Strong-clause-row c = λ l name v named.
+    c.of.ensures.row
+    ∙ entry_decided l.project l.layout name c.args.case c.in-Strong.entry c.args.parts c.in_ok-row-in-Strong.row
+    (inl c.in-Strong.is) c.requires.object
+    (c.in_ok-row-in-Strong.ensures l.project l.layout c.args.link.now.indexed_layout.now v.indexed_layout
+    (subst (λ (p : Project). AreSymbols p c.args.parts) (sym v.project) c.requires.symbols) c.requires.addresses)
 
-pub returns-in-Common : goal.returns-in-Common
-returns-in-Common c =
-    IfOk-weaker c.block_row.result _ _
-    (λ x h l name v named.
-    h l.project l.layout v.indexed_layout
+pub returns-in_ok-row-in-Weak-clause-row : goal.returns-in_ok-row-in-Weak-clause-row
+returns-in_ok-row-in-Weak-clause-row c = λ l name v named.
+    c.of-in-Weak.ensures.row
+    ∙ entry_decided l.project l.layout name c.args.case c.in-Weak.entry c.args.parts c.in_ok-row-in-Weak.row
+    (inr c.in-Weak.is) c.requires.object
+    (c.in_ok-row-in-Weak.ensures l.project l.layout c.args.link.now.indexed_layout.now v.indexed_layout
+    (subst (λ (p : Project). AreSymbols p c.args.parts) (sym v.project) c.requires.symbols) c.requires.addresses)
+
+pub returns-in_ok-row-in-Common-clause-row : goal.returns-in_ok-row-in-Common-clause-row
+returns-in_ok-row-in-Common-clause-row c = λ l name v named.
+    c.of-in-Common.ensures.row
+    ∙ (c.in_ok-row-in-Common.ensures l.project l.layout v.indexed_layout
     ∙ ap (λ (k : Case ObjectPlace). decided_row l.project l.layout name (decision_of (λ key. key) k))
     (sym c.in-Common.is))
-    c.block_row.ensures
 
-pub returns-in-Script : goal.returns-in-Script
-returns-in-Script c l name v named =
-    c.bare_row.ensures
-    ∙ ap bare_row (c.given_value.ensures ∙ ap value_or_undefined (c.script_value.ensures l v name named))
-    ∙ script_decided l.project l.layout name c.args.case c.in-Script.is
+pub returns-in-Script-clause-row : goal.returns-in-Script-clause-row
+returns-in-Script-clause-row c = λ l name v named.
+    c.of-in-Script.ensures.row
+    ∙ (c.bare_row-row.ensures
+    ∙ (ap bare_row (c.given_value.ensures ∙ ap value_or_undefined (c.script_value.ensures l v name named))
+    ∙ script_decided l.project l.layout name c.args.case c.in-Script.is))

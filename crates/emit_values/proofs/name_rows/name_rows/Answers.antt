@@ -1,8 +1,8 @@
-use Rattle.std.proofs.Common.{arith}
+use Rattle.std.proofs.Common.{◌∙◌, ◌++◌, ◌∷◌, [], ap, arith}
+use Rattle.emit_relocate.specs.declared.value.SymbolValue.{SymbolValue}
 use Rattle.emit_relocate.specs.KnownLink.{KnownLink}
 use Rattle.emit_values.specs.LinkView.{IsLinkView}
 use Rattle.emit_values.specs.NameRows.{IsCaseUnder, IsRowUnder}
-use Rattle.emit_values.specs.declared.name_rows.ResolvedName.{ResolvedName}
 use Rattle.emit_values.proofs.Rows.{row_named, rows_more, values_more}
 use Rattle.emit_values.proofs.name_rows.name_rows.Goals as goal
 
@@ -14,8 +14,8 @@ loop-key-preserved c =
     let stands : (l : KnownLink) → IsLinkView l link → IsCaseUnder l key case = c.case_under-case.ensures in
     let row : (l : KnownLink) → IsLinkView l link → IsRowUnder l key c.in_ok-row.row =
     λ l v name named.
-    row_named l link v case name c.in_ok-row.row (stands l v name named) (c.in_ok-row.ensures l name v named) in
-    let x : ResolvedName = record { definer = c.of-definer.result; row = c.in_ok-row.row } in
+    row_named l link v case name c.in_ok-row.row (stands l v name named) (c.in_ok-row.ensures.row l name v named) in
+    let x = c.in_ok-row.row in
     record {
       rows_long = omega (arith, c.push_reserved-in-loop-key.ensures.len, c.loop-key.invariant.rows_long);
       rows_room = omega (arith, c.push_reserved-in-loop-key.ensures.capacity, c.loop-key.invariant.rows_room);
@@ -24,12 +24,14 @@ loop-key-preserved c =
       symbols = c.parts_for-parts.ensures.symbols;
       addresses = c.parts_for-parts.ensures.addresses;
       rows = λ l v.
-          rows_more l link v key case x (stands l v) c.of-definer.ensures (row l v) c.loop-key.rows.items
+          rows_more l link v key case x (stands l v) c.in_ok-row.ensures.definer (row l v) c.loop-key.rows.items
           c.push_reserved-in-loop-key.new.self.items
           (omega (arith, c.loop-key.invariant.rows_long, c.loop-key.rows.ok.0))
           c.push_reserved-in-loop-key.ensures.items (c.loop-key.invariant.rows l v);
       values = λ l v.
-          values_more l link v key case x (stands l v) c.of-definer.ensures (row l v) c.loop-key.values.items
+          values_more l link v key case x (stands l v) c.in_ok-row.ensures.definer (row l v) c.loop-key.values.items
           c.push_reserved.new.self.items (omega (arith, c.loop-key.invariant.values_long, c.loop-key.values.ok.0))
-          c.push_reserved.ensures.items (c.loop-key.invariant.values l v);
+          (c.push_reserved.ensures.items
+          ∙ ap (λ (w : SymbolValue). c.loop-key.values.items ++ w ∷ []) c.value.ensures)
+          (c.loop-key.invariant.values l v);
     }

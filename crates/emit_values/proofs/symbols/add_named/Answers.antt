@@ -11,16 +11,16 @@ returns-in_default-clause-symbol c p s h =
 
 pub returns-clause-symbol : goal.returns-clause-symbol
 returns-clause-symbol c p s h =
-    adds_one p s (symbol_with c.args.name c.in-Some.resolved.now.definer c.in-Some.resolved.now.row)
+    adds_one p s (symbol_with c.args.name c.in-Some.row.now)
     c.args.list.now.items c.add_if_defined.new.list.items
-    (named_symbol p s c.args.sources.now h c.args.name c.args.key.0 c.requires.named c.in-Some.resolved.now
+    (named_symbol p s c.args.sources.now h c.args.name c.args.key.0 c.requires.named c.in-Some.row.now
     c.in-Some.ensures.lookup.3.0 c.in-Some.ensures.lookup.1)
-    (named_facts p s c.args.sources.now h c.args.name c.args.key.0 c.requires.named c.in-Some.resolved.now
+    (named_facts p s c.args.sources.now h c.args.name c.args.key.0 c.requires.named c.in-Some.row.now
     c.in-Some.ensures.lookup.3.0 c.in-Some.ensures.lookup.1)
     c.add_if_defined.ensures.added
 
 pub returns-clause-facts : goal.returns-clause-facts
 returns-clause-facts c p s h =
     c.add_if_defined.ensures.facts p s
-    (named_facts p s c.args.sources.now h c.args.name c.args.key.0 c.requires.named c.in-Some.resolved.now
+    (named_facts p s c.args.sources.now h c.args.name c.args.key.0 c.requires.named c.in-Some.row.now
     c.in-Some.ensures.lookup.3.0 c.in-Some.ensures.lookup.1)

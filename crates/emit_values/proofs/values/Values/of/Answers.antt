@@ -2,7 +2,7 @@ use Rattle.std.proofs.Common.{List, subst, sym}
 use Rattle.emit_relocate.specs.KnownLink.{KnownLink}
 use Rattle.emit_values.specs.LinkView.{known_link}
 use Rattle.emit_values.specs.NameRows.{AreResolved}
-use Rattle.emit_values.specs.declared.name_rows.ResolvedName.{ResolvedName}
+use Rattle.emit_values.specs.declared.symbol_row.SymbolRow.{SymbolRow}
 use Rattle.emit_values.proofs.values.Values.of.Goals as goal
 
 pub returns : goal.returns
@@ -15,21 +15,21 @@ returns c =
       symbols = c.in_ok-sizes.ensures.symbols c.args.project.now s (record {
         symbol_table = c.requires.symbol_table;
         script = sym c.script-script.ensures;
-        rows = subst (λ (xs : List ResolvedName). AreResolved l xs) (sym c.deref-2.ensures.value)
+        rows = subst (λ (xs : List SymbolRow). AreResolved l xs) (sym c.deref.ensures.value)
             (c.in_ok-rows.ensures.rows l link);
         given = given;
       });
       facts = c.in_ok-sizes.ensures.facts c.args.project.now s (record {
         symbol_table = c.requires.symbol_table;
         script = sym c.script-script.ensures;
-        rows = subst (λ (xs : List ResolvedName). AreResolved l xs) (sym c.deref-2.ensures.value)
+        rows = subst (λ (xs : List SymbolRow). AreResolved l xs) (sym c.deref.ensures.value)
             (c.in_ok-rows.ensures.rows l link);
         given = given;
       });
       sizes = c.in_ok-sizes.ensures.sizes c.args.project.now s (record {
         symbol_table = c.requires.symbol_table;
         script = sym c.script-script.ensures;
-        rows = subst (λ (xs : List ResolvedName). AreResolved l xs) (sym c.deref-2.ensures.value)
+        rows = subst (λ (xs : List SymbolRow). AreResolved l xs) (sym c.deref.ensures.value)
             (c.in_ok-rows.ensures.rows l link);
         given = given;
       });

@@ -1,7 +1,7 @@
 use Rattle.std.proofs.Common.{rules}
 use Rattle.std.proofs.lemmas.List.Sorted.{IsPartitionPoint-from_clause}
-use Rattle.emit_values.proofs.MergedNames.{comes_by, partitioned, place_among}
-use Rattle.emit_values.proofs.merged.count_up_to.Goals as goal
+use Rattle.emit_values.proofs.Placing.{comes_by, partitioned, place_among}
+use Rattle.emit_values.proofs.symbols.count_up_to.Goals as goal
 
 pub returns-clause-place : goal.returns-clause-place
 returns-clause-place c =
