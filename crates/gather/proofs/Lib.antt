@@ -25,4 +25,6 @@ pub mod Starting
 pub mod OwnWords
 pub mod Knowing
 mod Ranked
+pub mod ByRuns
+pub mod Commons
 pub mod AllTaken
