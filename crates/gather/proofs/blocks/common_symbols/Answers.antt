@@ -1,4 +1,4 @@
-use Rattle.std.proofs.Common.{◌∙◌, ◌<◌, ap, arith, false, length, sym}
+use Rattle.std.proofs.Common.{◌∙◌, ◌<◌, ap, arith, length, sym}
 use Rattle.std.proofs.lemmas.List.{length-map}
 use Rattle.elfobj.specs.Symbols.{NamedSymbol}
 use Rattle.gather.proofs.Commons.{first_common, next_common, not_common}
