@@ -1,38 +1,43 @@
 -- Sections of which nothing is collected, taken one after the other.
 use Rattle.std.proofs.Common.{◌≡◌, ◌∙◌, ◌<◌, ◌+◌, ◌++◌, ◌∷◌, ℕ, Bool, true, false, not, cond, List, [], append-nil}
-use Rattle.std.proofs.Common.{append_assoc, ap, arith, drop, filter, get_or, length, map, refl, sym, subst}
+use Rattle.std.proofs.Common.{append_assoc, ap, arith, drop, filter, get_or, length, map, refl, sym, subst, take, ◌≤◌}
 use Rattle.std.proofs.Common.{Option, Some, None}
 use Rattle.std.specs.List.{cons_option, filter_map}
 use Rattle.std.specs.Prelude.{slice_get}
-use Rattle.std.proofs.lemmas.List.{drop_more, map-append}
+use Rattle.std.proofs.lemmas.List.{drop_more, map-append, take_more}
 use Rattle.std.proofs.lemmas.List.Elements.{filter-append, filter_map-append}
 use Rattle.ldscript.specs.statements.Numbering.{InputStatementAt, input_statements}
 use Rattle.ldmodel.specs.InputSections.{input_sections, object_inputs}
 use Rattle.ldmodel.specs.Live.{live}
-use Rattle.ldmodel.specs.Gathering.{is_discarded}
+use Rattle.ldmodel.specs.Gathering.{is_discard, is_discarded}
 use Rattle.ldmodel.specs.Project.{NamedObject, Project}
+use Rattle.ldmodel.specs.declared.names.ObjectPlace.{ObjectPlace}
 use Rattle.ldmodel.specs.declared.options.Orphans.{Orphans}
 use Rattle.ldmodel.specs.declared.rows.InputIndex.{InputIndex}
 use Rattle.ldmodel.specs.declared.rows.Piece as code
-use Rattle.elfobj.specs.Sections.{LinkedSection}
+use Rattle.elfobj.specs.Sections.{section_of}
+use Rattle.elfobj.specs.declared.section.Section.{Section}
 use Rattle.gather.specs.Apart.{IsAscending}
 use Rattle.gather.specs.Blocks.{AreBlocksOf}
-use Rattle.gather.specs.GatheredSections.{AreGathered, Facts, as_piece, beside, block_facts, facts}
-use Rattle.gather.specs.GatheredSections.{linked_facts, own_piece, shown_facts, untaken, untaken_by_none}
-use Rattle.gather.specs.LeftOut.{is_out_of}
+use Rattle.gather.specs.GatheredSections.{AreGathered, Facts, as_piece, block_facts, facts}
+use Rattle.gather.specs.GatheredSections.{own_piece, shown_facts, untaken, untaken_by_none}
+use Rattle.gather.specs.LeftOut.{is_out_by, is_out_of, is_placed_by, is_placed_in}
 use Rattle.gather.specs.LiveMarks.{marked}
 use Rattle.gather.specs.Matches.{number_of}
 use Rattle.gather.specs.ProjectMatches.{IsMatched}
 use Rattle.gather.specs.RowPieces.{AreBuckets}
+use Rattle.gather.specs.Runs.{gathered, gathered_by, linked_piece}
 use Rattle.gather.specs.Taking.{IsTaken, Takes, TakesFacts, kept_of}
 use Rattle.gather.specs.declared.blocks.CommonBlock.{CommonBlock}
 use Rattle.gather.specs.declared.gathered_section.GatheredSection.{GatheredSection}
 use Rattle.gather.specs.declared.matches.Matches.{Matches}
+use Rattle.gather.specs.declared.runs.Run.{Run}
 use Rattle.gather.specs.declared.taking.Taken.{Taken}
 use Rattle.std.specs.Option.{option_map}
 use Rattle.gather.proofs.GatheredLists.{out_are}
 use Rattle.gather.proofs.LivePaths.{kept_are}
-use Rattle.gather.proofs.ObjectFacts.{linked_step, object_added}
+use Rattle.gather.proofs.ObjectFacts.{object_added}
+use Rattle.gather.proofs.ByRuns.{none_left, run_added, run_cut}
 use Rattle.gather.proofs.Preparing.{GatheredBefore, more_gathered}
 
 module _ (st : List InputStatementAt) (or : Orphans) where
@@ -127,20 +132,6 @@ module _ (st : List InputStatementAt) (or : Orphans) where
     takes = h.takes;
   }
 
-  -- one more linked section
-  pub linked_taken : (i : ℕ) (ss : List LinkedSection) (ms : List (Option InputIndex)) (old now new : Taken)
-      (x : GatheredSection) (k : ℕ) (s : LinkedSection) (all : List Facts)
-      → slice_get ss k ≡ Some s
-      → shown_facts x ≡ linked_facts i s (number_of (get_or ms k None))
-      → Takes st or now new (x ∷ [])
-      → TakesSome old now (beside i (drop k ss) (map number_of (drop k ms))) all
-      → TakesSome old new (beside i (drop (k + 1) ss) (map number_of (drop (k + 1) ms))) all
-  linked_taken i ss ms old now new x k s all at is one h = record {
-    sections = h.sections ++ x ∷ [];
-    takes = both_taken old now new h.sections (x ∷ []) h.takes one;
-    rest = linked_step i ss ms h.sections (h.sections ++ x ∷ []) x k s all at is refl h.rest;
-  }
-
   -- one more block
   pub block_taken : (f : CommonBlock → Facts) (bs : List CommonBlock) (old now new : Taken) (x : GatheredSection)
       (k : ℕ) (d : CommonBlock) (all : List Facts) → k < length bs → shown_facts x ≡ f (get_or bs k d)
@@ -156,19 +147,124 @@ module _ (st : List InputStatementAt) (or : Orphans) where
         ∙ h.rest;
   }
 
-  -- the linked sections of an object and then its blocks
-  pub object_taken : (p : Project) (i : ℕ) (o : NamedObject) (m : Matches) (bs : List CommonBlock) (a b c : Taken)
-      → IsMatched p.script o m → AreBlocksOf p i o bs
-      → TakesFacts st or a b (beside i o.object.sections (map number_of m.linked.items))
-      → TakesFacts st or b c (map (block_facts i (number_of m.common)) bs)
-      → TakesFacts st or a c (map (facts p) (object_inputs p i o))
-  object_taken p i o m bs a b c matched own linked blocks = record {
-    sections = linked.sections ++ blocks.sections;
-    facts = object_added p i o m bs [] linked.sections (linked.sections ++ blocks.sections) matched own linked.facts
-        (map-append shown_facts linked.sections blocks.sections
-        ∙ ap (λ l. map shown_facts linked.sections ++ l) blocks.facts);
-    takes = both_taken a b c linked.sections blocks.sections linked.takes blocks.takes;
+  -- ---- runs
+
+  -- some sections are taken, with those that are left
+  pub record TakesPart (old new : Taken) (left all : List GatheredSection) : Type 0 where
+    pub sections : List GatheredSection
+    pub takes : Takes st or old new sections
+    pub rest : sections ++ left ≡ all
+
+  pub no_part : (t : Taken) (all : List GatheredSection) → TakesPart t t all all
+  no_part t all = record {
+    sections = [];
+    takes = λ count xs h. subst (λ l. IsTaken st or count l t) (sym (append-nil xs)) h;
+    rest = refl;
   }
+
+  -- one more section of a run
+  pub one_taken : (f : Section → GatheredSection) (ss : List Section) (old now new : Taken) (k : ℕ) (d : Section)
+      (x : GatheredSection) → k < length ss → x ≡ f (get_or ss k d) → Takes st or now new (x ∷ [])
+      → Takes st or old now (map f (take k ss)) → Takes st or old new (map f (take (k + 1) ss))
+  one_taken f ss old now new k d x low is one h =
+      subst (λ l. Takes st or old new l)
+      (ap (λ y. map f (take k ss) ++ y ∷ []) is
+      ∙ sym (ap (map f) (take_more ss k d low) ∙ map-append f (take k ss) (get_or ss k d ∷ [])))
+      (both_taken old now new (map f (take k ss)) (x ∷ []) h one)
+
+  -- a run of sections of one statement
+  module _ (key : ObjectPlace) (n : InputIndex) (at : is_placed_in st n.0 ≡ true) where
+    abbrev run : List Section → List GatheredSection
+    run ss = map (gathered key (Some n)) ss
+
+    kept_with : (s : Section) → is_out (gathered key (Some n) s) ≡ false
+    kept_with s = go (slice_get st n.0) at
+      where
+        not_out : (b : Bool) → not b ≡ true → b ≡ false
+        not_out false e = refl
+        not_out true e = absurd (cc)
+
+        go : (o : Option InputStatementAt) → is_placed_by o ≡ true → is_out_by or s.size o ≡ false
+        go None e = absurd (cc)
+        go (Some i) e = not_out (is_discard i.place) e
+
+    all_kept : (ss : List Section) → kept_of st or (run ss) ≡ run ss
+    all_kept [] = refl
+    all_kept (s ∷ ss) =
+        ap (λ b. cond (not b) (gathered key (Some n) s ∷ kept_of st or (run ss)) (kept_of st or (run ss)))
+        (kept_with s)
+        ∙ ap (λ l. gathered key (Some n) s ∷ l) (all_kept ss)
+
+    own_pieces : (ss : List Section) → filter_map own_piece (run ss) ≡ map (linked_piece key n) ss
+    own_pieces [] = refl
+    own_pieces (s ∷ ss) = ap (λ l. linked_piece key n s ∷ l) (own_pieces ss)
+
+    none_untaken : (ss : List Section) → filter_map untaken (run ss) ≡ []
+    none_untaken [] = refl
+    none_untaken (s ∷ ss) = none_untaken ss
+
+    -- it comes to the bucket of the statement
+    pub run_taken : (old new : Taken) (ss : List Section)
+        → ((xs : List code.Piece) (count : ℕ) → AreBuckets xs count old.buckets.items
+        → AreBuckets (xs ++ map (linked_piece key n) ss) count new.buckets.items)
+        → new.orphans ≡ old.orphans → Takes st or old new (run ss)
+    run_taken old new ss added same = λ count xs h.
+        let more : kept_of st or (xs ++ run ss) ≡ kept_of st or xs ++ run ss =
+        filter-append (λ (x : GatheredSection). not (is_out x)) xs (run ss)
+        ∙ ap (λ l. kept_of st or xs ++ l) (all_kept ss) in
+        let own : filter_map own_piece (kept_of st or (xs ++ run ss))
+        ≡ filter_map own_piece (kept_of st or xs) ++ map (linked_piece key n) ss =
+        ap (filter_map own_piece) more
+        ∙ (filter_map-append own_piece (kept_of st or xs) (run ss)
+        ∙ ap (λ l. filter_map own_piece (kept_of st or xs) ++ l) (own_pieces ss)) in
+        let none : filter_map untaken (kept_of st or (xs ++ run ss)) ≡ filter_map untaken (kept_of st or xs) =
+        ap (filter_map untaken) more
+        ∙ (filter_map-append untaken (kept_of st or xs) (run ss)
+        ∙ (ap (λ l. filter_map untaken (kept_of st or xs) ++ l) (none_untaken ss)
+        ∙ append-nil (filter_map untaken (kept_of st or xs)))) in
+        record {
+          buckets = subst (λ l. AreBuckets l count new.buckets.items) (sym own)
+              (added (filter_map own_piece (kept_of st or xs)) count h.buckets);
+          orphans = ap (λ v. v.items) same ∙ (h.orphans ∙ sym none);
+        }
+
+  -- one run more
+  pub part_taken : (key : ObjectPlace) (ss own later : List Section) (rs : List Run) (k : ℕ) (d : Run)
+      (old now new : Taken) (all : List GatheredSection) → k < length rs
+      → own ≡ take (get_or rs k d).count ss → later ≡ drop (get_or rs k d).count ss
+      → Takes st or now new (map (gathered key (get_or rs k d).statement) own)
+      → TakesPart old now (gathered_by key ss (drop k rs)) all
+      → TakesPart old new (gathered_by key later (drop (k + 1) rs)) all
+  part_taken key ss own later rs k d old now new all low front back one h =
+      let these = map (gathered key (get_or rs k d).statement) own in
+      record {
+        sections = h.sections ++ these;
+        takes = both_taken old now new h.sections these h.takes one;
+        rest = run_added h.sections (h.sections ++ these) these (gathered_by key ss (drop k rs))
+            (gathered_by key later (drop (k + 1) rs)) all refl (run_cut key ss own later rs k d low front back) h.rest;
+      }
+
+  pub whole_taken : (key : ObjectPlace) (ss : List Section) (rs : List Run) (k : ℕ) (old now : Taken)
+      (all : List GatheredSection) → length rs ≤ k → TakesPart old now (gathered_by key ss (drop k rs)) all
+      → Takes st or old now all
+  whole_taken key ss rs k old now all past h =
+      subst (λ l. Takes st or old now l) (none_left key ss rs k h.sections all past h.rest) h.takes
+
+  -- the linked sections of an object and then its blocks
+  pub object_taken : (p : Project) (key : ObjectPlace) (o : NamedObject) (m : Matches) (bs : List CommonBlock)
+      (a b c : Taken) → IsMatched p.script o m → AreBlocksOf p key.0 o bs
+      → Takes st or a b (gathered_by key (map section_of o.object.sections) m.linked.items)
+      → TakesFacts st or b c (map (block_facts key.0 (number_of m.common)) bs)
+      → TakesFacts st or a c (map (facts p) (object_inputs p key.0 o))
+  object_taken p key o m bs a b c matched own linked blocks =
+      let these = gathered_by key (map section_of o.object.sections) m.linked.items in
+      record {
+        sections = these ++ blocks.sections;
+        facts = object_added p key o m bs [] these (these ++ blocks.sections) matched own refl
+            (map-append shown_facts these blocks.sections
+            ∙ ap (λ l. map shown_facts these ++ l) blocks.facts);
+        takes = both_taken a b c these blocks.sections linked blocks.takes;
+      }
 
 -- ---- the project
 

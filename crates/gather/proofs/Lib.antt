@@ -26,4 +26,6 @@ pub mod OwnWords
 pub mod Knowing
 mod Ranked
 pub mod SameInputs
+pub mod ByRuns
+pub mod Commons
 pub mod AllTaken

@@ -50,4 +50,5 @@ same_matches one other same object x matched = record {
       ∙ all_matches one other object.name (first_matches one other same object.name)
       (map (λ (s : LinkedSection). s.name) object.object.sections);
   common = matched.common ∙ first_matches one other same object.name _;
+  commons = matched.commons;
 }

@@ -1,8 +1,7 @@
 -- Input sections as the code gathers them.
-use Rattle.std.specs.Prelude.{ℕ, ◌≡◌, ◌++◌, List, [], ◌∷◌, map, Bool, Option, Some, None, bit_or}
+use Rattle.std.specs.Prelude.{ℕ, ◌≡◌, ◌++◌, List, map, Bool, Option, Some, None, bit_or}
 use Rattle.std.specs.List.{filter_map}
 use Rattle.std.specs.Option.{option_map}
-use Rattle.elfobj.specs.Sections.{LinkedSection}
 use Rattle.elfobj.specs.file.declared.constants.TheConstants.{SHF_ALLOC, SHF_WRITE}
 use Rattle.elfobj.specs.declared.section.SectionKind.{SectionKind}
 use Rattle.elfobj.specs.declared.section.SectionKind.TheVariants.{Nobits}
@@ -13,7 +12,7 @@ use Rattle.ldmodel.specs.Project.{Project}
 use Rattle.ldmodel.specs.Sections.{InputSection, SectionId}
 use Rattle.ldmodel.specs.declared.rows.InputIndex.{InputIndex}
 use Rattle.ldmodel.specs.declared.rows.Piece.{Piece}
-use Rattle.ldmodel.specs.declared.sections.Part.TheVariants.{InTable, InCommon}
+use Rattle.ldmodel.specs.declared.sections.Part.TheVariants.{InCommon}
 use Rattle.ldmodel.specs.declared.sections.SectionKey.{SectionKey}
 use Rattle.gather.specs.Apart.{AscendingSections}
 use Rattle.gather.specs.declared.blocks.CommonBlock.{CommonBlock}
@@ -54,23 +53,6 @@ shown_facts x = record {
 pub record AreGathered (project : Project) (xs : List GatheredSection) : Type 0 where
   pub facts : map shown_facts xs ≡ map (facts project) (input_sections project)
   pub ascending : AscendingSections project
-
--- what is known of linked section s of object number i, whose match has this number
-abbrev pub linked_facts : ℕ → LinkedSection → Option ℕ → Facts
-linked_facts i s number = record {
-  id = record { object = i; part = InTable s.number };
-  kind = s.kind;
-  flags = s.flags;
-  size = s.size;
-  alignment = s.alignment;
-  statement = number;
-}
-
--- what is known of the linked sections, each beside its match, if there is one
-abbrev pub beside : ℕ → List LinkedSection → List (Option ℕ) → List Facts
-beside i [] ns = []
-beside i (s ∷ ss) [] = linked_facts i s None ∷ beside i ss []
-beside i (s ∷ ss) (n ∷ ns) = linked_facts i s n ∷ beside i ss ns
 
 -- what is known of a common block that object number i owns, where a statement of this number takes it
 abbrev pub block_facts : ℕ → Option ℕ → CommonBlock → Facts

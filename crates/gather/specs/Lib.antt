@@ -16,6 +16,8 @@ pub mod RowPieces
 pub mod LeftOut
 pub mod Roots
 pub mod Symbols
+pub mod Commons
+pub mod Runs
 pub mod ProjectMatches
 pub mod Blocks
 pub mod Found

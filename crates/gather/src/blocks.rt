@@ -4,6 +4,8 @@ ghost use Rattle.std.specs.Prelude.{◌≡◌, ◌<◌, ◌++◌, ℕ, List, IfO
 ghost use Rattle.std.specs.Option.{option_map};
 ghost use Rattle.elfobj.specs.Symbols.{NamedSymbol};
 ghost use Rattle.gather.specs.Blocks.{AreBlocks, AreBlocksOf, block_of, block_rank};
+ghost use Rattle.gather.specs.Commons.{AreCommonsIn};
+ghost use Rattle.gather.specs.ProjectMatches.{AreMatched};
 ghost use Rattle.gather.specs.Symbols.{IsObjectAt};
 ghost use Rattle.gather_sections.specs.SectionTable.{AreBlockRanks};
 ghost use Rattle.ldmodel.specs.HandedOver.{decision_of};
@@ -13,6 +15,7 @@ ghost use Rattle.ldmodel.specs.Project.{Project};
 ghost use Rattle.symres.specs.SymbolTable.{IsSymbolTable};
 
 use crate::cases::case_of_symbol;
+use crate::matches::Matches;
 use elfobj::Object;
 use elfobj::relocation::SymbolIndex;
 use elfobj::symbol::{Symbol, SymbolPlace};
@@ -21,6 +24,7 @@ use ldmodel::memory::NoMemory;
 use ldmodel::names::{Case, ObjectPlace};
 use ldmodel_project::view::ProjectView;
 use std::alloc::Global;
+use std::ops::Range;
 use symres::SymbolTable;
 
 /// A common block.
@@ -39,6 +43,24 @@ fn is_common(symbol: &Symbol) -> bool
     ensures { result ≡ is_common_place symbol.now.place }
 {
     matches!(symbol.place, SymbolPlace::Common)
+}
+
+/// The numbers of the symbols of an object from the first common one to the last; none if it has no common symbol.
+pub(crate) fn common_symbols(object: &Object) -> Range<usize>
+    ensures { AreCommonsIn object.now.symbols result.start result.end }
+{
+    let symbols = object.symbols();
+    let mut start = 0;
+    let mut end = 0;
+    for number in 0..symbols.len() {
+        if is_common(&symbols[number]) {
+            if end == 0 {
+                start = number;
+            }
+            end = number + 1;
+        }
+    }
+    start..end
 }
 
 /// The common block that a name is resolved to, if the symbol of this number of the object at a place owns it.
@@ -99,29 +121,32 @@ fn add_block(blocks: &mut Vec<CommonBlock>, block: Option<CommonBlock>) -> Resul
     }
 }
 
-/// The common blocks that the object at a place owns, in the order of its symbol table.
+/// The common blocks that the object at a place owns, in the order of its symbol table. `commons` are the numbers of
+/// the symbols that can own one.
 fn blocks_of(
     alloc: Global,
     project: &ProjectView<'_>,
     symbol_table: &SymbolTable,
     place: usize,
     object: &Object,
+    commons: &Range<usize>,
 ) -> Result<Vec<CommonBlock>, NoMemory>
     requires symbol_table { IsSymbolTable project.now symbol_table.now }
     requires object { IsObjectAt project.now place object.now }
+    requires commons { AreCommonsIn object.now.symbols commons.now.start commons.now.end }
     ensures { IfOk result (λ blocks. (name : List ℕ)
         → AreBlocksOf project.now place (record { name = name; object = object.now }) blocks.items) }
 {
     let mut blocks = Vec::new(alloc);
-    for number in 0..object.symbols().len() {
+    for number in commons.start..commons.end {
         let block = block_of_symbol(project, symbol_table, place, object, number);
         add_block(&mut blocks, block)?;
     }
     Ok(blocks)
 }
 
-/// The common blocks of each object of a project, by the resolutions of its names. The time grows with the number of
-/// symbols.
+/// The common blocks of each object of a project, by the resolutions of its names. Of an object only the symbols between
+/// its common ones are asked.
 ///
 /// # Errors
 ///
@@ -130,14 +155,23 @@ pub(crate) fn common_blocks(
     alloc: Global,
     project: &ProjectView<'_>,
     symbol_table: &SymbolTable,
+    matches: &[&Matches],
 ) -> Result<Vec<Vec<CommonBlock>>, NoMemory>
-    requires { IsSymbolTable project.now symbol_table.now }
+    requires symbol_table { IsSymbolTable project.now symbol_table.now }
+    requires matches { AreMatched project.now (map (λ x. x.now) matches.now) }
     ensures { IfOk result (λ all. AreBlocks project.now all.items) }
 {
     let inputs = project.inputs();
     let mut all = Vec::with_capacity(alloc, inputs.len())?;
     for (place, input) in inputs.iter().enumerate() {
-        all.push(blocks_of(alloc, project, symbol_table, place, input.object)?)?;
+        all.push(blocks_of(
+            alloc,
+            project,
+            symbol_table,
+            place,
+            input.object,
+            &matches[place].commons,
+        )?)?;
     }
     Ok(all)
 }

@@ -1,24 +1,23 @@
 //! The input sections of a project, as they are gathered: object by object the linked sections and then the common
 //! blocks that the object owns.
 
-ghost use Rattle.std.specs.Prelude.{◌≡◌, ◌<◌, IfOk, None, OnOk, Some, length, map, slice_get, slice_index_or};
-ghost use Rattle.elfobj.specs.Sections.{LinkedSection};
+ghost use Rattle.std.specs.Prelude.{◌≡◌, ◌++◌, IfOk, OnOk, map};
 ghost use Rattle.gather.specs.Apart.{IsAscending};
 ghost use Rattle.gather.specs.Blocks.{AreBlocks, AreBlocksOf};
-ghost use Rattle.gather.specs.GatheredSections.{AddsFacts, AreGathered, as_piece, beside, block_facts, facts};
-ghost use Rattle.gather.specs.GatheredSections.{linked_facts};
+ghost use Rattle.gather.specs.GatheredSections.{AddsFacts, AreGathered, as_piece, block_facts, facts};
 ghost use Rattle.gather.specs.GatheredSections.{shown_facts};
 ghost use Rattle.gather.specs.Matches.{number_of};
 ghost use Rattle.gather.specs.ProjectMatches.{AreMatched, IsMatched};
+ghost use Rattle.gather.specs.Runs.{gathered, gathered_by};
 ghost use Rattle.ldmodel.specs.InputSections.{object_inputs};
 ghost use Rattle.ldmodel.specs.Project.{Project};
 ghost use Rattle.ldmodel_project.specs.Inputs.{shown_input};
 
 use crate::blocks::CommonBlock;
 use crate::matches::Matches;
-use elfobj::Object;
+use crate::runs::{Run, split_run};
 use elfobj::file::constants::{SHF_ALLOC, SHF_WRITE};
-use elfobj::section::SectionKind;
+use elfobj::section::{Section, SectionKind};
 use ldmodel::memory::NoMemory;
 use ldmodel::names::ObjectPlace;
 use ldmodel::rows::{InputIndex, Piece};
@@ -60,18 +59,15 @@ impl GatheredSection {
     }
 }
 
-/// The linked section at a place among those of an object. `statements` are those that take them, in their order.
-pub(crate) fn linked_at(
+/// A linked section of an object. `statement` is the one that takes it.
+#[inline(always)]
+pub(crate) fn linked(
     key: ObjectPlace,
-    object: &Object,
-    statements: &[Option<InputIndex>],
-    place: usize,
+    statement: Option<InputIndex>,
+    section: &Section,
 ) -> GatheredSection
-    requires { place < length object.now.sections }
-    ensures { (s : LinkedSection) → slice_get object.now.sections place ≡ Some s
-        → shown_facts result ≡ linked_facts key.0 s (number_of (slice_index_or statements.now place None)) }
+    ensures { result ≡ gathered key statement section.now }
 {
-    let section = object.sections()[place];
     GatheredSection {
         section: SectionKey {
             object: key,
@@ -81,22 +77,39 @@ pub(crate) fn linked_at(
         flags: section.flags,
         size: section.size,
         alignment: section.alignment,
-        statement: statements.get(place).copied().unwrap_or(None),
+        statement,
     }
+}
+
+/// Adds linked sections of an object that this statement takes.
+fn add_run(
+    sections: &mut Vec<GatheredSection>,
+    key: ObjectPlace,
+    statement: Option<InputIndex>,
+    run: &[Section],
+) -> Result<(), NoMemory>
+    ensures { OnOk result (sections.new.items ≡ sections.old.items ++ map (gathered key statement) run.now) }
+{
+    for section in run {
+        sections.push(linked(key, statement, section))?;
+    }
+    Ok(())
 }
 
 /// Adds the linked sections of an object.
 fn add_linked(
     sections: &mut Vec<GatheredSection>,
     key: ObjectPlace,
-    object: &Object,
-    statements: &[Option<InputIndex>],
+    linked: &[Section],
+    runs: &[Run],
 ) -> Result<(), NoMemory>
-    ensures { OnOk result (AddsFacts sections.old.items sections.new.items
-        (beside key.0 object.now.sections (map number_of statements.now))) }
+    ensures { OnOk result (sections.new.items ≡ sections.old.items ++ gathered_by key linked.now runs.now) }
 {
-    for place in 0..object.sections().len() {
-        sections.push(linked_at(key, object, statements, place))?;
+    let mut rest = linked;
+    for run in runs {
+        let (own, later) = split_run(rest, *run);
+        add_run(sections, key, run.statement, own)?;
+        rest = later;
     }
     Ok(())
 }
@@ -151,10 +164,8 @@ fn add_object(
         (map (facts project) (object_inputs project place (shown_input input.now)))) }
     ensures ascending { IsAscending (shown_input input.now) }
 {
-    // for the prover: brings in the invariant of `input.object`, of its sections
-    let _sections = input.object.sections();
     let key = ObjectPlace(place);
-    add_linked(sections, key, input.object, &matches.linked)?;
+    add_linked(sections, key, input.object.sections(), &matches.linked)?;
     add_blocks(sections, key, matches.common, blocks)
 }
 

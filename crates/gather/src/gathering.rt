@@ -112,7 +112,7 @@ impl Gathering {
         requires matches { AreMatched project.now (map (λ x. x.now) matches.now) }
         ensures { IfOk result (λ g. IsGathering project.now g) }
     {
-        let blocks = common_blocks(alloc, project, symbol_table)?;
+        let blocks = common_blocks(alloc, project, symbol_table, matches)?;
         let ranks = block_ranks(alloc, &blocks)?;
         let table = InputSectionTable::of(alloc, project, ranks)?;
         let options = project.options();

@@ -3,7 +3,7 @@
 //! rows and its orphans.
 //!
 //! - `matcher` over `file_search`, `file_tables`, `word_table`, `word`, `name_places`: first match; `matches`: of one
-//!   object, and of all;
+//!   object, by `runs` of its sections, and of all;
 //! - `gathered_section`, `blocks`, `cases`: the input sections, common blocks among them; `discarded_sections`;
 //! - `roots`, `marking`, `references`, and of a project `live`, `referring`, `targets`, `places`: which sections are
 //!   live;
@@ -32,6 +32,7 @@ mod referring;
 mod rooms;
 pub mod roots;
 pub mod rows;
+pub mod runs;
 pub mod same_inputs;
 mod section_names;
 mod shared_start;

@@ -3,21 +3,26 @@
 ghost use Rattle.std.specs.Prelude.{◌≡◌, IfOk, map};
 ghost use Rattle.gather.specs.ProjectMatches.{AreMatched, IsMatched};
 
+use crate::blocks::common_symbols;
 use crate::matcher::Matcher;
+use crate::runs::{Run, runs_of};
 use elfobj::Object;
 use ldmodel::memory::NoMemory;
 use ldmodel::rows::InputIndex;
 use ldmodel_project::view::ProjectView;
 use std::alloc::Global;
+use std::ops::Range;
 
 /// Which statements of a script take the input sections of an object. It depends only on the object, its name and the
 /// script, so that it stays right while these stay.
 #[derive(Drop)]
 pub struct Matches {
-    /// The statements that take its linked sections, in their order.
-    pub linked: Vec<Option<InputIndex>>,
+    /// The statements that take its linked sections, by runs of these in their order.
+    pub linked: Vec<Run>,
     /// The statement that takes its common blocks.
     pub common: Option<InputIndex>,
+    /// The numbers of its symbols from the first common one to the last; none if it has no common symbol.
+    pub commons: Range<usize>,
 }
 
 /// Finds the statements that take the input sections of an object of this name.
@@ -33,9 +38,15 @@ pub fn match_object(
 ) -> Result<Matches, NoMemory>
     ensures { IfOk result (λ x. IsMatched matcher.now (record { name = name.now; object = object.now }) x) }
 {
-    let linked = matcher.matches_of(alloc, name, object)?;
+    let statements = matcher.matches_of(alloc, name, object)?;
+    let linked = runs_of(alloc, &statements)?;
     let common = matcher.first_match(name, b"COMMON");
-    Ok(Matches { linked, common })
+    let commons = common_symbols(object);
+    Ok(Matches {
+        linked,
+        common,
+        commons,
+    })
 }
 
 /// The matches of all objects of a project, in their order.

@@ -22,8 +22,8 @@ pub(crate) fn count_taken(counts: &mut Vec<usize>, statement: Option<InputIndex>
 
 /// Counts the input sections of an object.
 fn count_object(counts: &mut Vec<usize>, matches: &Matches, blocks: &[CommonBlock]) {
-    for statement in &matches.linked {
-        count_taken(counts, *statement, 1);
+    for run in &matches.linked {
+        count_taken(counts, run.statement, run.count as usize);
     }
     count_taken(counts, matches.common, blocks.len());
 }

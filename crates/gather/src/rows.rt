@@ -5,6 +5,7 @@ ghost use Rattle.std.specs.List.{filter_map};
 ghost use Rattle.gather.specs.GatheredSections.{AreGathered, as_piece, own_piece, taken_in};
 ghost use Rattle.gather.specs.LiveMarks.{marked};
 ghost use Rattle.gather.specs.RowPieces.{AddsTo, AreBuckets, AreEmpty, taken_piece};
+ghost use Rattle.gather.specs.Runs.{linked_piece};
 ghost use Rattle.ldmodel.specs.InputSections.{input_sections};
 ghost use Rattle.ldmodel.specs.Live.{live};
 ghost use Rattle.ldmodel.specs.Rows.{rows};
@@ -13,11 +14,13 @@ ghost use Rattle.ldmodel_project.specs.ByPlace.{piece_in, rows_in};
 ghost use Rattle.ldscript.specs.statements.Numbered.{shown_inputs};
 ghost use Rattle.ldscript.specs.statements.Numbering.{input_statements, output_sections};
 
-use crate::gathered_section::GatheredSection;
+use crate::gathered_section::{GatheredSection, linked};
 use crate::live_sections::is_marked;
 use crate::rooms::{count_taken, empty_buckets};
 use crate::sorting::order;
+use elfobj::section::Section;
 use ldmodel::memory::NoMemory;
+use ldmodel::names::ObjectPlace;
 use ldmodel::rows::{InputIndex, Piece};
 use ldmodel_project::view::ProjectView;
 use ldscript::tree::{InputPlace, InputStatementAt, Sort};
@@ -78,6 +81,38 @@ pub(crate) fn add_section(
     let number = statement.0 as usize;
     if number < buckets.len() {
         push_piece(&mut buckets[number], section.piece(statement))?;
+    }
+    Ok(())
+}
+
+/// Adds linked sections of an object to a list, as pieces that this statement takes.
+fn push_run(
+    list: &mut Vec<Piece>,
+    key: ObjectPlace,
+    statement: InputIndex,
+    run: &[Section],
+) -> Result<(), NoMemory>
+    ensures { OnOk result (list.new.items ≡ list.old.items ++ map (linked_piece key statement) run.now) }
+{
+    for section in run {
+        push_piece(list, linked(key, Some(statement), section).piece(statement))?;
+    }
+    Ok(())
+}
+
+/// Adds linked sections of an object to those of the statement that takes them.
+pub(crate) fn add_run(
+    buckets: &mut Vec<Vec<Piece>>,
+    key: ObjectPlace,
+    statement: InputIndex,
+    run: &[Section],
+) -> Result<(), NoMemory>
+    ensures { OnOk result ((xs : List Piece) (count : ℕ) → AreBuckets xs count buckets.old.items
+        → AreBuckets (xs ++ map (linked_piece key statement) run.now) count buckets.new.items) }
+{
+    let number = statement.0 as usize;
+    if number < buckets.len() {
+        push_run(&mut buckets[number], key, statement, run)?;
     }
     Ok(())
 }

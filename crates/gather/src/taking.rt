@@ -1,12 +1,14 @@
 //! The pieces and the orphans of a link without `--gc-sections`, object by object. No list of all its input sections is
 //! made.
 
-ghost use Rattle.std.specs.Prelude.{◌≡◌, ◌<◌, ◌∷◌, [], IfOk, OnOk, false, length, map};
+ghost use Rattle.std.specs.Prelude.{◌≡◌, ◌<◌, ◌∷◌, [], IfOk, OnOk, Some, false, length, map};
 ghost use Rattle.gather.specs.Apart.{IsAscending};
 ghost use Rattle.gather.specs.Blocks.{AreBlocks, AreBlocksOf};
-ghost use Rattle.gather.specs.GatheredSections.{beside, block_facts, facts};
+ghost use Rattle.gather.specs.GatheredSections.{block_facts, facts};
+ghost use Rattle.gather.specs.LeftOut.{is_placed_in};
 ghost use Rattle.gather.specs.Matches.{number_of};
 ghost use Rattle.gather.specs.ProjectMatches.{AreMatched, IsMatched};
+ghost use Rattle.gather.specs.Runs.{gathered, gathered_by};
 ghost use Rattle.gather.specs.Taking.{IsAllTaken, Takes, TakesFacts};
 ghost use Rattle.ldmodel.specs.InputSections.{object_inputs};
 ghost use Rattle.ldmodel.specs.Project.{Project};
@@ -16,11 +18,12 @@ ghost use Rattle.ldscript.specs.statements.Numbering.{input_statements};
 
 use crate::blocks::CommonBlock;
 use crate::discarded_sections::is_discarded;
-use crate::gathered_section::{GatheredSection, block, linked_at};
+use crate::gathered_section::{GatheredSection, block, linked};
 use crate::matches::Matches;
 use crate::rooms::buckets_for;
-use crate::rows::add_section;
-use elfobj::Object;
+use crate::rows::{add_run, add_section};
+use crate::runs::{Run, split_run};
+use elfobj::section::Section;
 use ldmodel::memory::NoMemory;
 use ldmodel::names::ObjectPlace;
 use ldmodel::options::Orphans;
@@ -28,7 +31,7 @@ use ldmodel::rows::{InputIndex, Piece};
 use ldmodel::sections::SectionKey;
 use ldmodel_project::input::InputObject;
 use ldmodel_project::view::ProjectView;
-use ldscript::tree::InputStatementAt;
+use ldscript::tree::{InputPlace, InputStatementAt};
 use std::alloc::Global;
 
 /// What was found of some input sections.
@@ -62,21 +65,88 @@ fn take_section(
     }
 }
 
-/// Takes the linked sections of an object. `matched` are the statements that take them, in their order.
+/// Takes linked sections of an object, each for itself.
+fn take_each(
+    taken: &mut Taken,
+    statements: &[InputStatementAt<'_>],
+    orphans: Orphans,
+    key: ObjectPlace,
+    statement: Option<InputIndex>,
+    run: &[Section],
+) -> Result<(), NoMemory>
+    ensures { OnOk result (Takes (shown_inputs statements.now) orphans taken.old taken.new
+        (map (gathered key statement) run.now)) }
+{
+    for section in run {
+        take_section(taken, statements, orphans, &linked(key, statement, section))?;
+    }
+    Ok(())
+}
+
+/// Whether the statement of this number is one of an output section.
+fn is_placed(statements: &[InputStatementAt<'_>], number: InputIndex) -> bool
+    ensures { result ≡ is_placed_in (shown_inputs statements.now) number.0 }
+{
+    match statements.get(number.0 as usize) {
+        None => false,
+        Some(statement) => !matches!(statement.place, InputPlace::InDiscard),
+    }
+}
+
+/// Takes linked sections of an object that the statement of this number takes. Whether it discards them is asked once
+/// for all, and then their pieces are put where they are to stand.
+fn take_matched(
+    taken: &mut Taken,
+    statements: &[InputStatementAt<'_>],
+    orphans: Orphans,
+    key: ObjectPlace,
+    number: InputIndex,
+    run: &[Section],
+) -> Result<(), NoMemory>
+    ensures { OnOk result (Takes (shown_inputs statements.now) orphans taken.old taken.new
+        (map (gathered key (Some number)) run.now)) }
+{
+    if is_placed(statements, number) {
+        return add_run(&mut taken.buckets, key, number, run);
+    }
+    take_each(taken, statements, orphans, key, Some(number), run)
+}
+
+/// Takes linked sections of an object that this statement takes, if one does.
+fn take_run(
+    taken: &mut Taken,
+    statements: &[InputStatementAt<'_>],
+    orphans: Orphans,
+    key: ObjectPlace,
+    statement: Option<InputIndex>,
+    run: &[Section],
+) -> Result<(), NoMemory>
+    ensures { OnOk result (Takes (shown_inputs statements.now) orphans taken.old taken.new
+        (map (gathered key statement) run.now)) }
+{
+    match statement {
+        Some(number) => take_matched(taken, statements, orphans, key, number, run),
+        None => take_each(taken, statements, orphans, key, None, run),
+    }
+}
+
+/// Takes the linked sections of an object. `runs` says which statements take them.
 fn take_linked(
     taken: &mut Taken,
     statements: &[InputStatementAt<'_>],
     orphans: Orphans,
     key: ObjectPlace,
-    object: &Object,
-    matched: &[Option<InputIndex>],
+    linked: &[Section],
+    runs: &[Run],
 ) -> Result<(), NoMemory>
-    ensures { OnOk result (TakesFacts (shown_inputs statements.now) orphans taken.old taken.new
-        (beside key.0 object.now.sections (map number_of matched.now))) }
+    ensures { OnOk result (Takes (shown_inputs statements.now) orphans taken.old taken.new
+        (gathered_by key linked.now runs.now)) }
 {
-    for place in 0..object.sections().len() {
-        let section = linked_at(key, object, matched, place);
-        take_section(taken, statements, orphans, &section)?;
+    let mut rest = linked;
+    for run in runs {
+        let (own, later) = split_run(rest, *run);
+        take_run(taken, statements, orphans, key, run.statement, own)?;
+        rest = later;
     }
     Ok(())
 }
@@ -116,15 +186,13 @@ fn take_object(
         (map (facts p) (object_inputs p place (shown_input input.now)))) }
     ensures ascending { IsAscending (shown_input input.now) }
 {
-    // for the prover: brings in the invariant of `input.object`, of its sections
-    let _sections = input.object.sections();
     let key = ObjectPlace(place);
     take_linked(
         taken,
         statements,
         orphans,
         key,
-        input.object,
+        input.object.sections(),
         &matches.linked,
     )?;
     take_blocks(taken, statements, orphans, key, matches.common, blocks)

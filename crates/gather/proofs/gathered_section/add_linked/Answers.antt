@@ -1,16 +1,19 @@
-use Rattle.std.proofs.Common.{◌<◌, length, arith, ap}
-use Rattle.std.proofs.lemmas.List.{length-map}
-use Rattle.elfobj.specs.Sections.{section_of}
-use Rattle.gather.proofs.InLists.{there}
-use Rattle.gather.proofs.ObjectFacts.{linked_step}
+use Rattle.std.proofs.Common.{◌+◌, arith, drop}
+use Rattle.gather.specs.Runs.{gathered_by}
+use Rattle.gather.proofs.ByRuns.{none_left, run_added, run_cut}
 use Rattle.gather.proofs.gathered_section.add_linked.Goals as goal
 
-pub loop-place-preserved : goal.loop-place-preserved
-loop-place-preserved c =
-    let ss = c.args.object.now.sections in
-    let k = c.loop-place.place in
-    let within : k < length ss =
-    omega (arith, c.loop-place-test.true, ap length c.sections-place-end.ensures.value, length-map ss section_of) in
-    let at = there ss k within in
-    linked_step c.args.key.0 ss c.args.statements.now c.loop-place.sections.items c.push.new.self.items
-    c.linked_at.result k at.0 _ at.1 (c.linked_at.ensures at.0 at.1) c.in_ok-push.ensures.items c.loop-place.invariant
+pub loop-run-preserved : goal.loop-run-preserved
+loop-run-preserved c =
+    let k = c.loop-run.run-index in
+    run_added c.loop-run.sections.items c.add_run.new.sections.items _
+    (gathered_by c.args.key c.loop-run.rest.now (drop k c.args.runs.now))
+    (gathered_by c.args.key c.split_run.result.1.now (drop (k + 1) c.args.runs.now)) _ c.in_ok-add_run.ensures
+    (run_cut c.args.key c.loop-run.rest.now c.split_run.result.0.now c.split_run.result.1.now c.args.runs.now k _
+    (omega (arith, c.loop-run-test.true)) c.split_run.ensures.own c.split_run.ensures.later)
+    c.loop-run.invariant
+
+pub returns : goal.returns
+returns c =
+    none_left c.args.key c.loop-run.rest.now c.args.runs.now c.loop-run.run-index c.loop-run.sections.items _
+    c.loop-run-test.false c.loop-run.invariant

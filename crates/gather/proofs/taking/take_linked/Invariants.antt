@@ -1,13 +1,11 @@
--- Some of the sections are taken.
-use Rattle.std.proofs.Common.{drop, map}
+-- Some of the runs are taken.
+use Rattle.std.proofs.Common.{drop}
 use Rattle.ldscript.specs.statements.Numbered.{shown_inputs}
-use Rattle.gather.specs.GatheredSections.{beside}
-use Rattle.gather.specs.Matches.{number_of}
-use Rattle.gather.proofs.AllTaken.{TakesSome}
+use Rattle.gather.specs.Runs.{gathered_by}
+use Rattle.gather.proofs.AllTaken.{TakesPart}
 use Rattle.gather.proofs.taking.take_linked.Given as goal
 
-abbrev pub invariant-loop-place : goal.invariant-loop-place
-invariant-loop-place l =
-    TakesSome (shown_inputs l.statements) l.orphans l.initial.taken l.taken
-    (beside l.key.0 (drop l.place l.object.sections) (map number_of (drop l.place l.matched)))
-    (beside l.key.0 l.object.sections (map number_of l.matched))
+abbrev pub invariant-loop-run : goal.invariant-loop-run
+invariant-loop-run l =
+    TakesPart (shown_inputs l.statements) l.orphans l.initial.taken l.taken
+    (gathered_by l.key l.rest (drop l.run-index l.runs)) (gathered_by l.key l.linked l.runs)

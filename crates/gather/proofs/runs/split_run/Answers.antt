@@ -1,0 +1,13 @@
+use Rattle.std.proofs.Common.{◌∙◌, ap, drop, take}
+use Rattle.std.proofs.lemmas.List.{drop_min, take_min}
+use Rattle.gather.proofs.runs.split_run.Goals as goal
+
+pub returns-clause-own : goal.returns-clause-own
+returns-clause-own c =
+    c.split_at.ensures.front
+    ∙ (ap (λ n. take n c.args.sections.now) c.min.ensures ∙ take_min c.args.run.count c.args.sections.now)
+
+pub returns-clause-later : goal.returns-clause-later
+returns-clause-later c =
+    c.split_at.ensures.back
+    ∙ (ap (λ n. drop n c.args.sections.now) c.min.ensures ∙ drop_min c.args.run.count c.args.sections.now)
