@@ -42,6 +42,23 @@ fn is_same(a: SectionKey, b: SectionKey) -> bool
     a == b
 }
 
+/// The place of an input section in a row, at or soon after another place. It takes a reference to a key that is in
+/// memory already, so that the usual case, in which it is not called, stores none.
+#[inline(never)]
+fn place_after(row: &[Piece], likely: usize, object: usize, section: &SectionKey) -> Option<usize> {
+    let before = SectionKey {
+        object: ObjectPlace(object),
+        part: section.part,
+    };
+    let end = row.len().min(likely.saturating_add(NEAR));
+    for at in likely..end {
+        if is_same(row[at].section, before) {
+            return Some(at);
+        }
+    }
+    None
+}
+
 impl<'a> KnownRow<'a> {
     /// The place that an object of the new map had in the previous one.
     #[inline(always)]
@@ -65,26 +82,11 @@ impl<'a> KnownRow<'a> {
         Some(KnownNames { names, at })
     }
 
-    /// The names of an input section, soon after a place of the row.
-    #[inline(never)]
-    fn names_after(&self, place: usize, section: SectionKey) -> Option<KnownNames<'a>>
-        ensures { IfSome result (λ known. (x : PieceOf) × (slice_get self.now.pieces.now known.at ≡ Some x)
-            × (x.section ≡ section) × (slice_get self.now.names.now known.at ≡ Some known.names.now)) }
-    {
-        let end = self.pieces.len().min(place.saturating_add(NEAR));
-        for at in place..end {
-            if is_same(self.pieces[at].section, section) {
-                return self.names_at(at, section);
-            }
-        }
-        None
-    }
-
     /// The names of an input section of the new map, at or soon after a place of the row.
     #[inline(always)]
-    pub(crate) fn find(&self, likely: usize, section: SectionKey) -> Option<KnownNames<'a>>
+    pub(crate) fn find(&self, likely: usize, section: &SectionKey) -> Option<KnownNames<'a>>
         ensures names { IfSome result (λ known. (project : Project) (number : ℕ → ℕ)
-            → IsKnownRow project number self.now → known.names.now ≡ names_of project number section) }
+            → IsKnownRow project number self.now → known.names.now ≡ names_of project number section.now) }
         ensures listed { IfSome result (λ known. slice_get self.now.names.now known.at ≡ Some known.names.now) }
     {
         let place = self.place(section.object)?;
@@ -92,9 +94,10 @@ impl<'a> KnownRow<'a> {
             object: ObjectPlace(place),
             part: section.part,
         };
-        match self.names_at(likely, before) {
-            Some(known) => Some(known),
-            None => self.names_after(likely, before),
+        if let Some(known) = self.names_at(likely, before) {
+            return Some(known);
         }
+        let at = place_after(self.pieces, likely, place, section)?;
+        self.names_at(at, before)
     }
 }

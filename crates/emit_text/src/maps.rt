@@ -111,10 +111,11 @@ fn put_new_piece<M: Members>(
 fn find_known<'a>(
     known: Option<KnownRow<'a>>,
     likely: usize,
-    section: SectionKey,
+    section: &SectionKey,
 ) -> Option<KnownNames<'a>>
     ensures names { IfSome result (λ found. (project : Project) (number : ℕ → ℕ)
-        → IfSome known.entry (λ row. IsKnownRow project number row) → found.names.now ≡ names_of project number section) }
+        → IfSome known.entry (λ row. IsKnownRow project number row)
+        → found.names.now ≡ names_of project number section.now) }
     ensures listed { IfSome result (λ found. (strings : List (List ℕ))
         → IfSome known.entry (λ row. strings ≡ row.names.now) → slice_get strings found.at ≡ Some found.names.now) }
 {
@@ -170,7 +171,7 @@ fn put_piece<M: Members>(
     ensures names { OnOk result (names.new.added
         ≡ names.old.added ++ names_of (M.project members.now) (M.number members.now) at.entry.piece.now.section ∷ []) }
 {
-    if let Some(found) = find_known(known, likely.known, at.piece.section) {
+    if let Some(found) = find_known(known, likely.known, &at.piece.section) {
         names.push_known(found.at, found.names)?;
         put_piece_line(text, lines, at.start, at.piece.size, found.names)?;
         return Ok(Likely {
