@@ -33,10 +33,10 @@ pub record RowSoFar (stays : ℕ → Bool) (old new : List Bool) (n : ℕ) : Typ
   pub kept : (i : ℕ) → i < length old → flag_at new i ≡ flag_at old i
   pub are : (k : ℕ) → k < n → flag_at new (length old + k) ≡ stays k
 
-pub row_begun : (stays : ℕ → Bool) (old : List Bool) → RowSoFar stays old old 0
-row_begun stays old = record {
-  long = omega arith;
-  kept = λ i l. refl;
+pub row_begun : (stays : ℕ → Bool) (old new : List Bool) → new ≡ old → RowSoFar stays old new 0
+row_begun stays old new e = record {
+  long = omega (arith, ap length e);
+  kept = λ i l. ap (λ v. flag_at v i) e;
   are = λ k l. absurd (omega (arith, l));
 }
 

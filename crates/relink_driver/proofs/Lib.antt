@@ -5,6 +5,7 @@ mod Standings
 mod Ranges
 mod Columns
 mod Fixed
+mod Seen
 mod Symbols
 mod Unmarked
 mod FoundSections

@@ -17,12 +17,13 @@ use Rattle.ldmodel.specs.declared.names.ObjectPlace.{ObjectPlace}
 use Rattle.symres.specs.SymbolTable.{SymbolTableState}
 use Rattle.ldmodel_project.specs.Inputs.{shown_input, shown_inputs}
 use Rattle.ldmodel_project.specs.declared.input.InputObject.{InputObject}
-use Rattle.emit.specs.relocate.KnownLink.{AreNameValues, IsSymbolOf, KnownLink, named_object}
+use Rattle.emit.specs.relocate.KnownLink.{IsSymbolOf, KnownLink, named_object}
 use Rattle.emit.specs.relocate.Values.{value_of}
 use Rattle.emit.specs.relocate.declared.value.SymbolValue.{SymbolValue}
 use Rattle.emit.specs.relocate.declared.value.SymbolValue.TheVariants.{NotDefined}
-use Rattle.emit.specs.values.LinkView.{IsLinkView, known_link}
-use Rattle.emit.specs.values.declared.link_view.LinkView.{LinkView}
+use Rattle.emit.specs.values.LinkView.{known_link}
+use Rattle.relink_driver.specs.ValueSources.{AreValueSources}
+use Rattle.relink_driver.specs.declared.symbol_values.ValueSources.{ValueSources}
 use Rattle.emit.specs.relocate.SymbolValues.{AreSymbolValues}
 use Rattle.emit.specs.relocate.declared.symbol_values.SymbolValues.{SymbolValues}
 
@@ -53,39 +54,53 @@ flat_next f xs k x e =
 
 -- ---- of one object
 
-pub record ValuesSoFar (link : LinkView) (names : List SymbolValue) (key : ObjectPlace) (object : ObjectData)
+-- the symbol of a number, as it was read
+pub symbol_is : (symbols : List Symbol) (of : List NamedSymbol) (n : ℕ) (d : Symbol) (x : NamedSymbol)
+    → symbols ≡ map (λ (s : NamedSymbol). s.symbol) of → slice_get of n ≡ Some x → get_or symbols n d ≡ x.symbol
+symbol_is symbols of n d x are at =
+    get_or_from_slice_get symbols n x.symbol d
+    (ap (λ l. slice_get l n) are ∙ slice_get-map (λ (s : NamedSymbol). s.symbol) of n
+    ∙ ap (option_map (λ (s : NamedSymbol). s.symbol)) at)
+
+pub record ValuesSoFar (sources : ValueSources) (key : ObjectPlace) (object : ObjectData)
     (before : List SymbolValue) (n : ℕ) (values : List SymbolValue) : Type 0 where
   pub long : length values ≡ length before + n
-  pub values_are : (l : KnownLink) (o : NamedObject) → IsLinkView l link → AreNameValues l names
+  pub values_are : (l : KnownLink) (o : NamedObject) → AreValueSources l sources
       → named_object l key ≡ Some o → o.object ≡ object
       → map value_of values
       ≡ map value_of before ++ map (referenced_value l.project l.layout o) (take n o.object.symbols)
 
-member_at : {X : Type 0} (xs : List X) (k : ℕ) → k < length xs → (x : X) × (slice_get xs k ≡ Some x)
+pub member_at : {X : Type 0} (xs : List X) (k : ℕ) → k < length xs → (x : X) × (slice_get xs k ≡ Some x)
 member_at [] k l = absurd (omega (arith, l))
 member_at (x ∷ xs) zero l = (x, refl)
 member_at (x ∷ xs) (suc k) l = member_at xs k (omega (arith, l))
 
-module _ (link : LinkView) (names : List SymbolValue) (key : ObjectPlace) (object : ObjectData)
+module _ (sources : ValueSources) (key : ObjectPlace) (object : ObjectData)
     (before : List SymbolValue) where
+  pub no_values : (values : List SymbolValue) → values ≡ before → ValuesSoFar sources key object before 0 values
+  no_values values e = record {
+    long = omega (arith, ap length e);
+    values_are = λ l o of there same. ap (map value_of) e ∙ sym (append_nil (map value_of before));
+  }
+
   pub one_value_more : (n : ℕ) (values now : List SymbolValue) (v : SymbolValue) (symbols : List Symbol) (d : Symbol)
       → n < length symbols → symbols ≡ map (λ (s : NamedSymbol). s.symbol) object.symbols
-      → ((l : KnownLink) → IsLinkView l link → AreNameValues l names → (o : NamedObject) (x : NamedSymbol)
+      → ((l : KnownLink) → AreValueSources l sources → (o : NamedObject) (x : NamedSymbol)
       → IsSymbolOf l key (record { 0 = n }) (get_or symbols n d) o x
       → value_of v ≡ referenced_value l.project l.layout o x)
-      → now ≡ values ++ v ∷ [] → ValuesSoFar link names key object before n values
-      → ValuesSoFar link names key object before (n + 1) now
+      → now ≡ values ++ v ∷ [] → ValuesSoFar sources key object before n values
+      → ValuesSoFar sources key object before (n + 1) now
   one_value_more n values now v symbols d short are worth is so_far =
-      subst (ValuesSoFar link names key object before (n + 1)) (sym is) (record {
+      subst (ValuesSoFar sources key object before (n + 1)) (sym is) (record {
         long = (let more = length-append values (v ∷ []) in omega (arith, more, so_far.long));
         values_are = each;
       })
     where
-      each : (l : KnownLink) (o : NamedObject) → IsLinkView l link → AreNameValues l names
+      each : (l : KnownLink) (o : NamedObject) → AreValueSources l sources
           → named_object l key ≡ Some o → o.object ≡ object
           → map value_of (values ++ v ∷ [])
           ≡ map value_of before ++ map (referenced_value l.project l.layout o) (take (n + 1) o.object.symbols)
-      each l o view named there same =
+      each l o of there same =
           let own : symbols ≡ map (λ (s : NamedSymbol). s.symbol) o.object.symbols =
           are ∙ ap (λ (b : ObjectData). map (λ (s : NamedSymbol). s.symbol) b.symbols) (sym same) in
           let long : length symbols ≡ length o.object.symbols =
@@ -95,11 +110,11 @@ module _ (link : LinkView) (names : List SymbolValue) (key : ObjectPlace) (objec
           get_or_from_slice_get symbols n (at.0).symbol d
           (ap (λ l. slice_get l n) own ∙ slice_get-map (λ (s : NamedSymbol). s.symbol) o.object.symbols n
           ∙ ap (option_map (λ (s : NamedSymbol). s.symbol)) at.1) in
-          let value = worth l view named o at.0
+          let value = worth l of o at.0
           (record { object_is = there; entry_is = at.1; symbol_is = sym symbol }) in
           let given : NamedSymbol → model.SymbolValue = referenced_value l.project l.layout o in
           map-append value_of values (v ∷ [])
-          ∙ ap (λ l. l ++ value_of v ∷ []) (so_far.values_are l o view named there same)
+          ∙ ap (λ l. l ++ value_of v ∷ []) (so_far.values_are l o of there same)
           ∙ ap (λ w. (map value_of before ++ map given (take n o.object.symbols)) ++ w ∷ []) value
           ∙ append_assoc (map value_of before) (map given (take n o.object.symbols)) (given at.0 ∷ [])
           ∙ ap (λ l. map value_of before ++ l) (sym (map-append given (take n o.object.symbols) (at.0 ∷ [])))
@@ -107,16 +122,16 @@ module _ (link : LinkView) (names : List SymbolValue) (key : ObjectPlace) (objec
 
   pub all_values : (n : ℕ) (values : List SymbolValue) (symbols : List Symbol)
       → symbols ≡ map (λ (s : NamedSymbol). s.symbol) object.symbols → length symbols ≤ n
-      → ValuesSoFar link names key object before n values
-      → (l : KnownLink) (o : NamedObject) → IsLinkView l link → AreNameValues l names → named_object l key ≡ Some o
+      → ValuesSoFar sources key object before n values
+      → (l : KnownLink) (o : NamedObject) → AreValueSources l sources → named_object l key ≡ Some o
       → o.object ≡ object
       → map value_of values ≡ map value_of before ++ map (referenced_value l.project l.layout o) o.object.symbols
-  all_values n values symbols are past so_far l o view named there same =
+  all_values n values symbols are past so_far l o of there same =
       let long : length symbols ≡ length object.symbols =
       ap length are ∙ length-map object.symbols (λ (s : NamedSymbol). s.symbol) in
       let own : length o.object.symbols ≡ length object.symbols =
       ap (λ (b : ObjectData). length b.symbols) same in
-      so_far.values_are l o view named there same
+      so_far.values_are l o of there same
       ∙ ap (λ l'. map value_of before ++ map (referenced_value l.project l.layout o) l')
       (take_all n o.object.symbols (omega (arith, past, long, own)))
 
@@ -144,13 +159,13 @@ abbrev pub values_in : Project → Layout → NamedObject → List model.SymbolV
 values_in p s o = map (referenced_value p s o) o.object.symbols
 
 -- the values of the symbols of the objects before one, and where those of each begin
-pub record TableSoFar (p : Project) (link : LinkView) (names : List SymbolValue) (objects : List NamedObject) (n : ℕ)
+pub record TableSoFar (p : Project) (sources : ValueSources) (objects : List NamedObject) (n : ℕ)
     (starts : List ℕ) (values : List SymbolValue) : Type 0 where
   pub many : length starts ≡ n
   pub begun : (i : ℕ) → i < n → slice_index_or starts i 0 ≡ total (take i objects)
   pub long : length values ≡ total (take n objects)
-  pub values_are : (s : Layout) (a : SymbolTableState) → IsLinkView (known_link p s a) link
-      → AreNameValues (known_link p s a) names → objects ≡ p.objects
+  pub values_are : (s : Layout) (a : SymbolTableState) → AreValueSources (known_link p s a) sources
+      → objects ≡ p.objects
       → map value_of values ≡ flat_map (values_in p s) (take n objects)
 
 index_before : (xs : List ℕ) (y k : ℕ) → k < length xs → slice_index_or (xs ++ y ∷ []) k 0 ≡ slice_index_or xs k 0
@@ -203,26 +218,26 @@ value_found [] k v e = absurd (let none : ⊥ = cc in none)
 value_found (x ∷ xs) zero v e = same_Some _ _ e
 value_found (x ∷ xs) (suc k) v e = value_found xs k v e
 
-module _ (p : Project) (link : LinkView) (names : List SymbolValue) (inputs : List InputObject) where
-  pub empty_table : TableSoFar p link names (shown_inputs inputs) 0 [] []
+module _ (p : Project) (sources : ValueSources) (inputs : List InputObject) where
+  pub empty_table : TableSoFar p sources (shown_inputs inputs) 0 [] []
   unfolding total
   empty_table = record {
     many = refl;
     begun = λ i l. absurd (omega (arith, l));
     long = refl;
-    values_are = λ s a view named same. refl;
+    values_are = λ s a of same. refl;
   }
 
   pub one_object_more : (n : ℕ) (starts now_starts : List ℕ) (values now : List SymbolValue) (input : InputObject)
       → n < length inputs → input ≡ get_or inputs n input → now_starts ≡ starts ++ length values ∷ []
       → length now ≡ length values + length (input.object.now).symbols
-      → ((l : KnownLink) (o : NamedObject) → IsLinkView l link → AreNameValues l names
+      → ((l : KnownLink) (o : NamedObject) → AreValueSources l sources
       → named_object l (record { 0 = n }) ≡ Some o → o.object ≡ input.object.now
       → map value_of now ≡ map value_of values ++ map (referenced_value l.project l.layout o) o.object.symbols)
-      → TableSoFar p link names (shown_inputs inputs) n starts values
-      → TableSoFar p link names (shown_inputs inputs) (n + 1) now_starts now
+      → TableSoFar p sources (shown_inputs inputs) n starts values
+      → TableSoFar p sources (shown_inputs inputs) (n + 1) now_starts now
   one_object_more n starts now_starts values now input short own begins long worth so_far =
-      subst (λ (l : List ℕ). TableSoFar p link names (shown_inputs inputs) (n + 1) l now) (sym begins) (record {
+      subst (λ (l : List ℕ). TableSoFar p sources (shown_inputs inputs) (n + 1) l now) (sym begins) (record {
         many = (let more = length-append starts (length values ∷ []) in omega (arith, more, so_far.many));
         begun = begun;
         long = (let next = total_next (shown_inputs inputs) n (shown_input input) at in
@@ -247,20 +262,19 @@ module _ (p : Project) (link : LinkView) (names : List SymbolValue) (inputs : Li
               index_last starts (length values) i (omega (arith, same, so_far.many)) ∙ so_far.long
               ∙ ap (λ k. total (take k (shown_inputs inputs))) same
 
-      values_are : (s : Layout) (a : SymbolTableState) → IsLinkView (known_link p s a) link
-          → AreNameValues (known_link p s a) names → shown_inputs inputs ≡ p.objects
+      values_are : (s : Layout) (a : SymbolTableState) → AreValueSources (known_link p s a) sources
+          → shown_inputs inputs ≡ p.objects
           → map value_of now ≡ flat_map (values_in p s) (take (n + 1) (shown_inputs inputs))
-      values_are s a view named same =
-          worth (known_link p s a) (shown_input input) view named (ap (λ l. slice_get l n) (sym same) ∙ at) refl
-          ∙ ap (λ l. l ++ values_in p s (shown_input input)) (so_far.values_are s a view named same)
+      values_are s a of same =
+          worth (known_link p s a) (shown_input input) of (ap (λ l. slice_get l n) (sym same) ∙ at) refl
+          ∙ ap (λ l. l ++ values_in p s (shown_input input)) (so_far.values_are s a of same)
           ∙ sym (flat_next (values_in p s) (shown_inputs inputs) n (shown_input input) at)
 
   pub whole_table : (n : ℕ) (t : SymbolValues) → length inputs ≤ n → shown_inputs inputs ≡ p.objects
-      → TableSoFar p link names (shown_inputs inputs) n t.starts.items t.values.items
-      → (s : Layout) (a : SymbolTableState) → IsLinkView (known_link p s a) link
-      → AreNameValues (known_link p s a) names
+      → TableSoFar p sources (shown_inputs inputs) n t.starts.items t.values.items
+      → (s : Layout) (a : SymbolTableState) → AreValueSources (known_link p s a) sources
       → AreSymbolValues p s t
-  whole_table n t past same so_far s a view named i j o x at there =
+  whole_table n t past same so_far s a of i j o x at there =
       value_found t.values.items (slice_index_or t.starts.items i 0 + j) (referenced_value p s o x)
       (ap (λ k. slice_get (map value_of t.values.items) (k + j)) begins
       ∙ ap (λ l. slice_get l (total (take i p.objects) + j)) values
@@ -276,5 +290,5 @@ module _ (p : Project) (link : LinkView) (names : List SymbolValue) (inputs : Li
 
       values : map value_of t.values.items ≡ flat_map (values_in p s) p.objects
       values =
-          so_far.values_are s a view named same ∙ ap (λ l. flat_map (values_in p s) (take n l)) same
+          so_far.values_are s a of same ∙ ap (λ l. flat_map (values_in p s) (take n l)) same
           ∙ ap (flat_map (values_in p s)) (take_all n p.objects (omega (arith, many, past)))

@@ -2,6 +2,7 @@ pub mod Origins
 pub mod SectionLocation
 pub mod FixedOutputs
 pub mod LinkSnapshot
+pub mod ValueSources
 pub mod DirtyObjects
 pub mod PreviousLink
 pub mod StayedColumn

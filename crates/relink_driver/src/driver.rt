@@ -32,7 +32,7 @@ use crate::passes::{
 };
 use crate::stayed_column::StayedColumn;
 use crate::stayed_sections::{PreviousView, StayedSections};
-use crate::symbol_values::symbol_values;
+use crate::symbol_values::{ValueSources, symbol_values};
 use emit::map_members::{MapMembers, PreviousNames};
 use emit::text::maps::LinkMap;
 use emit::values::given::GivenValues;
@@ -147,7 +147,12 @@ fn run_passes(
     )?;
     let view = LinkView::new(alloc, &*project, &*symbol_table, &indexed_layout, &given)?;
     let values = compute_values(context, &indexed_layout.link_layout, &view, &given)?;
-    let symbols = symbol_values(alloc, project, &view, &values.names)?;
+    let sources = ValueSources {
+        symbol_table: &*symbol_table,
+        indexed_layout: &indexed_layout,
+        names: &values.names,
+    };
+    let symbols = symbol_values(alloc, project, sources)?;
     let dirty = dirty_objects(alloc, project, context.previous, &symbols)?;
     let column = StayedColumn::of(alloc, context.previous, &indexed_layout)?;
     let stayed_sections = StayedSections {

@@ -130,10 +130,12 @@ fn add_flags(
     ensures { OnOk result (IsRowAdded (λ k. is_some (kept_between previous.now (slice_index_or before.now k None)
         link_layout.now (slice_index_or now.now k None))) flags.old.items flags.new.items) }
 {
-    for number in 0..now.len() {
+    let count = now.len();
+    flags.reserve(count)?;
+    for number in 0..count {
         let stood = address_at(before, number);
         let lies = address_at(now, number);
-        flags.push(is_stayed(previous, stood, link_layout, lies, fixed))?;
+        flags.push_reserved(is_stayed(previous, stood, link_layout, lies, fixed));
     }
     Ok(())
 }

@@ -8,6 +8,7 @@ use Rattle.relink_driver.specs.Context.{project_of}
 use Rattle.relink_driver.specs.DirtyObjects.{AreDirtyObjects}
 use Rattle.relink_driver.proofs.Beside.{has_old, one_placement}
 use Rattle.relink_driver.proofs.Reading.{ends_reading, reads_ending, reads_then}
+use Rattle.relink_driver.proofs.Seen.{sources_of}
 use Rattle.relink_driver.proofs.Stopping.{ends_shown}
 use Rattle.relink_driver.proofs.Working.{are_drawn, link_work, of_short}
 use Rattle.relink_driver.proofs.driver.run_passes.Goals as goal
@@ -32,10 +33,15 @@ evaluate_relocations-requires-clause-symbols c =
     let p = project_of c.args.context in
     let h = c.in_ok-values.ensures.good.placed in
     let k = h.known in
+    let a = c.in_ok-indexed_layout.ensures.good in
     subst (λ (z : Layout). AreSymbolValues p z c.in_ok-symbols.symbols)
     (one_placement p k.layout s k.link_layout.placed link_layout.placed)
-    (c.in_ok-symbols.ensures k.layout h.symbol_table k.view
-    (subst (AreNameValues (known_link p k.layout h.symbol_table)) (sym c.deref-2.ensures.value) h.values.names))
+    (c.in_ok-symbols.ensures k.layout h.symbol_table
+    (sources_of p k.layout h.symbol_table c.in_ok-view.view _ k.view
+    (c.in_ok-view.ensures k.layout (c.in_ok-given.ensures.values k.layout k.link_layout)
+    (a.indexed_layout k.layout k.link_layout)) c.requires.context.symbol_table
+    (a.indexed_layout k.layout k.link_layout)
+    (subst (AreNameValues (known_link p k.layout h.symbol_table)) (sym c.deref-2.ensures.value) h.values.names)))
 
 pub evaluate_relocations-requires-clause-beside : goal.evaluate_relocations-requires-clause-beside
 evaluate_relocations-requires-clause-beside c =
@@ -43,11 +49,16 @@ evaluate_relocations-requires-clause-beside c =
     let p = project_of c.args.context in
     let h = c.in_ok-values.ensures.good.placed in
     let k = h.known in
+    let a = c.in_ok-indexed_layout.ensures.good in
     let symbols : AreSymbolValues p s c.in_ok-symbols.symbols =
     subst (λ (z : Layout). AreSymbolValues p z c.in_ok-symbols.symbols)
     (one_placement p k.layout s k.link_layout.placed link_layout.placed)
-    (c.in_ok-symbols.ensures k.layout h.symbol_table k.view
-    (subst (AreNameValues (known_link p k.layout h.symbol_table)) (sym c.deref-2.ensures.value) h.values.names)) in
+    (c.in_ok-symbols.ensures k.layout h.symbol_table
+    (sources_of p k.layout h.symbol_table c.in_ok-view.view _ k.view
+    (c.in_ok-view.ensures k.layout (c.in_ok-given.ensures.values k.layout k.link_layout)
+    (a.indexed_layout k.layout k.link_layout)) c.requires.context.symbol_table
+    (a.indexed_layout k.layout k.link_layout)
+    (subst (AreNameValues (known_link p k.layout h.symbol_table)) (sym c.deref-2.ensures.value) h.values.names))) in
     record {
       indexed_layout = c.in_ok-indexed_layout.ensures.good.indexed_layout s link_layout;
       previous = has_old p _ _ c.requires.previous;
@@ -68,6 +79,7 @@ returns-clause-ended c =
     let s = k.layout in
     let v = c.in_ok-values.ensures.good.placed in
     let w = v.known in
+    let a = c.in_ok-indexed_layout.ensures.good in
     let same = c.in_ok-draw_output.ensures.image s k.link_layout in
     record {
       layout = s;
@@ -79,9 +91,13 @@ returns-clause-ended c =
         indexed_layout = c.in_ok-indexed_layout.ensures.good.indexed_layout s k.link_layout;
         symbols = subst (λ (z : Layout). AreSymbolValues p z c.in_ok-symbols.symbols)
             (one_placement p w.layout s w.link_layout.placed k.link_layout.placed)
-            (c.in_ok-symbols.ensures w.layout v.symbol_table w.view
+            (c.in_ok-symbols.ensures w.layout v.symbol_table
+            (sources_of p w.layout v.symbol_table c.in_ok-view.view _ w.view
+            (c.in_ok-view.ensures w.layout (c.in_ok-given.ensures.values w.layout w.link_layout)
+            (a.indexed_layout w.layout w.link_layout)) c.requires.context.symbol_table
+            (a.indexed_layout w.layout w.link_layout)
             (subst (AreNameValues (known_link p w.layout v.symbol_table)) (sym c.deref-2.ensures.value)
-            v.values.names));
+            v.values.names)));
         texts = c.in_ok-map.ensures.names;
         layout = k.link_layout.layout ∙ of_short p s f.short.length;
         link = all.rest;

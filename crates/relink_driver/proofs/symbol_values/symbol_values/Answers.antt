@@ -1,6 +1,10 @@
-use Rattle.std.proofs.Common.{rules, ◌≡◌, length, ℕ, List, [], ◌∷◌, ◌++◌, ◌∙◌, ap, subst, sym}
-use Rattle.ldmodel_project.specs.Inputs.{shown_inputs}
+use Rattle.std.proofs.Common.{rules, ◌≡◌, length, ℕ, List, [], ◌∷◌, ◌++◌, ◌∙◌, ap, refl, subst, sym}
+use Rattle.std.specs.Prelude.{Some, slice_get}
+use Rattle.std.specs.Option.{option_map}
+use Rattle.std.proofs.lemmas.Option.{slice_get-map, slice_get_read}
+use Rattle.ldmodel_project.specs.Inputs.{shown_input, shown_inputs}
 use Rattle.emit.specs.relocate.declared.value.SymbolValue.{SymbolValue}
+use Rattle.relink_driver.proofs.Seen.{are_seen}
 use Rattle.relink_driver.proofs.Symbols.{TableSoFar, empty_table, one_object_more, whole_table}
 use Rattle.relink_driver.proofs.symbol_values.symbol_values.Goals as goal
 
@@ -8,15 +12,30 @@ pub loop-place-init : goal.loop-place-init
 loop-place-init c =
     let p = c.args.project.now in
     let inputs = c.inputs-inputs.result.now in
-    subst (λ (l : List ℕ). TableSoFar p c.args.link.now c.args.names.now (shown_inputs inputs) 0 l
+    subst (λ (l : List ℕ). TableSoFar p c.args.sources (shown_inputs inputs) 0 l
     c.in_ok-values.values.items) (sym c.in_ok-starts.ensures.items)
-    (subst (λ (l : List SymbolValue). TableSoFar p c.args.link.now c.args.names.now (shown_inputs inputs) 0 [] l)
-    (sym c.in_ok-values.ensures.items) (empty_table p c.args.link.now c.args.names.now inputs))
+    (subst (λ (l : List SymbolValue). TableSoFar p c.args.sources (shown_inputs inputs) 0 [] l)
+    (sym c.in_ok-values.ensures.items) (empty_table p c.args.sources inputs))
+
+pub add_object-requires : goal.add_object-requires
+add_object-requires c =
+    let p = c.args.project.now in
+    let inputs = c.inputs-inputs.result.now in
+    let n = c.loop-place.place in
+    let input = c.index-inputs-place.result in
+    let at : slice_get (shown_inputs inputs) n ≡ Some (shown_input input) =
+    slice_get-map shown_input inputs n
+    ∙ ap (option_map shown_input)
+    (slice_get_read inputs (length inputs) n input refl c.loop-place-test.true c.index-inputs-place.is) in
+    record {
+      seen = are_seen p c.args.sources.symbol_table.now c.requires (record { 0 = n }) (shown_input input)
+          (sym (ap (λ l. slice_get l n) c.inputs-inputs.ensures.same) ∙ at);
+    }
 
 pub loop-place-preserved : goal.loop-place-preserved
 loop-place-preserved c =
     let begins : c.len.result ≡ length c.loop-place.values.items = search rules in
-    one_object_more c.args.project.now c.args.link.now c.args.names.now c.inputs-inputs.result.now c.loop-place.place
+    one_object_more c.args.project.now c.args.sources c.inputs-inputs.result.now c.loop-place.place
     c.loop-place.starts.items c.push.new.self.items c.loop-place.values.items c.add_object.new.values.items
     c.index-inputs-place.result c.loop-place-test.true c.index-inputs-place.is
     (c.in_ok-push.ensures.items ∙ ap (λ n. c.loop-place.starts.items ++ n ∷ []) begins)
@@ -24,6 +43,6 @@ loop-place-preserved c =
 
 pub returns : goal.returns
 returns c =
-    whole_table c.args.project.now c.args.link.now c.args.names.now c.inputs-inputs.result.now c.loop-place.place
+    whole_table c.args.project.now c.args.sources c.inputs-inputs.result.now c.loop-place.place
     (record { starts = c.loop-place.starts; values = c.loop-place.values }) c.loop-place-test.false
     c.inputs-inputs.ensures.same c.loop-place.invariant

@@ -4,4 +4,4 @@ use Rattle.relink_driver.proofs.symbol_values.symbol_values.Given as goal
 
 abbrev pub invariant-loop-place : goal.invariant-loop-place
 invariant-loop-place l =
-    TableSoFar l.project l.link l.names (shown_inputs l.inputs) l.place l.starts.items l.values.items
+    TableSoFar l.project l.sources (shown_inputs l.inputs) l.place l.starts.items l.values.items
