@@ -35,5 +35,6 @@ exchanged ms out into coming = put_at (taken_at ms out) into coming
 
 -- the matches of all objects under the script of the next project; none where those under the script before serve
 abbrev pub Renews : List Statement → Listing → Option (Vec Matches Global) → Type 0
-Renews before next None = (object : NamedObject) (x : Matches) → IsMatched before object x → IsMatched next.script object x
+Renews before next None =
+    (object : NamedObject) (x : Matches) → IsMatched before object x → IsMatched next.script object x
 Renews before next (Some all) = AreMatched (project_of next) all.items

@@ -58,7 +58,8 @@ pub(crate) fn matches_if_other(
     Ok(Some(found))
 }
 
-/// Puts new matches in the place of the list, if there are any, and returns the list that was there. It takes no memory.
+/// Puts new matches in the place of the list, if there are any, and returns the list that was there. It takes no
+/// memory.
 pub(crate) fn put_new(
     list: &mut VecDeque<Matches>,
     found: Option<Vec<Matches>>,
