@@ -62,7 +62,7 @@ impl NameBlock {
     }
 
     /// Adds N to 2 N bytes, for which there is room, by their first and their last N, which are copied without a call.
-    /// Returns whether there are so many; if not, nothing is added.
+    /// Returns whether the part has such a length; if not, nothing is added.
     #[inline(always)]
     fn put_ends<const N: usize>(&mut self, part: &[u8]) -> bool
         requires room { length self.old + length part.now ≤ 1024 }

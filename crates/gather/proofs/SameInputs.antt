@@ -1,5 +1,5 @@
 -- Two scripts with the same input statements take the same sections.
-use Rattle.std.proofs.Common.{◌≡◌, ◌+◌, ◌∙◌, ◌∷◌, [], ℕ, Bool, List, Option, Some, None, ap, cond, length, map, refl, sym}
+use Rattle.std.proofs.Common.{◌≡◌, ◌+◌, ◌∙◌, ◌∷◌, [], ℕ, Bool, List, Some, None, ap, cond, length, map, refl, sym}
 use Rattle.std.specs.Prelude.{nat_lt, not}
 use Rattle.std.specs.List.{position, position_or_len}
 use Rattle.std.proofs.lemmas.List.{length-map}

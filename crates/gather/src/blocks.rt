@@ -145,8 +145,8 @@ fn blocks_of(
     Ok(blocks)
 }
 
-/// The common blocks of each object of a project, by the resolutions of its names. Of an object only the symbols between
-/// its common ones are asked.
+/// The common blocks of each object of a project, by the resolutions of its names. Of an object only the symbols
+/// between its common ones are asked.
 ///
 /// # Errors
 ///

@@ -13,7 +13,8 @@ returns-in-Some-clause-text g c =
     let x = c.args.at.piece.now in
     let before = c.args.text.now.items ++ c.args.lines.now in
     c.in_ok-put_piece_line.ensures
-    ∙ ap (λ t. before ++ (piece_numbers c.args.at.start x.size ++ t)) (c.in-Some.ensures.names p number c.requires.names)
+    ∙ ap (λ t. before ++ (piece_numbers c.args.at.start x.size ++ t))
+    (c.in-Some.ensures.names p number c.requires.names)
     ∙ ap (λ t. before ++ t)
     (piece_spelled _ c.args.at.start x.size (object_name p (number x.section.object.0))
     (name_of_part p (number x.section.object.0) x.section.part) refl)
