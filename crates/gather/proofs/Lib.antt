@@ -20,6 +20,7 @@ pub mod Named
 pub mod Preparing
 pub mod PlacesUnder
 pub mod Keyed
+pub mod KeyPlaces
 pub mod Refers
 pub mod Starting
 pub mod OwnWords

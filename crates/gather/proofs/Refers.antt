@@ -1,24 +1,31 @@
 -- The sections that relocations refer to, by numbers.
-use Rattle.std.proofs.Common.{◌≡◌, ◌∙◌, ◌<◌, ◌+◌, ℕ, zero, suc, ◌||◌, List, [], ◌∷◌, ◌++◌}
-use Rattle.std.proofs.Common.{length, get_or, take, ap, sym, arith, Option, Some, None, ⊎_elim}
+use Rattle.std.proofs.Common.{◌≡◌, ◌∙◌, ◌<◌, ◌≤◌, ◌+◌, ℕ, zero, suc, ◌||◌, List, [], ◌∷◌, ◌++◌}
+use Rattle.std.proofs.Common.{length, get_or, take, ap, sym, subst, arith, Bool, true, cond, Option, Some, None}
+use Rattle.std.proofs.Common.{⊎_elim}
 use Rattle.std.proofs.Common.{append_assoc, append-nil}
-use Rattle.std.specs.Prelude.{option_to_list, option_and_then}
+use Rattle.std.specs.Prelude.{option_to_list, option_and_then, slice_get}
 use Rattle.std.specs.List.{Contains, list_any}
 use Rattle.std.specs.Option.{option_map}
 use Rattle.std.proofs.lemmas.List.{get_or_default}
 use Rattle.std.proofs.lemmas.List.Elements.{Contains-append_cases, Contains-append_left}
 use Rattle.std.proofs.lemmas.List.Elements.{Contains-append_right}
 use Rattle.std.proofs.lemmas.List.Folds.{list_any_more}
-use Rattle.std.proofs.lemmas.Option.{same_Some}
+use Rattle.std.proofs.lemmas.Option.{same_Some, slice_get-get_or, slice_get_past}
 use Rattle.std.proofs.lemmas.Bool.{or_cases, or_left, or_right}
+use Rattle.elfobj.specs.Object.{ObjectData}
+use Rattle.elfobj.specs.Symbols.{NamedSymbol}
 use Rattle.elfobj.specs.declared.relocation.Relocation.{Relocation}
-use Rattle.ldmodel.specs.Live.{is_section, section_of_symbol, symbol_at, target_section}
+use Rattle.ldmodel.specs.Live.{is_section, section_of_decision, section_of_place, section_of_symbol}
+use Rattle.ldmodel.specs.Live.{symbol_at, target_section}
 use Rattle.ldmodel.specs.HandedOver.{section_id}
-use Rattle.ldmodel.specs.Project.{Project}
+use Rattle.ldmodel.specs.Names.{decision, is_local}
+use Rattle.ldmodel.specs.Project.{NamedObject, Project}
 use Rattle.ldmodel.specs.Sections.{InputSection}
 use Rattle.ldmodel.specs.declared.sections.SectionKey.{SectionKey}
 use Rattle.gather.specs.SectionPlaces.{AddsTargets, AreProjectPlaces, IsPlaceOf}
+use Rattle.gather.specs.Symbols.{IsObjectAt}
 use Rattle.gather.proofs.Keyed.{place_of_key}
+use Rattle.gather.proofs.Seen.{object_at}
 
 -- nothing refers to nothing
 pub no_targets : (p : Project) (i : ℕ) (old : List ℕ) → AddsTargets p i [] old old
@@ -68,23 +75,54 @@ module _ (p : Project) (i : ℕ) (rs : List Relocation) (n : ℕ) (r : Relocatio
     );
   }
 
--- the number of the target of a relocation
-pub target_place : (p : Project) (place : SectionKey → Option ℕ) (i : ℕ) (r : Relocation) (key : Option SectionKey)
-    (number : Option ℕ)
-    → AreProjectPlaces p place
-    → option_map (section_id (λ key. key)) key ≡ option_and_then (section_of_symbol p i) (symbol_at p i r.symbol.0)
-    → number ≡ option_and_then (place) key → IsPlaceOf p (target_section p i r) number
+-- the place of the target of a relocation, by that of its symbol
+pub target_place : (p : Project) (i : ℕ) (r : Relocation) (number : Option ℕ)
+    → IsPlaceOf p (option_and_then (section_of_symbol p i) (symbol_at p i r.symbol.0)) number
+    → IsPlaceOf p (target_section p i r) number
 unfolding target_section
-target_place p place i r key number are same is =
-    place_of_key p place key (option_and_then (section_of_symbol p i) (symbol_at p i r.symbol.0)) number are same is
+target_place p i r number is = is
+
+module _ (p : Project) (i : ℕ) (r : Relocation) (object : ObjectData) (at : IsObjectAt p i object) where
+  shown_symbol : symbol_at p i r.symbol.0 ≡ slice_get object.symbols r.symbol.0
+  shown_symbol =
+      let o = object_at p i object at in
+      ap (option_and_then (λ (x : NamedObject). slice_get x.object.symbols r.symbol.0)) o.1
+      ∙ ap (λ (x : ObjectData). slice_get x.symbols r.symbol.0) o.2
+
+  -- of no symbol there is no target
+  pub no_target : length object.symbols ≤ r.symbol.0 → IsPlaceOf p (target_section p i r) None
+  no_target past =
+      target_place p i r None
+      (subst (λ (o : Option NamedSymbol). IsPlaceOf p (option_and_then (section_of_symbol p i) o) None)
+      (sym (shown_symbol ∙ slice_get_past object.symbols r.symbol.0 past))
+      (λ b s stands. (λ h. absurd (cc), λ h. absurd (cc))))
+
+  module _ (d : NamedSymbol) (number : Option ℕ) (low : r.symbol.0 < length object.symbols) where
+    abbrev symbol : NamedSymbol
+    symbol = get_or object.symbols r.symbol.0 d
+
+    -- of a symbol it is the place of the section that this refers to
+    pub symbol_target : IsPlaceOf p (section_of_symbol p i symbol) number → IsPlaceOf p (target_section p i r) number
+    symbol_target is =
+        target_place p i r number
+        (subst (λ (o : Option NamedSymbol). IsPlaceOf p (option_and_then (section_of_symbol p i) o) number)
+        (sym (shown_symbol ∙ slice_get-get_or object.symbols r.symbol.0 d low)) is)
+
+    -- of a local one its own
+    pub local_target : (place : SectionKey → Option ℕ) (key : Option SectionKey) → AreProjectPlaces p place
+        → is_local symbol.symbol.binding ≡ true
+        → option_map (section_id (λ key. key)) key ≡ section_of_place i symbol.symbol.place
+        → number ≡ option_and_then place key → IsPlaceOf p (target_section p i r) number
+    local_target place key are local same is =
+        symbol_target (place_of_key p place key (section_of_symbol p i symbol) number are
+        (same ∙ sym (ap (λ (b : Bool). cond b (section_of_place i symbol.symbol.place)
+        (section_of_decision p (decision p symbol.name))) local)) is)
 
 -- the same of the relocation at a place
-pub next_targets : (p : Project) (place : SectionKey → Option ℕ) (i : ℕ) (rs : List Relocation) (n : ℕ) (d : Relocation)
-    (key : Option SectionKey) (number : Option ℕ) (old before new : List ℕ) → AreProjectPlaces p place → n < length rs
-    → option_map (section_id (λ key. key)) key
-    ≡ option_and_then (section_of_symbol p i) (symbol_at p i (get_or rs n d).symbol.0)
-    → number ≡ option_and_then (place) key → new ≡ before ++ option_to_list number
-    → AddsTargets p i (take n rs) old before → AddsTargets p i (take (n + 1) rs) old new
-next_targets p place i rs n d key number old before new are low same is pushed had =
-    more_targets p i rs n (get_or rs n d) number old before new low (get_or_default rs n (get_or rs n d) d low)
-    (target_place p place i (get_or rs n d) key number are same is) pushed had
+pub next_targets : (p : Project) (i : ℕ) (rs : List Relocation) (n : ℕ) (d : Relocation) (number : Option ℕ)
+    (old before new : List ℕ) → n < length rs → IsPlaceOf p (target_section p i (get_or rs n d)) number
+    → new ≡ before ++ option_to_list number → AddsTargets p i (take n rs) old before
+    → AddsTargets p i (take (n + 1) rs) old new
+next_targets p i rs n d number old before new low is pushed had =
+    more_targets p i rs n (get_or rs n d) number old before new low (get_or_default rs n (get_or rs n d) d low) is
+    pushed had

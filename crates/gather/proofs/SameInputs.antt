@@ -6,7 +6,7 @@ use Rattle.std.proofs.lemmas.List.{length-map}
 use Rattle.ldmodel.specs.FirstMatch.{first_match, takes}
 use Rattle.ldmodel.specs.Project.{NamedObject}
 use Rattle.elfobj.specs.Sections.{LinkedSection}
-use Rattle.ldscript.specs.statements.Numbering.{InputStatementAt, input_statements}
+use Rattle.ldscript.specs.statements.Numbering.{input_statements}
 use Rattle.ldscript.specs.statements.declared.statement.Statement.{Statement}
 use Rattle.gather.specs.ProjectMatches.{IsMatched}
 use Rattle.gather.specs.SameInputs.{input_of}

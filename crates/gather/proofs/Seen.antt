@@ -80,16 +80,21 @@ module _ (p : Project) (a : SymbolTableState) (i n : ℕ) (object : ObjectData) 
       subst (λ (ss : List NamedSymbol). IsNamed a.names key (get_or ss n d).name) (symbols_at t) (name t d) in
       subst (IsCaseOf p s) (sym (is ∙ has.1)) (seen, (symbol_table.sound key has.0 has.1).case s.name named)
 
+-- a symbol without its name
+pub unnamed : (object : ObjectData) (shown : List Symbol) (n : ℕ) (x : Symbol) (d : NamedSymbol)
+    → shown ≡ map (λ (s : NamedSymbol). s.symbol) object.symbols → n < length object.symbols
+    → get_or shown n x ≡ (get_or object.symbols n d).symbol
+unnamed object shown n x d same within =
+    ap (λ (ss : List Symbol). get_or ss n x) same
+    ∙ get_or-map (λ (s : NamedSymbol). s.symbol) object.symbols n d x within
+
 -- whether a symbol is local
 pub declared : (object : ObjectData) (shown : List Symbol) (n : ℕ) (x : Symbol) (b : Bool) (d : NamedSymbol)
     → shown ≡ map (λ (s : NamedSymbol). s.symbol) object.symbols → n < length object.symbols
     → not (is_local (get_or shown n x).binding) ≡ not b → is_local (get_or object.symbols n d).symbol.binding ≡ b
 declared object shown n x b d same within seen =
-    let here : get_or shown n x ≡ (get_or object.symbols n d).symbol =
-    ap (λ (ss : List Symbol). get_or ss n x) same
-    ∙ get_or-map (λ (s : NamedSymbol). s.symbol) object.symbols n d x within in
     not_same (is_local (get_or object.symbols n d).symbol.binding) b
-    (subst (λ (s : Symbol). not (is_local s.binding) ≡ not b) here seen)
+    (subst (λ (s : Symbol). not (is_local s.binding) ≡ not b) (unnamed object shown n x d same within) seen)
   where
     not_same : (e f : Bool) → not e ≡ not f → e ≡ f
     not_same true true h = refl

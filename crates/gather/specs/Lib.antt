@@ -22,5 +22,6 @@ pub mod ProjectMatches
 pub mod Blocks
 pub mod Found
 pub mod SectionPlaces
+pub mod Referring
 pub mod Gathering
 pub mod Taking

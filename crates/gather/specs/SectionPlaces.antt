@@ -4,15 +4,17 @@ use Rattle.std.specs.Prelude.{IsSome, option_and_then, slice_set}
 use Rattle.std.specs.Prelude.{IsTrue, slice_index_or}
 use Rattle.std.specs.List.{list_any}
 use Rattle.elfobj.specs.declared.relocation.Relocation.{Relocation}
-use Rattle.gather.specs.GatheredSections.{AreGathered}
 use Rattle.gather.specs.LiveMarks.{IsSectionAt}
 use Rattle.gather.specs.declared.gathered_section.GatheredSection.{GatheredSection}
-use Rattle.ldmodel.specs.HandedOver.{section_id}
-use Rattle.ldmodel.specs.Live.{is_section, refers_to, target_section}
+use Rattle.ldmodel.specs.HandedOver.{decision_of, section_id}
+use Rattle.ldmodel.specs.Live.{is_section, refers_to, section_of_decision, target_section}
 use Rattle.ldmodel.specs.Project.{Project}
 use Rattle.ldmodel.specs.Sections.{InputSection, SectionId, is_same_part}
+use Rattle.ldmodel.specs.declared.names.Case.{Case}
+use Rattle.ldmodel.specs.declared.names.ObjectPlace.{ObjectPlace}
 use Rattle.ldmodel.specs.declared.sections.SectionKey.{SectionKey}
-use Rattle.symres.specs.SymbolTable.{IsSymbolTable, SymbolTableState}
+use Rattle.symres.specs.Decided.{case_at}
+use Rattle.symres.specs.SymbolTable.{SymbolTableState}
 use Rattle.gather.specs.declared.places.Places.{Places}
 use Rattle.gather_sections.specs.SectionTable.{number_of}
 use Rattle.gather_sections.specs.declared.input_section_table.SectionNumber as code
@@ -68,10 +70,8 @@ abbrev pub Refers : Project → ℕ → ℕ → Type 0
 Refers project a b = (section t : InputSection) → IsSectionAt project a section → IsSectionAt project b t
     → IsTrue (refers_to project section t)
 
--- the parts by which references are found are those of the project
-pub record AreProjectReferences (project : Project) (symbol_table : SymbolTableState) (places : Places)
-    (xs : List GatheredSection)
-    : Type 0 where
-  pub named : IsSymbolTable project symbol_table
-  pub sections : AreGathered project xs
-  pub placed : AreProjectPlaces project (place_in places)
+-- each key that has a case has the place of the section that its name is defined in
+abbrev pub AreKeyPlaces : Project → SymbolTableState → List (Option ℕ) → Type 0
+AreKeyPlaces project table places =
+    (k : ℕ) (c : Case ObjectPlace) → case_at table.cases k ≡ Some c
+    → IsPlaceOf project (section_of_decision project (decision_of (λ key. key) c)) (place_at places k)

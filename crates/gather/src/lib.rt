@@ -5,14 +5,15 @@
 //! - `matcher` over `file_search`, `file_tables`, `word_table`, `word`, `name_places`: first match; `matches`: of one
 //!   object, by `runs` of its sections, and of all;
 //! - `gathered_section`, `blocks`, `cases`: the input sections, common blocks among them; `discarded_sections`;
-//! - `roots`, `marking`, `references`, and of a project `live`, `referring`, `targets`, `places`: which sections are
-//!   live;
+//! - `roots`, `marking`, `references`, and of a project `live`, `referring`, `targets`, `by_key`, `places`: which
+//!   sections are live;
 //! - `rows` over `rooms`, `sorting`, `shared_start`, `section_names`: the rows; `live_sections`: the orphans; `taking`:
 //!   rows and orphans of a link without `--gc-sections`; `gathering`: all of this, for a project; `law`;
 //! - the part `sections`: the table of input sections. Other families name this crate alone.
 #![tactic(auto)]
 
 mod blocks;
+mod by_key;
 mod cases;
 pub mod discarded_sections;
 mod file_search;

@@ -9,6 +9,7 @@ ghost use Rattle.ldmodel.specs.Live.{live};
 ghost use Rattle.symres.specs.SymbolTable.{IsSymbolTable};
 ghost use Rattle.gather_sections.specs.SectionTable.{IsTableOf};
 
+use crate::by_key::places_by_key;
 use crate::gathered_section::GatheredSection;
 use crate::marking::mark;
 use crate::places::{Places, places_of};
@@ -49,10 +50,12 @@ pub(crate) fn mark_live(
     };
     let entry = places.find(entry_section(project, symbol_table));
     let roots = roots(alloc, project.script(), sections, entry)?;
+    let by_key = places_by_key(alloc, project, symbol_table, &places)?;
     let references = ProjectReferences {
         project,
         symbol_table,
         places: &places,
+        by_key: &by_key,
         sections,
     };
     mark(alloc, out, &roots, &references)

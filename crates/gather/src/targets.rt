@@ -1,17 +1,13 @@
-//! The sections that relocations and the entry symbol refer to.
+//! The sections that symbols, names and the entry symbol are defined in.
 
-ghost use Rattle.std.specs.Prelude.{◌≡◌, ◌+◌, option_and_then};
+ghost use Rattle.std.specs.Prelude.{◌≡◌};
 ghost use Rattle.std.specs.Option.{option_map};
 ghost use Rattle.elfobj.specs.Symbols.{NamedSymbol};
-ghost use Rattle.gather.specs.Symbols.{IsObjectAt};
 ghost use Rattle.ldmodel.specs.HandedOver.{decision_of, entry_of, section_id};
 ghost use Rattle.ldmodel.specs.Live.{entry_section, section_of_place, section_of_decision, section_of_entry};
-ghost use Rattle.ldmodel.specs.Live.{section_of_symbol, symbol_at};
+ghost use Rattle.ldmodel.specs.Live.{symbol_at};
 ghost use Rattle.symres.specs.SymbolTable.{IsSymbolTable};
 
-use crate::cases::case_of_symbol;
-use elfobj::Object;
-use elfobj::relocation::Relocation;
 use elfobj::symbol::SymbolPlace;
 use ldmodel::names::{Case, Entry, ObjectPlace};
 use ldmodel::sections::{Part, SectionKey};
@@ -19,7 +15,7 @@ use ldmodel_project::view::ProjectView;
 use symres::SymbolTable;
 
 /// The section that a symbol of the object at a place is defined in, if it is in one.
-fn section_at(object: ObjectPlace, at: SymbolPlace) -> Option<SectionKey>
+pub(crate) fn section_at(object: ObjectPlace, at: SymbolPlace) -> Option<SectionKey>
     ensures { option_map (section_id (λ key. key)) result ≡ section_of_place object.0 at }
 {
     match at {
@@ -51,7 +47,10 @@ fn section_of_entry(project: &ProjectView<'_>, entry: Entry<ObjectPlace>) -> Opt
 }
 
 /// The section that a name is defined in, by its resolution; `None` for a number.
-fn section_of_case(project: &ProjectView<'_>, case: Case<ObjectPlace>) -> Option<SectionKey>
+pub(crate) fn section_of_case(
+    project: &ProjectView<'_>,
+    case: Case<ObjectPlace>,
+) -> Option<SectionKey>
     ensures { option_map (section_id (λ key. key)) result
         ≡ section_of_decision project.now (decision_of (λ key. key) case) }
 {
@@ -62,30 +61,6 @@ fn section_of_case(project: &ProjectView<'_>, case: Case<ObjectPlace>) -> Option
             part: Part::InCommon(owner.symbol),
         }),
         Case::Script | Case::Provided | Case::Undefined | Case::Duplicate => None,
-    }
-}
-
-/// The section that a relocation of the object at a place refers to, if its target is in one. The time is constant.
-pub(crate) fn target_section(
-    project: &ProjectView<'_>,
-    symbol_table: &SymbolTable,
-    place: usize,
-    object: &Object,
-    relocation: &Relocation,
-) -> Option<SectionKey>
-    requires symbol_table { IsSymbolTable project.now symbol_table.now }
-    requires object { IsObjectAt project.now place object.now }
-    ensures { option_map (section_id (λ key. key)) result
-        ≡ option_and_then (section_of_symbol project.now place) (symbol_at project.now place relocation.now.symbol.0) }
-{
-    let number = relocation.symbol.0 as usize;
-    let symbols = object.symbols();
-    if number >= symbols.len() {
-        return None;
-    }
-    match case_of_symbol(project, symbol_table, place, object, number) {
-        Some(case) => section_of_case(project, case),
-        None => section_at(ObjectPlace(place), symbols[number].place),
     }
 }
 

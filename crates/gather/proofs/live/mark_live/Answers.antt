@@ -7,7 +7,7 @@ use Rattle.ldmodel.specs.Gathering.{is_discarded, taken_by}
 use Rattle.ldmodel.specs.InputSections.{input_sections}
 use Rattle.ldmodel.specs.Live.{entry_section, is_kept}
 use Rattle.ldmodel.specs.Sections.{InputSection}
-use Rattle.gather.specs.SectionPlaces.{AreProjectPlaces, IsPlaceOf, place_under}
+use Rattle.gather.specs.SectionPlaces.{AreKeyPlaces, AreProjectPlaces, IsPlaceOf, place_under}
 use Rattle.gather.proofs.Keyed.{place_of_key}
 use Rattle.gather.proofs.Starting.{graph_is}
 use Rattle.gather.proofs.live.mark_live.Goals as goal
@@ -16,6 +16,19 @@ pub mark-requires-clause-count : goal.mark-requires-clause-count
 mark-requires-clause-count c =
     let p = c.args.project.now in
     sym (ap length c.requires.out ∙ length-map (input_sections p) (is_discarded p))
+
+pub mark-requires-clause-can : goal.mark-requires-clause-can
+mark-requires-clause-can c =
+    let p = c.args.project.now in
+    record {
+      named = c.requires.symbol_table;
+      sections = c.requires.sections;
+      placed =
+          subst (λ (l : List (Option ℕ)). AreProjectPlaces p (place_under c.args.table.now l))
+          (sym c.deref.ensures.value) c.in_ok-column.ensures;
+      keyed =
+          subst (AreKeyPlaces p c.args.symbol_table.now) (sym c.deref-2.ensures.value) c.in_ok-by_key.ensures;
+    }
 
 pub returns : goal.returns
 returns c =
@@ -26,12 +39,12 @@ returns c =
     (subst (λ (l : List (Option ℕ)). AreProjectPlaces p (place_under c.args.table.now l)) (sym c.deref.ensures.value)
     c.in_ok-column.ensures) c.entry_section.ensures c.find-entry.ensures in
     let roots : (k : ℕ) (s : InputSection) → IsSectionAt p k s
-    → (IsTrue (is_kept (taken_by p s)) ⊎ (c.find-entry.result ≡ Some k)) ↔ Contains c.deref-2.result.now k =
+    → (IsTrue (is_kept (taken_by p s)) ⊎ (c.find-entry.result ≡ Some k)) ↔ Contains c.deref-3.result.now k =
     subst (λ (l : List ℕ). (k : ℕ) (s : InputSection) → IsSectionAt p k s
     → (IsTrue (is_kept (taken_by p s)) ⊎ (c.find-entry.result ≡ Some k)) ↔ Contains l k)
-    (sym c.deref-2.ensures.value)
+    (sym c.deref-3.ensures.value)
     (c.in_ok-roots.ensures p (sym c.script.ensures) c.requires.sections) in
     IfOk-weaker c.mark.result _ _
     (λ (marks : Vec Bool Global) h. h p c.requires.collected
-    (graph_is p c.args.out.now c.deref-2.result.now c.find-entry.result c.requires.out place roots))
+    (graph_is p c.args.out.now c.deref-3.result.now c.find-entry.result c.requires.out place roots))
     c.mark.ensures.live

@@ -1,8 +1,9 @@
 -- The targets of the relocations so far are added.
 use Rattle.std.proofs.Common.{take}
 use Rattle.gather.specs.SectionPlaces.{AddsTargets}
-use Rattle.gather.proofs.referring.add_targets.Given as goal
+use Rattle.gather.proofs.referring.ProjectReferences.add_targets.Given as goal
 
 abbrev pub invariant-loop-relocation : goal.invariant-loop-relocation
 invariant-loop-relocation l =
-    AddsTargets l.project l.place (take l.relocation-index l.relocations) l.initial.targets.items l.targets.items
+    AddsTargets l.self.project.now l.place (take l.relocation-index l.relocations) l.initial.targets.items
+    l.targets.items
