@@ -27,6 +27,31 @@ use emit_fields::canvas::Canvas;
 use emit_fields::patch::Patch;
 use ldmodel::memory::NoMemory;
 
+/// The lengths that room is made for are multiples of this one.
+const STEP: usize = 1 << 20;
+
+/// The length that room is made for where an image gets this one: the next multiple of `STEP`, if there is one.
+fn with_spare(length: usize) -> usize
+    ensures { length ≤ result }
+{
+    match length.checked_add(STEP - length % STEP) {
+        Some(more) => more,
+        None => length,
+    }
+}
+
+/// Makes room for an image of this length, and somewhat more if there is memory for it: so an image that grows a little
+/// at each edit is not copied to a larger place each time. Fails if there is no memory for the image itself.
+fn make_room(canvas: &mut Canvas, length: usize) -> Result<(), NoMemory>
+    ensures bytes { canvas.new.bytes ≡ canvas.old.bytes }
+    ensures room { OnOk result (length ≤ canvas.new.room) }
+{
+    match canvas.reserve(with_spare(length)) {
+        Ok(()) => Ok(()),
+        Err(_refused) => canvas.reserve(length),
+    }
+}
+
 /// Writes the image of a drawing onto a canvas, except for the bytes that stay; in these only the patches are written,
 /// at their offsets in the file. Room for all of it is taken before anything is written, so that this can be the last
 /// call of an edit that may fail.
@@ -75,7 +100,7 @@ pub fn redraw(
     kept_is_not_drawn();
     kept_is_what_stayed();
     let end = image_end(drawing);
-    canvas.reserve(end)?;
+    make_room(canvas, end)?;
     write_image(canvas, drawing, end, patches, meter);
     Ok(())
 }

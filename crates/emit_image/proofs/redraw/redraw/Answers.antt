@@ -27,8 +27,8 @@ returns-clause-redrawn c = λ old new whole like g h r k.
     let d = c.args.drawing.now in
     let end = c.drawing_is_image.ensures.end p s whole r.drawing in
     let limit = c.image_end-end.ensures in
-    let drawn : IsDrawnFor (byte_at p s) d c.args.patches.now c.reserve.new.self.bytes =
-    subst (IsDrawnFor (byte_at p s) d c.args.patches.now) (sym (c.reserve.ensures.bytes ∙ k))
+    let drawn : IsDrawnFor (byte_at p s) d c.args.patches.now c.make_room.new.canvas.bytes =
+    subst (IsDrawnFor (byte_at p s) d c.args.patches.now) (sym (c.make_room.ensures.bytes ∙ k))
     (drawn_alike whole d like (byte_at p s) c.args.patches.now _
     (c.kept_is_image.ensures.drawn old new whole c.args.patches.now g h r)) in
     c.drawing_is_image.ensures.whole p s _ (c.write_image.ensures.len ∙ limit ∙ like.end ∙ end) (λ o l.
