@@ -8,12 +8,12 @@ use Rattle.ldmodel.specs.Stayed.{GoodLink}
 use Rattle.ldmodel.specs.SymbolValues.{placed_part}
 use Rattle.ldmodel.specs.declared.sections.Part.TheVariants.{InTable}
 use Rattle.ldmodel.specs.declared.sections.SectionKey.{SectionKey}
-use Rattle.emit_relocate.specs.PreviousLinkInfo.{HasStayedAt, IsKept}
+use Rattle.emit_relocate.specs.PreviousLinkInfo.{HasStayedAt}
 use Rattle.emit_relocate.specs.Fields.{sites_among}
 use Rattle.emit_relocate.specs.Filled.{EndBelow, ObjectSection}
 use Rattle.emit_relocate.specs.KnownLink.{KnownLink, named_object}
 use Rattle.emit_relocate.specs.Sites.{IsPlaced}
-use Rattle.emit_relocate.specs.SymbolValues.{HasSymbolValues, IsRow}
+use Rattle.emit_relocate.specs.SymbolValues.{AreValuesOf, HasSymbolValues, IsRow}
 use Rattle.emit_relocate.specs.declared.changed_fields.Links.{Links}
 use Rattle.emit_relocate.specs.declared.previous_link_info.FileRange.{FileRange}
 use Rattle.emit_relocate.specs.declared.input_section.InputSection.{InputSection}
@@ -82,13 +82,9 @@ pub record IsKnownAt (old : GoodLink) (link : KnownLink) (range : SectionKey →
   -- and is so
   pub stayed : IfSome (range key) (HasStayedAt old link key)
 
--- an input section is that at hand, and its symbols may have other values than in the previous link
-pub record IsStayedAt {E : Type 0} (knows_both : E → GoodLink → KnownLink → Type 0)
-    (range : E → SectionKey → Option FileRange) (m : StayedSection E) (old : GoodLink) (link : KnownLink)
-    (s : ObjectSection) : Type 0 where
-  -- the links
-  pub links : knows_both m.previous.now old link
-  -- some section of its object is known to have stayed
-  pub kept : IsKept (range m.previous.now) m.section.object
+-- an input section is that at hand, with the values that the symbols of its object had in the previous link
+pub record IsStayedAt (m : StayedSection) (old : GoodLink) (link : KnownLink) (s : ObjectSection) : Type 0 where
+  -- the values that they had
+  pub before : AreValuesOf old.project old.layout s.object m.before.now
   -- the section in its place
   pub section_is : IsPlaced link m.section s.object s.section

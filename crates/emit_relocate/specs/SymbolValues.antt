@@ -36,8 +36,10 @@ HasSymbolValues link t =
     ≡ referenced_value link.project link.layout object symbol
 
 -- a list has the values of the symbols of an object, under their numbers, and no others
-abbrev pub IsRow : KnownLink → NamedObject → List code.SymbolValue → Type 0
-IsRow link object row =
+abbrev pub AreValuesOf : Project → Layout → NamedObject → List code.SymbolValue → Type 0
+AreValuesOf project layout object row =
     (j : ℕ) → value_of (slice_index_or row j NotDefined)
-    ≡ option_map_or (referenced_value link.project link.layout object)
-    (slice_get object.object.symbols j) model.NotDefined
+    ≡ option_map_or (referenced_value project layout object) (slice_get object.object.symbols j) model.NotDefined
+
+abbrev pub IsRow : KnownLink → NamedObject → List code.SymbolValue → Type 0
+IsRow link object row = AreValuesOf link.project link.layout object row

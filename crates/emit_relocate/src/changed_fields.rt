@@ -102,8 +102,9 @@ impl<'a, L: LinkInfo, E: PreviousLinkInfo> Links<'a, L, E> {
         match section.placed(self.link) {
             None => Ok(()),
             Some(section) => {
+                let count = section.symbols.len();
                 let section = StayedSection {
-                    previous: self.previous,
+                    before: self.previous.values(section.object, count),
                     section,
                     range,
                 };
@@ -226,40 +227,78 @@ impl<'a, L: LinkInfo, E: PreviousLinkInfo> Links<'a, L, E> {
     }
 }
 
-/// How many relocations there are in those sections of an object that are in the output. Nearly all have a field.
-fn count_of_object<L: LinkInfo>(link: &L, place: ObjectPlace, object: &Object) -> usize {
-    let mut count: usize = 0;
-    for index in 0..object.sections().len() {
-        let relocations = object.relocations(LinkedIndex(index));
-        let part = Part::InTable(object.sections()[index].number);
-        let section = SectionKey {
-            object: place,
-            part,
-        };
-        if !relocations.is_empty() && link.start(section).is_some() {
-            count = count.saturating_add(relocations.len());
-        }
-    }
-    count
+/// How many fields there may be, so that memory for them is taken once.
+#[derive(Clone, Copy)]
+struct Expected {
+    /// The relocations of sections that are in the output and did not stay. Nearly all have a field.
+    renewed: usize,
+    /// Those of sections that stayed.
+    retargeted: usize,
 }
 
-/// How many fields there will be at most if there is no previous link. If there is one, the answer is 0: it would have
-/// to be asked twice of each section whether it stayed, and the list can grow instead.
-fn count_fields<L: LinkInfo, E: PreviousLinkInfo>(
+/// Adds what there may be of an object of which a symbol has another value.
+fn plus_object<L: LinkInfo, E: PreviousLinkInfo>(
+    link: &L,
+    previous: &E,
+    place: ObjectPlace,
+    object: &Object,
+    expected: Expected,
+) -> Expected {
+    let Expected {
+        renewed: mut renewed,
+        retargeted: mut retargeted,
+    } = expected;
+    for index in 0..object.sections().len() {
+        let count = object.relocations(LinkedIndex(index)).len();
+        if count > 0 {
+            let part = Part::InTable(object.sections()[index].number);
+            let section = SectionKey {
+                object: place,
+                part,
+            };
+            if previous.has_stayed(section) {
+                retargeted = retargeted.saturating_add(count);
+            } else if link.start(section).is_some() {
+                renewed = renewed.saturating_add(count);
+            }
+        }
+    }
+    Expected {
+        renewed,
+        retargeted,
+    }
+}
+
+/// How many fields there may be of these objects. An object of which no symbol has another value is left out: what
+/// moves has symbols that move.
+fn expected_fields<L: LinkInfo, E: PreviousLinkInfo>(
     link: &L,
     previous: &E,
     objects: &[ObjectPlace],
-) -> usize {
-    if !previous.is_none() {
-        return 0;
-    }
-    let mut count: usize = 0;
+) -> Expected {
+    let mut expected = Expected {
+        renewed: 0,
+        retargeted: 0,
+    };
     for place in objects {
-        if let Some(object) = link.object(*place) {
-            count = count.saturating_add(count_of_object(link, *place, object));
+        if previous.is_dirty(*place) {
+            if let Some(object) = link.object(*place) {
+                expected = plus_object(link, previous, *place, object, expected);
+            }
         }
     }
-    count
+    expected
+}
+
+/// An empty list with room for this many fields, if there is memory for so many. Few of those that may be retargeted
+/// need be.
+fn list_for(alloc: Global, count: usize) -> Vec<Patch>
+    ensures { result.items ≡ [] }
+{
+    match Vec::with_capacity(alloc, count) {
+        Ok(list) => list,
+        Err(_refused) => Vec::new(alloc),
+    }
 }
 
 /// How many sections these objects have.
@@ -274,8 +313,8 @@ fn count_sections<L: LinkInfo>(link: &L, objects: &[ObjectPlace]) -> usize {
 }
 
 /// Evaluates relocations of input sections in the output: of a section that did not stay, all; of one that stayed,
-/// those whose symbol has another value than in the previous link. Each of these counts as one. The other fields are as they
-/// were. `objects` are the places of the objects, in their order, and `symbols` has the values of their symbols.
+/// those whose symbol has another value than in the previous link. Each of these counts as one. The other fields are as
+/// they were. `objects` are the places of the objects, in their order, and `symbols` has the values of their symbols.
 ///
 /// # Errors
 ///
@@ -297,10 +336,11 @@ pub fn changed_fields<L: LinkInfo, E: PreviousLinkInfo>(
 {
     // for the prover: brings in that the count of fields fits a u64
     let _fields = meter.fields();
+    let expected = expected_fields(link, previous, objects);
     let mut fields = ChangedFields {
-        patches: Vec::with_capacity(alloc, count_fields(link, previous, objects))?,
+        patches: Vec::with_capacity(alloc, expected.renewed)?,
         ends: Vec::with_capacity(alloc, count_sections(link, objects))?,
-        retargeted: Vec::new(alloc),
+        retargeted: list_for(alloc, expected.retargeted),
         faults: Vec::new(alloc),
     };
     let links = Links {

@@ -1,19 +1,15 @@
 //! What a linker knows of a previous link when it evaluates relocations of a new one.
 
-ghost use Rattle.std.specs.Prelude.{◌≡◌, Option, IfSome, None, false, is_some};
-ghost use Rattle.elfobj.specs.Symbols.{NamedSymbol};
+ghost use Rattle.std.specs.Prelude.{◌≡◌, Option, IfSome, None, Some, false, is_some, length};
 ghost use Rattle.ldmodel.specs.Project.{NamedObject};
 ghost use Rattle.ldmodel.specs.Stayed.{GoodLink};
-ghost use Rattle.ldmodel.specs.Targets.{referenced_value};
 ghost use Rattle.ldmodel.specs.declared.sections.SectionKey.{SectionKey};
 ghost use Rattle.emit_relocate.specs.PreviousLinkInfo.{HasSameValues, HasStayedAt, IsKept};
-ghost use Rattle.emit_relocate.specs.KnownLink.{IsSymbolOf, KnownLink};
-ghost use Rattle.emit_relocate.specs.Values.{value_of};
+ghost use Rattle.emit_relocate.specs.KnownLink.{KnownLink, named_object};
+ghost use Rattle.emit_relocate.specs.SymbolValues.{AreValuesOf};
 ghost use Rattle.emit_relocate.specs.declared.previous_link_info.FileRange.{FileRange};
 
 use crate::value::SymbolValue;
-use elfobj::Symbol;
-use elfobj::relocation::SymbolIndex;
 use ldmodel::names::ObjectPlace;
 use ldmodel::sections::SectionKey;
 
@@ -35,9 +31,6 @@ pub trait PreviousLinkInfo {
     /// Which input sections stayed, as far as is known, and where their bytes stand in the file.
     ghost range: { Self → SectionKey → Option FileRange };
 
-    /// Whether there is no previous link. The answer only decides how much memory is reserved.
-    fn is_none(&self) -> bool;
-
     /// The bytes in the file of an input section that stayed; an empty range if its output section has no file bytes.
     /// Nothing is said of a section that is not in the output.
     fn stayed(&self, section: SectionKey) -> Option<FileRange>
@@ -57,12 +50,12 @@ pub trait PreviousLinkInfo {
         ensures { (old : GoodLink) (link : KnownLink) → knows self.now old link → IsKept (range self.now) object
             → result ≡ false → HasSameValues old link object };
 
-    /// The value that a symbol of this object, of which a section stayed, had in the previous link to relocations of
-    /// the object.
-    fn value(&self, object: ObjectPlace, index: SymbolIndex, symbol: &Symbol) -> SymbolValue
-        ensures { (old : GoodLink) (link : KnownLink) (o : NamedObject) (x : NamedSymbol) → knows self.now old link
-            → IsKept (range self.now) object → IsSymbolOf link object index symbol.now o x
-            → value_of result ≡ referenced_value old.project old.layout o x };
+    /// The values that the symbols of this object, of which a section stayed, had in the previous link to relocations
+    /// of the object, by their numbers. The object has `count` symbols.
+    fn values(&self, object: ObjectPlace, count: usize) -> &[SymbolValue]
+        ensures { (old : GoodLink) (link : KnownLink) (named : NamedObject) → knows self.now old link
+            → IsKept (range self.now) object → named_object link object ≡ Some named
+            → length named.object.symbols ≡ count → AreValuesOf old.project old.layout named result.now };
 }
 
 /// No previous link: nothing stayed.
@@ -74,10 +67,6 @@ impl PreviousLinkInfo for NoPreviousLink {
     ghost knows = { λ _ _ _. Unit {0} };
 
     ghost range = { λ _ _. None };
-
-    fn is_none(&self) -> bool {
-        true
-    }
 
     fn stayed(&self, _section: SectionKey) -> Option<FileRange> {
         None
@@ -91,7 +80,7 @@ impl PreviousLinkInfo for NoPreviousLink {
         false
     }
 
-    fn value(&self, _object: ObjectPlace, _index: SymbolIndex, _symbol: &Symbol) -> SymbolValue {
-        SymbolValue::NotDefined
+    fn values(&self, _object: ObjectPlace, _count: usize) -> &[SymbolValue] {
+        &[]
     }
 }

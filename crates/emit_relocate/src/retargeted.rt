@@ -2,7 +2,7 @@
 //! another value than in the previous link.
 
 ghost use Rattle.std.specs.Prelude.{◌≡◌, ◌++◌, ◌+◌, ◌<◌, ◌^◌, All, OnOk, Some, [], ◌∷◌, nat_le, option_to_list};
-ghost use Rattle.std.specs.Prelude.{slice_get, true};
+ghost use Rattle.std.specs.Prelude.{slice_get, slice_index_or, true};
 ghost use Rattle.elfobj.specs.declared.relocation.Relocation.{Relocation as RelocationOf};
 ghost use Rattle.emit_fields.specs.Patches.{patch_end};
 ghost use Rattle.ldmodel.specs.Relocations.{is_evaluated};
@@ -14,9 +14,10 @@ ghost use Rattle.emit_relocate.specs.KnownLink.{KnownLink};
 ghost use Rattle.emit_relocate.specs.Links.{IsStayedAt, site_at_hand, sites_at_hand};
 ghost use Rattle.emit_relocate.specs.Sites.{IsPlaced};
 ghost use Rattle.emit_relocate.specs.Values.{value_of};
+ghost use Rattle.emit_relocate.specs.declared.value.SymbolValue.TheVariants.{NotDefined};
 
 use crate::fields::{add_fault, check_numbers};
-use crate::previous_link_info::{FileRange, PreviousLinkInfo};
+use crate::previous_link_info::FileRange;
 use crate::site::{PlacedInput, evaluate, is_evaluated, site_value};
 use crate::value::SymbolValue;
 use elfobj::relocation::{Relocation, SymbolIndex};
@@ -66,31 +67,36 @@ fn add_in_file(range: FileRange, field: Patch, patches: &mut Vec<Patch>) -> Resu
     Ok(())
 }
 
-/// A section that stayed, with what tells the values that its relocations' symbols had.
-#[derive_where(Clone, Copy)]
-pub struct StayedSection<'a, E> {
-    /// The previous link.
-    pub previous: &'a E,
+/// A section that stayed, with the values that the symbols of its object had.
+#[derive(Clone, Copy)]
+pub struct StayedSection<'a> {
+    /// The values in the previous link of the object's symbols, by their numbers.
+    pub before: &'a [SymbolValue],
     /// The section in its place.
     pub section: PlacedInput<'a>,
     /// Its file range.
     pub range: FileRange,
 }
 
-impl<'a, E: PreviousLinkInfo> StayedSection<'a, E> {
+impl<'a> StayedSection<'a> {
+    /// The value that a symbol of the object had, by its number.
+    #[inline(always)]
+    fn value_before(&self, symbol: SymbolIndex) -> SymbolValue
+        ensures { result ≡ slice_index_or self.now.before.now symbol.0 NotDefined }
+    {
+        self.before
+            .get(symbol.0 as usize)
+            .copied()
+            .unwrap_or(SymbolValue::NotDefined)
+    }
+
     /// Whether the symbol that a relocation of the section names has another value than it had.
     fn has_moved(&self, symbol: SymbolIndex) -> bool
         ensures { (old : GoodLink) (link : KnownLink) (s : ObjectSection) (r : RelocationOf)
-            → IsStayedAt E.knows E.range self.now old link s → r.symbol ≡ symbol
+            → IsStayedAt self.now old link s → r.symbol ≡ symbol
             → result ≡ has_moved old link (site_at_hand self.now.section s r) }
     {
-        match self.section.symbols.get(symbol.0 as usize) {
-            None => false,
-            Some(entry) => {
-                let before = self.previous.value(self.section.object, symbol, entry);
-                !is_same_value(before, site_value(&self.section, symbol))
-            }
-        }
+        !is_same_value(self.value_before(symbol), site_value(&self.section, symbol))
     }
 
     /// Evaluates the relocation of number `entry`: adds its field in its place in the file, or its fault.
@@ -138,7 +144,7 @@ impl<'a, E: PreviousLinkInfo> StayedSection<'a, E> {
         requires entry_is { slice_get self.now.section.relocations.now entry ≡ Some relocation.now }
         requires below { self.now.section.start + relocation.now.offset < 2 ^ 64 }
         ensures { OnOk result ((old : GoodLink) (link : KnownLink) (s : ObjectSection)
-            → IsStayedAt E.knows E.range self.now old link s
+            → IsStayedAt self.now old link s
             → IsMoved old link self.now.range
             (sites_at_hand self.now.section s (relocation.now ∷ [])) patches.old.items
             patches.new.items faults.old.items faults.new.items meter.old meter.new) }
@@ -171,7 +177,7 @@ impl<'a, E: PreviousLinkInfo> StayedSection<'a, E> {
         requires { All (λ relocation. self.now.section.start + relocation.offset < 2 ^ 64)
             self.now.section.relocations.now }
         ensures { OnOk result ((old : GoodLink) (link : KnownLink) (section : ObjectSection)
-            → IsStayedAt E.knows E.range self.now old link section
+            → IsStayedAt self.now old link section
             → IsMoved old link self.now.range
             (sites_at_hand self.now.section section self.now.section.relocations.now) patches.old.items
             patches.new.items faults.old.items faults.new.items meter.old meter.new) }

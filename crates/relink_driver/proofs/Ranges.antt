@@ -1,14 +1,11 @@
 -- The ranges of a link that stayed, as far as they are known, are those of its input sections that stayed.
-use Rattle.std.proofs.Common.{◌≡◌, ◌<◌, ◌≤◌, ◌==◌, ◌&&◌, ℕ, ◌^◌, Bool, true, false, cond, refl, sym, ap, length, map, subst}
-use Rattle.std.proofs.Common.{◌∙◌, Option, Some, None, slice_get}
+use Rattle.std.proofs.Common.{◌≡◌, ◌<◌, ◌≤◌, ◌==◌, ◌&&◌, ℕ, ◌^◌, Bool, true, false, cond, refl, sym, ap, length, map}
+use Rattle.std.proofs.Common.{◌∙◌, List, Option, Some, None, slice_get, subst}
 use Rattle.std.specs.List.{Contains}
 use Rattle.std.specs.Option.{option_and_then, option_map}
 use Rattle.std.specs.Prelude.{IfSome, IsSome}
 use Rattle.std.proofs.lemmas.Bool.{false≢true}
 use Rattle.std.proofs.lemmas.Option.{same_Some}
-use Rattle.elfobj.specs.Symbols.{NamedSymbol}
-use Rattle.elfobj.specs.declared.relocation.SymbolIndex.{SymbolIndex}
-use Rattle.elfobj.specs.declared.symbol.Symbol.{Symbol}
 use Rattle.ldmodel.specs.Edits.{AreNamesDistinct}
 use Rattle.ldmodel.specs.Layout.{PlacedPiece, PlacedOutput}
 use Rattle.ldmodel.specs.Link.{max_image_length}
@@ -17,7 +14,6 @@ use Rattle.ldmodel.specs.Project.{NamedObject}
 use Rattle.ldmodel.specs.SectionHeaders.{image_length}
 use Rattle.ldmodel.specs.Segments.{SectionInFile, file_offset, in_file, nonempty, segments}
 use Rattle.ldmodel.specs.Stayed.{GoodLink, LinkedPiece, has_stayed, link_pieces, same_piece}
-use Rattle.ldmodel.specs.Targets.{referenced_value}
 use Rattle.ldmodel.specs.declared.names.ObjectPlace.{ObjectPlace}
 use Rattle.ldmodel.specs.declared.sections.Part.{Part}
 use Rattle.ldmodel.specs.declared.sections.SectionKey.{SectionKey}
@@ -28,14 +24,15 @@ use Rattle.place.specs.declared.indexed_layout.SectionAddress.{SectionAddress}
 use Rattle.place.specs.declared.link_layout.LinkLayout.{LinkLayout}
 use Rattle.emit.specs.relocate.PreviousLinkInfo as earlier
 use Rattle.emit.specs.relocate.PreviousLinkInfo.{HasStayedAt, IsComplete, IsKept, IsPieceOf}
-use Rattle.emit.specs.relocate.KnownLink.{IsSymbolOf, KnownLink, name_of_object}
-use Rattle.emit.specs.relocate.Values.{value_of}
+use Rattle.emit.specs.relocate.KnownLink.{KnownLink, name_of_object, named_object}
+use Rattle.emit.specs.relocate.SymbolValues.{AreSymbolValues, AreValuesOf}
 use Rattle.emit.specs.relocate.declared.previous_link_info.FileRange.{FileRange}
+use Rattle.emit.specs.relocate.declared.value.SymbolValue.{SymbolValue}
 use Rattle.relink_driver.specs.SectionLocation.{same_location, location_in, location_of, location_with}
 use Rattle.relink_driver.specs.StayedSections.{IsPreviousOf, PreviousState, kept_at, kept_range, previous_of}
 use Rattle.relink_driver.specs.StayedSections.{address_from, last_place, previous_address, previous_location}
 use Rattle.relink_driver.specs.StayedSections.{previous_state}
-use Rattle.relink_driver.specs.StayedSections.{previous_value, standing_from, value_from}
+use Rattle.relink_driver.specs.StayedSections.{standing_from}
 use Rattle.relink_driver.specs.declared.section_location.SectionLocation.{SectionLocation}
 use Rattle.relink_driver.specs.declared.stayed_sections.PreviousView.{PreviousView}
 use Rattle.relink_driver.proofs.Inside.{below_64}
@@ -277,35 +274,34 @@ pub not_kept : (m : Option PreviousState) (t : IndexedLayout) (object : ObjectPl
 not_kept m t object e kept =
     false≢true (subst IsSome (none_known m t (record { object = object; part = kept.0 }) e) kept.1)
 
-module _ (old : GoodLink) (l : KnownLink) (keys : (k : ℕ) → l.number k ≡ k) (t : IndexedLayout)
-    (y : PreviousState) (previous : IsPreviousOf old l.project y) (object : ObjectPlace) (index : SymbolIndex)
-    (symbol : Symbol)
-    (o : NamedObject) (x : NamedSymbol) (is : IsSymbolOf l object index symbol o x) where
-  worth : (p : Option ℕ) → last_place y object ≡ p → (part : Part)
+-- an object of which a section is known to have stayed stood in the previous link
+module _ (t : IndexedLayout) (y : PreviousState) (object : ObjectPlace) where
+  stood_at : (p : Option ℕ) → last_place y object ≡ p → (part : Part)
       → IsSome (kept_range (Some y) t (record { object = object; part = part }))
-      → value_of (value_from y index p) ≡ referenced_value old.project old.layout o x
+      → (from : ℕ) × (last_place y object ≡ Some from)
   unfolding kept_range previous_location
-  worth None e part kept =
+  stood_at None e part kept =
       let gone : previous_location y (record { object = object; part = part }) ≡ None =
       ap (option_and_then (standing_from y part)) e in
       absurd (false≢true (subst IsSome
       (ap (λ b. kept_at b (location_in t (record { object = object; part = part }))) gone) kept))
-  worth (Some j) e part kept =
-      previous.table.symbols j index.0 o x
-      (sym (previous.origins.same object.0 j e) ∙ ap (slice_get l.project.objects) (sym (keys object.0)) ∙ is.object_is)
-      is.entry_is
+  stood_at (Some j) e part kept = (j, e)
 
-  pub was_worth : IsKept (kept_range (Some y) t) object
-      → value_of (previous_value y object index) ≡ referenced_value old.project old.layout o x
-  was_worth kept = worth (last_place y object) refl kept.0 kept.1
-
-pub worth_of : (old : GoodLink) (l : KnownLink) → ((k : ℕ) → l.number k ≡ k) → (t : IndexedLayout)
+-- the values of its symbols there, by those of the object at that place
+pub were_worth : (old : GoodLink) (l : KnownLink) → ((k : ℕ) → l.number k ≡ k) → (t : IndexedLayout)
     (m : Option PreviousView) (y : PreviousView) → m ≡ Some y → IfSome (previous_of m) (IsPreviousOf old l.project)
-    → (object : ObjectPlace)
-    (index : SymbolIndex) (symbol : Symbol) (o : NamedObject) (x : NamedSymbol) → IsSymbolOf l object index symbol o x
-    → IsKept (kept_range (previous_of m) t) object
-    → value_of (previous_value (previous_state y) object index) ≡ referenced_value old.project old.layout o x
-worth_of old l keys t m y e previous object index symbol o x is kept =
-    was_worth old l keys t (previous_state y)
-    (subst (λ n. IfSome (previous_of n) (IsPreviousOf old l.project)) e previous) object
-    index symbol o x is (subst (λ n. IsKept (kept_range (previous_of n) t) object) e kept)
+    → (object : ObjectPlace) (o : NamedObject) → named_object l object ≡ Some o
+    → IsKept (kept_range (previous_of m) t) object → (row : List SymbolValue)
+    → ((from : ℕ) → last_place (previous_state y) object ≡ Some from
+    → AreSymbolValues old.project old.layout y.snapshot.now.symbols → slice_get old.project.objects from ≡ Some o
+    → AreValuesOf old.project old.layout o row)
+    → AreValuesOf old.project old.layout o row
+were_worth old l keys t m y e previous object o named kept row worth =
+    let known : IsPreviousOf old l.project (previous_state y) =
+    subst (λ n. IfSome (previous_of n) (IsPreviousOf old l.project)) e previous in
+    let kept_there : IsKept (kept_range (Some (previous_state y)) t) object =
+    subst (λ n. IsKept (kept_range (previous_of n) t) object) e kept in
+    let at = stood_at t (previous_state y) object (last_place (previous_state y) object) refl kept_there.0
+    kept_there.1 in
+    worth at.0 at.1 known.table.symbols
+    (sym (known.origins.same object.0 at.0 at.1) ∙ ap (slice_get l.project.objects) (sym (keys object.0)) ∙ named)

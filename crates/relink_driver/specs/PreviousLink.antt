@@ -2,17 +2,13 @@
 use Rattle.std.specs.Prelude.{ℕ, Bool, List, Option, Some, None, option_and_then, if◌then◌else◌, slice_index_or}
 use Rattle.std.specs.Option.{option_map}
 use Rattle.elfobj.specs.Object.{ObjectData}
-use Rattle.elfobj.specs.declared.relocation.SymbolIndex.{SymbolIndex}
 use Rattle.ldmodel.specs.declared.names.ObjectPlace.{ObjectPlace}
 use Rattle.ldmodel.specs.declared.sections.Part.{Part}
 use Rattle.ldmodel.specs.declared.sections.SectionKey.{SectionKey}
 use Rattle.place.specs.IndexedLayout.{place_in}
 use Rattle.place.specs.declared.indexed_layout.IndexedLayout.{IndexedLayout}
 use Rattle.place.specs.declared.indexed_layout.SectionAddress.{SectionAddress}
-use Rattle.emit.specs.relocate.SymbolValues.{value_at}
 use Rattle.emit.specs.relocate.declared.previous_link_info.FileRange.{FileRange}
-use Rattle.emit.specs.relocate.declared.value.SymbolValue.{SymbolValue}
-use Rattle.emit.specs.relocate.declared.value.SymbolValue.TheVariants.{NotDefined}
 use Rattle.relink_driver.specs.SectionLocation.{same_location, location_in}
 use Rattle.relink_driver.specs.declared.link_snapshot.LinkSnapshot.{LinkSnapshot}
 use Rattle.relink_driver.specs.declared.section_location.SectionLocation.{SectionLocation}
@@ -70,14 +66,6 @@ previous_address previous k = option_and_then (address_from previous k.part) (la
 
 unfoldable pub previous_location : PreviousState → SectionKey → Option SectionLocation
 previous_location previous k = option_and_then (standing_from previous k.part) (last_place previous k.object)
-
--- what a symbol of an object was worth in it
-abbrev pub value_from : PreviousState → SymbolIndex → Option ℕ → SymbolValue
-value_from previous index None = NotDefined
-value_from previous index (Some i) = value_at previous.snapshot.symbols i index.0
-
-abbrev pub previous_value : PreviousState → ObjectPlace → SymbolIndex → SymbolValue
-previous_value previous k index = value_from previous index (last_place previous k)
 
 -- it stayed where it stands as it stood
 abbrev pub kept_at : Option SectionLocation → Option SectionLocation → Option FileRange

@@ -15,8 +15,8 @@ use Rattle.relink_driver.specs.DirtyObjects.{AreDirtyObjects}
 use Rattle.relink_driver.specs.LinkSnapshot.{IsLinkSnapshot}
 use Rattle.relink_driver.specs.Origins.{AreOrigins}
 pub use Rattle.relink_driver.specs.PreviousLink.{PreviousState, ReplacedObjectState, address_from, kept_at, last_place}
-pub use Rattle.relink_driver.specs.PreviousLink.{previous_address, previous_of, previous_state, previous_value}
-pub use Rattle.relink_driver.specs.PreviousLink.{replaced_state, standing_from, value_from}
+pub use Rattle.relink_driver.specs.PreviousLink.{previous_address, previous_of, previous_state}
+pub use Rattle.relink_driver.specs.PreviousLink.{replaced_state, standing_from}
 unfoldable pub use Rattle.relink_driver.specs.PreviousLink.{kept_range, previous_location}
 use Rattle.relink_driver.specs.declared.stayed_sections.StayedSections.{StayedSections}
 

@@ -1,18 +1,21 @@
 //! Which input sections of a link stayed where the previous link has them.
 
-ghost use Rattle.std.specs.Prelude.{◌≡◌, IsSome, None, Option, is_some, slice_index_or, true};
+ghost use Rattle.std.specs.Prelude.{◌≡◌, ℕ, IsSome, None, Option, Some, is_some, length, slice_get, slice_index_or};
+ghost use Rattle.std.specs.Prelude.{true};
 ghost use Rattle.emit.specs.Kept.{IsSound};
+ghost use Rattle.ldmodel.specs.Layout.{Layout};
+ghost use Rattle.ldmodel.specs.Project.{NamedObject, Project};
 ghost use Rattle.ldmodel.specs.Stayed.{GoodLink};
 ghost use Rattle.emit.specs.relocate.PreviousLinkInfo.{IsComplete};
 ghost use Rattle.emit.specs.relocate.KnownLink.{KnownLink};
-ghost use Rattle.relink_driver.specs.PreviousLink.{previous_address, previous_of, previous_state, previous_value};
+ghost use Rattle.emit.specs.relocate.SymbolValues.{AreSymbolValues, AreValuesOf};
+ghost use Rattle.relink_driver.specs.PreviousLink.{previous_address, previous_of, previous_state};
 ghost use Rattle.relink_driver.specs.StayedColumn.{IsStayedColumn};
 
 use crate::link_snapshot::LinkSnapshot;
 use crate::section_location::{range_at, range_if_stayed};
 use crate::stayed_column::StayedColumn;
-use elfobj::relocation::SymbolIndex;
-use elfobj::{Object, Symbol};
+use elfobj::Object;
 use emit::relocate::previous_link_info::{FileRange, PreviousLinkInfo};
 use emit::relocate::value::SymbolValue;
 use ldmodel::names::ObjectPlace;
@@ -68,13 +71,18 @@ impl<'a> PreviousView<'a> {
         self.snapshot.indexed_layout.find(section)
     }
 
-    /// The value that a symbol of an object of the new link had in the previous one.
-    fn value(&self, object: ObjectPlace, index: SymbolIndex) -> SymbolValue
-        ensures { result ≡ previous_value (previous_state self.now) object index }
+    /// The values that the symbols of an object of the new link, which has this number of them, had in the previous
+    /// one; none if the previous one does not have it.
+    fn values(&self, object: ObjectPlace, count: usize) -> &'a [SymbolValue]
+        ensures { (project : Project) (layout : Layout) (from : ℕ) (named : NamedObject)
+            → slice_index_or self.now.from.now object.0 None ≡ Some from
+            → AreSymbolValues project layout self.now.snapshot.now.symbols
+            → slice_get project.objects from ≡ Some named → length named.object.symbols ≡ count
+            → AreValuesOf project layout named result.now }
     {
         match self.place(object) {
-            None => SymbolValue::NotDefined,
-            Some(place) => self.snapshot.symbols.value(place, index),
+            None => &[],
+            Some(place) => self.snapshot.symbols.row(ObjectPlace(place), count),
         }
     }
 }
@@ -150,10 +158,6 @@ impl<'a> PreviousLinkInfo for StayedSections<'a> {
 
     ghost range = { range_of };
 
-    fn is_none(&self) -> bool {
-        self.previous.is_none()
-    }
-
     fn stayed(&self, section: SectionKey) -> Option<FileRange> {
         if !self.is_known(section) {
             return None;
@@ -171,10 +175,10 @@ impl<'a> PreviousLinkInfo for StayedSections<'a> {
         self.dirty_bit(object)
     }
 
-    fn value(&self, object: ObjectPlace, index: SymbolIndex, _symbol: &Symbol) -> SymbolValue {
+    fn values(&self, object: ObjectPlace, count: usize) -> &[SymbolValue] {
         match self.previous {
-            None => SymbolValue::NotDefined,
-            Some(previous) => previous.value(object, index),
+            None => &[],
+            Some(previous) => previous.values(object, count),
         }
     }
 }

@@ -25,5 +25,5 @@ loop-place-init g c =
     λ old l k e all low order.
     changed_none old l (g.E.PreviousLinkInfo.range c.args.previous.now) _ _ c.in_ok-with_capacity.ensures.items
     c.in_ok-with_capacity-2.ensures.items
-    c.new.ensures.items c.new-2.ensures.items refl
+    c.list_for.ensures c.new.ensures.items refl
     (omega (arith, c.fields-fields.type_inv, c.fields-fields.ensures))

@@ -46,7 +46,7 @@ returns-clause-link c =
     let l : KnownLink = touching.link_at p x r f names keeps s in
     let row : IsRow l f.after c.row-values.result.now =
     touching.values p x r f names keeps old is (length c.symbols.result.now) c.row-values.result.now count
-    c.row-values.ensures in
+    c.row-values.ensures.is in
     let order = c.files_in_order.ensures s.sections in
     let all = c.sections_in_file.ensures.all s.sections in
     let offset_is = c.sections_in_file.ensures.offset s.sections is.table.indexed_layout.link_layout.named in
@@ -87,7 +87,7 @@ returns-clause-counted c =
     let l : KnownLink = touching.link_at p x r f names keeps s in
     let row : IsRow l f.after c.row-values.result.now =
     touching.values p x r f names keeps old is (length c.symbols.result.now) c.row-values.result.now count
-    c.row-values.ensures in
+    c.row-values.ensures.is in
     let order = c.files_in_order.ensures s.sections in
     let all = c.sections_in_file.ensures.all s.sections in
     let offset_is = c.sections_in_file.ensures.offset s.sections is.table.indexed_layout.link_layout.named in
@@ -132,7 +132,7 @@ returns-clause-faulty c =
     let l : KnownLink = touching.link_at p x r f names keeps s in
     let row : IsRow l f.after c.row-values.result.now =
     touching.values p x r f names keeps old is (length c.symbols.result.now) c.row-values.result.now count
-    c.row-values.ensures in
+    c.row-values.ensures.is in
     let order = c.files_in_order.ensures s.sections in
     let all = c.sections_in_file.ensures.all s.sections in
     let offset_is = c.sections_in_file.ensures.offset s.sections is.table.indexed_layout.link_layout.named in
@@ -165,7 +165,7 @@ returns-clause-reads c =
     let l : KnownLink = touching.link_at p x r f names keeps s in
     let row : IsRow l f.after c.row-values.result.now =
     touching.values p x r f names keeps old is (length c.symbols.result.now) c.row-values.result.now count
-    c.row-values.ensures in
+    c.row-values.ensures.is in
     let order = c.files_in_order.ensures s.sections in
     let all = c.sections_in_file.ensures.all s.sections in
     let offset_is = c.sections_in_file.ensures.offset s.sections is.table.indexed_layout.link_layout.named in

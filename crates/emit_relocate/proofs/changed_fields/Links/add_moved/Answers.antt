@@ -1,4 +1,6 @@
-use Rattle.std.proofs.Common.{arith, refl, subst, sym}
+use Rattle.std.proofs.Common.{◌≡◌, ◌∙◌, ap, arith, length, refl, subst, sym}
+use Rattle.std.proofs.lemmas.List.{length-map}
+use Rattle.elfobj.specs.Symbols.{NamedSymbol}
 use Rattle.emit_relocate.specs.Changes.{results_of}
 use Rattle.emit_relocate.specs.PreviousLinkInfo.{IsKept}
 use Rattle.emit_relocate.proofs.Changing.{kept_by, retained}
@@ -19,10 +21,15 @@ returns-in_ok-add_moved-in-Some g c =
     let range = g.E.PreviousLinkInfo.range c.args.self.now.previous.now in
     let of_object = kept_by range _ _ kept.known in
     let place = c.in-Some.ensures.place l s k.link k.below h in
+    let placed = place.section_is in
+    let many : length s.object.object.symbols ≡ length c.in-Some.section.symbols.now =
+    sym (ap length placed.symbols_are
+    ∙ length-map s.object.object.symbols (λ (y : NamedSymbol). y.symbol)) in
     retained old l range s _ c.args.range _ _ kept.stayed refl refl
     (moved_placed old l c.args.range s c.in-Some.section place _ _ _ _ _ _
     (c.in_ok-add_moved-in-Some.ensures old l s (record {
-      links = k.previous;
-      kept = subst (IsKept range) (sym c.in-Some.ensures.object) of_object;
-      section_is = place.section_is;
+      before =
+          c.values.ensures old l s.object k.previous (subst (IsKept range) (sym c.in-Some.ensures.object) of_object)
+          placed.object_is many;
+      section_is = placed;
     })))

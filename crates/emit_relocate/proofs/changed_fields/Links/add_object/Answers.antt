@@ -20,7 +20,7 @@ loop-index-preserved g c =
     let many = ap length c.sections-index-end.ensures.value ∙ length-map c.args.object.now.sections section_of in
     let row : IsRow l o c.row-values.result.now =
     row_is l c.args.self.now.symbols.now c.args.place o c.args.object.now c.symbols.result.now
-    c.row-values.result.now k.symbols named same c.symbols.ensures.value c.row-values.ensures in
+    c.row-values.result.now k.symbols named same c.symbols.ensures.value c.row-values.ensures.is in
     next_section old l (g.E.PreviousLinkInfo.range c.args.self.now.previous.now) _ _ _ o c.args.object.now.sections
     c.loop-index.index (omega (arith, many, c.loop-index-test.true))
     (c.loop-index.invariant old l o k named same)

@@ -5,15 +5,15 @@ use Rattle.emit_relocate.proofs.Moving.{moved_all, moved_next, moved_nothing}
 use Rattle.emit_relocate.proofs.retargeted.StayedSection.add_moved.Goals as goal
 
 pub loop-entry-init : goal.loop-entry-init
-loop-entry-init g c =
+loop-entry-init c =
     λ old l s h. moved_nothing old l c.args.self.now.range c.args.patches.now.items c.args.faults.now.items
     c.args.meter.now (omega (arith, c.fields-fields.type_inv, c.fields-fields.ensures))
 
 pub add_moved_site-requires-clause-entry_is : goal.add_moved_site-requires-clause-entry_is
-add_moved_site-requires-clause-entry_is g c = slice_get-get_or _ _ _ c.loop-entry-test.true
+add_moved_site-requires-clause-entry_is c = slice_get-get_or _ _ _ c.loop-entry-test.true
 
 pub loop-entry-preserved : goal.loop-entry-preserved
-loop-entry-preserved g c =
+loop-entry-preserved c =
     λ old l s h.
     moved_next old l c.args.self.now.range s.object s.section c.args.self.now.section.start
     c.args.self.now.section.relocations.now c.loop-entry.entry
@@ -22,7 +22,7 @@ loop-entry-preserved g c =
     (c.loop-entry.invariant old l s h) (c.in_ok-add_moved_site.ensures old l s h)
 
 pub returns : goal.returns
-returns g c =
+returns c =
     λ old l s h. moved_all old l c.args.self.now.range s.object s.section c.args.self.now.section.start
     c.args.self.now.section.relocations.now c.loop-entry.entry c.loop-entry-test.false c.loop-entry.auto.entry-end
     _ _ _ _ _ _ (c.loop-entry.invariant old l s h)

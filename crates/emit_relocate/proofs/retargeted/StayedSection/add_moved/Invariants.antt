@@ -7,8 +7,8 @@ use Rattle.emit_relocate.specs.Links.{IsStayedAt, sites_at_hand}
 use Rattle.emit_relocate.proofs.retargeted.StayedSection.add_moved.Given as goal
 
 abbrev pub invariant-loop-entry : goal.invariant-loop-entry
-invariant-loop-entry g l =
+invariant-loop-entry l =
     (old : GoodLink) (k : KnownLink) (s : ObjectSection)
-    → IsStayedAt g.E.PreviousLinkInfo.knows g.E.PreviousLinkInfo.range l.self old k s
+    → IsStayedAt l.self old k s
     → IsMoved old k l.self.range (sites_at_hand l.self.section s (take l.entry l.self.section.relocations.now))
     l.initial.patches.items l.patches.items l.initial.faults.items l.faults.items l.initial.meter l.meter

@@ -3,14 +3,14 @@ use Rattle.emit_relocate.proofs.Moving.{moved_filed, moved_none, moved_same}
 use Rattle.emit_relocate.proofs.retargeted.StayedSection.add_moved_site.Goals as goal
 
 pub returns-then-not-is_evaluated : goal.returns-then-not-is_evaluated
-returns-then-not-is_evaluated g c =
+returns-then-not-is_evaluated c =
     λ old l s h. moved_none old l c.args.self.now.range s.object s.section c.args.self.now.section.start
     c.args.relocation.now c.args.patches.now.items c.args.faults.now.items c.args.meter.now
     (sym c.is_evaluated.ensures ∙ c.if-not-is_evaluated.true)
     (omega (arith, c.fields-fields.type_inv, c.fields-fields.ensures))
 
 pub returns-then-not-has_moved : goal.returns-then-not-has_moved
-returns-then-not-has_moved g c =
+returns-then-not-has_moved c =
     λ old l s h. moved_same old l c.args.self.now.range s.object s.section c.args.self.now.section.start
     c.args.relocation.now (sym c.is_evaluated.ensures ∙ c.if-not-is_evaluated.false)
     c.args.patches.now.items c.args.faults.now.items c.args.meter.now
@@ -18,7 +18,7 @@ returns-then-not-has_moved g c =
     (omega (arith, c.fields-fields.type_inv, c.fields-fields.ensures))
 
 pub returns : goal.returns
-returns g c =
+returns c =
     λ old l s h.
     moved_filed old l c.args.self.now.range s.object s.section c.args.self.now.section.start c.args.relocation.now
     (sym c.is_evaluated.ensures ∙ c.if-not-is_evaluated.false)
