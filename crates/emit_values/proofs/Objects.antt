@@ -1,6 +1,6 @@
 -- Objects as the look-ups of their symbols need them.
 use Rattle.std.proofs.Common.{◌≡◌, ◌∙◌, ◌⊎◌, inl, inr, ℕ, List, Option, None, Some, ap, map, refl, subst, sym}
-use Rattle.std.proofs.Common.{slice_get}
+use Rattle.std.proofs.Common.{◌++◌, ◌∷◌, [], length, slice_get, zero, suc}
 use Rattle.std.proofs.lemmas.Option.{same_Some, slice_get-map}
 use Rattle.std.specs.Prelude.{slice_index_or}
 use Rattle.std.specs.Option.{option_and_then, option_map}
@@ -20,7 +20,8 @@ use Rattle.place.specs.IndexedLayout.{IsIndexedLayout, IsSectionAddress, table_k
 use Rattle.place.specs.declared.indexed_layout.IndexedLayout.{IndexedLayout}
 use Rattle.place.specs.declared.indexed_layout.SectionAddress.{SectionAddress}
 use Rattle.emit_values.specs.NameRows.{bare_row, decided_row, entry_row, shown_row}
-use Rattle.emit_values.specs.ObjectParts.{AreAddresses, AreFor}
+use Rattle.emit_values.specs.ObjectParts.{AreAddresses}
+use Rattle.emit_values.specs.ObjectTable.{AreObjects, IsObject}
 use Rattle.emit_values.specs.declared.name_row.NameRow as code
 use Rattle.emit_values.specs.declared.object_parts.ObjectParts.{ObjectParts}
 
@@ -51,19 +52,37 @@ address_of p s indexed x number read starts are e =
     let key = table_key x.place number in
     subst (IsSectionAddress p s key) (sym (e ∙ are number)) (starts.places key)
 
+-- an element of a list with one more at its end
+in_longer : {X : Type 0} (xs : List X) (x : X) (n : ℕ) (y : X) → slice_get (xs ++ x ∷ []) n ≡ Some y
+    → (slice_get xs n ≡ Some y) ⊎ ((n ≡ length xs) × (x ≡ y))
+in_longer [] x zero y e = inr (refl, same_Some _ _ e)
+in_longer [] x (suc n) y e = absurd (cc)
+in_longer (z ∷ zs) x zero y e = inl e
+in_longer (z ∷ zs) x (suc n) y e = elim (in_longer zs x n y e) [
+  | inl h ↦ inl h
+  | inr h ↦ inr (ap suc h.0, h.1)
+]
+
+-- one object more
+pub objects_more : (p : Project) (indexed : IndexedLayout) (old new : List ObjectParts) (x : ObjectParts)
+    → new ≡ old ++ x ∷ [] → IsObject p indexed (length old) x → AreObjects p indexed old → AreObjects p indexed new
+objects_more p indexed old new x e last before n y at =
+    elim (in_longer old x n y (ap (λ zs. slice_get zs n) (sym e) ∙ at)) [
+      | inl h ↦ before n y h
+      | inr h ↦ subst (λ z. IsObject p indexed n z) h.1 (subst (λ i. IsObject p indexed i x) (sym h.0) last)
+    ]
+
 module _ (p : Project) (s : Layout) (name : List ℕ) where
   -- what a name is that an entry of an object defines, strongly or weakly
   pub entry_decided : (k : Case ObjectPlace) (e : code_entry.Entry ObjectPlace) (parts : ObjectParts) (x : code.NameRow)
-      → (k ≡ case.Strong e) ⊎ (k ≡ case.Weak e) → AreFor k parts
+      → (k ≡ case.Strong e) ⊎ (k ≡ case.Weak e) → parts.place ≡ e.object
       → shown_row x ≡ entry_row p s (record { object = parts.place.0; symbol = e.symbol.0 })
       → shown_row x ≡ decided_row p s name (decision_of (λ key. key) k)
   entry_decided k e parts x (inl is) for h =
-      h ∙ ap (λ (o : ObjectPlace). entry_row p s (record { object = o.0; symbol = e.symbol.0 }))
-      (subst (λ (c : Case ObjectPlace). AreFor c parts) is for)
+      h ∙ ap (λ (o : ObjectPlace). entry_row p s (record { object = o.0; symbol = e.symbol.0 })) for
       ∙ ap (λ (c : Case ObjectPlace). decided_row p s name (decision_of (λ key. key) c)) (sym is)
   entry_decided k e parts x (inr is) for h =
-      h ∙ ap (λ (o : ObjectPlace). entry_row p s (record { object = o.0; symbol = e.symbol.0 }))
-      (subst (λ (c : Case ObjectPlace). AreFor c parts) is for)
+      h ∙ ap (λ (o : ObjectPlace). entry_row p s (record { object = o.0; symbol = e.symbol.0 })) for
       ∙ ap (λ (c : Case ObjectPlace). decided_row p s name (decision_of (λ key. key) c)) (sym is)
 
   -- what a name is that the script gives

@@ -13,3 +13,4 @@ pub mod AssertedSymbols
 pub mod FinalScope
 pub mod SymbolRows
 pub mod ObjectParts
+pub mod ObjectTable

@@ -5,9 +5,6 @@ use Rattle.elfobj.specs.Symbols.{NamedSymbol}
 use Rattle.elfobj.specs.declared.section.SectionIndex.{SectionIndex}
 use Rattle.ldmodel.specs.Live.{symbol_at}
 use Rattle.ldmodel.specs.Project.{Project}
-use Rattle.ldmodel.specs.declared.names.Case.{Case}
-use Rattle.ldmodel.specs.declared.names.Case.TheVariants as case
-use Rattle.ldmodel.specs.declared.names.ObjectPlace.{ObjectPlace}
 use Rattle.place.specs.IndexedLayout.{place_in, table_key}
 use Rattle.place.specs.declared.indexed_layout.IndexedLayout.{IndexedLayout}
 use Rattle.emit_values.specs.declared.object_parts.ObjectParts.{ObjectParts}
@@ -22,13 +19,3 @@ AreSymbols project x =
 abbrev pub AreAddresses : IndexedLayout → ObjectParts → Type 0
 AreAddresses layout x =
     (number : SectionIndex) → slice_index_or x.addresses.now number.0 None ≡ place_in layout (table_key x.place number)
-
--- where a symbol of an object defines a name, they are of that object
-abbrev pub AreFor : Case ObjectPlace → ObjectParts → Type 0
-AreFor (case.Strong e) x = x.place ≡ e.object
-AreFor case.Script x = Unit {0}
-AreFor (case.Common owner size align) x = Unit {0}
-AreFor (case.Weak e) x = x.place ≡ e.object
-AreFor case.Provided x = Unit {0}
-AreFor case.Undefined x = Unit {0}
-AreFor case.Duplicate x = Unit {0}

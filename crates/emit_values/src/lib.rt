@@ -2,8 +2,8 @@
 //! the assertions that fail. Takes the names of a project, its layout and its script; gives values, symbols and faults.
 //!
 //! - `link_view` over `known`, `given` and `given_table`: what the evaluation of relocations asks of a link;
-//! - `values` over `name_rows`, `name_row`, `symbol_row`, `object_parts`, `script_names`, `symbols`, `sizes` and
-//!   `script_values`: the values of all names, and the symbols of the output;
+//! - `values` over `name_rows`, `name_row`, `symbol_row`, `object_table`, `object_parts`, `script_names`, `symbols`,
+//!   `sizes` and `script_values`: the values of all names, and the symbols of the output;
 //! - `asserting` over `final_scope` and `symbols_by_name`: the faults of ASSERTs.
 #![tactic(auto)]
 
@@ -16,6 +16,7 @@ pub mod link_view;
 pub mod name_row;
 mod name_rows;
 mod object_parts;
+mod object_table;
 mod script_names;
 mod script_values;
 pub mod sizes;

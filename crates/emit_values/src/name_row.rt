@@ -19,10 +19,12 @@ ghost use Rattle.emit_text.specs.Definer.{definer_of};
 ghost use Rattle.emit_values.specs.NameRows.{bare_row, block_row, decided_row, entry_row, shown_in, shown_row};
 ghost use Rattle.emit_values.specs.SymbolRows.{definer_in};
 ghost use Rattle.emit_values.specs.NameRows.{IsPlaceIn, IsPlaceOf};
-ghost use Rattle.emit_values.specs.ObjectParts.{AreAddresses, AreFor, AreSymbols};
+ghost use Rattle.emit_values.specs.ObjectParts.{AreAddresses, AreSymbols};
+ghost use Rattle.emit_values.specs.ObjectTable.{IsObjectTable};
 
 use crate::link_view::LinkView;
 use crate::object_parts::ObjectParts;
+use crate::object_table::ObjectTable;
 use crate::symbol_row::SymbolRow;
 use elfobj::file::constants::SHN_ABS;
 use elfobj::relocation::SymbolIndex;
@@ -212,52 +214,27 @@ pub(crate) fn given_value(given: Option<u64>) -> SymbolValue
     }
 }
 
-/// The object that defines a name with this resolution, if one does. It is looked up only if it is not that of `parts`.
+/// The row of the name of a key, by its resolution. The value that the script gives the name is looked up only if the
+/// script defines it. What defines the name is told apart here too: so the cases are told apart once.
 #[inline(always)]
-pub(crate) fn parts_for<'a>(
+pub(crate) fn name_row<'a>(
     link: &LinkView<'a, '_>,
-    parts: ObjectParts<'a>,
-    case: Case<ObjectPlace>,
-) -> ObjectParts<'a>
-    requires symbols { AreSymbols link.now.project.now parts }
-    requires addresses { AreAddresses link.now.indexed_layout.now parts }
-    ensures object { AreFor case result }
-    ensures symbols { AreSymbols link.now.project.now result }
-    ensures addresses { AreAddresses link.now.indexed_layout.now result }
-{
-    match case {
-        Case::Strong(entry) | Case::Weak(entry) => {
-            parts.or_of(link.project, link.indexed_layout, entry.object)
-        }
-        Case::Common { .. } | Case::Script | Case::Provided => parts,
-        Case::Undefined | Case::Duplicate => parts,
-    }
-}
-
-/// The row of the name of a key, by its resolution and the object that defines it, if one does. The value that the
-/// script gives the name is looked up only if the script defines it. What defines the name is told apart here too: so
-/// the cases are told apart once.
-#[inline(always)]
-pub(crate) fn name_row(
-    link: &LinkView<'_, '_>,
-    parts: ObjectParts<'_>,
+    objects: &ObjectTable<'a>,
     case: Case<ObjectPlace>,
     key: NameKey,
 ) -> Result<SymbolRow, NoMemory>
-    requires object { AreFor case parts }
-    requires symbols { AreSymbols link.now.project.now parts }
-    requires addresses { AreAddresses link.now.indexed_layout.now parts }
+    requires { IsObjectTable link.now.project.now link.now.indexed_layout.now objects.now }
     ensures definer { IfOk result (λ x. definer_in x ≡ definer_of (decision_of (λ key. key) case)) }
     ensures row { IfOk result (λ x. (l : KnownLink) (name : List ℕ) → IsLinkView l link.now → l.name key.0 ≡ Some name
         → shown_in x ≡ decided_row l.project l.layout name (decision_of (λ key. key) case)) }
 {
     match case {
         Case::Strong(entry) => {
-            let row = entry_row(parts, entry.symbol)?;
+            let row = entry_row(objects.parts(link, entry.object), entry.symbol)?;
             Ok(SymbolRow::of(Definer::Object(entry.object), row))
         }
         Case::Weak(entry) => {
-            let row = entry_row(parts, entry.symbol)?;
+            let row = entry_row(objects.parts(link, entry.object), entry.symbol)?;
             Ok(SymbolRow::of(Definer::WeakOf(entry.object), row))
         }
         Case::Common { owner, size, .. } => {

@@ -6,8 +6,8 @@ ghost use Rattle.emit_values.specs.LinkView.{IsLinkView};
 ghost use Rattle.emit_values.specs.NameRows.{AreResolved, IsCaseUnder};
 
 use crate::link_view::LinkView;
-use crate::name_row::{name_row, parts_for};
-use crate::object_parts::ObjectParts;
+use crate::name_row::name_row;
+use crate::object_table::ObjectTable;
 use crate::symbol_row::SymbolRow;
 use emit_relocate::link_info::LinkInfo;
 use emit_relocate::value::SymbolValue;
@@ -34,8 +34,7 @@ fn case_under(link: &LinkView<'_, '_>, key: NameKey) -> Case<ObjectPlace>
     }
 }
 
-/// What all names are. Keys are nearly in the order of the objects, so a pass over them reads memory nearly in its
-/// order, and names of one object that stand side by side share its look-up.
+/// What all names are. Each object is looked up once, whatever the number and the order of the names that it defines.
 ///
 /// # Errors
 ///
@@ -44,14 +43,13 @@ pub(crate) fn name_rows(alloc: Global, link: &LinkView<'_, '_>) -> Result<NameRo
     ensures rows { IfOk result (λ x. (l : KnownLink) → IsLinkView l link.now → AreResolved l x.rows.items) }
     ensures values { IfOk result (λ x. (l : KnownLink) → IsLinkView l link.now → AreNameValues l x.values.items) }
 {
+    let objects = ObjectTable::of(alloc, link)?;
     let limit = link.name_limit();
     let mut values = Vec::with_capacity(alloc, limit)?;
     let mut rows = Vec::with_capacity(alloc, limit)?;
-    let mut parts = ObjectParts::of(link.project, link.indexed_layout, ObjectPlace(0));
     for key in 0..limit {
         let case = case_under(link, NameKey(key));
-        parts = parts_for(link, parts, case);
-        let row = name_row(link, parts, case, NameKey(key))?;
+        let row = name_row(link, &objects, case, NameKey(key))?;
         values.push_reserved(row.value());
         rows.push_reserved(row);
     }

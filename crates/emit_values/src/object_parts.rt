@@ -53,26 +53,6 @@ impl<'a> ObjectParts<'a> {
         }
     }
 
-    /// The object at a place, which is looked up only if it is not this one.
-    #[inline(always)]
-    pub fn or_of(
-        self,
-        project: &'a ProjectView<'_>,
-        indexed_layout: &'a IndexedLayout,
-        place: ObjectPlace,
-    ) -> ObjectParts<'a>
-        requires symbols { AreSymbols project.now self }
-        requires addresses { AreAddresses indexed_layout.now self }
-        ensures place { result.place ≡ place }
-        ensures symbols { AreSymbols project.now result }
-        ensures addresses { AreAddresses indexed_layout.now result }
-    {
-        if self.place == place {
-            return self;
-        }
-        ObjectParts::of(project, indexed_layout, place)
-    }
-
     /// Where a section is, if it is in the output.
     #[inline(always)]
     pub fn address(self, section: SectionIndex) -> Option<SectionAddress>

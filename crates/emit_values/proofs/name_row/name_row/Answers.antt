@@ -12,18 +12,20 @@ use Rattle.emit_values.proofs.name_row.name_row.Goals as goal
 pub returns-in_ok-row-in-Strong-clause-row : goal.returns-in_ok-row-in-Strong-clause-row
 returns-in_ok-row-in-Strong-clause-row c = λ l name v named.
     c.of.ensures.row
-    ∙ entry_decided l.project l.layout name c.args.case c.in-Strong.entry c.args.parts c.in_ok-row-in-Strong.row
-    (inl c.in-Strong.is) c.requires.object
+    ∙ entry_decided l.project l.layout name c.args.case c.in-Strong.entry c.parts.result
+    c.in_ok-row-in-Strong.row (inl c.in-Strong.is) c.parts.ensures.place
     (c.in_ok-row-in-Strong.ensures l.project l.layout c.args.link.now.indexed_layout.now v.indexed_layout
-    (subst (λ (p : Project). AreSymbols p c.args.parts) (sym v.project) c.requires.symbols) c.requires.addresses)
+    (subst (λ (p : Project). AreSymbols p c.parts.result) (sym v.project) c.parts.ensures.symbols)
+    c.parts.ensures.addresses)
 
 pub returns-in_ok-row-in-Weak-clause-row : goal.returns-in_ok-row-in-Weak-clause-row
 returns-in_ok-row-in-Weak-clause-row c = λ l name v named.
     c.of-in-Weak.ensures.row
-    ∙ entry_decided l.project l.layout name c.args.case c.in-Weak.entry c.args.parts c.in_ok-row-in-Weak.row
-    (inr c.in-Weak.is) c.requires.object
+    ∙ entry_decided l.project l.layout name c.args.case c.in-Weak.entry c.parts-in-Weak.result
+    c.in_ok-row-in-Weak.row (inr c.in-Weak.is) c.parts-in-Weak.ensures.place
     (c.in_ok-row-in-Weak.ensures l.project l.layout c.args.link.now.indexed_layout.now v.indexed_layout
-    (subst (λ (p : Project). AreSymbols p c.args.parts) (sym v.project) c.requires.symbols) c.requires.addresses)
+    (subst (λ (p : Project). AreSymbols p c.parts-in-Weak.result) (sym v.project) c.parts-in-Weak.ensures.symbols)
+    c.parts-in-Weak.ensures.addresses)
 
 pub returns-in_ok-row-in-Common-clause-row : goal.returns-in_ok-row-in-Common-clause-row
 returns-in_ok-row-in-Common-clause-row c = λ l name v named.

@@ -21,8 +21,6 @@ loop-key-preserved c =
       rows_room = omega (arith, c.push_reserved-in-loop-key.ensures.capacity, c.loop-key.invariant.rows_room);
       values_long = omega (arith, c.push_reserved.ensures.len, c.loop-key.invariant.values_long);
       values_room = omega (arith, c.push_reserved.ensures.capacity, c.loop-key.invariant.values_room);
-      symbols = c.parts_for-parts.ensures.symbols;
-      addresses = c.parts_for-parts.ensures.addresses;
       rows = λ l v.
           rows_more l link v key case x (stands l v) c.in_ok-row.ensures.definer (row l v) c.loop-key.rows.items
           c.push_reserved-in-loop-key.new.self.items

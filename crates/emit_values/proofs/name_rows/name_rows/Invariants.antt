@@ -2,7 +2,6 @@ use Rattle.std.proofs.Common.{◌≡◌, ◌≤◌, vec_capacity, vec_len}
 use Rattle.emit_relocate.specs.KnownLink.{KnownLink}
 use Rattle.emit_values.specs.LinkView.{IsLinkView}
 use Rattle.emit_values.specs.NameRows.{AreResolvedBelow, AreValuesBelow}
-use Rattle.emit_values.specs.ObjectParts.{AreAddresses, AreSymbols}
 use Rattle.emit_values.proofs.name_rows.name_rows.Given as goal
 
 -- the names below this key, and room for all
@@ -12,8 +11,6 @@ invariant-loop-key l = record {
   rows_room : l.limit ≤ vec_capacity l.rows;
   values_long : vec_len l.values ≡ l.key;
   values_room : l.limit ≤ vec_capacity l.values;
-  symbols : AreSymbols l.link.project.now l.parts;
-  addresses : AreAddresses l.link.indexed_layout.now l.parts;
   rows : (k : KnownLink) → IsLinkView k l.link → AreResolvedBelow k l.key l.rows.items;
   values : (k : KnownLink) → IsLinkView k l.link → AreValuesBelow k l.key l.values.items;
 }
