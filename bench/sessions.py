@@ -1,6 +1,8 @@
 """A session of `ldi` through two pipes, the projects that bench/session and bench/edits open, and the edits that they
 make in them."""
+import fcntl
 import subprocess
+import threading
 import time
 from dataclasses import dataclass
 
@@ -8,22 +10,38 @@ from calculator.projects import (
     CALL, FUNCTION, LONGER, SCRIPT, SECTION, VALUE, project_object)
 
 LONGEST = 300.0
+PIPE_BYTES = 1 << 20
 
 
 class Session:
-    """A session through two pipes."""
+    """A session through two pipes, which hold as much as those of the client's sessions."""
 
     def __init__(self, ldi, words=()):
         self.process = subprocess.Popen([ldi, "session", *words], stdin=subprocess.PIPE, stdout=subprocess.PIPE)
+        for pipe in (self.process.stdin, self.process.stdout):
+            fcntl.fcntl(pipe, fcntl.F_SETPIPE_SZ, PIPE_BYTES)
 
     def ask(self, line, payload=b""):
         """Sends a command; gives its answer's line, the bytes after it, and the time in seconds."""
         start = time.perf_counter()
         self.process.stdin.write(line.encode() + b"\n" + payload)
         self.process.stdin.flush()
-        answer = self.process.stdout.readline().decode().split()
+        answer = self.answer()
         data = self.process.stdout.read(int(answer[1])) if answer[0] == "bytes" else b""
         return answer, data, time.perf_counter() - start
+
+    def write(self, commands):
+        """Sends commands whose answers are read meanwhile, each by `answer`; ends where the session does."""
+        try:
+            for line, payload in commands:
+                self.process.stdin.write(line.encode() + b"\n" + payload)
+            self.process.stdin.flush()
+        except BrokenPipeError:
+            pass
+
+    def answer(self):
+        """The words of the next answer."""
+        return self.process.stdout.readline().decode().split()
 
     def peak(self):
         """The peak memory in bytes."""
@@ -109,22 +127,37 @@ class Opened:
 
 
 def send(session, commands):
-    """Opens a project, or a part of it, where that takes too long."""
-    start, answer, last, answered = time.perf_counter(), [], 0.0, 0
-    for line, payload in commands:
-        answer, _, last = session.ask(line, payload)
-        assert answer[0] == "linked", answer
+    """Opens a project, or a part of it, where that takes too long. As in a client's session, a thread sends the
+    commands, and the answers are read meanwhile."""
+    writer = threading.Thread(target=session.write, args=(commands,))
+    start = before = now = time.perf_counter()
+    answer, answered, last = [], 0, 0.0
+    writer.start()
+    for _ in commands:
+        answer = session.answer()
+        assert answer[:1] == ["linked"], answer
         answered += 1
-        if time.perf_counter() - start > LONGEST:
+        before, now = now, time.perf_counter()
+        last = now - before
+        if now - start > LONGEST:
+            session.process.kill()
             break
-    return Opened(answered, answer, time.perf_counter() - start, last)
+    writer.join()
+    return Opened(answered, answer, now - start, last)
 
 
 def first_edits(project):
-    """The title, the line and the payload of the edits that come first: bytes alone, and back."""
+    """The title, the line and the payload of the edits that come first: bytes alone and back; and a longer function and
+    back, for which the session takes memory that it keeps."""
+    before = project.objects[project.edited]
     changed = next(iter(project.variants.values()))
-    for title, data in ("other bytes, first", changed), ("other bytes, later", project.objects[project.edited]):
-        yield title, f"replace {project.edited} {len(data)}", data
+    yield "other bytes, first", f"replace {project.edited} {len(changed)}", changed
+    yield "other bytes, later", f"replace {project.edited} {len(before)}", before
+    for what, longer in project.variants.items():
+        if "longer" in what:
+            yield f"{what}, first", f"replace {project.edited} {len(longer)}", longer
+            yield f"back: {what}, first", f"replace {project.edited} {len(before)}", before
+            break
 
 
 def edits_of(project):
