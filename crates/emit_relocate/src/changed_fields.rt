@@ -290,8 +290,8 @@ fn expected_fields<L: LinkInfo, E: PreviousLinkInfo>(
     expected
 }
 
-/// An empty list with room for this many fields, if there is memory for so many. Few of those that may be retargeted
-/// need be.
+/// An empty list, with memory for this many fields if it is granted: the list can also grow, and most often fewer fields
+/// change.
 fn list_for(alloc: Global, count: usize) -> Vec<Patch>
     ensures { result.items ≡ [] }
 {
