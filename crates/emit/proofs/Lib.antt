@@ -23,4 +23,5 @@ mod Sizing
 mod Staying
 mod OfSizes
 mod OfSymbols
+mod Originating
 pub mod Mapped

@@ -23,3 +23,5 @@ mod Spending
 pub mod Standing
 pub mod Together
 pub mod Unstayed
+pub mod Shifting
+pub mod Moving

@@ -10,3 +10,4 @@ pub mod OfLink
 pub mod Drawn
 pub mod Reached
 pub mod Stretches
+pub mod Moves

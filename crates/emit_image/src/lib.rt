@@ -4,14 +4,15 @@
 //! - `headers`: ELF header and program headers; `tail` over `symbols`, `table_entries`, `table_names`,
 //!   `strings`, `sections`, `number`: the tail;
 //! - `section`: what is drawn; `row`: sections that stayed side by side as one;
-//! - `redraw`, `draw`: over the image of a previous link, of which what stayed is kept, or anew; `commit`: the patches,
-//!   and then what does not stay, by `paint_drawing` over `paint_section` over `paint`, `patched`; `law`.
+//! - `redraw`: anew, or over the image of a previous link, of which what stayed is kept; `commit`: the patches, and
+//!   then what does not stay, by `paint_drawing` over `paint_section` over `paint`, `patched`; `moves`, `shift`: what
+//!   is moved on the canvas before; `law`.
 #![tactic(auto)]
 
 mod commit;
-pub mod draw;
 pub mod headers;
 pub mod law;
+mod moves;
 mod number;
 pub mod paint;
 mod paint_drawing;
@@ -21,6 +22,7 @@ pub mod redraw;
 pub mod row;
 pub mod section;
 pub mod sections;
+mod shift;
 pub mod strings;
 pub mod symbols;
 mod table_entries;

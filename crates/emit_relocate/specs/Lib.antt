@@ -9,3 +9,4 @@ pub mod Filled
 pub mod Changes
 pub mod Patched
 pub mod Links
+pub mod Origin

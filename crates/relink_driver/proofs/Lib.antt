@@ -3,6 +3,7 @@ mod Inside
 mod Kept
 mod Standings
 mod Ranges
+mod Originating
 mod Columns
 mod Fixed
 mod Seen

@@ -35,4 +35,5 @@ returns-in-Ok c p s stays q is =
         pieces = is.row.joined;
         data_commands = refl;
       };
+      moved = is.row.moved;
     }
