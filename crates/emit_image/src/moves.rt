@@ -37,8 +37,12 @@ fn add<'a>(moves: &mut Vec<Move<'a>>, one: Move<'a>, room: usize) -> Result<(), 
     Ok(())
 }
 
-/// Adds the moves of an output section. Fails if memory runs out.
-fn add_section<'a>(moves: &mut Vec<Move<'a>>, x: &ImageSection<'a>) -> Result<(), NoMemory>
+/// Adds the moves of an output section. Where there is no room, room for this number is made. Fails if memory runs out.
+fn add_section<'a>(
+    moves: &mut Vec<Move<'a>>,
+    x: &ImageSection<'a>,
+    room: usize,
+) -> Result<(), NoMemory>
     requires { IsOrderly x.now }
     ensures { OnOk result (moves.new.items ≡ moves.old.items ++ moves_in_section x.now) }
 {
@@ -53,11 +57,20 @@ fn add_section<'a>(moves: &mut Vec<Move<'a>>, x: &ImageSection<'a>) -> Result<()
                     bytes: piece.bytes,
                     fields: piece.fields,
                 },
-                x.pieces.len(),
+                room,
             )?;
         }
     }
     Ok(())
+}
+
+/// How many entries a drawing has.
+fn count_entries(drawing: &Drawing<'_>) -> usize {
+    let mut count: usize = 0;
+    for x in drawing.sections {
+        count = count.saturating_add(x.pieces.len());
+    }
+    count
 }
 
 /// The moves of a drawing.
@@ -69,9 +82,11 @@ pub(crate) fn moves_of<'a>(alloc: Global, drawing: &Drawing<'a>) -> Result<Vec<M
     requires { IsDrawing drawing.now }
     ensures { IfOk result (λ moves. moves.items ≡ moves_in drawing.now) }
 {
+    // at the first move room is made for all that there can be
+    let room = count_entries(drawing);
     let mut moves = Vec::new(alloc);
     for x in drawing.sections {
-        add_section(&mut moves, x)?;
+        add_section(&mut moves, x, room)?;
     }
     Ok(moves)
 }
