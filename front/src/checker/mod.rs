@@ -1,0 +1,1 @@
+//! The image and the layout compared.

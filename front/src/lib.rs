@@ -1,0 +1,34 @@
+//! The front end of `ldi`: GNU ld's command line (`ld.ldi`), a watcher (`ldi-watch`), a translator of scripts
+//! (`ldi-adapt`) and a tool for debuggers (`ldi-gdb`). It starts `ldi session`, which makes the images; it is not proved.
+//!
+//! A link is one flow of plain data:
+//!
+//! ```text
+//! words -> Command --+
+//!                    +--> plan() -> LinkPlan -> Mirror::bring() -> Linked -> Checker -> finish() -> Image -> place()
+//! files -> Snapshot -+     pure      frozen       edits only       image     verdict    the file    beside, exchanged
+//! ```
+//!
+//! `once`, `server` and `watch` differ only in when it runs and in who puts the file in place.
+#![deny(unsafe_code)]
+#![warn(missing_docs)]
+
+pub mod checker;
+pub mod command;
+pub mod finish;
+pub mod gdb;
+pub mod inputs;
+pub mod layout;
+pub mod mirror;
+pub mod objects;
+pub mod place;
+pub mod report;
+pub mod residual;
+pub mod script;
+pub mod server;
+pub mod snapshot;
+pub mod watch;
+
+pub mod adapt;
+pub mod once;
+pub mod plan;

@@ -1,0 +1,1 @@
+//! Files written beside their place and exchanged.

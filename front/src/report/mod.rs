@@ -1,0 +1,1 @@
+//! Diagnostics: one type, rendered for people and as JSON.

@@ -1,0 +1,1 @@
+//! A script of the profile, from the tree of a script and its layout.

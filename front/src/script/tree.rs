@@ -1,0 +1,498 @@
+//! The tree of a script of GNU ld's language. Each node has its span in the text; what INCLUDE names stands in the text
+//! in its place, so one pair of offsets serves (`Source` knows the file and the line of an offset).
+
+use bstr::BString;
+
+/// A stretch of the text: offsets in bytes, the end not included.
+#[derive(Clone, Copy, PartialEq, Eq, Hash, Debug, Default)]
+pub struct Span {
+    /// The offset of the first byte.
+    pub start: u32,
+    /// The offset after the last byte.
+    pub end: u32,
+}
+
+/// A node with its place in the text.
+#[derive(Clone, PartialEq, Eq, Debug)]
+pub struct Spanned<T> {
+    /// The node.
+    pub node: T,
+    /// Where it stands.
+    pub span: Span,
+}
+
+/// A name of a symbol, section, region, segment or file, as its bytes.
+pub type Name = BString;
+
+/// An expression (GNU ld manual, 'Expressions in Linker Scripts').
+#[derive(Clone, PartialEq, Eq, Debug)]
+pub struct Expr {
+    /// What it is.
+    pub kind: ExprKind,
+    /// Where it stands.
+    pub span: Span,
+}
+
+/// What an expression is.
+#[derive(Clone, PartialEq, Eq, Debug)]
+pub enum ExprKind {
+    /// A number; its spelling is in the text.
+    Number(u64),
+    /// The location counter.
+    Dot,
+    /// A symbol.
+    Symbol(Name),
+    /// `-e`, `~e`, `!e` or `+e`.
+    Unary(UnaryOperator, Box<Expr>),
+    /// `a op b`.
+    Binary(BinaryOperator, Box<Expr>, Box<Expr>),
+    /// `condition ? then : otherwise`.
+    Conditional(Box<Expr>, Box<Expr>, Box<Expr>),
+    /// A function of expressions, as `ALIGN(., 8)`. The number of arguments is one of those that the function has.
+    Call(Function, Vec<Expr>),
+    /// A function of a name, as `SIZEOF(.text)`.
+    Query(Query, Name),
+    /// `SEGMENT_START("name", default)`.
+    SegmentStart(Name, Box<Expr>),
+    /// `SIZEOF_HEADERS`.
+    SizeofHeaders,
+    /// `ASSERT(e, "message")` within an expression.
+    Assert(Box<Expr>, Name),
+}
+
+/// A unary operator.
+#[derive(Clone, Copy, PartialEq, Eq, Hash, Debug)]
+pub enum UnaryOperator {
+    /// `+`
+    Plus,
+    /// `-`
+    Minus,
+    /// `~`
+    Complement,
+    /// `!`
+    Not,
+}
+
+/// A binary operator.
+#[derive(Clone, Copy, PartialEq, Eq, Hash, Debug)]
+pub enum BinaryOperator {
+    /// `*`
+    Multiply,
+    /// `/`
+    Divide,
+    /// `%`
+    Remainder,
+    /// `+`
+    Add,
+    /// `-`
+    Subtract,
+    /// `<<`
+    ShiftLeft,
+    /// `>>`
+    ShiftRight,
+    /// `<`
+    Less,
+    /// `<=`
+    LessOrEqual,
+    /// `>`
+    Greater,
+    /// `>=`
+    GreaterOrEqual,
+    /// `==`
+    Equal,
+    /// `!=`
+    NotEqual,
+    /// `&`
+    And,
+    /// `^`
+    Xor,
+    /// `|`
+    Or,
+    /// `&&`
+    LogicalAnd,
+    /// `||`
+    LogicalOr,
+}
+
+/// A function of expressions (GNU ld manual, 'Builtin Functions').
+#[derive(Clone, Copy, PartialEq, Eq, Hash, Debug)]
+pub enum Function {
+    /// `ABSOLUTE(e)`
+    Absolute,
+    /// `ALIGN(align)` or `ALIGN(e, align)`
+    Align,
+    /// `BLOCK(e)`, another word for `ALIGN(e)`
+    Block,
+    /// `DATA_SEGMENT_ALIGN(maxpagesize, commonpagesize)`
+    DataSegmentAlign,
+    /// `DATA_SEGMENT_END(e)`
+    DataSegmentEnd,
+    /// `DATA_SEGMENT_RELRO_END(offset, e)`
+    DataSegmentRelroEnd,
+    /// `LOG2CEIL(e)`
+    Log2Ceil,
+    /// `MAX(a, b)`
+    Max,
+    /// `MIN(a, b)`
+    Min,
+    /// `NEXT(e)`
+    Next,
+}
+
+/// A function of a name.
+#[derive(Clone, Copy, PartialEq, Eq, Hash, Debug)]
+pub enum Query {
+    /// `ADDR(section)`
+    Addr,
+    /// `ALIGNOF(section)`
+    Alignof,
+    /// `CONSTANT(MAXPAGESIZE)` or `CONSTANT(COMMONPAGESIZE)`
+    Constant,
+    /// `DEFINED(symbol)`
+    Defined,
+    /// `LENGTH(region)`
+    Length,
+    /// `LOADADDR(section)`
+    Loadaddr,
+    /// `ORIGIN(region)`
+    Origin,
+    /// `SIZEOF(section)`
+    Sizeof,
+}
+
+/// How an assignment gives its symbol a value.
+#[derive(Clone, Copy, PartialEq, Eq, Hash, Debug)]
+pub enum AssignOperator {
+    /// `=`
+    Set,
+    /// `+=`, `-=`, `*=`, `/=`, `<<=`, `>>=`, `&=`, `|=` or `^=`: the old value and this operator
+    Update(BinaryOperator),
+}
+
+/// The wrapper of an assignment.
+#[derive(Clone, Copy, PartialEq, Eq, Hash, Debug)]
+pub enum Provision {
+    /// None: `name = e;`
+    Plain,
+    /// `HIDDEN(name = e)`
+    Hidden,
+    /// `PROVIDE(name = e)`
+    Provide,
+    /// `PROVIDE_HIDDEN(name = e)`
+    ProvideHidden,
+}
+
+/// `name op value;`, also of the location counter.
+#[derive(Clone, PartialEq, Eq, Debug)]
+pub struct Assignment {
+    /// The symbol; `.` is the location counter.
+    pub target: Spanned<Name>,
+    /// The operator.
+    pub operator: AssignOperator,
+    /// The right side.
+    pub value: Expr,
+    /// What wraps it.
+    pub provision: Provision,
+}
+
+/// `ASSERT(condition, "message")` as a statement.
+#[derive(Clone, PartialEq, Eq, Debug)]
+pub struct Assertion {
+    /// What is to be true (not 0).
+    pub condition: Expr,
+    /// The message, without quotes.
+    pub message: Name,
+}
+
+/// A region of MEMORY.
+#[derive(Clone, PartialEq, Eq, Debug)]
+pub struct MemoryRegion {
+    /// Its name.
+    pub name: Spanned<Name>,
+    /// Its attributes, without parentheses, as `rwx!a`.
+    pub attributes: Option<Spanned<Name>>,
+    /// `ORIGIN = e`
+    pub origin: Expr,
+    /// `LENGTH = e`
+    pub length: Expr,
+}
+
+/// A program header of PHDRS.
+#[derive(Clone, PartialEq, Eq, Debug)]
+pub struct ProgramHeader {
+    /// Its name.
+    pub name: Spanned<Name>,
+    /// Its type: a word as `PT_LOAD`, or an expression.
+    pub kind: Expr,
+    /// Whether the file header is in it (FILEHDR).
+    pub has_file_header: bool,
+    /// Whether the program headers are in it (PHDRS).
+    pub has_program_headers: bool,
+    /// `AT(e)`
+    pub load_address: Option<Expr>,
+    /// `FLAGS(e)`
+    pub flags: Option<Expr>,
+}
+
+/// A sort of a pattern (GNU ld manual, 'Input Section Wildcard Patterns').
+#[derive(Clone, Copy, PartialEq, Eq, Hash, Debug)]
+pub enum Sort {
+    /// `SORT`, `SORT_BY_NAME`
+    ByName,
+    /// `SORT_BY_ALIGNMENT`
+    ByAlignment,
+    /// `SORT_BY_INIT_PRIORITY`
+    ByInitPriority,
+    /// `SORT_NONE`
+    None,
+    /// `REVERSE`
+    Reverse,
+}
+
+/// A pattern of files or of sections, with its sorts (the outermost first) and the files that it leaves out.
+#[derive(Clone, PartialEq, Eq, Debug)]
+pub struct Pattern {
+    /// The wildcard pattern.
+    pub glob: Name,
+    /// Whether it stands in quotes.
+    pub is_quoted: bool,
+    /// Its sorts, the outermost first.
+    pub sorts: Vec<Sort>,
+    /// The patterns of EXCLUDE_FILE.
+    pub excluded_files: Vec<Name>,
+    /// Where it stands.
+    pub span: Span,
+}
+
+/// An input section statement: `KEEP(*(.text .text.*))`.
+#[derive(Clone, PartialEq, Eq, Debug)]
+pub struct InputStatement {
+    /// Whether it stands in KEEP.
+    pub is_kept: bool,
+    /// The words of INPUT_SECTION_FLAGS.
+    pub section_flags: Vec<Name>,
+    /// The files; `None` for `[..]` without a file.
+    pub file: Option<Pattern>,
+    /// The sections; `None` where a file stands alone.
+    pub sections: Option<Vec<Pattern>>,
+}
+
+/// The width of a data command.
+#[derive(Clone, Copy, PartialEq, Eq, Hash, Debug)]
+pub enum DataWidth {
+    /// BYTE
+    Byte,
+    /// SHORT
+    Short,
+    /// LONG
+    Long,
+    /// QUAD
+    Quad,
+    /// SQUAD
+    SignedQuad,
+}
+
+/// A statement within an output section.
+#[derive(Clone, PartialEq, Eq, Debug)]
+pub enum SectionStatement {
+    /// An assignment.
+    Assign(Assignment),
+    /// ASSERT.
+    Assert(Assertion),
+    /// Input sections.
+    Input(InputStatement),
+    /// BYTE and its like.
+    Data(DataWidth, Expr),
+    /// ASCII (without its end) or ASCIZ (`true`: a zero byte follows).
+    Text(Name, bool),
+    /// `FILL(e)`
+    Fill(Fill),
+    /// CREATE_OBJECT_SYMBOLS, CONSTRUCTORS or `SORT_BY_NAME(CONSTRUCTORS)`, by its word.
+    Word(Name),
+}
+
+/// A fill: its expression, and how many bytes a hexadecimal literal spells (GNU ld manual, 'Output Section Fill').
+#[derive(Clone, PartialEq, Eq, Debug)]
+pub struct Fill {
+    /// The value.
+    pub value: Expr,
+    /// The bytes of a hexadecimal literal that has no suffix and is the whole expression: all its digits count.
+    pub literal: Option<Vec<u8>>,
+}
+
+/// The type of an output section, in parentheses in front of its colon.
+#[derive(Clone, PartialEq, Eq, Debug)]
+pub enum SectionType {
+    /// NOLOAD
+    NoLoad,
+    /// DSECT, COPY, INFO or OVERLAY, by its word: not allocated
+    NotAllocated(Name),
+    /// READONLY, alone or with `(TYPE = e)`
+    ReadOnly(Option<Expr>),
+    /// `TYPE = e`
+    Type(Expr),
+}
+
+/// An output section, `/DISCARD/` or a section of an OVERLAY.
+#[derive(Clone, PartialEq, Eq, Debug)]
+pub struct OutputSection {
+    /// Its name.
+    pub name: Spanned<Name>,
+    /// Whether the name stands in quotes.
+    pub is_quoted: bool,
+    /// The address in front of the colon.
+    pub address: Option<Expr>,
+    /// The type.
+    pub kind: Option<Spanned<SectionType>>,
+    /// `AT(e)`
+    pub load_address: Option<Expr>,
+    /// `ALIGN(e)`
+    pub align: Option<Expr>,
+    /// ALIGN_WITH_INPUT
+    pub is_aligned_with_input: bool,
+    /// `SUBALIGN(e)`
+    pub subalign: Option<Expr>,
+    /// ONLY_IF_RO or ONLY_IF_RW
+    pub constraint: Option<Constraint>,
+    /// The statements between the braces.
+    pub body: Vec<Spanned<SectionStatement>>,
+    /// `>region`
+    pub region: Option<Spanned<Name>>,
+    /// `AT>region`
+    pub load_region: Option<Spanned<Name>>,
+    /// `:segment` ..
+    pub segments: Vec<Spanned<Name>>,
+    /// `=fill`
+    pub fill: Option<Fill>,
+    /// The braces: offsets of the opening and of the closing one.
+    pub braces: Span,
+}
+
+/// Whether an output section is made, by the flags of its input sections.
+#[derive(Clone, Copy, PartialEq, Eq, Hash, Debug)]
+pub enum Constraint {
+    /// ONLY_IF_RO
+    ReadOnly,
+    /// ONLY_IF_RW
+    ReadWrite,
+}
+
+/// OVERLAY.
+#[derive(Clone, PartialEq, Eq, Debug)]
+pub struct Overlay {
+    /// The address of all its sections.
+    pub address: Option<Expr>,
+    /// NOCROSSREFS
+    pub forbids_cross_references: bool,
+    /// `AT(e)`
+    pub load_address: Option<Expr>,
+    /// `SUBALIGN(e)`
+    pub subalign: Option<Expr>,
+    /// Its sections.
+    pub sections: Vec<Spanned<OutputSection>>,
+    /// `>region`
+    pub region: Option<Spanned<Name>>,
+    /// `AT>region`
+    pub load_region: Option<Spanned<Name>>,
+    /// `:segment` ..
+    pub segments: Vec<Spanned<Name>>,
+    /// `=fill`
+    pub fill: Option<Fill>,
+}
+
+/// A statement of SECTIONS.
+#[derive(Clone, PartialEq, Eq, Debug)]
+pub enum SectionsStatement {
+    /// An assignment.
+    Assign(Assignment),
+    /// ASSERT.
+    Assert(Assertion),
+    /// ENTRY within SECTIONS.
+    Entry(Name),
+    /// An output section or `/DISCARD/`.
+    Output(Box<OutputSection>),
+    /// OVERLAY.
+    Overlay(Box<Overlay>),
+    /// An input statement outside of an output section, as `*(.text)` in old scripts.
+    Input(InputStatement),
+    /// `INSERT AFTER section;` or `INSERT BEFORE section;`
+    Insert(InsertPlace, Name),
+}
+
+/// The side of INSERT.
+#[derive(Clone, Copy, PartialEq, Eq, Hash, Debug)]
+pub enum InsertPlace {
+    /// INSERT AFTER
+    After,
+    /// INSERT BEFORE
+    Before,
+}
+
+/// A statement at the top of a script.
+#[derive(Clone, PartialEq, Eq, Debug)]
+pub enum Statement {
+    /// An assignment.
+    Assign(Assignment),
+    /// ASSERT.
+    Assert(Assertion),
+    /// SECTIONS.
+    Sections(Vec<Spanned<SectionsStatement>>),
+    /// MEMORY.
+    Memory(Vec<Spanned<MemoryRegion>>),
+    /// PHDRS.
+    Phdrs(Vec<Spanned<ProgramHeader>>),
+    /// `ENTRY(symbol)`
+    Entry(Name),
+    /// `INPUT(file ..)`; GROUP searches archives again and again.
+    Input(Vec<InputFile>),
+    /// `GROUP(file ..)`
+    Group(Vec<InputFile>),
+    /// `STARTUP(file)`
+    Startup(Name),
+    /// `OUTPUT(file)`
+    Output(Name),
+    /// `OUTPUT_FORMAT(default, big, little)`: one or three words
+    OutputFormat(Vec<Name>),
+    /// `OUTPUT_ARCH(name)`
+    OutputArch(Name),
+    /// `TARGET(name)`
+    Target(Name),
+    /// `SEARCH_DIR(path)`
+    SearchDir(Name),
+    /// `EXTERN(symbol ..)`
+    Extern(Vec<Name>),
+    /// `REGION_ALIAS(alias, region)`
+    RegionAlias(Name, Name),
+    /// `NOCROSSREFS(section ..)`
+    NoCrossReferences(Vec<Name>),
+    /// `NOCROSSREFS_TO(to section ..)`
+    NoCrossReferencesTo(Vec<Name>),
+    /// FORCE_COMMON_ALLOCATION, INHIBIT_COMMON_ALLOCATION, FORCE_GROUP_ALLOCATION and others without arguments
+    Word(Name),
+    /// `LD_FEATURE(string)`
+    Feature(Name),
+    /// VERSION with its text
+    Version(Name),
+    /// `INSERT AFTER section;` or `INSERT BEFORE section;`
+    Insert(InsertPlace, Name),
+}
+
+/// A file of INPUT or GROUP.
+#[derive(Clone, PartialEq, Eq, Debug)]
+pub struct InputFile {
+    /// The name, or what `-l` stands before.
+    pub name: Name,
+    /// Whether it is written `-lname`.
+    pub is_library: bool,
+    /// Whether it stands in AS_NEEDED.
+    pub is_as_needed: bool,
+    /// Where it stands.
+    pub span: Span,
+}
+
+/// A script: its statements in their order.
+#[derive(Clone, PartialEq, Eq, Debug, Default)]
+pub struct Script {
+    /// The statements.
+    pub statements: Vec<Spanned<Statement>>,
+}

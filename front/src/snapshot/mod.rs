@@ -1,0 +1,1 @@
+//! What was read, looked for and missing: bytes, device, inode, size and times; what has changed since.
