@@ -1,5 +1,7 @@
 //! The tree of a script of GNU ld's language. Each node has its span in the text; what INCLUDE names stands in the text
-//! in its place, so one pair of offsets serves (`Source` knows the file and the line of an offset).
+//! after it, so one pair of offsets serves (`Source` knows the file and the line of an offset).
+//!
+//! Trees are equal when they say the same: spans do not count.
 
 use bstr::BString;
 
@@ -12,26 +14,68 @@ pub struct Span {
     pub end: u32,
 }
 
-/// A node with its place in the text.
-#[derive(Clone, PartialEq, Eq, Debug)]
+impl Span {
+    /// The stretch from the first byte of this one to the last byte of the other.
+    #[must_use]
+    pub fn to(self, last: Span) -> Span {
+        Span { start: self.start, end: last.end }
+    }
+}
+
+/// A node with its place in the text. Equality is of the nodes alone.
+#[derive(Clone, Debug)]
 pub struct Spanned<T> {
     /// The node.
     pub node: T,
-    /// Where it stands.
+    /// Where it stands. A statement's span has its separator in it, if it has one.
     pub span: Span,
 }
+
+impl<T> Spanned<T> {
+    /// A node and its place.
+    pub fn new(node: T, span: Span) -> Spanned<T> {
+        Spanned { node, span }
+    }
+}
+
+impl<T: PartialEq> PartialEq for Spanned<T> {
+    fn eq(&self, other: &Self) -> bool {
+        self.node == other.node
+    }
+}
+
+impl<T: Eq> Eq for Spanned<T> {}
 
 /// A name of a symbol, section, region, segment or file, as its bytes.
 pub type Name = BString;
 
-/// An expression (GNU ld manual, 'Expressions in Linker Scripts').
-#[derive(Clone, PartialEq, Eq, Debug)]
+/// How deep the tree of an expression can be, at most; the parser accepts none that is deeper.
+pub const MAX_EXPR_DEPTH: usize = 1000;
+
+/// An expression (GNU ld manual, 'Expressions in Linker Scripts'). Equality is of what it says, not of its place.
+/// Its tree is at most `MAX_EXPR_DEPTH` deep, so that functions over it can be recursive.
+#[derive(Clone, Debug)]
 pub struct Expr {
     /// What it is.
     pub kind: ExprKind,
-    /// Where it stands.
+    /// Where it stands, with the parentheses around it.
     pub span: Span,
 }
+
+impl Expr {
+    /// An expression and its place.
+    pub fn new(kind: ExprKind, span: Span) -> Expr {
+        Expr { kind, span }
+    }
+}
+
+impl PartialEq for Expr {
+    fn eq(&self, other: &Self) -> bool {
+        self.kind == other.kind
+    }
+}
+
+impl Eq for Expr {}
 
 /// What an expression is.
 #[derive(Clone, PartialEq, Eq, Debug)]
@@ -40,7 +84,7 @@ pub enum ExprKind {
     Number(u64),
     /// The location counter.
     Dot,
-    /// A symbol.
+    /// A symbol, or a word as `PT_LOAD` of PHDRS.
     Symbol(Name),
     /// `-e`, `~e`, `!e` or `+e`.
     Unary(UnaryOperator, Box<Expr>),
@@ -204,13 +248,22 @@ pub struct Assertion {
     pub message: Name,
 }
 
+/// Some attributes of a region: one word between the parentheses, perhaps with `!` before it.
+#[derive(Clone, PartialEq, Eq, Debug)]
+pub struct RegionAttributes {
+    /// Whether `!` stands before the word: its letters say what sections must not be.
+    pub is_inverted: bool,
+    /// The letters of `rwxali`, in either case.
+    pub letters: Name,
+}
+
 /// A region of MEMORY.
 #[derive(Clone, PartialEq, Eq, Debug)]
 pub struct MemoryRegion {
     /// Its name.
     pub name: Spanned<Name>,
-    /// Its attributes, without parentheses, as `rwx!a`.
-    pub attributes: Option<Spanned<Name>>,
+    /// Its attributes: `(rw !x)` has two words. The span is that of the parentheses.
+    pub attributes: Option<Spanned<Vec<RegionAttributes>>>,
     /// `ORIGIN = e`
     pub origin: Expr,
     /// `LENGTH = e`
@@ -222,7 +275,7 @@ pub struct MemoryRegion {
 pub struct ProgramHeader {
     /// Its name.
     pub name: Spanned<Name>,
-    /// Its type: a word as `PT_LOAD`, or an expression.
+    /// Its type: a symbol such as `PT_LOAD`, or another expression.
     pub kind: Expr,
     /// Whether the file header is in it (FILEHDR).
     pub has_file_header: bool,
@@ -237,15 +290,15 @@ pub struct ProgramHeader {
 /// A sort of a pattern (GNU ld manual, 'Input Section Wildcard Patterns').
 #[derive(Clone, Copy, PartialEq, Eq, Hash, Debug)]
 pub enum Sort {
-    /// `SORT`, `SORT_BY_NAME`
+    /// SORT or SORT_BY_NAME
     ByName,
-    /// `SORT_BY_ALIGNMENT`
+    /// SORT_BY_ALIGNMENT
     ByAlignment,
-    /// `SORT_BY_INIT_PRIORITY`
+    /// SORT_BY_INIT_PRIORITY
     ByInitPriority,
-    /// `SORT_NONE`
+    /// SORT_NONE
     None,
-    /// `REVERSE`
+    /// REVERSE (GNU ld from 2.41 on)
     Reverse,
 }
 
@@ -260,8 +313,6 @@ pub struct Pattern {
     pub sorts: Vec<Sort>,
     /// The patterns of EXCLUDE_FILE.
     pub excluded_files: Vec<Name>,
-    /// Where it stands.
-    pub span: Span,
 }
 
 /// An input section statement: `KEEP(*(.text .text.*))`.
@@ -269,12 +320,12 @@ pub struct Pattern {
 pub struct InputStatement {
     /// Whether it stands in KEEP.
     pub is_kept: bool,
-    /// The words of INPUT_SECTION_FLAGS.
+    /// The words of INPUT_SECTION_FLAGS, as `SHF_ALLOC` or `!SHF_WRITE`.
     pub section_flags: Vec<Name>,
     /// The files; `None` for `[..]` without a file.
-    pub file: Option<Pattern>,
+    pub file: Option<Spanned<Pattern>>,
     /// The sections; `None` where a file stands alone.
-    pub sections: Option<Vec<Pattern>>,
+    pub sections: Option<Vec<Spanned<Pattern>>>,
 }
 
 /// The width of a data command.
@@ -303,12 +354,25 @@ pub enum SectionStatement {
     Input(InputStatement),
     /// BYTE and its like.
     Data(DataWidth, Expr),
-    /// ASCII (without its end) or ASCIZ (`true`: a zero byte follows).
-    Text(Name, bool),
+    /// ASCII or ASCIZ (GNU ld from 2.41 on).
+    Text(DataText),
     /// `FILL(e)`
     Fill(Fill),
-    /// CREATE_OBJECT_SYMBOLS, CONSTRUCTORS or `SORT_BY_NAME(CONSTRUCTORS)`, by its word.
-    Word(Name),
+    /// CREATE_OBJECT_SYMBOLS
+    CreateObjectSymbols,
+    /// CONSTRUCTORS; `true`: `SORT_BY_NAME(CONSTRUCTORS)`
+    Constructors(bool),
+    /// LINKER_VERSION (GNU ld from 2.42 on)
+    LinkerVersion,
+}
+
+/// A text among the statements of an output section.
+#[derive(Clone, PartialEq, Eq, Debug)]
+pub enum DataText {
+    /// `ASCII(size) "text"`: as many bytes, with zeros after the text.
+    Sized(Expr, Name),
+    /// `ASCIZ "text"`: a zero byte follows.
+    ZeroTerminated(Name),
 }
 
 /// A fill: its expression, and how many bytes a hexadecimal literal spells (GNU ld manual, 'Output Section Fill').
@@ -316,7 +380,8 @@ pub enum SectionStatement {
 pub struct Fill {
     /// The value.
     pub value: Expr,
-    /// The bytes of a hexadecimal literal that has no suffix and is the whole expression: all its digits count.
+    /// The bytes of a literal `0x..` that has no suffix and is the whole expression: all its digits count. Else the fill
+    /// is the low four bytes of the value, the highest first.
     pub literal: Option<Vec<u8>>,
 }
 
@@ -336,7 +401,7 @@ pub enum SectionType {
 /// An output section, `/DISCARD/` or a section of an OVERLAY.
 #[derive(Clone, PartialEq, Eq, Debug)]
 pub struct OutputSection {
-    /// Its name.
+    /// Its name; `/DISCARD/` is one.
     pub name: Spanned<Name>,
     /// Whether the name stands in quotes.
     pub is_quoted: bool,
@@ -352,10 +417,10 @@ pub struct OutputSection {
     pub is_aligned_with_input: bool,
     /// `SUBALIGN(e)`
     pub subalign: Option<Expr>,
-    /// ONLY_IF_RO or ONLY_IF_RW
+    /// ONLY_IF_RO, ONLY_IF_RW or SPECIAL
     pub constraint: Option<Constraint>,
-    /// The statements between the braces.
-    pub body: Vec<Spanned<SectionStatement>>,
+    /// The statements between the braces; the span is that of the braces.
+    pub body: Spanned<Vec<Spanned<SectionStatement>>>,
     /// `>region`
     pub region: Option<Spanned<Name>>,
     /// `AT>region`
@@ -364,8 +429,6 @@ pub struct OutputSection {
     pub segments: Vec<Spanned<Name>>,
     /// `=fill`
     pub fill: Option<Fill>,
-    /// The braces: offsets of the opening and of the closing one.
-    pub braces: Span,
 }
 
 /// Whether an output section is made, by the flags of its input sections.
@@ -375,6 +438,8 @@ pub enum Constraint {
     ReadOnly,
     /// ONLY_IF_RW
     ReadWrite,
+    /// SPECIAL, which has no effect for ELF
+    Special,
 }
 
 /// OVERLAY.
@@ -388,8 +453,8 @@ pub struct Overlay {
     pub load_address: Option<Expr>,
     /// `SUBALIGN(e)`
     pub subalign: Option<Expr>,
-    /// Its sections.
-    pub sections: Vec<Spanned<OutputSection>>,
+    /// Its sections, which have a name, a body, segments and a fill; the span is that of the braces.
+    pub sections: Spanned<Vec<Spanned<OutputSection>>>,
     /// `>region`
     pub region: Option<Spanned<Name>>,
     /// `AT>region`
@@ -400,7 +465,7 @@ pub struct Overlay {
     pub fill: Option<Fill>,
 }
 
-/// A statement of SECTIONS.
+/// A statement of SECTIONS. `GROUP e : { .. }` of old scripts is an assignment to `.` and the statements in its braces.
 #[derive(Clone, PartialEq, Eq, Debug)]
 pub enum SectionsStatement {
     /// An assignment.
@@ -413,10 +478,6 @@ pub enum SectionsStatement {
     Output(Box<OutputSection>),
     /// OVERLAY.
     Overlay(Box<Overlay>),
-    /// An input statement outside of an output section, as `*(.text)` in old scripts.
-    Input(InputStatement),
-    /// `INSERT AFTER section;` or `INSERT BEFORE section;`
-    Insert(InsertPlace, Name),
 }
 
 /// The side of INSERT.
@@ -443,10 +504,10 @@ pub enum Statement {
     Phdrs(Vec<Spanned<ProgramHeader>>),
     /// `ENTRY(symbol)`
     Entry(Name),
-    /// `INPUT(file ..)`; GROUP searches archives again and again.
-    Input(Vec<InputFile>),
-    /// `GROUP(file ..)`
-    Group(Vec<InputFile>),
+    /// `INPUT(file ..)`
+    Input(Vec<Spanned<InputFile>>),
+    /// `GROUP(file ..)`: its archives are searched again and again.
+    Group(Vec<Spanned<InputFile>>),
     /// `STARTUP(file)`
     Startup(Name),
     /// `OUTPUT(file)`
@@ -467,14 +528,59 @@ pub enum Statement {
     NoCrossReferences(Vec<Name>),
     /// `NOCROSSREFS_TO(to section ..)`
     NoCrossReferencesTo(Vec<Name>),
-    /// FORCE_COMMON_ALLOCATION, INHIBIT_COMMON_ALLOCATION, FORCE_GROUP_ALLOCATION and others without arguments
-    Word(Name),
+    /// A command without arguments.
+    Setting(Setting),
     /// `LD_FEATURE(string)`
     Feature(Name),
-    /// VERSION with its text
-    Version(Name),
-    /// `INSERT AFTER section;` or `INSERT BEFORE section;`
+    /// `MAP(file)`
+    Map(Name),
+    /// `HLL(library ..)`, which has no effect for ELF
+    HighLevelLibraries(Vec<Name>),
+    /// `SYSLIB(library ..)`, which has no effect for ELF
+    SystemLibraries(Vec<Name>),
+    /// VERSION with its nodes
+    Version(Vec<VersionNode>),
+    /// `INSERT AFTER section` or `INSERT BEFORE section`: what the script had before it moves there.
     Insert(InsertPlace, Name),
+}
+
+/// A command without arguments.
+#[derive(Clone, Copy, PartialEq, Eq, Hash, Debug)]
+pub enum Setting {
+    /// FORCE_COMMON_ALLOCATION
+    ForceCommonAllocation,
+    /// FORCE_GROUP_ALLOCATION
+    ForceGroupAllocation,
+    /// INHIBIT_COMMON_ALLOCATION
+    InhibitCommonAllocation,
+    /// FLOAT, which has no effect for ELF
+    Float,
+    /// NOFLOAT, which has no effect for ELF
+    NoFloat,
+}
+
+/// A node of VERSION or of a version script (GNU ld manual, 'VERSION Command').
+#[derive(Clone, PartialEq, Eq, Debug)]
+pub struct VersionNode {
+    /// Its tag; an anonymous node has none.
+    pub tag: Option<Name>,
+    /// The symbols that stay global.
+    pub globals: Vec<VersionPattern>,
+    /// The symbols that become local.
+    pub locals: Vec<VersionPattern>,
+    /// The tags of the nodes that it depends on.
+    pub dependencies: Vec<Name>,
+}
+
+/// A pattern of symbols in a version node.
+#[derive(Clone, PartialEq, Eq, Debug)]
+pub struct VersionPattern {
+    /// The pattern.
+    pub glob: Name,
+    /// Whether it stands in quotes: then it has no wildcards.
+    pub is_quoted: bool,
+    /// The language of `extern "C++" { .. }` around it.
+    pub language: Option<Name>,
 }
 
 /// A file of INPUT or GROUP.
@@ -486,8 +592,6 @@ pub struct InputFile {
     pub is_library: bool,
     /// Whether it stands in AS_NEEDED.
     pub is_as_needed: bool,
-    /// Where it stands.
-    pub span: Span,
 }
 
 /// A script: its statements in their order.
