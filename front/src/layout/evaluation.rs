@@ -1,0 +1,372 @@
+//! What a layout comes to: plain data for those who write a script of the profile, and for the comparison with an image.
+
+use super::flags::Flags;
+use super::ids::{NameId, ObjectId, OutputId, RegionId, SectionId, StatementId, SymbolId};
+use super::names::{Names, QuickMap};
+use crate::script::tree::{Name, Span};
+use bstr::{BStr, ByteSlice};
+
+/// What a value counts from.
+#[derive(Clone, Copy, PartialEq, Eq, Hash, Debug)]
+pub enum Base {
+    /// Nothing: a number (GNU ld manual, 'The Section of an Expression').
+    Number,
+    /// The absolute section.
+    Absolute,
+    /// The undefined section, of what is assigned in a section that is never made.
+    Nowhere,
+    /// The start of an output section.
+    Output(OutputId),
+}
+
+/// A value of an expression.
+#[derive(Clone, Copy, PartialEq, Eq, Hash, Debug)]
+pub struct Value {
+    /// The value, as counted from its base.
+    pub offset: u64,
+    /// What it counts from.
+    pub base: Base,
+    /// The value as an address.
+    pub address: u64,
+}
+
+/// What GNU ld makes of a script over objects.
+#[derive(Clone, Debug, Default)]
+pub struct Evaluation {
+    /// The statements, by their index: those of the script in the order of the text.
+    pub statements: Vec<Statement>,
+    /// The output sections, by their index.
+    pub outputs: Vec<OutputSection>,
+    /// The output sections in their order, those of orphans among them.
+    pub order: Vec<OutputId>,
+    /// The statements outside of output sections in their order; each output section is one.
+    pub top: Vec<StatementId>,
+    /// The input sections, by their index: in the order of objects and headers.
+    pub sections: Vec<InputSection>,
+    /// The names of sections.
+    pub names: Names,
+    /// The symbols that script, command line or GNU ld itself speak of, and common blocks.
+    pub symbols: Vec<Symbol>,
+    /// The regions of MEMORY, and `*default*`.
+    pub regions: Vec<Region>,
+    /// Where the program begins.
+    pub entry: Entry,
+    /// How many program headers there are.
+    pub header_count: u64,
+    /// Whether the script asks for SIZEOF_HEADERS.
+    pub wants_headers: bool,
+    /// What is read-only after relocation: from DATA_SEGMENT_ALIGN to DATA_SEGMENT_RELRO_END.
+    pub relro: Option<(u64, u64)>,
+    /// The input sections that no statement takes and that are not empty, in the order in which they were placed.
+    pub orphans: Vec<SectionId>,
+    /// The values that expressions had last, by their spans.
+    pub values: QuickMap<Span, Value>,
+    /// The statement of a span.
+    pub by_span: QuickMap<Span, StatementId>,
+    /// The symbol of a name.
+    pub by_name: QuickMap<Name, SymbolId>,
+}
+
+/// Where the program begins.
+#[derive(Clone, PartialEq, Eq, Debug, Default)]
+pub struct Entry {
+    /// The name that `-e` or ENTRY gives, or `_start`'s stand-in of the format (`start`).
+    pub name: Name,
+    /// Its address; 0 is in the file where there is none.
+    pub address: Option<u64>,
+    /// Whether the address is the name's: GNU ld warns where it is not.
+    pub is_by_name: bool,
+}
+
+/// A statement, with what the passes found.
+#[derive(Clone, PartialEq, Eq, Debug)]
+pub struct Statement {
+    /// Where it stands; `None` of what is not in the script.
+    pub span: Option<Span>,
+    /// The output section that it stands in.
+    pub output: Option<OutputId>,
+    /// The location counter in front of it in the last pass.
+    pub dot: u64,
+    /// What it is.
+    pub kind: StatementKind,
+}
+
+/// What a statement is, with what the passes found.
+#[derive(Clone, PartialEq, Eq, Debug)]
+pub enum StatementKind {
+    /// An output section, `/DISCARD/`, or an orphan's.
+    Output(OutputId),
+    /// An assignment to a symbol.
+    Assign {
+        /// The symbol.
+        symbol: SymbolId,
+        /// Its value at the end of this statement; `None` where it does not count (PROVIDE of what is not wanted).
+        value: Option<Value>,
+    },
+    /// An assignment to the location counter.
+    Dot {
+        /// Where it moves it.
+        after: u64,
+        /// Within an output section: the bytes that it goes on, where they begin, what fills them.
+        gap: Option<Gap>,
+    },
+    /// An ASSERT.
+    Assert,
+    /// BYTE and its like.
+    Data {
+        /// The distance from the section's start.
+        offset: u64,
+        /// Its bytes: 1, 2, 4 or 8.
+        size: u8,
+        /// The value; the low bytes of it are written, the least significant first.
+        value: u64,
+    },
+    /// Input sections.
+    Input {
+        /// Those that it takes, in their order.
+        sections: Vec<SectionId>,
+        /// What is between them.
+        gaps: Vec<Gap>,
+    },
+    /// FILL.
+    Fill,
+    /// Something that has no effect on the layout.
+    Other,
+}
+
+/// Bytes that nothing is in.
+#[derive(Clone, PartialEq, Eq, Debug)]
+pub struct Gap {
+    /// The distance from the section's start.
+    pub offset: u64,
+    /// Its bytes.
+    pub size: u64,
+    /// What fills it, from its front again and again; `None`: zeros, or in code what does nothing.
+    pub fill: Option<Vec<u8>>,
+}
+
+/// An output section.
+#[derive(Clone, PartialEq, Eq, Debug)]
+pub struct OutputSection {
+    /// Its name.
+    pub name: Name,
+    /// Where it stands; `None` of an orphan's.
+    pub span: Option<Span>,
+    /// Whether it is an orphan's.
+    pub is_orphan: bool,
+    /// Its statements.
+    pub body: Vec<StatementId>,
+    /// Its place; `None` where GNU ld makes no section of it.
+    pub place: Option<Placed>,
+    /// Its region.
+    pub region: RegionId,
+    /// The region of its load address.
+    pub load_region: Option<RegionId>,
+    /// The segments of PHDRS that it is in, those of sections before where it names none.
+    pub segments: Vec<Name>,
+    /// The address in front of the colon is given.
+    pub has_own_address: bool,
+}
+
+impl OutputSection {
+    /// Its place where it is in the image.
+    pub fn in_image(&self) -> Option<&Placed> {
+        self.place.as_ref().filter(|place| !place.is_gone)
+    }
+}
+
+/// An output section that is made.
+#[derive(Clone, PartialEq, Eq, Debug)]
+pub struct Placed {
+    /// Its address.
+    pub address: u64,
+    /// Its load address.
+    pub load: u64,
+    /// Its bytes.
+    pub size: u64,
+    /// Its alignment.
+    pub align: u64,
+    /// Its flags.
+    pub flags: Flags,
+    /// Its type (`sh_type`).
+    pub kind: u32,
+    /// Its flags in the section header (`sh_flags`).
+    pub bits: u64,
+    /// The size of its entries (`sh_entsize`).
+    pub entry_size: u64,
+    /// Whether it is taken out of the image, as it is empty.
+    pub is_gone: bool,
+    /// Its input sections in their order.
+    pub inputs: Vec<SectionId>,
+}
+
+impl Placed {
+    /// Whether it takes memory.
+    pub fn is_allocated(&self) -> bool {
+        self.flags.has(Flags::ALLOC)
+    }
+
+    /// Whether GNU ld's file has bytes for it.
+    pub fn has_bytes(&self) -> bool {
+        self.flags.has(Flags::LOAD | Flags::CONTENTS) && !self.flags.has(Flags::NEVER_LOAD)
+    }
+}
+
+/// An input section.
+#[derive(Clone, PartialEq, Eq, Debug)]
+pub struct InputSection {
+    /// Its object; of what GNU ld makes itself, the object that it is made in.
+    pub object: ObjectId,
+    /// The number of its header; `None` of common blocks and of what GNU ld makes itself.
+    pub number: Option<u32>,
+    /// Its name.
+    pub name: NameId,
+    /// Its flags.
+    pub flags: Flags,
+    /// Its type (`sh_type`).
+    pub kind: u32,
+    /// Its flags in the section header (`sh_flags`).
+    pub bits: u64,
+    /// The size of its entries (`sh_entsize`).
+    pub entry_size: u64,
+    /// Its bytes.
+    pub size: u64,
+    /// Its own alignment.
+    pub own_align: u64,
+    /// Its alignment in the output section (SUBALIGN).
+    pub align: u64,
+    /// Where it goes.
+    pub fate: Fate,
+    /// Its distance from the start of the output section.
+    pub offset: u64,
+}
+
+/// Where an input section goes.
+#[derive(Clone, Copy, PartialEq, Eq, Debug)]
+pub enum Fate {
+    /// Nowhere yet.
+    Open,
+    /// It is left out.
+    Discarded,
+    /// Into an output section.
+    Output(OutputId),
+}
+
+impl InputSection {
+    /// Whether it is the section of an object's common blocks.
+    pub fn is_common(&self) -> bool {
+        self.number.is_none() && !self.flags.has(Flags::CREATED)
+    }
+
+    /// The output section that it is in.
+    pub fn output(&self) -> Option<OutputId> {
+        match self.fate {
+            Fate::Output(output) => Some(output),
+            Fate::Open | Fate::Discarded => None,
+        }
+    }
+}
+
+/// A region of MEMORY.
+#[derive(Clone, PartialEq, Eq, Debug)]
+pub struct Region {
+    /// Its name.
+    pub name: Name,
+    /// ORIGIN.
+    pub origin: u64,
+    /// LENGTH.
+    pub length: u64,
+    /// Where its sections end.
+    pub current: u64,
+    /// Where it stands; `None` of one that MEMORY does not have.
+    pub span: Option<Span>,
+}
+
+/// Who gives a symbol its value.
+#[derive(Clone, Copy, PartialEq, Eq, Debug)]
+pub enum Definer {
+    /// Nobody.
+    None,
+    /// The script, at last in this statement.
+    Script(StatementId),
+    /// An object, in an input section, or as an absolute one.
+    Object(Option<SectionId>),
+    /// GNU ld: the start or end of a section of that name.
+    Linker,
+}
+
+/// A symbol that is not local.
+#[derive(Clone, PartialEq, Eq, Debug)]
+pub struct Symbol {
+    /// Its name.
+    pub name: Name,
+    /// Who gives it its value.
+    pub definer: Definer,
+    /// Its value at the end; `None` where it is undefined.
+    pub value: Option<Value>,
+    /// Whether it is weak.
+    pub is_weak: bool,
+    /// Whether an object has it undefined, or defines it.
+    pub is_in_objects: bool,
+    /// Whether it is HIDDEN.
+    pub is_hidden: bool,
+}
+
+impl Evaluation {
+    /// The output section of an index.
+    pub fn output(&self, id: OutputId) -> Option<&OutputSection> {
+        self.outputs.get(id.index())
+    }
+
+    /// The input section of an index.
+    pub fn section(&self, id: SectionId) -> Option<&InputSection> {
+        self.sections.get(id.index())
+    }
+
+    /// The statement of an index.
+    pub fn statement(&self, id: StatementId) -> Option<&Statement> {
+        self.statements.get(id.index())
+    }
+
+    /// The statement that stands at a place in the text.
+    pub fn statement_at(&self, span: Span) -> Option<&Statement> {
+        self.statement(*self.by_span.get(&span)?)
+    }
+
+    /// The output section whose statement stands at a place in the text.
+    pub fn output_at(&self, span: Span) -> Option<&OutputSection> {
+        match self.statement_at(span)?.kind {
+            StatementKind::Output(id) => self.output(id),
+            _ => None,
+        }
+    }
+
+    /// The value that an expression had last, by its place in the text; `None` where it was never known.
+    pub fn value_at(&self, span: Span) -> Option<Value> {
+        self.values.get(&span).copied()
+    }
+
+    /// A symbol that script, command line or GNU ld itself speak of, by its name.
+    pub fn symbol(&self, name: &[u8]) -> Option<&Symbol> {
+        self.by_name.get(name.as_bstr()).and_then(|id| self.symbols.get(id.index()))
+    }
+
+    /// The name of an input section.
+    pub fn section_name(&self, section: &InputSection) -> &BStr {
+        self.names.get(section.name)
+    }
+
+    /// The address of an input section; `None` where it is in no output section.
+    pub fn section_address(&self, section: &InputSection) -> Option<u64> {
+        let place = self.output(section.output()?)?.place.as_ref()?;
+        Some(place.address.wrapping_add(section.offset))
+    }
+
+    /// The output sections that are in the image, in their order.
+    pub fn in_image(&self) -> impl Iterator<Item = (&OutputSection, &Placed)> {
+        self.order.iter().filter_map(move |id| {
+            let output = self.output(*id)?;
+            Some((output, output.in_image()?))
+        })
+    }
+}
