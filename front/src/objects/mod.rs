@@ -1,1 +1,141 @@
 //! Objects: their sections, symbols and relocations; an object made one of the profile.
+
+mod elf;
+mod names;
+mod profile;
+mod section;
+mod symbol;
+
+pub use elf::Elf;
+pub use names::{Definition, LinkNames};
+pub use profile::{binary_object, session_name, without_retain, GREATEST_NAME};
+pub use section::{Relocation, Section, SectionFlags, SectionIndex, SectionKind};
+pub use symbol::{Binding, Home, Rank, Symbol, SymbolIndex, SymbolKind, Visibility};
+
+use crate::snapshot::Bytes;
+use bstr::{BStr, BString, ByteSlice};
+use std::ops::Deref;
+use std::path::{Path, PathBuf};
+use std::sync::Arc;
+use thiserror::Error;
+
+/// The place of an object among those of a link.
+#[derive(Clone, Copy, PartialEq, Eq, PartialOrd, Ord, Hash, Debug, Default)]
+pub struct ObjectIndex(pub u32);
+
+/// Why a file is no object that `ldi` links.
+#[derive(Clone, PartialEq, Eq, Debug, Error)]
+pub enum ObjectFault {
+    /// It is no ELF file.
+    #[error("no ELF file")]
+    NotElf,
+    /// LLVM's bitcode.
+    #[error("bitcode of LLVM, no object")]
+    Bitcode,
+    /// A 32-bit file.
+    #[error("a 32-bit object")]
+    Bits32,
+    /// A big-endian file.
+    #[error("a big-endian object")]
+    BigEndian,
+    /// An object for another machine (`e_machine`).
+    #[error("an object for another machine (e_machine {0})")]
+    OtherMachine(u16),
+    /// A shared library.
+    #[error("a shared library")]
+    SharedObject,
+    /// An executable or another file that is not relocatable (`e_type`).
+    #[error("no relocatable object (e_type {0})")]
+    NotRelocatable(u16),
+    /// An object of gcc's slim LTO.
+    #[error("an object of slim LTO, which has no code (-ffat-lto-objects gives it code)")]
+    SlimLto,
+    /// An ELF file whose tables cannot be read; says what is wrong.
+    #[error("{0}")]
+    Malformed(&'static str),
+}
+
+impl ObjectFault {
+    /// Whether GNU ld may link the file: it is sound, and only `ldi` cannot.
+    pub fn is_of_other_linkers(&self) -> bool {
+        !matches!(self, ObjectFault::NotElf | ObjectFault::Malformed(_))
+    }
+}
+
+/// An object of a link. A copy shares what was read.
+#[derive(Clone, Debug)]
+pub struct Object {
+    name: BString,
+    path: PathBuf,
+    elf: Arc<Elf>,
+    fault: Option<ObjectFault>,
+    retained: Vec<SectionIndex>,
+}
+
+impl Object {
+    /// An object: its name in the session of `ldi`, the file that it is from, and its bytes as that file has them.
+    ///
+    /// Sections with SHF_GNU_RETAIN lose that flag, which `ldi` need not know; [`Object::retained`] has them. Bytes that
+    /// are no object have no sections and no symbols, and [`Object::fault`] says why.
+    pub fn new(name: BString, path: PathBuf, data: Bytes) -> Object {
+        let (data, retained) = without_retain(data);
+        let (elf, fault) = match Elf::parse(data.clone()) {
+            Ok(elf) => (elf, None),
+            Err(fault) => (Elf::empty(data), Some(fault)),
+        };
+        Object { name, path, elf: Arc::new(elf), fault, retained }
+    }
+
+    /// The same with sections that `--gc-sections` keeps whatever names them.
+    #[must_use]
+    pub fn with_retained(mut self, sections: impl IntoIterator<Item = SectionIndex>) -> Object {
+        self.retained.extend(sections);
+        self
+    }
+
+    /// The same under another name and from another file, which has the same bytes.
+    #[must_use]
+    pub fn renamed(mut self, name: BString, path: PathBuf) -> Object {
+        self.name = name;
+        self.path = path;
+        self
+    }
+
+    /// Its name in the session of `ldi`: 1 to 255 bytes from `!` to `~`, no other object's.
+    pub fn name(&self) -> &BStr {
+        self.name.as_bstr()
+    }
+
+    /// The file that it is from: that of the archive for a member.
+    pub fn path(&self) -> &Path {
+        &self.path
+    }
+
+    /// The bytes that `ldi` gets.
+    pub fn data(&self) -> &Bytes {
+        self.elf.data()
+    }
+
+    /// Its tables; also `object.sections()` and its like, as an object stands for them.
+    pub fn elf(&self) -> &Elf {
+        &self.elf
+    }
+
+    /// Why it is no object that `ldi` links.
+    pub fn fault(&self) -> Option<&ObjectFault> {
+        self.fault.as_ref()
+    }
+
+    /// The sections that `--gc-sections` keeps whatever names them.
+    pub fn retained(&self) -> &[SectionIndex] {
+        &self.retained
+    }
+}
+
+impl Deref for Object {
+    type Target = Elf;
+
+    fn deref(&self) -> &Elf {
+        &self.elf
+    }
+}
