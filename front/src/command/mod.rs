@@ -1,5 +1,19 @@
 //! GNU ld's command line: its options as one table, response files; a `Command`.
 
+mod help;
+mod options;
+mod read;
+#[cfg(test)]
+mod tests;
+mod words;
+
+pub use help::help;
+pub use options::{
+    find_keyword, find_option, Action, Argument, Effect, FoundOption, KeywordEffect, OptionRow, OPTIONS,
+};
+pub use read::{at_sysroot, number, path_of, read_command};
+pub use words::{expand_words, split_words, Words};
+
 use bstr::BString;
 use indexmap::IndexMap;
 use std::path::PathBuf;
@@ -161,6 +175,9 @@ pub struct Command {
     pub is_omagic: bool,
     /// `--section-start`, `-Ttext`, `-Tdata`, `-Tbss`: the address of each section
     pub section_starts: IndexMap<BString, u64>,
+    /// `-Ttext-segment` and its like, `-Ttext`, `-Tdata`, `-Tbss`: what SEGMENT_START of a script gives for `text-segment`,
+    /// `rodata-segment`, `ldata-segment`, `text`, `data` or `bss`
+    pub segment_starts: IndexMap<BString, u64>,
     /// `-z max-page-size`, a power of two
     pub page_size: Option<u64>,
     /// `-z common-page-size`, a power of two
@@ -219,6 +236,7 @@ impl Default for Command {
             is_without_standard_folders: false,
             is_omagic: false,
             section_starts: IndexMap::new(),
+            segment_starts: IndexMap::new(),
             page_size: None,
             common_page_size: None,
             keywords: Vec::new(),

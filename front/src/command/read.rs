@@ -1,0 +1,312 @@
+//! The words of a command line, read into a `Command`.
+
+use super::options::{find_keyword, find_option, Action, Argument, Effect, KeywordEffect, OptionRow};
+use super::{Command, Defsym, Format, Input, InputFlags, Orphans, OutputFormat, WordsRefused};
+use bstr::{BStr, BString, ByteSlice};
+use std::ffi::OsStr;
+use std::os::unix::ffi::OsStrExt;
+use std::path::{Path, PathBuf};
+
+/// The greatest page of `-z max-page-size=`.
+const GREATEST_PAGE: u64 = 1 << 30;
+
+/// The command of some words, in which the words of each `@FILE` stand in its place already.
+///
+/// # Errors
+/// The words are no command line of GNU ld.
+pub fn read_command(words: &[BString]) -> Result<Command, WordsRefused> {
+    let mut reader = Reader::default();
+    let mut words = words.iter();
+    while let Some(word) = words.next() {
+        reader.word(word.as_bstr(), &mut words)?;
+    }
+    reader.finish()
+}
+
+/// A path of its bytes.
+pub fn path_of(bytes: &[u8]) -> PathBuf {
+    Path::new(OsStr::from_bytes(bytes)).to_owned()
+}
+
+/// A path with `=` or `$SYSROOT` at its front replaced by the folder of `--sysroot`.
+pub fn at_sysroot(path: &[u8], sysroot: &Path) -> PathBuf {
+    match path.strip_prefix(b"=").or_else(|| path.strip_prefix(b"$SYSROOT")) {
+        Some(rest) => path_of(&[sysroot.as_os_str().as_bytes(), rest].concat()),
+        None => path_of(path),
+    }
+}
+
+/// Goes through the words, and keeps the flags that later inputs have.
+#[derive(Default)]
+struct Reader {
+    command: Command,
+    folders: Vec<BString>,
+    flags: InputFlags,
+    pushed: Vec<InputFlags>,
+    is_in_group: bool,
+    has_build_id: bool,
+}
+
+impl Reader {
+    fn word<'a>(&mut self, word: &BStr, rest: &mut impl Iterator<Item = &'a BString>) -> Result<(), WordsRefused> {
+        if !word.starts_with(b"-") || word == "-" {
+            self.command.inputs.push(Input::File(path_of(word), self.flags));
+            return Ok(());
+        }
+        let found = find_option(word)?;
+        let needs_value = found.rows.first().map_or(false, |row| row.argument == Argument::Needed);
+        let value = match found.value {
+            Some(value) => Some(value),
+            None if needs_value => {
+                let next = rest.next().cloned();
+                Some(next.ok_or_else(|| WordsRefused(format!("option '{word}' has no value")))?)
+            }
+            None => None,
+        };
+        found.rows.iter().try_for_each(|row| self.apply(row, value.as_ref().map(|value| value.as_bstr())))
+    }
+
+    fn finish(mut self) -> Result<Command, WordsRefused> {
+        if self.is_in_group {
+            return Err(WordsRefused("--start-group without --end-group".to_owned()));
+        }
+        if self.has_build_id {
+            self.command.note("--build-id: the image has no build ID");
+        }
+        let mut command = self.command;
+        command.last_flags = self.flags;
+        if command.scripts.is_empty() {
+            command.inputs.extend(command.default_script.clone().map(|path| Input::Script(path, self.flags)));
+        }
+        command.folders = self.folders.iter().map(|folder| at_sysroot(folder, &command.sysroot)).collect();
+        Ok(command)
+    }
+
+    fn apply(&mut self, row: &OptionRow, value: Option<&BStr>) -> Result<(), WordsRefused> {
+        match row.effect {
+            Effect::Taken(action) => return self.take(action, value.unwrap_or_else(|| b"".as_bstr())),
+            Effect::Ignored => {}
+            Effect::Said(meaning) => self.command.note(format!("{}: {meaning}", row.spelling())),
+            Effect::Impossible(reason) => self.impossible(format!("{}: {reason}", row.spelling())),
+        }
+        Ok(())
+    }
+
+    fn impossible(&mut self, reason: String) {
+        if !self.command.impossible.contains(&reason) {
+            self.command.impossible.push(reason);
+        }
+    }
+
+    /// Does what an option says that is taken: here those that set one thing.
+    fn take(&mut self, action: Action, value: &BStr) -> Result<(), WordsRefused> {
+        let command = &mut self.command;
+        match action {
+            Action::Ask(ask) => command.asks.push(ask),
+            Action::BuildId => self.has_build_id = value != "none",
+            Action::CollectSections(does) => command.collects_sections = does,
+            Action::DefaultScript => command.default_script = Some(path_of(value)),
+            Action::DependencyFile => command.dependency_file = Some(path_of(value)),
+            Action::Entry => command.entry = Some(value.to_owned()),
+            Action::Fini => command.fini = value.to_owned(),
+            Action::Folder => self.folders.push(value.to_owned()),
+            Action::Init => command.init = value.to_owned(),
+            Action::KeepExported => command.keeps_exported = true,
+            Action::MapFile => command.map_file = Some(path_of(value)),
+            Action::NoBuildId => self.has_build_id = false,
+            Action::NoFallback => command.is_without_fallback = true,
+            Action::NoServer => command.is_without_server = true,
+            Action::NoStandardFolders => command.is_without_standard_folders = true,
+            Action::Nothing => {}
+            Action::PrintCollected(does) => command.prints_collected = does,
+            Action::PrintMap => command.prints_map = true,
+            Action::PrintMemoryUsage => command.prints_memory_usage = true,
+            Action::Required => command.required.push(value.to_owned()),
+            Action::Server(request) => command.server_request = Some(request),
+            Action::Sysroot => command.sysroot = path_of(value),
+            Action::Trace => command.traces = true,
+            Action::Undefined => command.undefined.push(value.to_owned()),
+            Action::Verbose => command.is_verbose = true,
+            _ => return self.take_input(action, value),
+        }
+        Ok(())
+    }
+
+    /// The options that name an input, or hold for those after them.
+    fn take_input(&mut self, action: Action, value: &BStr) -> Result<(), WordsRefused> {
+        match action {
+            Action::Library => self.command.inputs.push(Input::Library(value.to_owned(), self.flags)),
+            Action::Script => self.script(path_of(value)),
+            Action::Format => self.format(value),
+            Action::Static(is_static) => self.flags.is_static = is_static,
+            Action::WholeArchive(is_whole) => self.flags.is_whole_archive = is_whole,
+            Action::StartGroup if self.is_in_group => return refused("groups within groups"),
+            Action::EndGroup if !self.is_in_group => return refused("--end-group without --start-group"),
+            Action::StartGroup | Action::EndGroup => {
+                self.is_in_group = action == Action::StartGroup;
+                self.command.inputs.push(if self.is_in_group { Input::StartGroup } else { Input::EndGroup });
+            }
+            Action::PushState => self.pushed.push(self.flags),
+            Action::PopState => match self.pushed.pop() {
+                Some(flags) => self.flags = flags,
+                None => return refused("--pop-state without --push-state"),
+            },
+            _ => return self.take_checked(action, value),
+        }
+        Ok(())
+    }
+
+    /// The options whose value is looked at.
+    fn take_checked(&mut self, action: Action, value: &BStr) -> Result<(), WordsRefused> {
+        match action {
+            Action::Defsym => return self.defsym(value),
+            Action::Keyword => return self.keyword(value),
+            Action::Machine if value != "elf_x86_64" => self.impossible(format!("-m {value}: another machine")),
+            Action::Omagic => {
+                self.command.is_omagic = true;
+                self.command
+                    .note("-N: code is not writable; segments lie in the file as their addresses modulo 4,096 ask");
+            }
+            Action::Orphans => return self.orphans(value),
+            Action::Output => {
+                self.command.output = path_of(value);
+                self.command.has_output = true;
+            }
+            Action::OutputFormat => self.output_format(value),
+            Action::SectionStart => return self.section_start(value),
+            Action::SegmentStart(name) => {
+                let start = address(value, &format!("-T{name}"))?;
+                self.command.segment_starts.insert(BString::from(name), start);
+                if !name.ends_with("-segment") {
+                    self.command.section_starts.insert(BString::from(format!(".{name}")), start);
+                }
+            }
+            _ => {}
+        }
+        Ok(())
+    }
+
+    fn script(&mut self, path: PathBuf) {
+        self.command.folders_before_script.get_or_insert(self.folders.len());
+        self.command.scripts.push(path.clone());
+        self.command.inputs.push(Input::Script(path, self.flags));
+    }
+
+    fn format(&mut self, name: &BStr) {
+        match name.as_bytes() {
+            b"binary" => self.flags.format = Format::Binary,
+            b"default" | b"elf64-x86-64" => self.flags.format = Format::Default,
+            _ => self.impossible(format!("--format {name}: another format")),
+        }
+    }
+
+    fn output_format(&mut self, name: &BStr) {
+        match name.as_bytes() {
+            b"binary" => self.command.output_format = Some(OutputFormat::Binary),
+            b"elf64-x86-64" => self.command.output_format = Some(OutputFormat::Elf),
+            _ => self.impossible(format!("--oformat {name}: another format")),
+        }
+    }
+
+    fn defsym(&mut self, text: &BStr) -> Result<(), WordsRefused> {
+        let (name, value) = match text.find_byte(b'=') {
+            Some(at) => (text.get(..at).unwrap_or_default(), text.get(at + 1..).unwrap_or_default()),
+            None => return refused(format!("--defsym {text}: no NAME=EXPRESSION")),
+        };
+        let (name, value) = (trimmed(name), trimmed(value));
+        self.command.defsyms.push(Defsym { scripts_before: self.command.scripts.len(), name, value });
+        Ok(())
+    }
+
+    fn section_start(&mut self, text: &BStr) -> Result<(), WordsRefused> {
+        match text.find_byte(b'=') {
+            Some(at) => {
+                let start = address(text.get(at + 1..).unwrap_or_default().as_bstr(), "--section-start")?;
+                self.command.section_starts.insert(BString::from(text.get(..at).unwrap_or_default()), start);
+                Ok(())
+            }
+            None => refused(format!("--section-start: '{text}' is not SECTION=ADDRESS")),
+        }
+    }
+
+    fn orphans(&mut self, value: &BStr) -> Result<(), WordsRefused> {
+        let orphans = match value.as_bytes() {
+            b"place" => Orphans::Place,
+            b"warn" => Orphans::Warn,
+            b"error" => Orphans::Error,
+            b"discard" => Orphans::Discard,
+            _ => {
+                return refused(format!("--orphan-handling: '{value}' is none of place, warn, error, discard"));
+            }
+        };
+        self.command.orphans = Some(orphans);
+        Ok(())
+    }
+
+    /// A word of `-z`.
+    fn keyword(&mut self, text: &BStr) -> Result<(), WordsRefused> {
+        self.command.keywords.push(text.to_owned());
+        let (name, value) = match text.find_byte(b'=') {
+            Some(at) => (text.get(..at).unwrap_or_default(), text.get(at + 1..).unwrap_or_default()),
+            None => (text.as_bytes(), &b""[..]),
+        };
+        match find_keyword(name) {
+            Some(KeywordEffect::Taken) => return self.keyword_taken(text, name, value),
+            Some(KeywordEffect::Ignored) => {}
+            Some(KeywordEffect::Said(meaning)) => self.command.note(format!("-z {}: {meaning}", name.as_bstr())),
+            None => self.command.note(format!("-z {text}: not known, without effect")),
+        }
+        Ok(())
+    }
+
+    fn keyword_taken(&mut self, text: &BStr, name: &[u8], value: &[u8]) -> Result<(), WordsRefused> {
+        match name {
+            b"start-stop-gc" | b"nostart-stop-gc" => self.command.collects_start_stop = name == b"start-stop-gc",
+            b"max-page-size" => self.command.page_size = Some(page(text, value)?),
+            b"common-page-size" => self.command.common_page_size = Some(page(text, value)?),
+            _ => {}
+        }
+        Ok(())
+    }
+}
+
+/// The bytes without white space at both ends.
+fn trimmed(bytes: &[u8]) -> BString {
+    let is_inside = |byte: &u8| !byte.is_ascii_whitespace();
+    let start = bytes.iter().position(is_inside).unwrap_or(bytes.len());
+    let end = bytes.iter().rposition(is_inside).map_or(start, |last| last + 1);
+    BString::from(bytes.get(start..end).unwrap_or_default())
+}
+
+fn refused<T>(text: impl Into<String>) -> Result<T, WordsRefused> {
+    Err(WordsRefused(text.into()))
+}
+
+/// The bytes of a page: a power of two up to 1 GiB.
+fn page(text: &BStr, value: &[u8]) -> Result<u64, WordsRefused> {
+    let no_number = || WordsRefused(format!("-z {text}: '{}' is no number", value.as_bstr()));
+    let size = number(value).ok_or_else(no_number)?;
+    if size > GREATEST_PAGE || !size.is_power_of_two() {
+        return refused(format!("-z {text}: no power of two up to {GREATEST_PAGE:#x}"));
+    }
+    Ok(size)
+}
+
+/// A number of C: decimal, hexadecimal after `0x`, octal after `0`.
+pub fn number(text: &[u8]) -> Option<u64> {
+    let text = text.to_str().ok()?;
+    let (digits, base) = match text.strip_prefix("0x").or_else(|| text.strip_prefix("0X")) {
+        Some(digits) => (digits, 16),
+        None if text.len() > 1 && text.starts_with('0') => (text, 8),
+        None => (text, 10),
+    };
+    digits.bytes().all(|byte| byte.is_ascii_alphanumeric()).then(|| u64::from_str_radix(digits, base).ok()).flatten()
+}
+
+/// An address: hexadecimal, also without `0x`.
+fn address(text: &BStr, option: &str) -> Result<u64, WordsRefused> {
+    let digits = text.strip_prefix(b"0x").or_else(|| text.strip_prefix(b"0X")).unwrap_or(text);
+    let digits = digits.to_str().ok().filter(|digits| digits.bytes().all(|byte| byte.is_ascii_hexdigit()));
+    let value = digits.and_then(|digits| u64::from_str_radix(digits, 16).ok());
+    value.ok_or_else(|| WordsRefused(format!("{option}: '{text}' is no address")))
+}
