@@ -9,11 +9,7 @@ use super::file_image::{plan_or_unchanged, FilePlan};
 use super::image::{Image, NotAnImage};
 
 /// Gives sections their names: pairs of the name in the image and the name that is wanted.
-pub(super) fn rename(
-    data: &[u8],
-    names: &[(BString, BString)],
-    plan: &mut Option<FilePlan>,
-) -> Result<(), NotAnImage> {
+pub(super) fn rename(data: &[u8], names: &[(BString, BString)], plan: &mut Option<FilePlan>) -> Result<(), NotAnImage> {
     let wanted: HashMap<&BStr, &BStr> = names.iter().map(|(old, new)| (old.as_bstr(), new.as_bstr())).collect();
     let image = Image::read(data)?;
     let is_renamed = |section| Ok(wanted.contains_key(image.name(section)?));

@@ -248,8 +248,7 @@ impl Writer<'_> {
                     None => continue,
                 };
                 if let Some(other) = placed.insert(*at, entry.wanted.name.as_bstr()) {
-                    let (section, first, second) =
-                        (part.name.to_owned(), other.to_owned(), entry.wanted.name.clone());
+                    let (section, first, second) = (part.name.to_owned(), other.to_owned(), entry.wanted.name.clone());
                     return Err(NotWritten::Twice { section, first, second });
                 }
                 let place = start.saturating_add(part.header.address.wrapping_sub(first));
@@ -269,11 +268,8 @@ impl Writer<'_> {
 
     /// Places the sections that no PT_LOAD has: empty ones by those around them, others at the end.
     fn place_others(&mut self, mut end: u64) -> u64 {
-        let loads: Vec<(u64, u64, u64)> = self
-            .parts
-            .iter()
-            .filter_map(|part| Some((part.header.address, part.header.end(), part.place?)))
-            .collect();
+        let loads: Vec<(u64, u64, u64)> =
+            self.parts.iter().filter_map(|part| Some((part.header.address, part.header.end(), part.place?))).collect();
         for part in self.parts.iter_mut().filter(|part| part.place.is_none()) {
             let address = part.header.address;
             let near = loads.iter().filter(|(start, ..)| *start <= address).max_by_key(|(start, ..)| *start);
@@ -344,7 +340,8 @@ impl Writer<'_> {
             let last = ends.max_by_key(|part| part.place);
             let end = last.map_or(segment.offset, |part| part.place.unwrap_or(0).saturating_add(part.header.size));
             segment.file_size = end.saturating_sub(segment.offset);
-            segment.memory_size = parts().map(|part| part.header.end()).max().unwrap_or(0).wrapping_sub(segment.address);
+            segment.memory_size =
+                parts().map(|part| part.header.end()).max().unwrap_or(0).wrapping_sub(segment.address);
         }
         segment
     }

@@ -250,3 +250,6 @@ fn refused_of(state: &State, objects: &[Held]) -> Vec<(usize, Refusal)> {
     let refusal = |held: &Held| state.refused.get(&held.name).map(|(_, refusal)| *refusal);
     objects.iter().enumerate().filter_map(|(index, held)| Some((index, refusal(held)?))).collect()
 }
+
+#[cfg(test)]
+mod tests;

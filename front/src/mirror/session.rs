@@ -480,7 +480,7 @@ impl Session {
         let can_write = !pipes.get(1).map_or(true, |pipe| pipe.revents().is_empty());
         drop(pipes);
         if can_read {
-            self.read_some()?;
+            return self.read_some();
         }
         if let (true, Some(to)) = (can_write, self.to.as_mut()) {
             match out.write(to) {
