@@ -1,5 +1,172 @@
 //! What was read, looked for and missing: bytes, device, inode, size and times; what has changed since.
+//!
+//! The rule is that of docs/watch.md: a file is what was read of it where its device, inode, size and times are those
+//! that it had then; where it had changed shortly before it was read, its bytes are compared.
 
 mod bytes;
+mod file;
+mod looks;
+#[cfg(test)]
+mod tests;
 
 pub use bytes::Bytes;
+pub use file::{look, open_regular, read_any, read_open, read_regular, FileId, ReadFault, Seen, Stamp};
+
+use indexmap::IndexMap;
+use looks::Looks;
+use rustix::fs::{FileType, Stat};
+use std::collections::HashMap;
+use std::path::{Path, PathBuf};
+
+/// What is asked of a path without reading it.
+#[derive(Clone, Copy, PartialEq, Eq, Hash, Debug)]
+pub enum Question {
+    /// Whether there is something of this name.
+    Exists,
+    /// Whether there is a regular file of this name.
+    IsFile,
+}
+
+impl Question {
+    /// The answer of now.
+    fn ask(self, path: &Path) -> bool {
+        let found = look(path);
+        match self {
+            Question::Exists => found.is_ok(),
+            Question::IsFile => found.map_or(false, |found| is_file(&found)),
+        }
+    }
+}
+
+fn is_file(found: &Stat) -> bool {
+    file::kind_of(found) == FileType::RegularFile
+}
+
+/// What is not as it was looked at.
+#[derive(Clone, PartialEq, Eq, Debug, Default)]
+pub struct Changes {
+    /// The files that are not what was read of them.
+    pub files: Vec<PathBuf>,
+    /// Whether a file came that could not be read, or a question has another answer: other files may be inputs now.
+    pub has_other_inputs: bool,
+}
+
+impl Changes {
+    /// Whether all is as it was.
+    pub fn is_empty(&self) -> bool {
+        self.files.is_empty() && !self.has_other_inputs
+    }
+}
+
+/// What a link looked at. Paths are as they were given: those that are relative go by the working folder.
+#[derive(Debug, Default)]
+pub struct Snapshot {
+    /// The files that were read; `None` for those that could not be.
+    files: IndexMap<PathBuf, Option<Seen>>,
+    questions: IndexMap<(Question, PathBuf), bool>,
+    before: HashMap<PathBuf, Seen>,
+    looks: Option<Looks>,
+}
+
+impl Snapshot {
+    /// Nothing was looked at yet.
+    pub fn new() -> Snapshot {
+        Snapshot::default()
+    }
+
+    /// The next one: what this one read is not read again where it is still the same.
+    #[must_use]
+    pub fn next(self) -> Snapshot {
+        let before = self.files.into_iter().filter_map(|(path, seen)| Some((path, seen?))).collect();
+        Snapshot { before, ..Snapshot::default() }
+    }
+
+    /// The bytes of a regular file. Where it has the bytes that it had, they are the same in memory.
+    ///
+    /// # Errors
+    /// It is not there, no regular file, or cannot be read.
+    pub fn read(&mut self, path: &Path) -> Result<Bytes, ReadFault> {
+        self.read_by(path, read_regular)
+    }
+
+    /// The same of a file of any kind: a pipe that somebody writes is waited for.
+    ///
+    /// # Errors
+    /// It is not there, a folder, a pipe that nobody writes, or cannot be read.
+    pub fn read_any(&mut self, path: &Path) -> Result<Bytes, ReadFault> {
+        self.read_by(path, read_any)
+    }
+
+    fn read_by(&mut self, path: &Path, read: fn(&Path) -> Result<Seen, ReadFault>) -> Result<Bytes, ReadFault> {
+        self.looks = None;
+        let old = self.files.get(path).cloned().flatten().or_else(|| self.before.remove(path));
+        let found = match old {
+            Some(old) if looks::is_same_stamp(path, &old) && old.is_settled => Ok(old),
+            Some(old) => read(path).map(|found| with_old_bytes(found, &old)),
+            None => read(path),
+        };
+        self.files.insert(path.to_owned(), found.as_ref().ok().cloned());
+        found.map(|seen| seen.data)
+    }
+
+    /// Whether there is something of this name.
+    pub fn exists(&mut self, path: &Path) -> bool {
+        self.ask(Question::Exists, path)
+    }
+
+    /// Whether there is a regular file of this name.
+    pub fn is_file(&mut self, path: &Path) -> bool {
+        self.ask(Question::IsFile, path)
+    }
+
+    fn ask(&mut self, question: Question, path: &Path) -> bool {
+        let answer = question.ask(path);
+        self.questions.insert((question, path.to_owned()), answer);
+        answer
+    }
+
+    /// The paths that were read, in the order of the first time, with those that could not be.
+    pub fn paths(&self) -> impl Iterator<Item = &Path> {
+        self.files.keys().map(PathBuf::as_path)
+    }
+
+    /// What was read of a path.
+    pub fn seen(&self, path: &Path) -> Option<&Seen> {
+        self.files.get(path)?.as_ref()
+    }
+
+    /// The questions that were asked, with their answers.
+    pub fn questions(&self) -> impl Iterator<Item = (Question, &Path, bool)> {
+        self.questions.iter().map(|((question, path), answer)| (*question, path.as_path(), *answer))
+    }
+
+    /// Whether a later look can tell of each file whether it is the same: all are regular, and none changed while it was
+    /// read.
+    pub fn is_provable(&self) -> bool {
+        self.files.values().flatten().all(|seen| seen.stamp.is_some())
+    }
+
+    /// What has changed since. It is quicker the second time. A file with the bytes that it had is none that changed.
+    pub fn changed(&mut self) -> Changes {
+        let looks = self.looks.take().unwrap_or_else(|| Looks::at(self.files.iter()));
+        let files = looks.changed(&mut self.files);
+        self.looks = Some(looks);
+        let came = self.files.iter().any(|(path, seen)| seen.is_none() && Question::Exists.ask(path));
+        let has_other_inputs = came || self.questions.iter().any(|((ask, path), answer)| ask.ask(path) != *answer);
+        Changes { files, has_other_inputs }
+    }
+
+    /// The name of a file that was read, by what the system says of it: none that is read may be written.
+    pub fn name_of(&self, id: FileId) -> Option<&Path> {
+        let stamps = self.files.iter().filter_map(|(path, seen)| Some((path, seen.as_ref()?.stamp?)));
+        stamps.into_iter().find(|(_, stamp)| stamp.id == id).map(|(path, _)| path.as_path())
+    }
+}
+
+/// What was read, with the bytes of before where they are equal.
+fn with_old_bytes(mut found: Seen, old: &Seen) -> Seen {
+    if found.data == old.data {
+        found.data = old.data.clone();
+    }
+    found
+}
