@@ -1,0 +1,180 @@
+//! What a file is to become.
+
+use super::beside::new_name;
+use super::writing::write_all;
+use rustix::fs::{cwd, flock, FlockOperation, Mode, OFlags, RenameFlags};
+use std::fs::{self, File, OpenOptions};
+use std::io;
+use std::os::unix::ffi::OsStrExt;
+use std::os::unix::fs::{MetadataExt, OpenOptionsExt, PermissionsExt};
+use std::path::{Path, PathBuf};
+
+/// The names that are tried: each is random, so that a second one is hardly ever needed.
+const MOST_NAMES: usize = 10;
+/// The symbolic links that are followed, as the system does.
+const MOST_LINKS: usize = 40;
+
+/// Where a new file is written.
+#[derive(Debug)]
+pub enum Opened {
+    /// Beside its place.
+    Beside(NewFile),
+    /// In place: the path is that of no regular file.
+    InPlace(PathBuf),
+}
+
+/// A file beside its place, which it has not taken yet. It is removed when it is dropped.
+#[derive(Debug)]
+pub struct NewFile {
+    target: PathBuf,
+    beside: PathBuf,
+    file: Option<File>,
+    /// Has a lock that tells [`super::remove_left`] that the file is in use.
+    reader: File,
+    is_in_place: bool,
+}
+
+impl NewFile {
+    /// Makes the new file. A symbolic link stays one, and the file that it names is replaced. The mode is `mode` less the
+    /// umask, or with `keeps_mode` that of the file that is there.
+    ///
+    /// # Errors
+    /// It cannot be made, and then nothing is left of it.
+    pub fn open(path: &Path, mode: Mode, keeps_mode: bool) -> io::Result<Opened> {
+        if path.as_os_str().as_bytes().ends_with(b"/") {
+            return Err(io::Error::from_raw_os_error(libc::EISDIR));
+        }
+        let target = resolved(path)?;
+        let found = match fs::metadata(&target) {
+            Ok(found) if !found.is_file() => return Ok(Opened::InPlace(target)),
+            Ok(found) => Some(found.permissions()),
+            Err(fault) if fault.kind() == io::ErrorKind::NotFound => None,
+            Err(fault) => return Err(fault),
+        };
+        let new = NewFile::make(target, mode)?;
+        if let (Some(permissions), Some(file), true) = (found, &new.file, keeps_mode) {
+            file.set_permissions(fs::Permissions::from_mode(permissions.mode() & 0o7777))?;
+        }
+        Ok(Opened::Beside(new))
+    }
+
+    fn make(target: PathBuf, mode: Mode) -> io::Result<NewFile> {
+        for _ in 0..MOST_NAMES {
+            let beside = new_name(&target)?;
+            let mut options = OpenOptions::new();
+            options.write(true).create_new(true).mode(mode.bits()).custom_flags(OFlags::NOFOLLOW.bits() as i32);
+            let file = match options.open(&beside) {
+                Ok(file) => file,
+                Err(fault) if fault.kind() == io::ErrorKind::AlreadyExists => continue,
+                Err(fault) => return Err(fault),
+            };
+            let reader = match reader_of(&beside, &file) {
+                Ok(reader) => reader,
+                Err(fault) => {
+                    fs::remove_file(&beside).ok();
+                    return Err(fault);
+                }
+            };
+            let new = NewFile { target: target.clone(), beside, file: Some(file), reader, is_in_place: false };
+            flock(&new.reader, FlockOperation::NonBlockingLockShared).ok(); // a file system may have no locks
+            if new.reader.metadata()?.nlink() > 0 {
+                return Ok(new);
+            } // else it was taken for one that a killed process left, before it had its lock
+        }
+        Err(io::Error::from(io::ErrorKind::AlreadyExists))
+    }
+
+    /// Its name, until it is in place.
+    pub fn path(&self) -> &Path {
+        &self.beside
+    }
+
+    /// The file whose place it takes: a symbolic link's.
+    pub fn target(&self) -> &Path {
+        &self.target
+    }
+
+    /// A descriptor to read it.
+    pub fn reader(&self) -> &File {
+        &self.reader
+    }
+
+    /// Writes the pieces of it.
+    ///
+    /// # Errors
+    /// The device has no room, or another fault of it.
+    pub fn write(&mut self, pieces: &[&[u8]]) -> io::Result<()> {
+        match &mut self.file {
+            Some(file) => write_all(file, pieces),
+            None => Err(io::Error::from(io::ErrorKind::BrokenPipe)),
+        }
+    }
+
+    /// Closes it for writing, which is done before it is in place: who starts it there finds no writer.
+    pub fn close(&mut self) {
+        self.file = None;
+    }
+
+    /// Puts it in place; gives the name that the old file has now, for the caller to remove.
+    ///
+    /// # Errors
+    /// It cannot be put there, and then nothing is left of it.
+    pub fn commit(mut self) -> io::Result<Option<PathBuf>> {
+        self.close();
+        let old = put_in_place(&self.beside, &self.target)?;
+        self.is_in_place = true;
+        Ok(old)
+    }
+
+    /// Leaves the whole file beside its place, for another process to put it there; gives its name.
+    pub fn leave(mut self) -> PathBuf {
+        self.close();
+        self.is_in_place = true;
+        self.beside.clone()
+    }
+}
+
+impl Drop for NewFile {
+    fn drop(&mut self) {
+        if !self.is_in_place {
+            fs::remove_file(&self.beside).ok();
+        }
+    }
+}
+
+/// Opens a new file to read it, and makes sure that it is the one that was made.
+fn reader_of(beside: &Path, file: &File) -> io::Result<File> {
+    let reader = OpenOptions::new().read(true).custom_flags(OFlags::NOFOLLOW.bits() as i32).open(beside)?;
+    let (found, made) = (reader.metadata()?, file.metadata()?);
+    if (found.dev(), found.ino()) == (made.dev(), made.ino()) {
+        Ok(reader)
+    } else {
+        Err(io::Error::new(io::ErrorKind::PermissionDenied, "the file beside it was replaced"))
+    }
+}
+
+/// Puts a file in the place of another in one step. Where that is a regular file, the two are exchanged, so that the old
+/// one has the first name now, which is given.
+///
+/// # Errors
+/// The system says why it cannot be done.
+pub fn put_in_place(beside: &Path, target: &Path) -> io::Result<Option<PathBuf>> {
+    let is_regular = fs::symlink_metadata(target).map_or(false, |found| found.is_file());
+    if is_regular && rustix::fs::renameat_with(cwd(), beside, cwd(), target, RenameFlags::EXCHANGE).is_ok() {
+        return Ok(Some(beside.to_owned()));
+    }
+    fs::rename(beside, target)?;
+    Ok(None)
+}
+
+/// What a path leads to by symbolic links, also where no file is there yet.
+fn resolved(path: &Path) -> io::Result<PathBuf> {
+    let mut path = path.to_owned();
+    for _ in 0..MOST_LINKS {
+        match fs::read_link(&path) {
+            Ok(link) => path = path.parent().unwrap_or_else(|| Path::new("")).join(link),
+            Err(_) => return Ok(path),
+        }
+    }
+    Err(io::Error::from_raw_os_error(libc::ELOOP))
+}
