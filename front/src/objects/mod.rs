@@ -5,6 +5,8 @@ mod names;
 mod profile;
 mod section;
 mod symbol;
+#[cfg(test)]
+pub(crate) mod tests;
 
 pub use elf::Elf;
 pub use names::{Definition, LinkNames};
@@ -15,6 +17,7 @@ pub use symbol::{Binding, Home, Rank, Symbol, SymbolIndex, SymbolKind, Visibilit
 use crate::snapshot::Bytes;
 use bstr::{BStr, BString, ByteSlice};
 use std::ops::Deref;
+use std::os::unix::ffi::OsStrExt;
 use std::path::{Path, PathBuf};
 use std::sync::Arc;
 use thiserror::Error;
@@ -62,28 +65,54 @@ impl ObjectFault {
     }
 }
 
+/// Where an object is from, as GNU ld knows it.
+#[derive(Clone, PartialEq, Eq, Debug)]
+pub struct Origin {
+    /// The file that has its bytes: the archive of a member, and of one of a thin archive the member's own.
+    pub path: PathBuf,
+    /// The archive that it is a member of, as it was named or found; none for a thin one, whose members are files.
+    pub archive: Option<BString>,
+    /// The member's name, else the file as it was named or found.
+    pub name: BString,
+}
+
+impl Origin {
+    /// A file of its own.
+    pub fn of_file(path: &Path) -> Origin {
+        Origin { path: path.to_owned(), archive: None, name: BString::from(path.as_os_str().as_bytes()) }
+    }
+
+    /// `lib.a(member.o)`, or the name of the file.
+    pub fn full_name(&self) -> BString {
+        match &self.archive {
+            Some(archive) => [archive.as_bytes(), b"(", &self.name, b")"].concat().into(),
+            None => self.name.clone(),
+        }
+    }
+}
+
 /// An object of a link. A copy shares what was read.
 #[derive(Clone, Debug)]
 pub struct Object {
     name: BString,
-    path: PathBuf,
+    origin: Origin,
     elf: Arc<Elf>,
     fault: Option<ObjectFault>,
     retained: Vec<SectionIndex>,
 }
 
 impl Object {
-    /// An object: its name in the session of `ldi`, the file that it is from, and its bytes as that file has them.
+    /// An object: its name in the session of `ldi`, where it is from, and its bytes as its file has them.
     ///
     /// Sections with SHF_GNU_RETAIN lose that flag, which `ldi` need not know; [`Object::retained`] has them. Bytes that
     /// are no object have no sections and no symbols, and [`Object::fault`] says why.
-    pub fn new(name: BString, path: PathBuf, data: Bytes) -> Object {
+    pub fn new(name: BString, origin: Origin, data: Bytes) -> Object {
         let (data, retained) = without_retain(data);
         let (elf, fault) = match Elf::parse(data.clone()) {
             Ok(elf) => (elf, None),
             Err(fault) => (Elf::empty(data), Some(fault)),
         };
-        Object { name, path, elf: Arc::new(elf), fault, retained }
+        Object { name, origin, elf: Arc::new(elf), fault, retained }
     }
 
     /// The same with sections that `--gc-sections` keeps whatever names them.
@@ -93,11 +122,11 @@ impl Object {
         self
     }
 
-    /// The same under another name and from another file, which has the same bytes.
+    /// The same bytes under another name and from another place.
     #[must_use]
-    pub fn renamed(mut self, name: BString, path: PathBuf) -> Object {
+    pub fn renamed(mut self, name: BString, origin: Origin) -> Object {
         self.name = name;
-        self.path = path;
+        self.origin = origin;
         self
     }
 
@@ -106,9 +135,9 @@ impl Object {
         self.name.as_bstr()
     }
 
-    /// The file that it is from: that of the archive for a member.
-    pub fn path(&self) -> &Path {
-        &self.path
+    /// Where it is from.
+    pub fn origin(&self) -> &Origin {
+        &self.origin
     }
 
     /// The bytes that `ldi` gets.
