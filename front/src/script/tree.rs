@@ -158,6 +158,53 @@ pub enum BinaryOperator {
     LogicalOr,
 }
 
+impl BinaryOperator {
+    /// Each operator, its spelling and its level: of two, the one of the higher level is tighter.
+    const ALL: [(BinaryOperator, &'static str, u8); 18] = [
+        (BinaryOperator::LogicalOr, "||", 1),
+        (BinaryOperator::LogicalAnd, "&&", 2),
+        (BinaryOperator::Or, "|", 3),
+        (BinaryOperator::Xor, "^", 4),
+        (BinaryOperator::And, "&", 5),
+        (BinaryOperator::Equal, "==", 6),
+        (BinaryOperator::NotEqual, "!=", 6),
+        (BinaryOperator::Less, "<", 7),
+        (BinaryOperator::LessOrEqual, "<=", 7),
+        (BinaryOperator::Greater, ">", 7),
+        (BinaryOperator::GreaterOrEqual, ">=", 7),
+        (BinaryOperator::ShiftLeft, "<<", 8),
+        (BinaryOperator::ShiftRight, ">>", 8),
+        (BinaryOperator::Add, "+", 9),
+        (BinaryOperator::Subtract, "-", 9),
+        (BinaryOperator::Multiply, "*", 10),
+        (BinaryOperator::Divide, "/", 10),
+        (BinaryOperator::Remainder, "%", 10),
+    ];
+
+    fn row(self) -> (&'static str, u8) {
+        let row = BinaryOperator::ALL.iter().find(|(operator, _, _)| *operator == self);
+        row.map_or(("", 0), |(_, mark, level)| (mark, *level))
+    }
+
+    /// Its spelling.
+    #[must_use]
+    pub fn mark(self) -> &'static str {
+        self.row().0
+    }
+
+    /// How tight it is, from 1 for `||` to 10 for `*`; operators of a level go from left to right.
+    #[must_use]
+    pub fn level(self) -> u8 {
+        self.row().1
+    }
+
+    /// The operator of a spelling.
+    #[must_use]
+    pub fn from_mark(mark: &str) -> Option<BinaryOperator> {
+        BinaryOperator::ALL.iter().find(|(_, own, _)| *own == mark).map(|(operator, _, _)| *operator)
+    }
+}
+
 /// A function of expressions (GNU ld manual, 'Builtin Functions').
 #[derive(Clone, Copy, PartialEq, Eq, Hash, Debug)]
 pub enum Function {
@@ -209,7 +256,7 @@ pub enum Query {
 pub enum AssignOperator {
     /// `=`
     Set,
-    /// `+=`, `-=`, `*=`, `/=`, `<<=`, `>>=`, `&=`, `|=` or `^=`: the old value and this operator
+    /// `+=`, `-=`, `*=`, `/=`, `<<=`, `>>=`, `&=` or `|=`: the old value and this operator
     Update(BinaryOperator),
 }
 
@@ -285,6 +332,23 @@ pub struct ProgramHeader {
     pub load_address: Option<Expr>,
     /// `FLAGS(e)`
     pub flags: Option<Expr>,
+}
+
+/// The number of a type of program headers, as `PT_LOAD` (System V gABI, 'Program Header'; GNU's types).
+#[must_use]
+pub fn program_header_type(word: &[u8]) -> Option<u32> {
+    const FIRST: [&str; 8] =
+        ["PT_NULL", "PT_LOAD", "PT_DYNAMIC", "PT_INTERP", "PT_NOTE", "PT_SHLIB", "PT_PHDR", "PT_TLS"];
+    if let Some(index) = FIRST.iter().position(|known| known.as_bytes() == word) {
+        return u32::try_from(index).ok();
+    }
+    match word {
+        b"PT_GNU_EH_FRAME" => Some(0x6474_e550),
+        b"PT_GNU_STACK" => Some(0x6474_e551),
+        b"PT_GNU_RELRO" => Some(0x6474_e552),
+        b"PT_GNU_PROPERTY" => Some(0x6474_e553),
+        _ => None,
+    }
 }
 
 /// A sort of a pattern (GNU ld manual, 'Input Section Wildcard Patterns').
@@ -429,6 +493,29 @@ pub struct OutputSection {
     pub segments: Vec<Spanned<Name>>,
     /// `=fill`
     pub fill: Option<Fill>,
+}
+
+impl OutputSection {
+    /// A section with a name and statements, and nothing else.
+    #[must_use]
+    pub fn new(name: Spanned<Name>, body: Spanned<Vec<Spanned<SectionStatement>>>) -> OutputSection {
+        OutputSection {
+            name,
+            is_quoted: false,
+            address: None,
+            kind: None,
+            load_address: None,
+            align: None,
+            is_aligned_with_input: false,
+            subalign: None,
+            constraint: None,
+            body,
+            region: None,
+            load_region: None,
+            segments: Vec::new(),
+            fill: None,
+        }
+    }
 }
 
 /// Whether an output section is made, by the flags of its input sections.
