@@ -217,8 +217,8 @@ impl Placed {
 pub struct InputSection {
     /// Its object; of what GNU ld makes itself, the object that it is made in.
     pub object: ObjectId,
-    /// The number of its header; `None` of common blocks and of what GNU ld makes itself.
-    pub number: Option<u32>,
+    /// Where it comes from.
+    pub origin: Origin,
     /// Its name.
     pub name: NameId,
     /// Its flags.
@@ -241,6 +241,17 @@ pub struct InputSection {
     pub offset: u64,
 }
 
+/// Where an input section comes from.
+#[derive(Clone, Copy, PartialEq, Eq, Debug)]
+pub enum Origin {
+    /// An object's section, by the number of its header.
+    Header(u32),
+    /// The common blocks of an object.
+    Common,
+    /// GNU ld makes it.
+    Linker,
+}
+
 /// Where an input section goes.
 #[derive(Clone, Copy, PartialEq, Eq, Debug)]
 pub enum Fate {
@@ -255,7 +266,15 @@ pub enum Fate {
 impl InputSection {
     /// Whether it is the section of an object's common blocks.
     pub fn is_common(&self) -> bool {
-        self.number.is_none() && !self.flags.has(Flags::CREATED)
+        self.origin == Origin::Common
+    }
+
+    /// The number of its header; `None` of common blocks and of what GNU ld makes itself.
+    pub fn number(&self) -> Option<u32> {
+        match self.origin {
+            Origin::Header(number) => Some(number),
+            Origin::Common | Origin::Linker => None,
+        }
     }
 
     /// The output section that it is in.

@@ -76,6 +76,9 @@ pub enum RefusedReason {
     /// `.` moves backwards.
     #[error("the location counter cannot move backwards")]
     DotBackwards,
+    /// An output section has AT and AT>.
+    #[error("{0} has both a load address and a load region")]
+    BothLoads(Name),
     /// A statement of `/DISCARD/` that makes it an output section.
     #[error("/DISCARD/ has other statements")]
     Discard,

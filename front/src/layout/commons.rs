@@ -1,0 +1,268 @@
+//! Common blocks: which object has them, and in what order GNU ld gives them places (ldlang.c, `lang_common`).
+
+use super::evaluation::Base;
+use super::ids::{ObjectId, SectionId};
+use super::input::{LinkObject, LinkPlace};
+use super::link::Link;
+use super::names::QuickMap;
+use super::rows::Rows;
+use super::settings::SortCommon;
+use super::symbols::SymbolKind;
+use std::collections::HashSet;
+
+/// A common block that no definition takes the place of.
+#[derive(Clone, Copy, PartialEq, Eq, Debug)]
+struct Block {
+    owner: ObjectId,
+    size: u64,
+    align: u64,
+}
+
+/// What the objects so far have of a name.
+#[derive(Clone, Copy, PartialEq, Eq, Debug)]
+enum Known {
+    Strong,
+    Weak,
+    Common(Block),
+}
+
+/// Whether an object has common blocks.
+pub(crate) fn has_common(objects: &[LinkObject<'_>], id: ObjectId) -> bool {
+    let is_common = |place: LinkPlace| matches!(place, LinkPlace::Common { .. });
+    objects.get(id.index()).map_or(false, |object| object.symbols.iter().any(|symbol| is_common(symbol.place)))
+}
+
+/// The common blocks, and the objects that have a section for some, of blocks that another took the place of too.
+fn read<'a>(objects: &[LinkObject<'a>]) -> (QuickMap<&'a [u8], Known>, HashSet<ObjectId>) {
+    let mut known: QuickMap<&[u8], Known> = QuickMap::default();
+    let mut owners = HashSet::new();
+    if !(0..objects.len()).any(|number| has_common(objects, ObjectId::new(number))) {
+        return (known, owners);
+    }
+    for (number, object) in objects.iter().enumerate() {
+        let owner = ObjectId::new(number);
+        for symbol in &object.symbols {
+            let old = known.get(symbol.name).copied();
+            let new = match (symbol.place, old) {
+                (LinkPlace::Undefined, _) => continue,
+                // A block of a size that is greater is the one that counts; the greatest alignment does in any case
+                // (linker.c, `link_action`: COM, BIG, CREF; elflink.c, `elf_link_add_object_symbols`).
+                (LinkPlace::Common { size, align }, None | Some(Known::Weak)) => {
+                    owners.insert(owner);
+                    Known::Common(Block { owner, size, align: align.max(1) })
+                }
+                (LinkPlace::Common { size, align }, Some(Known::Common(block))) => {
+                    let align = align.max(block.align);
+                    if size > block.size {
+                        owners.insert(owner);
+                        Known::Common(Block { owner, size, align })
+                    } else {
+                        Known::Common(Block { align, ..block })
+                    }
+                }
+                (LinkPlace::Common { .. }, Some(Known::Strong)) => continue,
+                (_, None) if symbol.is_weak => Known::Weak,
+                (_, Some(_)) if symbol.is_weak => continue,
+                _ => Known::Strong,
+            };
+            known.insert(symbol.name, new);
+        }
+    }
+    (known, owners)
+}
+
+/// The objects that have a section for common blocks.
+pub(crate) fn owners(objects: &[LinkObject<'_>]) -> HashSet<ObjectId> {
+    read(objects).1
+}
+
+impl Link<'_> {
+    /// Gives common blocks their places.
+    pub fn place_commons(&mut self, objects: &[LinkObject<'_>], rows: &Rows) {
+        let (known, owners) = read(objects);
+        if owners.is_empty() || self.program.inhibits_common || self.settings.inhibits_common {
+            return;
+        }
+        let block_of = |name: &[u8]| match known.get(name) {
+            Some(Known::Common(block)) => Some((name.to_vec(), *block)),
+            _ => None,
+        };
+        let blocks = table_order(self, objects).into_iter().filter_map(block_of).collect();
+        for (name, block) in sorted(blocks, self.settings.sort_common) {
+            if let Some(section) = rows.common(block.owner) {
+                self.place_common(&name, block, section);
+            }
+        }
+    }
+
+    /// Gives one its place (linker.c, `bfd_generic_define_common_symbol`).
+    fn place_common(&mut self, name: &[u8], block: Block, id: SectionId) {
+        let symbol = self.program.symbols.enter(name);
+        if self.symbol(symbol).map_or(false, |symbol| symbol.of_script) {
+            return;
+        }
+        let section = match self.sections.get_mut(id.index()) {
+            None => return,
+            Some(section) => section,
+        };
+        let align = block.align.checked_next_power_of_two().unwrap_or(1);
+        section.size = section.size.wrapping_add(section.size.wrapping_neg() & (align - 1));
+        section.align = section.align.max(align);
+        section.own_align = section.align;
+        let value = section.size;
+        section.size = section.size.wrapping_add(block.size);
+        if let Some(symbol) = self.program.symbols.know(symbol) {
+            symbol.kind = SymbolKind::Defined;
+            symbol.value = value;
+            symbol.base = Base::Absolute;
+            symbol.section = Some(id);
+            symbol.is_in_objects = true;
+        }
+    }
+}
+
+/// `--sort-common`: by alignments up to 16, which all that are greater count as (ldlang.c, `lang_one_common`).
+fn sorted(mut blocks: Vec<(Vec<u8>, Block)>, sort: Option<SortCommon>) -> Vec<(Vec<u8>, Block)> {
+    let power = |block: &Block| block.align.trailing_zeros();
+    match sort {
+        None => {}
+        Some(SortCommon::Descending) => blocks.sort_by_key(|(_, block)| std::cmp::Reverse(power(block).min(4))),
+        Some(SortCommon::Ascending) => blocks.sort_by_key(|(_, block)| power(block).min(5)),
+    }
+    blocks
+}
+
+/// The names in the order of GNU ld's table of symbols, which depends on the order in which they were entered.
+fn table_order<'a>(link: &'a Link<'_>, objects: &[LinkObject<'a>]) -> Vec<&'a [u8]> {
+    let of_script = link.program.symbols.named().map(|name| name.as_slice());
+    let of_objects = objects.iter().flat_map(|object| object.symbols.iter().map(|symbol| symbol.name));
+    let mut table = Table::default();
+    let mut seen: HashSet<&[u8], std::hash::BuildHasherDefault<super::names::QuickHasher>> = HashSet::default();
+    for name in of_script.chain(of_objects) {
+        if seen.insert(name) {
+            table.insert(name);
+        }
+    }
+    table.listed()
+}
+
+/// GNU ld's table of symbols (hash.c): chains, whose entries a larger table has in another order.
+struct Table<'a> {
+    names: Vec<(&'a [u8], u64)>,
+    next: Vec<Option<usize>>,
+    heads: Vec<Option<usize>>,
+}
+
+/// hash.c, `DEFAULT_SIZE`
+const BUCKETS: usize = 4051;
+/// hash.c, `higher_prime_number`, from the first that is greater than `BUCKETS`
+const SIZES: [usize; 12] =
+    [4093, 8191, 16381, 32749, 65521, 131_071, 262_139, 524_287, 1_048_573, 2_097_143, 4_194_301, 8_388_593];
+
+impl Default for Table<'_> {
+    fn default() -> Self {
+        Table { names: Vec::new(), next: Vec::new(), heads: vec![None; BUCKETS] }
+    }
+}
+
+impl<'a> Table<'a> {
+    fn insert(&mut self, name: &'a [u8]) {
+        let (id, hash) = (self.names.len(), hash_of(name));
+        self.names.push((name, hash));
+        self.next.push(None);
+        self.push_front(id, id, hash);
+        if self.names.len() > self.heads.len() * 3 / 4 {
+            if let Some(size) = SIZES.iter().find(|size| **size > self.heads.len()) {
+                self.grow(*size);
+            }
+        }
+    }
+
+    /// Puts a chain, from its first to its last entry, in front of its bucket.
+    fn push_front(&mut self, first: usize, last: usize, hash: u64) {
+        let bucket = (hash % self.heads.len() as u64) as usize;
+        if let (Some(next), Some(head)) = (self.next.get_mut(last), self.heads.get_mut(bucket)) {
+            *next = *head;
+            *head = Some(first);
+        }
+    }
+
+    fn next_of(&self, id: usize) -> Option<usize> {
+        self.next.get(id).copied().flatten()
+    }
+
+    fn hash(&self, id: usize) -> u64 {
+        self.names.get(id).map_or(0, |(_, hash)| *hash)
+    }
+
+    fn grow(&mut self, size: usize) {
+        let old = std::mem::replace(&mut self.heads, vec![None; size]);
+        for head in old {
+            let mut at = head;
+            while let Some(first) = at {
+                let hash = self.hash(first);
+                let mut last = first;
+                while let Some(next) = self.next_of(last).filter(|next| self.hash(*next) == hash) {
+                    last = next;
+                }
+                at = self.next_of(last);
+                self.push_front(first, last, hash);
+            }
+        }
+    }
+
+    fn listed(&self) -> Vec<&'a [u8]> {
+        let mut found = Vec::with_capacity(self.names.len());
+        for head in &self.heads {
+            let mut at = *head;
+            while let Some(id) = at {
+                found.extend(self.names.get(id).map(|(name, _)| *name));
+                at = self.next_of(id);
+            }
+        }
+        found
+    }
+}
+
+/// hash.c, `bfd_hash_hash`: the sum of a byte and its shift is of 32 bits.
+fn hash_of(name: &[u8]) -> u64 {
+    let mixed = |hash: u64, word: u32| {
+        let hash = hash.wrapping_add(u64::from(word.wrapping_add(word << 17)));
+        hash ^ (hash >> 2)
+    };
+    let hash = name.iter().fold(0, |hash, byte| mixed(hash, u32::from(*byte)));
+    mixed(hash, name.len() as u32)
+}
+
+#[cfg(test)]
+mod tests {
+    use super::*;
+
+    fn block(align: u64) -> Block {
+        Block { owner: ObjectId::new(0), size: 1, align }
+    }
+
+    /// hash.c: a table lists its buckets, and of a bucket the last entry first; a larger one turns chains around.
+    #[test]
+    fn a_table_grows() {
+        let names: Vec<String> = (0..4000).map(|number| format!("name_{}", number)).collect();
+        let mut table = Table::default();
+        for name in &names {
+            table.insert(name.as_bytes());
+        }
+        assert_eq!(table.heads.len(), 8191);
+        assert_eq!(table.listed().len(), 4000);
+    }
+
+    /// ldlang.c, `lang_common`: greater alignments first, and those of more than 16 as one.
+    #[test]
+    fn sorts_of_common_blocks() {
+        let blocks: Vec<(Vec<u8>, Block)> = [(b"a", 1), (b"b", 64), (b"c", 16), (b"d", 4)]
+            .map(|(name, align)| (name.to_vec(), block(align)))
+            .to_vec();
+        let names = |sort| -> Vec<Vec<u8>> { sorted(blocks.clone(), sort).into_iter().map(|(name, _)| name).collect() };
+        assert_eq!(names(None), [b"a", b"b", b"c", b"d"]);
+        assert_eq!(names(Some(SortCommon::Descending)), [b"b", b"c", b"d", b"a"]);
+        assert_eq!(names(Some(SortCommon::Ascending)), [b"a", b"d", b"c", b"b"]);
+    }
+}

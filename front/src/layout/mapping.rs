@@ -1,0 +1,374 @@
+//! Gives the input sections to the output sections, in the order of the script (ldlang.c,
+//! `map_input_to_output_sections`).
+
+use super::evaluation::Fate;
+use super::expression::Node;
+use super::flags::Flags;
+use super::ids::{ExprId, OutputId, SectionId, StatementId};
+use super::input::LinkObject;
+use super::link::Link;
+use super::matching::Match;
+use super::program::{Constraint, Output, OutputKind, Place, StepKind};
+use super::rows::Rows;
+use super::sorting::{FileNames, Sorting};
+use super::stop::{not_evaluated, refused, NotEvaluatedReason, RefusedReason, Stop};
+use crate::script::tree::{Name, Query, Span};
+use bstr::ByteSlice;
+use object::elf;
+
+/// The flags of INPUT_SECTION_FLAGS (elf.c, `bfd_elf_lookup_section_flags`).
+const SECTION_FLAGS: [(&[u8], u32); 11] = [
+    (b"SHF_WRITE", elf::SHF_WRITE),
+    (b"SHF_ALLOC", elf::SHF_ALLOC),
+    (b"SHF_EXECINSTR", elf::SHF_EXECINSTR),
+    (b"SHF_MERGE", elf::SHF_MERGE),
+    (b"SHF_STRINGS", elf::SHF_STRINGS),
+    (b"SHF_INFO_LINK", elf::SHF_INFO_LINK),
+    (b"SHF_LINK_ORDER", elf::SHF_LINK_ORDER),
+    (b"SHF_OS_NONCONFORMING", elf::SHF_OS_NONCONFORMING),
+    (b"SHF_GROUP", elf::SHF_GROUP),
+    (b"SHF_TLS", elf::SHF_TLS),
+    (b"SHF_EXCLUDE", elf::SHF_EXCLUDE),
+];
+
+/// By output section: input sections that GNU ld copies into it in reverse.
+const REVERSED: [(&[u8], &[u8]); 2] = [(b".init_array", b".ctors"), (b".fini_array", b".dtors")];
+
+impl Link<'_> {
+    /// Gives the sections to the statements, and makes the output sections that have something.
+    pub fn map(&mut self, rows: &Rows, objects: &[LinkObject<'_>]) -> Result<(), Stop> {
+        let files: Vec<FileNames<'_>> = objects
+            .iter()
+            .map(|object| match object.archive {
+                Some(archive) => (archive, object.name),
+                None => (object.name, &b""[..]),
+            })
+            .collect();
+        self.keep(rows);
+        for id in self.program.top.clone() {
+            match self.step(id).map(|step| step.kind.clone()) {
+                Some(StepKind::Output(output)) => self.map_output(output, rows, &files)?,
+                Some(StepKind::Assign { value, .. }) => self.make_named(value)?,
+                Some(StepKind::Assert { condition, .. }) => self.make_named(condition)?,
+                _ => {}
+            }
+        }
+        Ok(())
+    }
+
+    /// What a statement under KEEP matches is kept.
+    fn keep(&mut self, rows: &Rows) {
+        for (taking, matches) in self.program.takings.iter().zip(&rows.matches) {
+            if taking.node.is_kept {
+                for one in matches {
+                    if let Some(section) = self.sections.get_mut(one.section.index()) {
+                        section.flags |= Flags::KEEP;
+                    }
+                }
+            }
+        }
+    }
+
+    fn map_output(&mut self, id: OutputId, rows: &Rows, files: &[FileNames<'_>]) -> Result<(), Stop> {
+        let body = self.body(id);
+        let constraint = self.output(id).map(|output| output.constraint);
+        if let Some(Constraint::ReadOnly | Constraint::ReadWrite) = constraint {
+            if self.is_writable(&body, rows) == (constraint == Some(Constraint::ReadOnly)) {
+                if let Some(output) = self.output_mut(id) {
+                    output.constraint = Constraint::Unmet;
+                }
+                return Ok(());
+            }
+        }
+        for inner in body {
+            match self.step(inner).map(|step| step.kind.clone()) {
+                Some(StepKind::Input(taking)) => self.map_input(id, inner, taking, rows, files)?,
+                Some(StepKind::Data { value, .. }) => {
+                    self.make_named(value)?;
+                    self.make_for_data(id)?;
+                }
+                Some(StepKind::Assign { value: e, .. } | StepKind::Assert { condition: e, .. }) => {
+                    self.make(id, Flags::NONE)?;
+                    self.make_named(e)?;
+                }
+                Some(StepKind::Fill | StepKind::CreateObjectSymbols) => self.make(id, Flags::NONE)?,
+                _ => {}
+            }
+        }
+        Ok(())
+    }
+
+    /// Whether a statement of an output section matches a writable section that no other has taken (ldlang.c,
+    /// `check_section_callback`).
+    fn is_writable(&self, body: &[StatementId], rows: &Rows) -> bool {
+        let of = |id: &StatementId| match self.step(*id)?.kind {
+            StepKind::Input(taking) => rows.matches.get(taking),
+            _ => None,
+        };
+        body.iter().filter_map(of).flatten().any(|one| {
+            self.section(one.section).map_or(false, |section| {
+                section.fate == Fate::Open && !section.flags.has(Flags::READONLY)
+            })
+        })
+    }
+
+    fn map_input(
+        &mut self,
+        id: OutputId,
+        inner: StatementId,
+        taking: usize,
+        rows: &Rows,
+        files: &[FileNames<'_>],
+    ) -> Result<(), Stop> {
+        let span = self.step(inner).and_then(|step| step.span);
+        let (found, flags) = match (self.program.takings.get(taking), rows.matches.get(taking)) {
+            (Some(taking), Some(found)) => {
+                let (sections, names) = (&self.sections[..], &self.program.names);
+                let sorting = Sorting { sections, names, files, by_option: self.settings.sort_section };
+                let is_sorted = sorting.is_sorted(&taking.node);
+                let found = if is_sorted { Some(sorting.sorted(&taking.node, found, span)?) } else { None };
+                (found, section_flags(&taking.node.section_flags, span)?)
+            }
+            _ => return Ok(()),
+        };
+        let found: &[Match] = found.as_deref().or_else(|| rows.matches.get(taking).map(Vec::as_slice)).unwrap_or_default();
+        let mut taken = Vec::with_capacity(found.len());
+        for one in found {
+            if self.add_to(id, one.section, flags)? {
+                taken.push(one.section);
+            }
+        }
+        let mut takes_common = false;
+        if let Some(taking) = self.program.takings.get_mut(taking) {
+            taking.sections = taken;
+            takes_common = taking.node.sections.iter().flatten().any(|pattern| pattern.node.glob == "COMMON");
+        }
+        if takes_common && self.program.common.is_none() {
+            self.program.common = Some(id);
+        }
+        Ok(())
+    }
+
+    /// Makes an input section one of an output section, whose flags and alignment follow, or leaves it out; gives whether
+    /// it is one now (ldlang.c, `lang_add_section`).
+    pub fn add_to(&mut self, id: OutputId, section: SectionId, (wanted, unwanted): (u64, u64)) -> Result<bool, Stop> {
+        let (output, input) = match (self.output(id), self.section(section)) {
+            (Some(output), Some(input)) => (output, input),
+            _ => return Ok(false),
+        };
+        if input.flags.has(Flags::EXCLUDE) || output.is_discard {
+            if let (Fate::Open, Some(input)) = (input.fate, self.section_mut(section)) {
+                input.fate = Fate::Discarded;
+            }
+            return Ok(false);
+        }
+        if input.fate != Fate::Open || input.bits & wanted != wanted || input.bits & unwanted != 0 {
+            return Ok(false);
+        }
+        let mut flags = input.flags.without(Flags::NEVER_LOAD);
+        match output.kind {
+            OutputKind::NotAllocated => flags = flags.without(Flags::ALLOC),
+            OutputKind::NoLoad => flags = (flags | Flags::NEVER_LOAD).without(Flags::LOAD | Flags::CONTENTS),
+            OutputKind::ReadOnly | OutputKind::Typed { is_read_only: true, .. } => flags |= Flags::READONLY,
+            OutputKind::Normal | OutputKind::Overlay { .. } | OutputKind::Typed { .. } => {}
+        }
+        self.make(id, flags)?;
+        self.check_reversed(id, section)?;
+        let (place, input) = match (self.program.outputs.get_mut(id.index()), self.sections.get_mut(section.index())) {
+            (Some(Output { place: Some(place), .. }), Some(input)) => (place, input),
+            _ => return Ok(false),
+        };
+        join(place, input, flags);
+        place.align = place.align.max(input.align);
+        place.inputs.push(section);
+        input.fate = Fate::Output(id);
+        Ok(true)
+    }
+
+    fn check_reversed(&self, id: OutputId, section: SectionId) -> Result<(), Stop> {
+        let name = match (self.output(id), self.section(section)) {
+            (Some(output), Some(input)) => (self.program.names.get(output.name), self.program.names.get(input.name)),
+            _ => return Ok(()),
+        };
+        let is_reversed = REVERSED.iter().any(|(output, front)| {
+            name.0 == output.as_bstr()
+                && name.1.strip_prefix(*front).map_or(false, |rest| matches!(rest.first(), None | Some(b'.')))
+        });
+        if is_reversed {
+            let (output, section) = (name.0.into(), name.1.into());
+            return not_evaluated(NotEvaluatedReason::ReverseCopy { section, output }, self.output_span(id));
+        }
+        Ok(())
+    }
+
+    // --- output sections that are made ---
+
+    /// Makes the section of an output section statement, where it is not there yet (ldlang.c, `init_os`).
+    pub fn make(&mut self, id: OutputId, flags: Flags) -> Result<(), Stop> {
+        let (is_discard, name, address, load, align) = match self.output(id) {
+            Some(output) if output.place.is_none() => {
+                (output.is_discard, output.name, output.address, output.load, output.align)
+            }
+            _ => return Ok(()),
+        };
+        if is_discard {
+            return refused(RefusedReason::Discard, self.output_span(id));
+        }
+        let kind = kind_by_name(self.program.names.get(name));
+        if let Some(output) = self.output_mut(id) {
+            output.place = Some(Place {
+                address: 0,
+                load: 0,
+                size: 0,
+                last_size: 0,
+                flags: flags.without(Flags::CREATED | Flags::EXCLUDE),
+                align: 1,
+                is_gone: false,
+                has_input: false,
+                inputs: Vec::new(),
+                kind,
+                own_kind: 0,
+                entry_size: 0,
+            });
+        }
+        for e in [address, load].into_iter().flatten() {
+            self.make_named(e)?;
+        }
+        if align.is_some() {
+            let align = self.power(align)?.max(1);
+            if let Some(place) = self.place_mut(id) {
+                place.align = align;
+            }
+        }
+        Ok(())
+    }
+
+    /// Makes the output sections whose addresses an expression names (ldlang.c, `exp_init_os`).
+    pub fn make_named(&mut self, e: ExprId) -> Result<(), Stop> {
+        let mut waiting = vec![e];
+        while let Some(e) = waiting.pop() {
+            match self.program.expressions.node(e) {
+                Node::OfSection(Query::Addr | Query::Loadaddr, name) => {
+                    if let Some(id) = self.program.find(*name) {
+                        self.make(id, Flags::NONE)?;
+                    }
+                }
+                Node::Unary(_, inner) | Node::SegmentStart(_, inner) | Node::Assert(inner, _) => waiting.push(*inner),
+                Node::Binary(_, left, right) => waiting.extend([*right, *left]),
+                Node::Conditional(test, yes, no) => waiting.extend([*no, *yes, *test]),
+                _ => {}
+            }
+        }
+        Ok(())
+    }
+
+    /// Data make an output section one with contents.
+    fn make_for_data(&mut self, id: OutputId) -> Result<(), Stop> {
+        let kind = self.output(id).map_or(OutputKind::Normal, |output| output.kind);
+        let mut flags = Flags::CONTENTS | Flags::ALLOC | Flags::LOAD;
+        let mut own_kind = 0;
+        match kind {
+            OutputKind::Normal | OutputKind::Overlay { .. } => {}
+            OutputKind::NotAllocated => flags = Flags::CONTENTS,
+            OutputKind::NoLoad => flags = Flags::NEVER_LOAD | Flags::ALLOC,
+            OutputKind::ReadOnly => flags |= Flags::READONLY,
+            OutputKind::Typed { kind, is_read_only } => {
+                own_kind = kind;
+                if is_read_only {
+                    flags |= Flags::READONLY;
+                }
+            }
+        }
+        if self.place(id).is_none() {
+            self.make(id, flags | Flags::READONLY)?;
+        } else if let Some(place) = self.place_mut(id) {
+            place.flags |= flags;
+        }
+        if let Some(place) = self.place_mut(id) {
+            place.own_kind = own_kind;
+        }
+        Ok(())
+    }
+}
+
+/// The flags and the type of an output section with one more input section.
+fn join(place: &mut Place, input: &super::evaluation::InputSection, mut flags: Flags) {
+    let merging = Flags::MERGE | Flags::STRINGS;
+    place.flags = place.flags & (flags | !Flags::READONLY);
+    if place.has_input {
+        flags = flags.without(Flags::READONLY);
+        let is_other = place.flags & merging != flags & merging;
+        if is_other || flags.has(Flags::MERGE) && place.entry_size != input.entry_size {
+            place.flags = place.flags.without(merging);
+            flags = flags.without(merging);
+        }
+    }
+    place.flags |= flags.without(Flags::CREATED | Flags::EXCLUDE);
+    if !place.has_input {
+        place.has_input = true;
+        if flags.has(Flags::MERGE) {
+            place.entry_size = input.entry_size;
+        }
+        // elf.c, `elf_init_private_section_data`: the type is the first input section's where the flags are the same.
+        let own = Flags::CREATED | Flags::EXCLUDE;
+        if matches!(place.kind, elf::SHT_PROGBITS | elf::SHT_NOTE | elf::SHT_NOBITS) {
+            place.kind = elf::SHT_NULL;
+        }
+        if place.kind == elf::SHT_NULL && (place.flags ^ input.flags).without(own) == Flags::NONE {
+            place.kind = input.kind;
+        }
+    }
+}
+
+/// The type that an output section has by its name alone (elf.c, `special_sections`).
+fn kind_by_name(name: &[u8]) -> u32 {
+    const WHOLE: [&[u8]; 10] = [
+        b".data1", b".rodata1", b".fini", b".init", b".got", b".plt", b".interp", b".line", b".debug", b".comment",
+    ];
+    const FRONTS: [(&[u8], u32); 13] = [
+        (b".bss", elf::SHT_NOBITS),
+        (b".data", elf::SHT_PROGBITS),
+        (b".fini_array", elf::SHT_FINI_ARRAY),
+        (b".init_array", elf::SHT_INIT_ARRAY),
+        (b".preinit_array", elf::SHT_PREINIT_ARRAY),
+        (b".noinit", elf::SHT_NOBITS),
+        (b".rodata", elf::SHT_PROGBITS),
+        (b".text", elf::SHT_PROGBITS),
+        (b".tbss", elf::SHT_NOBITS),
+        (b".tdata", elf::SHT_PROGBITS),
+        (b".persistent", elf::SHT_PROGBITS),
+        (b".persistent.bss", elf::SHT_NOBITS),
+        (b".gnu.linkonce.b", elf::SHT_NOBITS),
+    ];
+    if WHOLE.contains(&name) {
+        return elf::SHT_PROGBITS;
+    }
+    if name.starts_with(b".rela") {
+        return elf::SHT_RELA;
+    }
+    if name.starts_with(b".rel") {
+        return elf::SHT_REL;
+    }
+    if name.starts_with(b".note") {
+        return if name == b".note.GNU-stack" { elf::SHT_PROGBITS } else { elf::SHT_NOTE };
+    }
+    let matches = |front: &[u8]| name.strip_prefix(front).map_or(false, |rest| matches!(rest.first(), None | Some(b'.')));
+    FRONTS.iter().find(|(front, _)| matches(front)).map_or(elf::SHT_NULL, |(_, kind)| *kind)
+}
+
+/// The flags that a section must have, and those that it must not have.
+fn section_flags(words: &[Name], span: Option<Span>) -> Result<(u64, u64), Stop> {
+    let (mut wanted, mut unwanted) = (0, 0);
+    for word in words {
+        let (name, is_unwanted) = match word.strip_prefix(b"!") {
+            Some(name) => (name, true),
+            None => (word.as_slice(), false),
+        };
+        let flag = match SECTION_FLAGS.iter().find(|(known, _)| *known == name) {
+            Some((_, flag)) => u64::from(*flag),
+            None => return not_evaluated(NotEvaluatedReason::Word(word.clone()), span),
+        };
+        *(if is_unwanted { &mut unwanted } else { &mut wanted }) |= flag;
+    }
+    Ok((wanted, unwanted))
+}

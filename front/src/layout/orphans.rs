@@ -1,0 +1,479 @@
+//! Where GNU ld puts input sections that no statement takes (ldlang.c, `lang_place_orphans`, `lang_insert_orphan`;
+//! ldelf.c, `ldelf_place_orphan`).
+
+use super::evaluation::{Fate, InputSection};
+use super::flags::Flags;
+use super::glob;
+use super::ids::{NameId, OutputId, SectionId, StatementId};
+use super::link::Link;
+use super::program::{Constraint, StepKind, DEFAULT};
+use super::settings::OrphanHandling;
+use super::stop::Stop;
+use object::elf;
+
+/// The flags by which a section is like another.
+fn look() -> Flags {
+    Flags::CONTENTS | Flags::ALLOC | Flags::LOAD | Flags::READONLY | Flags::CODE | Flags::TLS
+}
+
+/// Where sections of one sort go: after an output section of a name, else by their flags (ldelf.c, `hold`).
+#[derive(Clone, Copy, Debug)]
+struct Hold {
+    name: &'static [u8],
+    flags: Flags,
+    output: Option<OutputId>,
+    /// The last one that was put there.
+    last: Option<OutputId>,
+}
+
+/// The sorts.
+#[derive(Clone, Copy, PartialEq, Eq, Debug)]
+enum Sort {
+    Text,
+    Rodata,
+    Tdata,
+    Data,
+    Bss,
+    Relocations,
+    Notes,
+    NotAllocated,
+}
+
+const SORTS: usize = 8;
+
+fn holds() -> [Hold; SORTS] {
+    let data = Flags::CONTENTS | Flags::ALLOC | Flags::LOAD | Flags::DATA;
+    let hold = |name: &'static [u8], flags| Hold { name, flags, output: None, last: None };
+    [
+        hold(b".text", data.without(Flags::DATA) | Flags::READONLY | Flags::CODE),
+        hold(b".rodata", data | Flags::READONLY),
+        hold(b".tdata", data | Flags::TLS),
+        hold(b".data", data),
+        hold(b".bss", Flags::ALLOC),
+        hold(b"", data | Flags::READONLY),
+        hold(b".interp", data | Flags::READONLY),
+        hold(b".comment", Flags::CONTENTS),
+    ]
+}
+
+/// Places what is left.
+pub(crate) struct Orphans {
+    holds: [Hold; SORTS],
+    is_ready: bool,
+    /// By name: the sections that were left at first.
+    left: Vec<Vec<SectionId>>,
+}
+
+impl Orphans {
+    /// All input sections that have no place yet.
+    pub fn run(link: &mut Link<'_>) -> Result<(), Stop> {
+        let mut orphans = Orphans { holds: holds(), is_ready: false, left: Vec::new() };
+        orphans.left.resize_with(link.program.names.len(), Vec::new);
+        for (number, section) in link.sections.iter().enumerate() {
+            if let (Fate::Open, Some(row)) = (section.fate, orphans.left.get_mut(section.name.index())) {
+                row.push(SectionId::new(number));
+            }
+        }
+        for number in 0..link.sections.len() {
+            let id = SectionId::new(number);
+            let section = match link.section(id) {
+                Some(section) if section.fate == Fate::Open => section.clone(),
+                _ => continue,
+            };
+            if section.flags.has(Flags::EXCLUDE) {
+                set_fate(link, id, Fate::Discarded);
+            } else if link.program.names.get(section.name) == "COMMON" {
+                orphans.place_common(link, id)?;
+            } else if link.settings.orphans == OrphanHandling::Discard {
+                set_fate(link, id, Fate::Discarded);
+            } else {
+                orphans.place(link, id, &section)?;
+            }
+        }
+        Ok(())
+    }
+
+    /// Common blocks that no statement takes go to where others go, or to `.bss`.
+    fn place_common(&mut self, link: &mut Link<'_>, id: SectionId) -> Result<(), Stop> {
+        let output = match link.program.common.or_else(|| link.program.find_name(b".bss")) {
+            Some(output) => output,
+            None => {
+                let output = link.program.output(b".bss", None);
+                append(link, output);
+                output
+            }
+        };
+        link.program.common = Some(output);
+        add(link, output, id)
+    }
+
+    fn place(&mut self, link: &mut Link<'_>, id: SectionId, section: &InputSection) -> Result<(), Stop> {
+        let is_relocation = section.flags.has(Flags::ALLOC) && section.kind == elf::SHT_RELA;
+        let name = if is_relocation { link.program.names.enter(b".rela.dyn") } else { section.name };
+        let is_unique = link.settings.unique.as_ref().map_or(false, |patterns| {
+            let own = link.program.names.get(section.name);
+            patterns.is_empty() || patterns.iter().any(|pattern| glob::matches(pattern, own))
+        });
+        let is_special = if is_unique {
+            true
+        } else {
+            let (found, has_name) = by_name(link, name, section);
+            if let Some(output) = found {
+                return add(link, output, id);
+            }
+            has_name
+        };
+        self.start(link);
+        let flags = self.flags_of(link, id, section);
+        let sort = sort_of(flags, section.kind);
+        let after = sort.and_then(|sort| self.after(link, sort, section, flags));
+        self.insert(link, id, name, sort, after, is_special)
+    }
+
+    /// The output sections after which sorts go, if the script has them.
+    fn start(&mut self, link: &mut Link<'_>) {
+        if self.is_ready {
+            return;
+        }
+        self.is_ready = true;
+        for hold in self.holds.iter_mut().filter(|hold| !hold.name.is_empty()) {
+            hold.output = link.program.find_name(hold.name);
+            if let Some(output) = hold.output.and_then(|output| link.output_mut(output)) {
+                if output.expected == Flags::NONE {
+                    output.expected = hold.flags;
+                }
+            }
+        }
+    }
+
+    /// Its flags; writable where another orphan of its name is.
+    fn flags_of(&self, link: &Link<'_>, id: SectionId, section: &InputSection) -> Flags {
+        let row = self.left.get(section.name.index()).map_or(&[][..], Vec::as_slice);
+        let later = row.get(row.partition_point(|other| *other <= id)..).unwrap_or_default();
+        let is_writable = later.iter().filter_map(|other| link.section(*other)).any(|other| {
+            other.fate == Fate::Open
+                && !other.flags.has(Flags::EXCLUDE | Flags::READONLY)
+                && !(other.flags ^ section.flags).has(Flags::LOAD | Flags::ALLOC)
+                && other.kind == section.kind
+        });
+        if is_writable {
+            section.flags.without(Flags::READONLY)
+        } else {
+            section.flags
+        }
+    }
+
+    /// The output section after which one goes; `None`: in front of all.
+    fn after(&mut self, link: &Link<'_>, sort: Sort, section: &InputSection, flags: Flags) -> Option<OutputId> {
+        let hold = self.holds.get_mut(sort as usize)?;
+        if hold.output.is_none() {
+            hold.output = if sort == Sort::Relocations { relocations(link) } else { link.program.find_name(hold.name) };
+        }
+        if hold.output.is_some() {
+            return hold.output;
+        }
+        let (found, is_exact) = by_flags(link, section.kind, flags);
+        if is_exact {
+            hold.output = found;
+        }
+        found
+    }
+
+    /// A new output section, after another one.
+    fn insert(
+        &mut self,
+        link: &mut Link<'_>,
+        id: SectionId,
+        name: NameId,
+        sort: Option<Sort>,
+        after: Option<OutputId>,
+        is_special: bool,
+    ) -> Result<(), Stop> {
+        let name = link.program.names.get(name).to_owned();
+        let is_loaded = link.section(id).map_or(false, |section| section.flags.has(Flags::LOAD | Flags::ALLOC));
+        let own = link.program.output(&name, None);
+        let (region, load_region, segments) = match after.and_then(|after| link.output(after)) {
+            Some(after) if is_loaded => (after.region, after.load_region, after.segments.clone()),
+            _ => (link.program.region(DEFAULT), None, Vec::new()),
+        };
+        let default = link.program.default_region;
+        let address = if is_loaded { None } else { Some(link.program.expressions.number(0)) };
+        if let Some(output) = link.output_mut(own) {
+            output.is_orphan = true;
+            output.constraint = if is_special { Constraint::Special } else { Constraint::None };
+            output.address = address;
+            output.load_region = load_region;
+            output.segments = segments;
+            output.region = match load_region {
+                Some(load) if Some(region) == default && address.is_none() => load,
+                _ => region,
+            };
+        }
+        add(link, own, id)?;
+        match sort.and_then(|sort| self.holds.get_mut(sort as usize)) {
+            None => append(link, own),
+            Some(hold) => {
+                let (after, is_apart) = match note_place(link, id, after) {
+                    Some(after) => (after, true),
+                    None => (after, hold.last.is_none()),
+                };
+                if is_apart {
+                    insert_after(link, own, after);
+                } else if let Some(last) = hold.last {
+                    insert_behind(link, own, last);
+                }
+                hold.last = Some(own);
+            }
+        }
+        Ok(())
+    }
+}
+
+fn set_fate(link: &mut Link<'_>, id: SectionId, fate: Fate) {
+    if let Some(section) = link.section_mut(id) {
+        section.fate = fate;
+    }
+}
+
+fn add(link: &mut Link<'_>, output: OutputId, id: SectionId) -> Result<(), Stop> {
+    link.add_to(output, id, (0, 0))?;
+    if link.section(id).map_or(false, |section| section.size != 0) {
+        link.orphans.push(id);
+    }
+    Ok(())
+}
+
+/// The output section of the name that takes it, and whether there is one of the name at all.
+fn by_name(link: &Link<'_>, name: NameId, section: &InputSection) -> (Option<OutputId>, bool) {
+    let (mut has_name, mut unused) = (false, None);
+    for id in link.program.outputs_of.get(&name).into_iter().flatten() {
+        let output = match link.output(*id) {
+            Some(output) if output.counts() => output,
+            _ => continue,
+        };
+        has_name = true;
+        match &output.place {
+            None => unused = Some(*id),
+            Some(place) => {
+                let is_same = !(section.flags ^ place.flags).has(Flags::LOAD | Flags::ALLOC) && place.kind == section.kind;
+                if place.flags == Flags::NONE || is_same {
+                    return (Some(*id), true);
+                }
+            }
+        }
+    }
+    (unused, has_name)
+}
+
+fn sort_of(flags: Flags, kind: u32) -> Option<Sort> {
+    if !flags.has(Flags::ALLOC) {
+        return if flags.has(Flags::DEBUGGING) { None } else { Some(Sort::NotAllocated) };
+    }
+    let is_loaded = flags.has(Flags::LOAD);
+    Some(if is_loaded && kind == elf::SHT_NOTE {
+        Sort::Notes
+    } else if !flags.has(Flags::LOAD | Flags::CONTENTS | Flags::TLS) {
+        Sort::Bss
+    } else if flags.has(Flags::TLS) {
+        Sort::Tdata
+    } else if !flags.has(Flags::READONLY) {
+        Sort::Data
+    } else if is_loaded && matches!(kind, elf::SHT_RELA | elf::SHT_REL) {
+        Sort::Relocations
+    } else if flags.has(Flags::CODE) {
+        Sort::Text
+    } else {
+        Sort::Rodata
+    })
+}
+
+/// The section after which relocations go: the last one before others of them (ldelf.c, `output_rel_find`).
+fn relocations(link: &Link<'_>) -> Option<OutputId> {
+    let (mut last, mut last_allocated, mut last_read_only) = (None, None, None);
+    for id in &link.program.order {
+        let output = match link.output(*id) {
+            None => continue,
+            Some(output) => output,
+        };
+        if output.counts() && link.program.names.get(output.name).starts_with(b".rel") {
+            break;
+        }
+        last = Some(*id);
+        if let Some(place) = output.place.as_ref().filter(|place| place.flags.has(Flags::ALLOC)) {
+            last_allocated = Some(*id);
+            if place.flags.has(Flags::READONLY) {
+                last_read_only = Some(*id);
+            }
+        }
+    }
+    last_read_only.or(last_allocated).or(last)
+}
+
+// --- by flags (ldlang.c, `lang_output_section_find_by_flags`) ---
+
+/// The output section after which one of these flags goes, and whether it has the same ones.
+fn by_flags(link: &Link<'_>, kind: u32, flags: Flags) -> (Option<OutputId>, bool) {
+    if let Some(found) = last_like(link, flags, look(), Some(kind)) {
+        return (Some(found), true);
+    }
+    if let Some(found) = near(link, flags, Some(kind)) {
+        return (Some(found), false);
+    }
+    (last_like(link, flags, look(), None).or_else(|| near(link, flags, None)), false)
+}
+
+/// By fewer flags: what is like it most.
+fn near(link: &Link<'_>, flags: Flags, kind: Option<u32>) -> Option<OutputId> {
+    let room = Flags::CONTENTS | Flags::ALLOC | Flags::LOAD;
+    if !flags.has(Flags::ALLOC) {
+        return last_like(link, flags, Flags::DEBUGGING, None);
+    }
+    if flags.has(Flags::CODE) {
+        return last_like(link, flags, room | Flags::CODE | Flags::TLS, kind);
+    }
+    if flags.has(Flags::READONLY) {
+        return last_like(link, flags, room | Flags::READONLY, kind);
+    }
+    if flags.has(Flags::TLS) {
+        return thread_local(link, flags);
+    }
+    if flags.has(Flags::CONTENTS) {
+        return last_like(link, flags, room | Flags::TLS, kind);
+    }
+    last_like(link, flags, Flags::ALLOC, kind)
+}
+
+/// The flags of an output section, or those that its name says.
+fn look_flags(link: &Link<'_>, id: OutputId) -> Flags {
+    link.output(id).map_or(Flags::NONE, |output| output.place.as_ref().map_or(output.expected, |place| place.flags))
+}
+
+/// The last section whose flags are equal under a mask, and its type if that counts.
+fn last_like(link: &Link<'_>, flags: Flags, mask: Flags, kind: Option<u32>) -> Option<OutputId> {
+    link.program.order.iter().rev().copied().find(|id| {
+        let is_of_kind = match (kind, link.place(*id)) {
+            (Some(kind), Some(place)) => place.kind == kind,
+            _ => true,
+        };
+        is_of_kind && !(look_flags(link, *id) ^ flags).has(mask)
+    })
+}
+
+/// Thread-local data: `.tdata` and `.tbss` are beside one another, in that order.
+fn thread_local(link: &Link<'_>, flags: Flags) -> Option<OutputId> {
+    let (mut found, mut has_seen) = (None, false);
+    for id in &link.program.order {
+        let own = look_flags(link, *id);
+        let differ = own ^ (flags | Flags::LOAD | Flags::CONTENTS);
+        if !differ.has(Flags::TLS | Flags::ALLOC) {
+            if !own.has(Flags::LOAD) && flags.has(Flags::LOAD) {
+                break;
+            }
+            found = Some(*id);
+            has_seen = true;
+        } else if has_seen {
+            break;
+        } else if !differ.has(Flags::CONTENTS | Flags::ALLOC | Flags::LOAD) {
+            found = Some(*id);
+        }
+    }
+    found
+}
+
+// --- insertion ---
+
+/// Notes that are loaded stay together, those of greater alignments first, and nothing else goes among them; `None` where
+/// that says nothing.
+#[allow(clippy::option_option)]
+fn note_place(link: &Link<'_>, id: SectionId, after: Option<OutputId>) -> Option<Option<OutputId>> {
+    let section = link.section(id)?;
+    let is_note = |id: &OutputId| {
+        link.place(*id).map_or(false, |place| place.flags.has(Flags::LOAD) && place.kind == elf::SHT_NOTE)
+    };
+    let order: Vec<OutputId> = link.program.order.iter().copied().filter(|id| link.place(*id).is_some()).collect();
+    if section.flags.has(Flags::LOAD) && section.kind == elf::SHT_NOTE {
+        let first = order.iter().position(is_note)?;
+        let group = order.get(first..)?.iter().take_while(|id| is_note(id));
+        let fits = |id: &&OutputId| link.place(**id).map_or(false, |place| place.align >= section.align);
+        let last = group.filter(fits).last().copied();
+        let before = || link.program.order.iter().position(|id| Some(id) == order.get(first)).unwrap_or(0);
+        return Some(last.or_else(|| link.program.order.get(before().checked_sub(1)?).copied()));
+    }
+    let at = match after {
+        None => 0,
+        Some(after) => {
+            let place = link.program.order.iter().position(|id| *id == after)?;
+            let made = link.program.order.get(..=place)?.iter().filter(|id| link.place(**id).is_some());
+            made.count()
+        }
+    };
+    let rest = order.get(at..)?;
+    if !rest.first().map_or(false, is_note) {
+        return None;
+    }
+    Some(rest.iter().filter(|id| is_note(id)).last().copied())
+}
+
+/// At the end of all.
+fn append(link: &mut Link<'_>, own: OutputId) {
+    if let Some(statement) = link.output(own).map(|output| output.statement) {
+        link.program.top.push(statement);
+        link.program.order.push(own);
+    }
+}
+
+/// Behind an output section's statement.
+fn insert_behind(link: &mut Link<'_>, own: OutputId, last: OutputId) {
+    let (own_statement, last_statement) = match (link.output(own), link.output(last)) {
+        (Some(own), Some(last)) => (own.statement, last.statement),
+        _ => return,
+    };
+    let at = position(&link.program.top, last_statement).map_or(link.program.top.len(), |at| at + 1);
+    link.program.top.insert(at, own_statement);
+    let at = link.program.order.iter().position(|id| *id == last).map_or(link.program.order.len(), |at| at + 1);
+    link.program.order.insert(at, own);
+}
+
+/// Behind the statements that belong to an output section.
+fn insert_after(link: &mut Link<'_>, own: OutputId, after: Option<OutputId>) {
+    let at = end_of(link, after);
+    if let Some(statement) = link.output(own).map(|output| output.statement) {
+        link.program.top.insert(at, statement);
+    }
+    let at = after.and_then(|after| link.program.order.iter().position(|id| *id == after)).map_or(0, |at| at + 1);
+    link.program.order.insert(at, own);
+}
+
+fn position(top: &[StatementId], statement: StatementId) -> Option<usize> {
+    top.iter().position(|id| *id == statement)
+}
+
+/// Where the statements of an output section end: in front of assignments to `.` that belong to the next one (ldlang.c,
+/// `insert_os_after`).
+pub(crate) fn end_of(link: &Link<'_>, after: Option<OutputId>) -> usize {
+    let statement = after.and_then(|after| link.output(after)).map(|after| after.statement);
+    let top = &link.program.top;
+    let start = statement.and_then(|statement| position(top, statement)).map_or(0, |at| at + 1);
+    let (mut is_first, mut assign) = (after.is_none(), None);
+    for (at, id) in top.iter().enumerate().skip(start) {
+        match link.step(*id).map(|step| &step.kind) {
+            Some(StepKind::Output(output)) => {
+                let is_allocated = link.place(*output).map_or(true, |place| {
+                    place.inputs.is_empty() || place.flags.has(Flags::ALLOC)
+                });
+                return match assign {
+                    Some(assign) if is_allocated => assign,
+                    _ => at,
+                };
+            }
+            Some(StepKind::Assign { target: None, .. }) if assign.is_none() => {
+                if !is_first {
+                    assign = Some(at);
+                }
+                is_first = false;
+            }
+            _ => {}
+        }
+    }
+    top.len()
+}

@@ -1,0 +1,245 @@
+//! What the passes have found, as an `Evaluation`.
+
+use super::evaluation::{
+    Base, Definer, Entry, Evaluation, Fate, Gap, InputSection, OutputSection, Placed, Region, Statement, StatementKind,
+    Symbol, Value,
+};
+use super::expression::value_of;
+use super::flags::Flags;
+use super::ids::{OutputId, StatementId, SymbolId};
+use super::link::Link;
+use super::program::{Output, Place, Step, StepKind};
+use super::symbols::SymbolState;
+use super::values::width_of;
+use crate::script::tree::Name;
+use object::elf;
+
+/// GNU ld's entry where nothing says it (elf.em, `ENTRY`: the scripts of x86-64 say `_start`).
+const DEFAULT_ENTRY: &[u8] = b"start";
+
+impl Link<'_> {
+    /// The evaluation, after the last pass.
+    pub fn result(mut self) -> Evaluation {
+        let entry = self.entry();
+        let mut found = Evaluation {
+            statements: self.program.steps.iter().map(|step| self.statement(step)).collect(),
+            outputs: self.program.outputs.iter().map(|output| self.output_result(output)).collect(),
+            symbols: self.program.symbols.iter().map(|symbol| self.symbol_result(symbol)).collect(),
+            regions: self.program.regions.iter().map(region_result).collect(),
+            order: self.program.order.clone(),
+            top: self.program.top.clone(),
+            entry,
+            header_count: self.headers.count.unwrap_or_else(|| self.found_headers()),
+            wants_headers: self.headers.is_wanted,
+            relro: self.headers.relro.filter(|_| self.headers.has_relro),
+            orphans: std::mem::take(&mut self.orphans),
+            ..Evaluation::default()
+        };
+        for expression in self.program.expressions.iter() {
+            if let (Some(span), Some(last)) = (expression.span, expression.last) {
+                found.values.insert(span, self.value(last));
+            }
+        }
+        for (number, statement) in found.statements.iter().enumerate() {
+            if let Some(span) = statement.span {
+                found.by_span.insert(span, StatementId::new(number));
+            }
+        }
+        for (number, symbol) in found.symbols.iter().enumerate() {
+            found.by_name.insert(symbol.name.clone(), SymbolId::new(number));
+        }
+        found.sections = self.sections;
+        found.names = self.program.names;
+        found
+    }
+
+    fn value(&self, value: (u64, Base)) -> Value {
+        value_of(value, |base| self.base_address(base))
+    }
+
+    /// Where the program begins (ldlang.c, `lang_end`).
+    fn entry(&self) -> Entry {
+        let given = self.settings.entry.as_ref().or(self.program.entry.as_ref());
+        let name = given.cloned().unwrap_or_else(|| DEFAULT_ENTRY.into());
+        let symbol = self.program.symbols.find(&name).and_then(|id| self.symbol(id)).filter(|symbol| symbol.is_known);
+        let by_name = symbol.filter(|symbol| symbol.is_defined()).and_then(|symbol| {
+            match symbol.section.and_then(|section| self.section(section)).map(|section| section.fate) {
+                Some(Fate::Open) => None,
+                Some(Fate::Discarded) => Some(symbol.value),
+                Some(Fate::Output(_)) | None => self.symbol_value(symbol).map(|value| value.address),
+            }
+        });
+        let address = by_name.or_else(|| number_of(&name)).or_else(|| {
+            let outputs = self.program.outputs_of.get(&self.program.names.find(b".text")?)?;
+            outputs.iter().find_map(|output| self.place(*output)).map(|place| place.address)
+        });
+        Entry { name, address, is_by_name: by_name.is_some() }
+    }
+
+    /// The value of a symbol at the end. One that counts from nowhere, as an assignment in a section that ONLY_IF_RO or
+    /// ONLY_IF_RW leaves out, is undefined in GNU ld's table of symbols, and relocations have its value all the same.
+    fn symbol_value(&self, symbol: &SymbolState) -> Option<Value> {
+        if !symbol.is_known || !symbol.is_defined() {
+            return None;
+        }
+        match symbol.section.and_then(|section| self.section(section)) {
+            None => Some(self.value((symbol.value, symbol.base))),
+            Some(section) => {
+                let base = Base::Output(section.output()?);
+                Some(self.value((section.offset.wrapping_add(symbol.value), base)))
+            }
+        }
+    }
+
+    fn symbol_result(&self, symbol: &SymbolState) -> Symbol {
+        let definer = match (symbol.statement, symbol.is_known && symbol.is_defined()) {
+            (Some(statement), true) if symbol.of_script => Definer::Script(statement),
+            (_, true) if symbol.by_linker => Definer::Linker,
+            (_, true) if symbol.is_in_objects => Definer::Object(symbol.section),
+            _ => Definer::None,
+        };
+        Symbol {
+            name: symbol.name.clone(),
+            definer,
+            value: self.symbol_value(symbol),
+            is_weak: symbol.kind == super::symbols::SymbolKind::DefinedWeak,
+            is_in_objects: symbol.is_in_objects,
+            is_hidden: symbol.is_hidden,
+        }
+    }
+
+    fn statement(&self, step: &Step) -> Statement {
+        let kind = match &step.kind {
+            StepKind::Output(output) => StatementKind::Output(*output),
+            StepKind::Assign { target: Some(symbol), .. } => {
+                StatementKind::Assign { symbol: *symbol, value: step.assigned.map(|value| self.value(value)) }
+            }
+            StepKind::Assign { target: None, value, .. } => {
+                let after = self.program.expressions.iter().nth(value.index()).and_then(|expression| expression.last);
+                StatementKind::Dot {
+                    after: match (step.output, after) {
+                        (Some(_), _) => step.dot.wrapping_add(step.gap),
+                        (None, Some(after)) => self.value(after).address,
+                        (None, None) => step.dot,
+                    },
+                    gap: (step.gap != 0).then(|| Gap {
+                        offset: step.gap_offset,
+                        size: step.gap,
+                        fill: step.fill.as_ref().map(|fill| fill.to_vec()),
+                    }),
+                }
+            }
+            StepKind::Assert { .. } => StatementKind::Assert,
+            StepKind::Data { width, .. } => StatementKind::Data {
+                offset: step.start,
+                size: width_of(*width) as u8,
+                value: step.value,
+            },
+            StepKind::Input(taking) => self.program.takings.get(*taking).map_or(StatementKind::Other, |taking| {
+                StatementKind::Input { sections: taking.sections.clone(), gaps: taking.gaps.clone() }
+            }),
+            StepKind::Fill => StatementKind::Fill,
+            StepKind::CreateObjectSymbols | StepKind::Insert(..) | StepKind::Other => StatementKind::Other,
+        };
+        Statement { span: step.span, output: step.output, dot: step.dot, kind }
+    }
+
+    fn output_result(&self, output: &Output) -> OutputSection {
+        OutputSection {
+            name: self.program.names.get(output.name).into(),
+            span: self.step(output.statement).and_then(|step| step.span),
+            is_orphan: output.is_orphan,
+            body: output.body.clone(),
+            place: output.place.as_ref().map(|place| self.placed(place)),
+            region: output.region,
+            load_region: output.load_region,
+            segments: output.segments.clone(),
+            has_own_address: output.address.is_some(),
+        }
+    }
+
+    fn placed(&self, place: &Place) -> Placed {
+        let merging = |section: &InputSection| section.flags.has(Flags::MERGE);
+        let merges = place.flags.has(Flags::MERGE)
+            && place.inputs.iter().filter_map(|id| self.section(*id)).any(merging);
+        Placed {
+            address: place.address,
+            load: place.load,
+            size: place.size,
+            align: place.align,
+            flags: place.flags,
+            kind: kind_of(place),
+            bits: bits_of(place.flags),
+            entry_size: if merges { place.entry_size } else { 0 },
+            is_gone: place.is_gone,
+            inputs: place.inputs.clone(),
+        }
+    }
+}
+
+/// The type in the section header (elf.c, `elf_fake_sections`).
+fn kind_of(place: &Place) -> u32 {
+    let by_flags = match place.own_kind {
+        elf::SHT_NULL if place.flags.has(Flags::ALLOC) && !place.flags.has(Flags::LOAD | Flags::CONTENTS) => {
+            elf::SHT_NOBITS
+        }
+        elf::SHT_NULL => elf::SHT_PROGBITS,
+        own => own,
+    };
+    match place.kind {
+        elf::SHT_NULL => by_flags,
+        elf::SHT_NOBITS if by_flags == elf::SHT_PROGBITS && place.flags.has(Flags::ALLOC) => by_flags,
+        kind => kind,
+    }
+}
+
+/// The flags in the section header (elf.c, `elf_fake_sections`).
+fn bits_of(flags: Flags) -> u64 {
+    let mut bits = 0;
+    for (flag, bit) in [
+        (Flags::ALLOC, elf::SHF_ALLOC),
+        (Flags::CODE, elf::SHF_EXECINSTR),
+        (Flags::MERGE, elf::SHF_MERGE),
+        (Flags::STRINGS, elf::SHF_STRINGS),
+        (Flags::TLS, elf::SHF_TLS),
+    ] {
+        if flags.has(flag) {
+            bits |= u64::from(bit);
+        }
+    }
+    if flags.has(Flags::READONLY) {
+        bits
+    } else {
+        bits | u64::from(elf::SHF_WRITE)
+    }
+}
+
+fn region_result(region: &super::program::Region) -> Region {
+    Region {
+        name: region.name.clone(),
+        origin: region.origin,
+        length: region.length,
+        current: region.current,
+        span: region.span,
+    }
+}
+
+/// The number that a name is, as `bfd_scan_vma` reads it.
+fn number_of(name: &Name) -> Option<u64> {
+    let text = std::str::from_utf8(name).ok()?;
+    if !text.starts_with(|first: char| first.is_ascii_digit()) {
+        return None;
+    }
+    let hex = text.strip_prefix("0x").or_else(|| text.strip_prefix("0X"));
+    match (hex, text.strip_prefix('0')) {
+        (Some(digits), _) => u64::from_str_radix(digits, 16).ok(),
+        (None, Some(digits)) if !digits.is_empty() => u64::from_str_radix(digits, 8).ok(),
+        _ => text.parse().ok(),
+    }
+}
+
+/// The output sections that are named first of all those of their name.
+pub(crate) fn first_made(link: &Link<'_>, name: &[u8]) -> Option<OutputId> {
+    let outputs = link.program.outputs_of.get(&link.program.names.find(name)?)?;
+    outputs.iter().copied().find(|output| link.place(*output).is_some())
+}

@@ -1,0 +1,179 @@
+//! The input sections of a link, and which statements match them: what stays when objects change in sizes alone.
+
+use super::commons;
+use super::evaluation::{Fate, InputSection, Origin};
+use super::flags::Flags;
+use super::ids::{ObjectId, SectionId};
+use super::input::{LinkObject, LinkSection};
+use super::matching::{matches_of, Match};
+use super::names::{Names, QuickMap};
+use super::program::Taking;
+use super::settings::Settings;
+use bstr::ByteSlice;
+use object::elf;
+
+/// The input sections and their matches.
+#[derive(Clone, Debug)]
+pub(crate) struct Rows {
+    pub sections: Vec<InputSection>,
+    /// By input statement.
+    pub matches: Vec<Vec<Match>>,
+    /// By object: its first section.
+    first: Vec<usize>,
+    /// By object: the section of its common blocks.
+    commons: QuickMap<ObjectId, SectionId>,
+}
+
+/// What GNU ld makes in every link (elf64-x86-64.c, elflink.c), empty in a static one: names, types, flags.
+fn own_sections() -> [(&'static [u8], u32, Flags); 6] {
+    [
+        (b".rela.got", elf::SHT_RELA, Flags::READONLY),
+        (b".got", elf::SHT_PROGBITS, Flags::DATA),
+        (b".got.plt", elf::SHT_NULL, Flags::DATA),
+        (b".iplt", elf::SHT_NULL, Flags::READONLY | Flags::CODE),
+        (b".rela.iplt", elf::SHT_RELA, Flags::READONLY),
+        (b".igot.plt", elf::SHT_NULL, Flags::DATA),
+    ]
+}
+
+impl Rows {
+    /// The rows of objects; names are entered into `names`.
+    pub fn new(takings: &[Taking], names: &mut Names, objects: &[LinkObject<'_>], settings: &Settings) -> Rows {
+        let owners = commons::owners(objects);
+        let count = objects.iter().map(|object| object.sections.len()).sum::<usize>() + 16;
+        let mut rows = Rows {
+            sections: Vec::with_capacity(count),
+            matches: Vec::new(),
+            first: Vec::with_capacity(objects.len()),
+            commons: QuickMap::default(),
+        };
+        let is_properties = |section: &LinkSection<'_>| section.name == b".note.gnu.property";
+        let own = objects.iter().position(|object| object.sections.iter().any(is_properties)).unwrap_or(0);
+        for (number, object) in objects.iter().enumerate() {
+            let id = ObjectId::new(number);
+            rows.first.push(rows.sections.len());
+            for section in &object.sections {
+                let name = names.enter(section.name);
+                rows.sections.push(of_object(id, section, name));
+            }
+            if owners.contains(&id) {
+                rows.commons.insert(id, SectionId::new(rows.sections.len()));
+                rows.add(id, names, b"COMMON", elf::SHT_NULL, Flags::ALLOC, (0, 1), Origin::Common);
+            }
+            if let (0, Some(size)) = (number, settings.build_id) {
+                let flags = Flags::ALLOC | Flags::LOAD | Flags::CONTENTS | Flags::READONLY | Flags::DATA;
+                let size = size.wrapping_add(16);
+                rows.add(id, names, b".note.gnu.build-id", elf::SHT_NOTE, flags, (size, 4), Origin::Linker);
+            }
+            if number == own {
+                for (name, kind, flags) in own_sections() {
+                    let flags = flags | Flags::ALLOC | Flags::LOAD | Flags::CONTENTS | Flags::CREATED;
+                    let align = if name == b".iplt" { 1 } else { 8 };
+                    rows.add(id, names, name, kind, flags, (0, align), Origin::Linker);
+                }
+            }
+        }
+        rows.matches = matches_of(takings, &rows.sections, names, objects);
+        rows
+    }
+
+    fn add(
+        &mut self,
+        object: ObjectId,
+        names: &mut Names,
+        name: &[u8],
+        kind: u32,
+        flags: Flags,
+        (size, align): (u64, u64),
+        origin: Origin,
+    ) {
+        self.sections.push(InputSection {
+            object,
+            origin,
+            name: names.enter(name),
+            flags,
+            kind,
+            bits: 0,
+            entry_size: 0,
+            size,
+            own_align: align,
+            align,
+            fate: Fate::Open,
+            offset: 0,
+        });
+    }
+
+    /// The section of an object by the number of its header.
+    pub fn find(&self, object: ObjectId, number: u32) -> Option<SectionId> {
+        let first = *self.first.get(object.index())?;
+        let end = self.first.get(object.index() + 1).copied().unwrap_or(self.sections.len());
+        let own = self.sections.get(first..end)?;
+        let count = own.iter().take_while(|section| section.number().is_some()).count();
+        let at = own.get(..count)?.binary_search_by_key(&Some(number), InputSection::number).ok()?;
+        Some(SectionId::new(first + at))
+    }
+
+    /// The section of an object's common blocks.
+    pub fn common(&self, object: ObjectId) -> Option<SectionId> {
+        self.commons.get(&object).copied()
+    }
+
+    /// Takes the sizes of objects that changed; gives whether the rows stay: names, types, flags, alignments and the
+    /// objects with common blocks are as they were.
+    pub fn renew(&mut self, names: &Names, objects: &[LinkObject<'_>], changed: &[ObjectId]) -> bool {
+        if objects.len() != self.first.len() || commons::owners(objects).len() != self.commons.len() {
+            return false;
+        }
+        for id in changed {
+            let (object, first) = match (objects.get(id.index()), self.first.get(id.index())) {
+                (Some(object), Some(first)) => (object, *first),
+                _ => return false,
+            };
+            let end = first + object.sections.len();
+            let ends = self.sections.get(end).map_or(true, |next| next.object != *id || next.number().is_none());
+            let own = match self.sections.get_mut(first..end) {
+                Some(own) if ends => own,
+                _ => return false,
+            };
+            for (old, section) in own.iter_mut().zip(&object.sections) {
+                let new = match names.find(section.name) {
+                    Some(name) => of_object(*id, section, name),
+                    None => return false,
+                };
+                if new != (InputSection { size: new.size, ..old.clone() }) {
+                    return false;
+                }
+                old.size = new.size;
+            }
+        }
+        objects.iter().enumerate().all(|(number, _)| {
+            let id = ObjectId::new(number);
+            !commons::has_common(objects, id) || self.commons.contains_key(&id)
+        })
+    }
+}
+
+fn of_object(object: ObjectId, section: &LinkSection<'_>, name: super::ids::NameId) -> InputSection {
+    let flags = Flags::of_section(section.name, section.kind, section.flags);
+    let align = 1u64.checked_shl(section.align.trailing_zeros()).unwrap_or(1);
+    let is_out = section.is_dropped || flags.has(Flags::EXCLUDE);
+    InputSection {
+        object,
+        origin: Origin::Header(section.number),
+        name,
+        flags: if is_out { flags | Flags::EXCLUDE } else { flags },
+        kind: section.kind,
+        bits: section.flags,
+        entry_size: section.entry_size,
+        size: section.size,
+        own_align: align,
+        align,
+        fate: if is_out { Fate::Discarded } else { Fate::Open },
+        offset: 0,
+    }
+}
+
+/// Whether a name is one of C's, so that `__start_NAME` can be asked for.
+pub(crate) fn is_identifier(name: &[u8]) -> bool {
+    !name.is_empty() && name.bytes().all(|byte| byte.is_ascii_alphanumeric() || byte == b'_')
+}

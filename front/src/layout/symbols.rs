@@ -1,0 +1,140 @@
+//! The symbols of a layout: names that are not local, as far as something has named them.
+
+use super::evaluation::Base;
+use super::ids::{SectionId, StatementId, SymbolId};
+use super::names::QuickMap;
+use crate::script::tree::Name;
+use bstr::ByteSlice;
+
+/// What a symbol is so far (bfdlink.h, `bfd_link_hash_type`).
+#[derive(Clone, Copy, PartialEq, Eq, Debug)]
+pub(crate) enum SymbolKind {
+    New,
+    Undefined,
+    Defined,
+    DefinedWeak,
+    Common,
+}
+
+/// A symbol.
+#[derive(Clone, Debug)]
+pub(crate) struct SymbolState {
+    pub name: Name,
+    /// Whether something has named it so far: GNU ld's table has it.
+    pub is_known: bool,
+    pub kind: SymbolKind,
+    pub value: u64,
+    pub base: Base,
+    /// The input section that it is in, of an object's symbol.
+    pub section: Option<SectionId>,
+    pub of_script: bool,
+    /// Whether an object had it before the script.
+    pub by_object: bool,
+    /// The last pass that assigned it.
+    pub pass: u32,
+    /// The last assignment.
+    pub statement: Option<StatementId>,
+    pub is_in_objects: bool,
+    pub is_hidden: bool,
+    pub by_linker: bool,
+    /// It is in a section that is not linked.
+    pub is_unlinked: bool,
+}
+
+impl SymbolState {
+    /// Whether it has a value.
+    pub fn is_defined(&self) -> bool {
+        matches!(self.kind, SymbolKind::Defined | SymbolKind::DefinedWeak)
+    }
+
+    /// Whether PROVIDE gives it a value: it is named and nothing defines it.
+    pub fn is_wanted(&self) -> bool {
+        matches!(self.kind, SymbolKind::New | SymbolKind::Undefined)
+    }
+}
+
+/// All symbols.
+#[derive(Clone, Default, Debug)]
+pub(crate) struct Symbols {
+    all: Vec<SymbolState>,
+    ids: QuickMap<Name, SymbolId>,
+    /// Those that something has named before the objects were read, in the order in which it did.
+    named: Vec<SymbolId>,
+    /// Whether the objects are read, and that order is complete.
+    is_read: bool,
+}
+
+impl Symbols {
+    /// The index of a name, which is entered where it is new, as one that nothing has named.
+    pub fn enter(&mut self, name: &[u8]) -> SymbolId {
+        if let Some(id) = self.find(name) {
+            return id;
+        }
+        let id = SymbolId::new(self.all.len());
+        self.ids.insert(name.into(), id);
+        self.all.push(SymbolState {
+            name: name.into(),
+            is_known: false,
+            kind: SymbolKind::New,
+            value: 0,
+            base: Base::Absolute,
+            section: None,
+            of_script: false,
+            by_object: false,
+            pass: u32::MAX,
+            statement: None,
+            is_in_objects: false,
+            is_hidden: false,
+            by_linker: false,
+            is_unlinked: false,
+        });
+        id
+    }
+
+    /// The index of a name.
+    pub fn find(&self, name: &[u8]) -> Option<SymbolId> {
+        self.ids.get(name.as_bstr()).copied()
+    }
+
+    /// The symbol of an index.
+    pub fn get(&self, id: SymbolId) -> Option<&SymbolState> {
+        self.all.get(id.index())
+    }
+
+    /// The symbol of an index, to be changed.
+    pub fn get_mut(&mut self, id: SymbolId) -> Option<&mut SymbolState> {
+        self.all.get_mut(id.index())
+    }
+
+    /// Makes a symbol one that something has named.
+    pub fn know(&mut self, id: SymbolId) -> Option<&mut SymbolState> {
+        let symbol = self.all.get_mut(id.index())?;
+        if !symbol.is_known {
+            symbol.is_known = true;
+            if !self.is_read {
+                self.named.push(id);
+            }
+        }
+        Some(symbol)
+    }
+
+    /// The objects are read now.
+    pub fn objects_are_read(&mut self) {
+        self.is_read = true;
+    }
+
+    /// The names that something has named before the objects were read, in that order.
+    pub fn named(&self) -> impl Iterator<Item = &Name> {
+        self.named.iter().filter_map(|id| self.get(*id)).map(|symbol| &symbol.name)
+    }
+
+    /// The symbols, by their indices.
+    pub fn iter(&self) -> impl Iterator<Item = &SymbolState> {
+        self.all.iter()
+    }
+
+    /// How many there are.
+    pub fn len(&self) -> usize {
+        self.all.len()
+    }
+}
