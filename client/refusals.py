@@ -54,8 +54,11 @@ def _of_edit(name: str, refused: Refused, data: bytes | None) -> str:
         return EDITS.get(refused.number, f"refused {refused.number} {refused.inner}")
     if data is not None and len(data) > GREATEST_PAYLOAD:
         return f"it has more than {GREATEST_PAYLOAD} bytes"
-    if not is_name(name.encode(errors="surrogateescape")):
-        return "an object's name has 1 to 255 bytes, each from `!' to `~' and none a space"
+    raw = name.encode(errors="surrogateescape")
+    if not is_name(raw):
+        other = next((byte for byte in raw if not 0x21 <= byte <= 0x7E), None)
+        found = f"its name has {len(raw)} bytes" if other is None else f"its name has the byte {other:#04x}"
+        return f"{found}: an object's name has 1 to 255 bytes, each from `!' to `~'"
     return EDITS[LIMIT]
 
 

@@ -21,6 +21,7 @@ dropped, rewritten, changed, left. Status 0: nothing is changed or left; 1: chan
   --objects OBJECT..          the objects of the link: all words that follow, up to the next option
   --objects @LIST             the same, a path to each line of the file LIST
   -h, --help                  this text
+  --version                   the version
 """
 
 
@@ -91,6 +92,11 @@ def main(words: list[str]) -> int:
     """Runs the program; gives its status."""
     if any(word in ("-h", "--help") for word in words):
         sys.stdout.write(USAGE)
+        return 0
+    if words == ["--version"]:
+        from client.version import version
+
+        print(version("ldi-adapt"))
         return 0
     try:
         return _run(Call(words))

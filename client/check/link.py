@@ -187,12 +187,14 @@ class Outcome:
     """What came of a link: the script that was sent, the result (None where something of the script is left), and what
     is to be said."""
 
-    __slots__ = ("script", "result", "said", "differs")
+    __slots__ = ("script", "result", "said", "differs", "stops")
 
     def __init__(self, script: Script, result: Result | None, said: list[str], differs: bool = False) -> None:
         self.script, self.result, self.said = script, result, said
         self.differs = differs
         """Whether the image is another than GNU ld's, and nothing that is reported says why."""
+        self.stops = False
+        """Whether GNU ld makes no image of the script either."""
 
 
 class CheckedLink:
@@ -206,7 +208,7 @@ class CheckedLink:
     def run(self) -> Outcome:
         """The link, and what is to be said of it."""
         outcome = self._run()
-        result = outcome.result
+        outcome.stops, result = self.checker.stopped is not None, outcome.result
         if result is not None and not result.script_refused and not result.status:
             once = any(ONCE in line for line in outcome.said)  # the adapter has said it
             outcome.said += [line for line in self.checker.merged() if not (once and ONCE in line)]

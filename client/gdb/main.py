@@ -12,6 +12,7 @@ from client.gdb.script import gdb_script, placed_objects
 from client.gdb.symbols import CannotAdd, with_local_names
 from client.ld.output import PROGRAM, TEXT, write_file
 from client.link_map import BadMap, LinkMap, read_map
+from client.version import version
 
 GOOD, LEFT_OUT, REFUSED, DEVICE = range(4)
 
@@ -28,6 +29,7 @@ def parser() -> argparse.ArgumentParser:
     words.add_argument("addresses", metavar="ADDRESS", nargs="*", default=[],
                        help="with --lines: addresses in hexadecimal")
     words.add_argument("-o", dest="output", metavar="OUT", help="the file to write in place of standard output")
+    words.add_argument("--version", action="store_true", help="prints the version, given alone")
     words.add_argument("--objects", metavar="FOLDER", default=".",
                        help="the folder that the names of objects count from; the current one by default")
     words.add_argument("--members", metavar="FOLDER", help="unpacks members of archives into this folder, for gdb")
@@ -112,6 +114,9 @@ def run(options: argparse.Namespace) -> int:
 
 def main(words: Sequence[str]) -> int:
     """Runs the program with these words; gives its exit status."""
+    if list(words) == ["--version"]:
+        print(version("ldi-gdb"))
+        return GOOD
     options = parser().parse_intermixed_args(words)
     if options.symbols is not None and options.output is None:
         parser().error("--symbols needs -o OUT")

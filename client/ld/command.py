@@ -5,11 +5,14 @@ import re
 
 from client.ld.options import (
     KEYWORDS_IGNORED,
+    KEYWORDS_LENIENT,
     KEYWORDS_SAID,
+    LENIENT,
     Effect,
     Option,
     Value,
     WordsRefused,
+    dashed,
     find_option,
 )
 
@@ -21,6 +24,9 @@ else:
 
 OF_LAYOUT = frozenset({"relro", "norelro", "separate-code", "noseparate-code"})
 """Words of -z that have a part in the layout (client/check)."""
+
+SEGMENTS = ("Ttext-segment", "Trodata-segment", "Tldata-segment")
+"""The options that set what SEGMENT_START of a segment is."""
 
 GREATEST_PAGE = 1 << 30
 """The greatest page of `-z max-page-size=`."""
@@ -82,6 +88,8 @@ class Command:
     omagic: bool = False
     """`-N`: the default script does not begin its data on a page of their own."""
     section_starts: dict[str, int] = field(default_factory=dict)
+    segment_starts: dict[str, int] = field(default_factory=dict)
+    """By name of a segment, as `text-segment`: what SEGMENT_START of it is."""
     page_size: int | None = None
     keywords: list[str] = field(default_factory=list)
     """The words of `-z`."""
@@ -96,6 +104,11 @@ class Command:
     """Options without effect here, and what that means; each once."""
     cannot: list[str] = field(default_factory=list)
     """What only another linker can do."""
+    lenient: set[str] = field(default_factory=set)
+    """What GNU ld is to let pass: values of LENIENT, and words of KEYWORDS_LENIENT."""
+    fallback: bool = True
+    """Whether another linker may link."""
+    build_id: bool = False
 
     def defsyms(self, scripts: int) -> list[str]:
         """The --defsyms that stand after so many scripts of -T."""
@@ -105,6 +118,11 @@ class Command:
         """Keeps a note, once."""
         if text not in self.notes:
             self.notes.append(text)
+
+    @property
+    def has_script(self) -> bool:
+        """Whether the words name a script."""
+        return bool(self.scripts) or self.default_script is not None
 
     def inputs_named(self) -> bool:
         """Whether the words name a file or a library."""
@@ -160,6 +178,8 @@ class Reader:
         if self.groups:
             raise WordsRefused("--start-group without --end-group")
         self.command.last_flags = self.flags
+        if self.command.build_id:
+            self.command.note("--build-id: the image has no build ID")
         if not self.command.scripts and self.command.default_script is not None:
             self.command.inputs.append(Input("script", self.command.default_script, self.flags))
         return self.command
@@ -168,14 +188,19 @@ class Reader:
         """Does what an option says."""
         name = option.names[0]
         if option.effect is Effect.SAID:
-            self.command.note(f"{option.spelling}: {option.note}")
+            self.command.note(f"{self.written(option)}: {option.note}")
         elif option.effect is Effect.CANNOT:
-            reason = f"{option.spelling}: {option.note}"
+            reason = f"{self.written(option)}: {option.note}"
             if reason not in self.command.cannot:
                 self.command.cannot.append(reason)
         elif option.effect is Effect.TAKEN:
             if not (self.setting(name, value or "") or self.input_flag(name, value or "")):
                 self.special(name, value)
+
+    def written(self, option: Option) -> str:
+        """The option by the name that the words have for it."""
+        name = self.word.partition("=")[0].lstrip("-")
+        return dashed(name) if name in option.names else option.spelling
 
     def setting(self, name: str, value: str) -> bool:
         """The options that set one thing; says whether it was one."""
@@ -187,6 +212,9 @@ class Reader:
             "M": ("print_map", True),
             "gc-sections": ("gc_sections", True),
             "no-gc-sections": ("gc_sections", False),
+            "build-id": ("build_id", value != "none"),
+            "no-build-id": ("build_id", False),
+            "no-fallback": ("fallback", False),
             "gc-keep-exported": ("gc_keep_exported", True),
             "init": ("init", value),
             "fini": ("fini", value),
@@ -262,9 +290,8 @@ class Reader:
             self.keyword(value or "")
         elif name == "orphan-handling":
             self.orphans(value or "")
-        elif name == "build-id":
-            if value != "none":
-                command.note("--build-id: the image has no build ID")
+        elif name in LENIENT:
+            command.lenient.add(LENIENT[name])
         elif name == "section-start":
             section, equals, start = (value or "").partition("=")
             if not equals:
@@ -272,6 +299,8 @@ class Reader:
             command.section_starts[section] = address(start, "--section-start")
         elif name in ("Ttext", "Tdata", "Tbss"):
             command.section_starts[f".{name[1:]}"] = address(value or "", f"-{name}")
+        elif name in SEGMENTS:
+            command.segment_starts[name[1:]] = address(value or "", f"-{name}")
         elif name == "oformat":
             if value in ("binary", "elf64-x86-64"):
                 command.output_format = value
@@ -298,6 +327,8 @@ class Reader:
         elif name == "common-page-size":
             if number(value, "-z common-page-size").bit_count() != 1:
                 raise WordsRefused(f"-z {text}: no power of two")
+        elif name in KEYWORDS_LENIENT:
+            self.command.lenient.add(name)
         elif name not in KEYWORDS_IGNORED and name not in OF_LAYOUT:
             self.command.note(f"-z {text}: not known, without effect")
 
@@ -305,10 +336,7 @@ class Reader:
         """What becomes of sections that no statement takes."""
         if value not in ("place", "warn", "error", "discard"):
             raise WordsRefused(f"--orphan-handling: '{value}' is none of place, warn, error, discard")
-        if value in ("place", "warn"):
-            self.command.note(f"--orphan-handling={value}: a section that no statement takes is an error")
-            value = "error"
-        self.command.orphan_handling = value
+        self.command.orphan_handling = None if value in ("place", "warn") else value
 
 
 def read_command(words: list[str]) -> Command:

@@ -1,4 +1,4 @@
-"""What this linker cannot do, given to the linker that LDI_FALLBACK names."""
+"""What this linker cannot do, given to another one: `ld.bfd` or `ld` on PATH, or what LDI_FALLBACK names."""
 from __future__ import annotations
 
 import os
@@ -15,6 +15,11 @@ else:
     from client.record import dataclass
 
 VARIABLE = "LDI_FALLBACK"
+NONE = "none"
+"""What it is where no other linker is to link."""
+
+OTHERS = ("ld.bfd", "ld")
+"""The names of the linkers on PATH that are taken where it is not set."""
 
 
 class BadFallback(Exception):
@@ -22,14 +27,18 @@ class BadFallback(Exception):
 
 
 def fallback_of(environment: Mapping[str, str]) -> tuple[str, list[str]] | None:
-    """The path of the program that LDI_FALLBACK names, and its words; None where it is not set."""
+    """The path of the program that LDI_FALLBACK names, and its words; where it is not set, those of the first of OTHERS
+    that is there. None where no other linker is to link, or is there."""
     text = environment.get(VARIABLE, "")
     try:
         words = shlex.split(text)
     except ValueError as fault:
         raise BadFallback(f"{text}: {str(fault).lower()}") from fault
-    if not words:
+    if words == [NONE]:
         return None
+    if not words:
+        found = ((path, [name]) for name in OTHERS for path in others(name, environment))
+        return next(found, None)
     if "/" in words[0]:
         if is_own(words[0]):
             raise BadFallback(f"{words[0]} is ld.ldi itself")
@@ -48,7 +57,15 @@ class Reasons:
     kind: str = ""
     """What is the same for links that need it for the same reason, of whatever objects; else the lines are."""
     say_more: Callable[[], None] = lambda: None
-    """Says more than the lines, before them."""
+    """Says more than the lines, before them: where nothing links, or with --verbose."""
+    status: int | None = None
+    """Of a link that nothing makes; then all is said before. None: the status is 2, and the lines are said."""
+    first: Callable[[], str] | None = None
+    """The lines with a first detail, which takes time to find."""
+
+    def text(self) -> str:
+        """All in one line."""
+        return "; ".join(self.lines) if self.first is None else self.first()
 
 
 def hand_over(reasons: Reasons, words: Sequence[str], environment: Mapping[str, str], verbose: bool) -> int:
@@ -63,15 +80,15 @@ def hand_over(reasons: Reasons, words: Sequence[str], environment: Mapping[str, 
     except BadFallback as fault:
         return _refused(reasons, f"{VARIABLE}: {fault}", 3)
     if found is None:
-        return _refused(reasons, f"{VARIABLE} names no linker for it", 2)
+        is_off = VARIABLE in environment
+        return _refused(reasons, f"{VARIABLE} names no linker for it" if is_off else "PATH has no other linker", 2)
     path, program = found
-    text = "; ".join(reasons.lines)
-    if is_first(reasons.kind or text, environment) or verbose:
+    if verbose:
         reasons.say_more()
-        print(f"ld.ldi: {text}: linked by {program[0]}", file=sys.stderr, flush=True)
-    left = {name: value for name, value in environment.items() if name != VARIABLE}
+    if is_first(reasons.kind or reasons.text(), environment) or verbose:
+        print(f"ld.ldi: {reasons.text()}: linked by {program[0]}", file=sys.stderr, flush=True)
     try:
-        os.execve(path, [*program, *words], left)
+        os.execve(path, [*program, *words], {**environment, VARIABLE: NONE})  # what leads back here ends here
     except OSError as fault:
         print(f"ld.ldi: {VARIABLE}: {program[0]}: {fault.strerror}", file=sys.stderr)
         return 3
@@ -80,6 +97,8 @@ def hand_over(reasons: Reasons, words: Sequence[str], environment: Mapping[str, 
 def _refused(reasons: Reasons, why: str, status: int) -> int:
     """Says that nothing links; gives the status."""
     reasons.say_more()
+    if reasons.status is not None:
+        return reasons.status
     for line in reasons.lines:
         print(f"ld.ldi: {line}: not made by ldi; {why}", file=sys.stderr)
     return status

@@ -6,15 +6,15 @@ import textwrap
 from client.ld.options import OPTIONS, Effect, Option, Value, dashed
 
 BEGIN = """Usage: ld.ldi [options] file...
-GNU ld's command line in front of ldi, for Makefiles: LD=ld.ldi. LDI names ldi itself, LDI_FALLBACK the linker that
-makes what ldi does not. @FILE stands for the words of a file.
+GNU ld's command line in front of ldi, for Makefiles: LD=ld.ldi. What ldi does not link ld.bfd does, else ld, or what
+LDI_FALLBACK names; `none' or --no-fallback refuses it. LDI names ldi itself. @FILE stands for the words of a file.
 """
 
 HEADINGS = {
     Effect.TAKEN: "Options that are taken:",
     Effect.IGNORED: "Options that change nothing of a static image:",
     Effect.SAID: "Options without effect here, which is said:",
-    Effect.CANNOT: "Options that are given to LDI_FALLBACK, or refused:",
+    Effect.CANNOT: "Options for which another linker links:",
 }
 
 

@@ -161,6 +161,9 @@ class Loader:
                 self.names.want(os.fsencode(name))
             if part.target:
                 raise CannotLink(f"TARGET({part.target}): another format")
+            format = part.format or "binary"
+            if command.output_format is None and format != "binary" and not format.startswith("elf64-x86-64"):
+                raise CannotLink(f"OUTPUT_FORMAT({format}): another format")
         for _, defsym in command.all_defsyms:
             self.names.define(os.fsencode(defsym.partition("=")[0].strip()))
 

@@ -5,18 +5,19 @@ import _signal  # without what `signal` imports
 import os
 import sys
 from collections.abc import Mapping
-from functools import cached_property
+from functools import cached_property, partial
 from types import FrameType
 
 import client.files
 from client.adapt.segments import about_segments
 from client.check.link import CheckedLink, Checker, Outcome, names_others, wants_map
+from client.ld.another import reason_for_another
 from client.ld.beside import beside
 from client.ld.command import Command, read_command
-from client.ld.fallback import Reasons, hand_over
+from client.ld.fallback import NONE, VARIABLE, Reasons, hand_over
 from client.ld.flat import NoFlatImage, flat_binary
 from client.ld.host import Host
-from client.ld.inputs import BadInput, CannotLink, Loader, MissingInput, Object, is_plain_object
+from client.ld.inputs import BadInput, CannotLink, Loader, MissingInput, NotScript, Object, is_plain_object
 from client.ld.link import Opened, Result, Streamed, options_of
 from client.ld.linkage import read_linkage
 from client.ld.options import WordsRefused
@@ -25,6 +26,7 @@ from client.ld.page_size import PAGE, TooFar, with_pages
 from client.ld.phdrs import NotWritten, outside, with_program_headers
 from client.ld.reports import memory_usage, removed_sections
 from client.ld.script import Script, Source, find_script
+from client.ld.text_flags import with_read_only_text
 from client.ld.valued import Valued, opened_beforehand
 from client.ld.words import expand
 from client.link_map import read_map
@@ -60,14 +62,9 @@ def say(text: str) -> None:
 
 def version() -> str:
     """`GNU ld (ldi VERSION) RELEASE`."""
-    import subprocess
+    from client.version import number
 
-    try:
-        done = subprocess.run([find_program(), "--version"], capture_output=True, text=True, check=False)
-        own = done.stdout.split()[-1] if done.returncode == 0 and done.stdout.split() else "unknown"
-    except OSError:
-        own = "unknown"
-    return f"GNU ld (ldi {own}) {FOLLOWS}"
+    return f"GNU ld (ldi {number()}) {FOLLOWS}"
 
 
 def print_refusal(name: str, refused: Refused, data: bytes, lines: tuple[tuple[str, int], ...], limit: int) -> None:
@@ -76,6 +73,15 @@ def print_refusal(name: str, refused: Refused, data: bytes, lines: tuple[tuple[s
 
     for message in refusal_messages(name, refused, data, lines)[:limit]:
         print(message, file=sys.stderr)
+
+
+def detail(objects: RefusedObjects) -> str:
+    """The first message of objects that are refused, and how many others there are."""
+    from client.messages import refusal_messages
+
+    item, refused = objects[0]
+    first = refusal_messages(item.name.decode(), refused, item.data)[0].sentence
+    return first if len(objects) == 1 else f"{first}; {len(objects) - 1} other objects"
 
 
 def print_faults(faults: bytes, inputs: Inputs) -> None:
@@ -151,6 +157,13 @@ class Link:
         """What there is to say of the words and the inputs."""
         self.evaluation: Checker | None = None
         """What has evaluated the script over the objects of this link, if that was done before it is compared."""
+        self.changes_text = False
+        """Whether `.text` of the last image is written in another way than by `ldi`."""
+
+    @property
+    def has_inputs(self) -> bool:
+        """Whether the words or the scripts name an input."""
+        return self.command.inputs_named() or self.source.names_inputs
 
     def run(self) -> int:
         """Links, and gives the exit status."""
@@ -291,27 +304,36 @@ class Link:
         """Whether the map is written, something is printed from it, or the image is compared by it."""
         command = self.command
         tables = command.print_memory_usage or command.gc_sections and command.print_gc_sections
-        if command.map_file is not None or command.print_map or tables:
+        if command.map_file is not None or command.print_map or tables or self._crossrefs:
             return True
         return not self.host.is_checked(script, self.objects) \
             and wants_map(script.adapted, self.host.known(self.objects), command)
 
     def _checked(self, opened: Opened, script: Script, result: Result | None) -> Outcome:
-        """Compares the image with what GNU ld makes of the script, and says what is another; what was done to the
-        script, and what has no effect."""
+        """Compares the image with what GNU ld makes of the script."""
         outcome = self.host.checked_before(script, self.objects, result)
         if outcome is None:
             outcome = CheckedLink(self._checker(script), script, result, lambda text: opened.link(text, True)).run()
             self.host.checked(script, self.objects, outcome, self.command)
+        return outcome
+
+    def _report(self, script: Script, outcome: Outcome) -> None:
+        """Says what is another in the image, what was done to the script, what has no effect, and the faults."""
         report_script(script, self.command.verbose, outcome)
-        if outcome.result is None:
-            say(f"{self.source.path}: {len(script.left)} places cannot be linked by ldi; they are named above")
-            return outcome
+        result, path = outcome.result, self.source.path
+        if result is None:
+            count = len(script.left)
+            say(f"{path}: {count} place{'' if count == 1 else 's'} cannot be linked by ldi, as is said above")
+            return
         for note in self.command.notes:
             say(note)
         if outcome.differs:
-            say(f"{self.source.path}: the image would be another than GNU ld's, as is said above: none is written")
-        return outcome
+            say(f"{path}: the image would be another than GNU ld's, as is said above: none is written")
+        elif result.script_refused:
+            sent = outcome.script
+            print_refusal(sent.path, result.script_refused, sent.text, sent.lines, GREATEST_LIST)
+        elif result.status:
+            print_faults(result.faults, self._inputs(outcome.script))
 
     def _check_required(self, loader: Loader) -> None:
         """The names of --require-defined are defined."""
@@ -369,25 +391,58 @@ class Link:
 
     def _finish(self, opened: Opened, script: Script, result: Result | None) -> int:
         """Says what came of the link, and writes the files of a good one; without a result the script has a part that
-        is left."""
+        is left. What GNU ld may link all the same goes to the other linker."""
         self.script = script
         outcome = self._checked(opened, script, result)
-        script, result = outcome.script, outcome.result
-        if result is None:
-            return REFUSED
-        if outcome.differs:
+        status = self._status(outcome)
+        why = reason_for_another(self.command, script, outcome, self._inputs)
+        if why is not None:
+            return self._another(Reasons([why], "", lambda: self._report(script, outcome), status or FAULTS))
+        self._report(script, outcome)
+        if status or outcome.result is None:
+            return status
+        if self._crossrefs and self._has_prohibited(outcome.result):
             return FAULTS
-        if result.script_refused:
-            return self._script_refused(result.script_refused, script)
-        if result.status:
-            data = {item.name.decode(): item.data for item in self.objects}
-            inputs = Inputs(script.path, script.text, data, script.lines, self.command.entry)
-            print_faults(result.faults, inputs)
-            return FAULTS
-        self._write(script, result)
-        self._tables(opened, self.script, result)
+        self.changes_text = with_read_only_text(outcome.result.image) is not outcome.result.image
+        self._write(outcome.script, outcome.result)
+        self._tables(opened, self.script, outcome.result)
         self.host.good(self)
         return GOOD
+
+    def _inputs(self, script: Script) -> Inputs:
+        """What messages of faults under a script are made of."""
+        data = {item.name.decode(): item.data for item in self.objects}
+        return Inputs(script.path, script.text, data, script.lines, self.command.entry)
+
+    @cached_property
+    def _crossrefs(self) -> bool:
+        """Whether the script prohibits references between output sections."""
+        from client.ld.crossrefs import crossrefs_of
+
+        return bool(crossrefs_of(self.source.tree[1]))
+
+    def _has_prohibited(self, result: Result) -> bool:
+        """Says which references of the objects NOCROSSREFS prohibits."""
+        from client.ld.crossrefs import prohibited
+
+        lines = list(prohibited(self.source.tree[1], self.objects, read_map(result.map)))
+        for line in lines[:GREATEST_FAULTS]:
+            say(line)
+        return bool(lines)
+
+    @staticmethod
+    def _status(outcome: Outcome) -> int:
+        """The status of a link that no other linker makes."""
+        result = outcome.result
+        if result is None or result.script_refused and result.script_refused.number != NO_MEMORY:
+            return REFUSED
+        if result.script_refused:
+            return MEMORY
+        return FAULTS if outcome.differs or result.status else GOOD
+
+    def _another(self, reasons: Reasons) -> int:
+        """Has the other linker link."""
+        return self.host.hand_over(reasons, self.words, self.environment, self.command.verbose)
 
     def _refused(self, objects: RefusedObjects) -> int:
         """Objects that are refused go to the other linker, but not for memory."""
@@ -400,12 +455,8 @@ class Link:
             return MEMORY
         first = objects[0][0].name.decode()
         more = f" and {len(objects) - 1} others" if len(objects) > 1 else ""
-        reasons = Reasons([f"{first}{more}: outside the profile of ldi"], "outside the profile of ldi", say_more)
-        return self.host.hand_over(reasons, self.words, self.environment, self.command.verbose)
-
-    def _script_refused(self, refused: Refused, script: Script) -> int:
-        print_refusal(script.path, refused, script.text, script.lines, GREATEST_LIST)
-        return MEMORY if refused.number == NO_MEMORY else REFUSED
+        line = f"{first}{more}: outside the profile of ldi"
+        return self._another(Reasons([line], "outside the profile of ldi", say_more, first=lambda: detail(objects)))
 
     def _map_path(self) -> str | None:
         """The file of the map: in a folder the image's name with `.map`; `%` stands for the image's path."""
@@ -425,6 +476,7 @@ class Link:
     def _elf(self, script: Script, image: bytes) -> Parts:
         """The image with the program headers of PHDRS, else with those of `ldi`; its segments on pages."""
         page = self.command.page_size or PAGE
+        image = image if self.command.omagic else with_read_only_text(image)
         if script.segments is not None:
             try:
                 result = with_program_headers(image, script.segments, page)
@@ -469,24 +521,37 @@ def run(words: list[str], environment: Mapping[str, str], host: Host | None = No
         expanded = expand(words)
         command = read_command(expanded)
     except WordsRefused as fault:
+        environment = {**environment, VARIABLE: NONE} if "--no-fallback" in words else environment
         return hand_over(Reasons([str(fault)]), words, environment, "--verbose" in words)
-    if not command.inputs_named():
-        if command.asks or command.verbose:
-            print_asked(command, find_script(command, environment))
-            return GOOD
-        say("no input files")
-        return REFUSED
+    if not command.inputs_named() and not command.has_script:
+        return _without_inputs(command, find_script(command, environment))
     if "help" in command.asks:
         print_asked(command, None)
         return GOOD
+    if not command.fallback:
+        environment = {**environment, VARIABLE: NONE}
     try:
         if command.cannot:
             raise CannotLink(*command.cannot)
         link = Link(command, words, environment, host)
         link.expanded = expanded
-        return link.run()
+        return link.run() if link.has_inputs else _without_inputs(command, link.source)
     except CannotLink as fault:
-        return hand_over(Reasons(fault.args), words, environment, command.verbose)
+        reasons = Reasons(fault.args)
+    except NotScript as fault:
+        reasons = Reasons(fault.args, say_more=partial(say, str(fault)), status=REFUSED)
+    except (NoFlatImage, TooFar) as fault:
+        reasons = Reasons(fault.args, say_more=partial(say, str(fault)), status=FAULTS)
+    return hand_over(reasons, words, environment, command.verbose)
+
+
+def _without_inputs(command: Command, source: Source) -> int:
+    """What words without an input ask for."""
+    if command.asks or command.verbose:
+        print_asked(command, source)
+        return GOOD
+    say("no input files")
+    return REFUSED
 
 
 def _stop(number: int, _frame: FrameType | None) -> None:
@@ -505,9 +570,6 @@ def main(words: list[str], host: Host | None = None) -> int:
     except WordsRefused as fault:
         say(str(fault))
         return REFUSED
-    except (NoFlatImage, TooFar) as fault:
-        say(str(fault))
-        return FAULTS
     except SessionEnded as fault:
         say(f"the session of {find_program()} ended: {fault}")
     except OSError as fault:

@@ -23,7 +23,7 @@ class Effect(Enum):
     SAID = "said"
     """It has no effect here, and one line says what that means."""
     CANNOT = "cannot"
-    """The link goes to the linker that LDI_FALLBACK names, or is refused."""
+    """The link goes to another linker, or is refused."""
 
 
 class Value(Enum):
@@ -100,6 +100,9 @@ section-start|needed
 Ttext|needed
 Tdata|needed
 Tbss|needed
+Ttext-segment|needed
+Trodata-segment|needed
+Tldata-segment|needed
 b format|needed
 oformat|needed
 dependency-file|needed
@@ -114,6 +117,13 @@ verbose|optional
 t trace|none
 print-output-format|none
 print-sysroot|none
+no-check-sections|none
+noinhibit-exec|none
+allow-multiple-definition|none
+unresolved-symbols|needed
+ignore-unresolved-symbol|needed
+warn-unresolved-symbols|none
+no-fallback|none
 no-server|none
 server-status|none
 server-stop|none
@@ -238,12 +248,6 @@ retain-symbols-file|needed|the image keeps its table of global names
 n nmagic|none|segments lie in the file as their addresses modulo 4,096 ask
 cref|none|the map has no cross references
 y trace-symbol|needed|nothing is traced
-no-check-sections|none|output sections that share addresses are errors
-noinhibit-exec|none|a link with faults makes no image
-allow-multiple-definition|none|two strong definitions of a name are an error
-unresolved-symbols|needed|an undefined name that is used is an error
-ignore-unresolved-symbol|needed|an undefined name that is used is an error
-warn-unresolved-symbols|none|an undefined name that is used is an error
 package-metadata|optional|the image has no note of a package
 version-script|needed|symbols have no versions, and none is hidden
 """
@@ -268,9 +272,6 @@ embedded-relocs|none|relocations in the output
 task-link|needed|relocatable output
 force-group-allocation|none|groups of sections
 enable-non-contiguous-regions|none|sections that go into another region where one is full
-Ttext-segment|needed|the address of a segment
-Trodata-segment|needed|the address of a segment
-Tldata-segment|needed|the address of a segment
 """
 
 KEYWORDS_IGNORED = frozenset(
@@ -285,12 +286,23 @@ KEYWORDS_IGNORED = frozenset(
 """The words of `-z` that change nothing of a static image, or only headers that `ldi` never makes."""
 
 KEYWORDS_SAID = {
-    "muldefs": "two strong definitions of a name are an error",
-    "undefs": "an undefined name that is used is an error",
-    "noreloc-overflow": "a value that does not fit its field is an error",
     "nosectionheader": "the image has section headers",
 }
 """The words of `-z` that have no effect here, and what that means."""
+
+
+LENIENT = {
+    "allow-multiple-definition": "muldefs",
+    "unresolved-symbols": "undefs",
+    "ignore-unresolved-symbol": "undefs",
+    "warn-unresolved-symbols": "undefs",
+    "noinhibit-exec": "noinhibit-exec",
+    "no-check-sections": "no-check-sections",
+}
+"""The options by which GNU ld goes on after a fault, with a name for what they let pass (`another.py`)."""
+
+KEYWORDS_LENIENT = frozenset({"muldefs", "undefs", "noreloc-overflow"})
+"""The words of `-z` like these."""
 
 
 def _rows(text: str, effect: Effect) -> Iterator[Option]:

@@ -157,9 +157,10 @@ class References:
         """Of each relocation of a section: the name of its symbol, or for a local one the section that it is in."""
         tables = self.tables[part.object]
         for _, symbol in tables.relocations(part.section):
-            yield self._target(part.object, symbol)
+            yield self.target(part.object, symbol)
 
-    def _target(self, number: int, symbol: int) -> tuple[str, Part | None]:
+    def target(self, number: int, symbol: int) -> tuple[str, Part | None]:
+        """Of a symbol of an object: its name, or of a local one the section that it is in."""
         tables = self.tables[number]
         _, info, _, shndx, _, _ = tables.symbols[symbol]
         if info >> 4 == LOCAL:
@@ -177,7 +178,7 @@ class References:
                 relocations = dict(tables.relocations(index))
                 for code, others in _entries(data, relocations):
                     _, _, _, shndx, _, _ = tables.symbols[code]
-                    targets = [self._target(number, other) for other in others]
+                    targets = [self.target(number, other) for other in others]
                     if targets and shndx not in (UNDEFINED, ABSOLUTE, COMMON):
                         found.setdefault(shndx, []).extend(targets)
         return found

@@ -41,8 +41,28 @@ OWN_VERSION = "GNU ld (ldi "
 NUMBER_ENTRY = b"ld.ldi.entry"
 """The name that has the value of `-e NUMBER`."""
 
+BINARY = "binary"
+"""The format of a flat image."""
+
 MAX_PAGE_SIZE = re.compile(r"\bCONSTANT\s*\(\s*MAXPAGESIZE\s*\)")
 """What `-z max-page-size=` sets in a script."""
+
+
+SEGMENT_START = re.compile(r'\bSEGMENT_START\s*\(\s*"?([\w-]+)"?\s*,')
+"""How the address of a segment begins in a script."""
+
+
+def with_segment_starts(text: str, starts: Mapping[str, int]) -> str:
+    """A script with the addresses that -Ttext-segment and the like give to SEGMENT_START; its lines stay."""
+    for found in reversed(list(SEGMENT_START.finditer(text)) if starts else []):
+        depth, end = 1, found.end()
+        while depth and end < len(text):
+            depth += {"(": 1, ")": -1}.get(text[end], 0)
+            end += 1
+        if found[1] in starts:
+            lines = text.count("\n", found.start(), end)
+            text = f"{text[:found.start()]}{starts[found[1]]:#x}{chr(10) * lines}{text[end:]}"
+    return text
 
 
 class Source:
@@ -83,9 +103,14 @@ class Source:
         return next((part.output for part in self.parts if part.output), None)
 
     @property
+    def names_inputs(self) -> bool:
+        """Whether INPUT or GROUP is there: a file that a statement names is no input by itself."""
+        return any(command != "FILE" for part in self.parts for command, _ in part.inputs)
+
+    @property
     def binary(self) -> bool:
         """Whether OUTPUT_FORMAT(binary) is there."""
-        return any(part.binary for part in self.parts)
+        return any(part.format == BINARY for part in self.parts)
 
 
 def find_script(command: Command, environment: Mapping[str, str]) -> Source:
@@ -140,6 +165,7 @@ def _read(command: Command, found: Sequence[tuple[str, str]]) -> Source:
 def read_text(command: Command, path: str, text: str, scripts: int) -> Reading:
     """A script that is read, with what the command line sets in it; it is made of so many of -T."""
     def change(text: str) -> str:
+        text = with_segment_starts(text, command.segment_starts)
         if command.page_size is None:
             return text
         return MAX_PAGE_SIZE.sub(lambda found: f"{command.page_size:#x}" + "\n" * found.group().count("\n"), text)
@@ -235,6 +261,8 @@ def write_script(
     """
     adapted = adapt_source(source, command, known, values)
     text = adapted.text
+    if command.output_format == BINARY:
+        adapted.report[:] = [note for note in adapted.report if not note.text.startswith("OUTPUT_FORMAT(")]
     if command.gc_sections and objects:
         text = _kept(source, command, objects, adapted)
     there = {os.fsdecode(head.name) for head in outline(text).sections} if command.section_starts else set()

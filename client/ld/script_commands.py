@@ -36,8 +36,8 @@ class Commands:
     entry: str | None = None
     output: str | None = None
     """OUTPUT(f): the image's name where there is no -o."""
-    binary: bool = False
-    """OUTPUT_FORMAT(binary)."""
+    format: str | None = None
+    """OUTPUT_FORMAT(f); of several formats the first one."""
     target: str | None = None
     """TARGET(f) of another format than ELF-64."""
     other: str | None = None
@@ -98,7 +98,7 @@ def _take(commands: Commands, node: Command) -> None:
     elif word == "OUTPUT":
         commands.output = inside[0] if inside else None
     elif word == "OUTPUT_FORMAT":
-        commands.binary = inside[:1] == ["binary"]
+        commands.format = inside[0] if inside else None
     elif word == "TARGET" and inside[:1] != ["elf64-x86-64"]:
         commands.target = inside[0] if inside else None
     is_plain = word in ("INPUT", "GROUP", "SEARCH_DIR") or word in WITHOUT_EFFECT

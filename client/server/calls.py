@@ -179,9 +179,11 @@ class Calls:
             command, self._command = read_command(expanded), read_command(expanded)
         except WordsRefused as fault:
             raise ByItself(str(fault)) from None
-        if command.cannot or not command.inputs_named() or command.asks:
+        if command.cannot or command.asks or not (command.inputs_named() or command.has_script):
             raise ByItself("another linker, or no link")
         link = Link(command, words, os.environ, self.host)
+        if not link.has_inputs:
+            raise ByItself("no link")
         link.expanded = expanded
         with remembered(self._last_objects):
             status = link.run()

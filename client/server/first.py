@@ -58,7 +58,10 @@ def link_by_itself(attempt: Attempt) -> int:
         return run(words, attempt)
     if attempt.why and "--verbose" in words:
         say(f"the server did not link: {attempt.why}")
-    if not (attempt.is_wanted and attempt.is_gone and attempt.path and may_start(attempt)):
+    against = hindrance(attempt)
+    if against and attempt.is_wanted and "--verbose" in words:
+        say(f"no server is left {against}; LDI_SERVER=1 allows one")
+    if against or not (attempt.is_wanted and attempt.is_gone and attempt.path):
         return main(words)
     host = FirstHost()
     status = main(words, host)
@@ -70,14 +73,15 @@ def link_by_itself(attempt: Attempt) -> int:
     return status
 
 
-def may_start(attempt: Attempt) -> bool:
-    """Whether a server may be started here: LDI_SERVER=1 says so also where builds are not to leave one behind."""
+def hindrance(attempt: Attempt) -> str:
+    """Where no server may be started, as builds there are not to leave one behind; LDI_SERVER=1 allows it."""
     environment = attempt.environment
     if environment.get("LDI_SERVER") == "1":
-        return True
-    if environment.get("CI", "").lower() not in ("", "0", "false") or environment.get("container"):
-        return False
-    return not any(map(os.path.exists, ("/.dockerenv", "/run/.containerenv"))) and not _is_first_a_shell()
+        return ""
+    if environment.get("CI", "").lower() not in ("", "0", "false"):
+        return "under CI"
+    marks = any(map(os.path.exists, ("/.dockerenv", "/run/.containerenv")))
+    return "in a container" if environment.get("container") or marks or _is_first_a_shell() else ""
 
 
 def _is_first_a_shell() -> bool:

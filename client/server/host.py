@@ -6,7 +6,7 @@ import stat
 from collections.abc import Mapping, Sequence
 
 from client.atomic_file import MOST_NAMES, Parts, beside, remove, umask, write_all
-from client.ld.fallback import Reasons
+from client.ld.fallback import NONE, VARIABLE, Reasons
 from client.ld.inputs import Object
 from client.ld.link import Opened
 from client.ld.main import Link
@@ -42,6 +42,9 @@ class ServerHost(Remembering):
 
     def hand_over(self, reasons: Reasons, words: Sequence[str], environment: Mapping[str, str], verbose: bool) -> int:
         """Another linker is the call's to start."""
+        if reasons.status == 1 and environment.get(VARIABLE) == NONE:
+            reasons.say_more()
+            return reasons.status
         raise ByItself("; ".join(reasons.lines))
 
     def streamed(self, options: Options) -> None:

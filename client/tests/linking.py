@@ -53,8 +53,8 @@ class LinkTest(unittest.TestCase):
 
     def run_program(self, *words: str | Path, env: Mapping[str, str] | None = None) -> subprocess.CompletedProcess[str]:
         """Runs a program in the folder."""
-        environment = {name: value for name, value in os.environ.items() if name != "LDI_FALLBACK"}
-        environment |= {"LDI_SERVER": "0", **(env or {})}  # a server is for the tests that are about one
+        environment = {**os.environ, "LDI_FALLBACK": "none", "LDI_SERVER": "0", **(env or {})}
+        # another linker, and a server, are for the tests that are about one
         return subprocess.run([str(word) for word in words], cwd=self.folder, env=environment, capture_output=True,
                               text=True, timeout=LIMIT, check=False, stdin=subprocess.DEVNULL)
 

@@ -12,6 +12,7 @@ from client.ld.command import Command, read_command
 from client.ld.options import (
     BY_NAME,
     KEYWORDS_IGNORED,
+    KEYWORDS_LENIENT,
     KEYWORDS_SAID,
     OPTIONS,
     Effect,
@@ -59,7 +60,7 @@ class GnuHelpTest(unittest.TestCase):
         """Each word of `-z` in GNU ld's help."""
         words = set(re.findall(r"^  -z ([a-z0-9-]+)", help_of_gnu_ld(), re.M)) - {"x86-64-"}
         self.assertGreater(len(words), 50)
-        self.assertEqual(words - KEYWORDS_IGNORED - set(KEYWORDS_SAID) - TAKEN_KEYWORDS, set())
+        self.assertEqual(words - KEYWORDS_IGNORED - set(KEYWORDS_SAID) - TAKEN_KEYWORDS - KEYWORDS_LENIENT, set())
 
     def test_names_are_unique(self) -> None:
         """No name is in two rows."""
@@ -137,11 +138,20 @@ class WordsTest(unittest.TestCase):
 
     def test_said_once(self) -> None:
         """Options without effect, each named once."""
-        command = self.read("--build-id", "--build-id=sha1", "--build-id=none", "-s", "-s", "-z", "muldefs", "-zodd",
-                            "--orphan-handling=place", "--orphan-handling=warn", "-z", "max-page-size=0x200000")
-        self.assertEqual(len(command.notes), 6)
-        self.assertEqual(command.orphan_handling, "error")
+        command = self.read("--build-id=none", "--build-id=sha1", "--build-id", "-s", "--strip-all", "-s", "-zodd",
+                            "-zodd", "--orphan-handling=error", "--orphan-handling=warn", "-z",
+                            "max-page-size=0x200000")
+        self.assertEqual([note.partition(":")[0] for note in command.notes],
+                         ["-s", "--strip-all", "-z odd", "--build-id"])
+        self.assertIsNone(command.orphan_handling)
         self.assertEqual(self.read("-z", "max-page-size=4096", "--build-id=none").notes, [])
+        self.assertEqual(self.read("--build-id", "--build-id=none").notes, [])
+
+    def test_what_lets_faults_pass(self) -> None:
+        """The options after which GNU ld goes on."""
+        command = self.read("-z", "muldefs", "--warn-unresolved-symbols", "--noinhibit-exec", "--no-check-sections")
+        self.assertEqual(command.lenient, {"muldefs", "undefs", "noinhibit-exec", "no-check-sections"})
+        self.assertEqual(command.notes, [])
 
     def test_what_goes_to_another_linker(self) -> None:
         """Each option that this linker has no answer to."""

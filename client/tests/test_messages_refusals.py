@@ -73,7 +73,7 @@ class RefusalTest(unittest.TestCase):
             (self.session.remove(b"b.o"), "b.o", 2, "there is no object of this name"),
             (self.session.move(b"a.o", 1), "a.o", 3, "the position is past the end of the objects"),
             (self.session.add(b"\xc3\xa4.o", 0, good), "ä.o", 6,
-             "an object's name has 1 to 255 bytes, each from `!' to `~' and none a space"),
+             "its name has the byte 0xc3: an object's name has 1 to 255 bytes, each from `!' to `~'"),
             (Refused(6, 0), "b.o", 6, "there are 4,096 objects already, which is the most that a link may have"),
             (Refused(7, 0), "b.o", 7, "out of memory"),
         ]:

@@ -122,6 +122,9 @@ class WatchHost(Remembering):
 
     def hand_over(self, reasons: Reasons, words: Sequence[str], environment: Mapping[str, str], verbose: bool) -> int:
         """No other linker keeps an image up to date."""
+        if reasons.status is not None:
+            reasons.say_more()
+            return reasons.status
         raise CannotLink("; ".join(reasons.lines))
 
 
@@ -177,7 +180,8 @@ class WatchedLink:
 
     def finish(self) -> Callable[[bytes], Parts] | None:
         """What makes the image that `ld.ldi` writes of the session's; none where that is the same."""
-        is_plain = self.command.output_format != "binary" and (self.command.page_size or PAGE) <= PAGE
+        is_plain = (self.command.output_format != "binary" and (self.command.page_size or PAGE) <= PAGE
+                    and not self.link.changes_text)
         return None if is_plain and self.script.segments is None else self._finished
 
     def _finished(self, image: bytes) -> Parts:

@@ -6,6 +6,7 @@ import os
 import sys
 
 from client.inputs_state import Changing, read_whole
+from client.version import version
 from client.watch.listing import NamesRefused, check_names, check_outputs, object_names
 from client.watch.jobserver import Jobserver
 from client.watch.loop import STATUS_DEVICE, STATUS_MEMORY, STATUS_REFUSED, Watch
@@ -23,6 +24,9 @@ def main(words: list[str]) -> int:
             stream.reconfigure(errors="backslashreplace")  # what the locale has no character for
     if words in (["-h"], ["--help"]):
         print(USAGE, end="")
+        return 0
+    if words == ["--version"]:
+        print(version("ldi-watch"))
         return 0
     try:
         asked = read_words(words)

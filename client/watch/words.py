@@ -25,6 +25,7 @@ other options of GNU ld, archives, or a script that is not of the profile, the i
   --once               ends after the first link: 0 a good image, 1 faults or a failed COMMAND, 2 a refusal,
                        3 a file cannot be read or written, 4 out of memory
   -h, --help           prints this
+  --version            prints the version
 """
 
 DEFAULT_SOURCES = tuple("*.c *.h *.s *.S *.cc *.cpp *.cxx *.hpp *.inc *.rs *.ld Makefile".split())
