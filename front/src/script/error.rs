@@ -121,12 +121,23 @@ impl ScriptError {
     }
 }
 
-/// A character that begins nothing of the language; it was passed over, as by GNU ld.
+/// What was passed over in a script.
+#[derive(Clone, Copy, PartialEq, Eq, Debug, thiserror::Error)]
+pub enum WarningKind {
+    /// A character that begins nothing of the language: GNU ld passes it over too.
+    #[error("ignoring invalid character {}", shown(*.0))]
+    Invalid(u8),
+    /// A `;` between statements of SECTIONS: a syntax error for GNU ld, and none for others.
+    #[error("ignoring `;`, which GNU ld does not have here")]
+    Separator,
+}
+
+/// Something that was passed over, and where.
 #[derive(Clone, PartialEq, Eq, Debug, thiserror::Error)]
-#[error("{place}: ignoring invalid character {}", shown(*.byte))]
+#[error("{place}: {kind}")]
 pub struct Warning {
-    /// The character.
-    pub byte: u8,
+    /// What it is.
+    pub kind: WarningKind,
     /// Where it stands in the text.
     pub span: Span,
     /// The file and line.

@@ -5,7 +5,7 @@ use std::path::PathBuf;
 
 use bstr::{BString, ByteSlice};
 
-use super::error::{ErrorKind, ScriptError, Warning};
+use super::error::{ErrorKind, ScriptError, Warning, WarningKind};
 use super::source::Source;
 use super::tree::Span;
 use super::words::word;
@@ -209,6 +209,12 @@ impl Lexer {
         BString::from(inner)
     }
 
+    /// Notes that a token is passed over.
+    pub fn warn(&mut self, token: Token, kind: WarningKind) {
+        let place = self.source.file(token.file).map(|file| file.place(token.at)).unwrap_or_default();
+        self.warnings.push(Warning { kind, span: token.span, place });
+    }
+
     /// An error at a token.
     pub fn error(&self, token: Token, kind: ErrorKind) -> ScriptError {
         self.error_at(token.file, token.at, token.span, kind)
@@ -267,7 +273,8 @@ impl Lexer {
         if self.is_strict || self.warnings.len() >= MAX_INVALID {
             return Err(error);
         }
-        self.warnings.push(Warning { byte, span: error.span(), place: error.place().clone() });
+        let kind = WarningKind::Invalid(byte);
+        self.warnings.push(Warning { kind, span: error.span(), place: error.place().clone() });
         if let Some(frame) = self.frames.last_mut() {
             frame.at = at + 1;
         }

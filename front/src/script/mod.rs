@@ -17,7 +17,7 @@ use std::ops::Range;
 use std::os::unix::ffi::OsStrExt;
 use std::path::{Path, PathBuf};
 
-pub use error::{ErrorKind, ScriptError, Warning};
+pub use error::{ErrorKind, ScriptError, Warning, WarningKind};
 pub use source::{Place, ScriptFiles, Source};
 
 use lexer::State;
@@ -31,7 +31,7 @@ pub struct Reading {
     pub script: Script,
     /// Their texts, to which the spans of the tree belong.
     pub source: Source,
-    /// Characters that begin nothing, which were passed over.
+    /// What was passed over.
     pub warnings: Vec<Warning>,
 }
 
@@ -189,3 +189,6 @@ pub fn version_script(path: &Path, text: &[u8]) -> Result<Vec<VersionNode>, Scri
     let mut parser = Parser::new(&mut files, Vec::new());
     parser.within(path, text.to_vec(), |parser| parser.version_script())
 }
+
+#[cfg(test)]
+mod tests;

@@ -2,7 +2,7 @@
 
 use super::statements::assign_operator;
 use super::{Parsed, Parser};
-use crate::script::error::ErrorKind;
+use crate::script::error::{ErrorKind, WarningKind};
 use crate::script::lexer::{Kind, State, Token};
 use crate::script::tree::{
     AssignOperator, Assignment, Constraint, DataText, DataWidth, Expr, Fill, Name, OutputSection, Overlay, Provision,
@@ -53,6 +53,11 @@ impl Parser<'_> {
                 }
                 Kind::Word("GROUP") => {
                     self.nested(ErrorKind::StatementDepth, |parser| parser.group_of_sections(into))?;
+                    continue;
+                }
+                Kind::Mark(";") => {
+                    self.take(Script)?;
+                    self.lexer.warn(token, WarningKind::Separator);
                     continue;
                 }
                 Kind::Word("ENTRY") => SectionsStatement::Entry(self.entry()?),

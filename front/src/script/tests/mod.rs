@@ -1,0 +1,25 @@
+//! Tests of what is read and printed.
+
+mod constructs;
+mod places;
+mod random;
+mod refused;
+
+use std::path::Path;
+
+use super::{parse, print, Reading};
+
+/// Reads a text that is a script.
+fn read(text: &str) -> Reading {
+    match parse(Path::new("script"), text.as_bytes()) {
+        Ok(reading) => reading,
+        Err(error) => panic!("{error} in {text:?}"),
+    }
+}
+
+/// The text again, printed, with single spaces.
+fn printed(text: &str) -> String {
+    let printed = print::script(&read(text).script);
+    let words: Vec<String> = String::from_utf8_lossy(&printed).split_whitespace().map(str::to_owned).collect();
+    words.join(" ")
+}
