@@ -1,1 +1,97 @@
 //! Archives, groups, scripts of INPUT and GROUP: the objects of a link in GNU ld's order.
+
+mod archive;
+mod loader;
+mod names;
+mod replacing;
+mod script_inputs;
+#[cfg(test)]
+mod tests;
+
+pub use archive::{Archive, ArchiveSymbol, BadArchive, Member, MemberIndex};
+pub use names::{NameState, Names};
+pub use script_inputs::{ScriptInput, ScriptInputs};
+
+use crate::command::Command;
+use crate::objects::Object;
+use crate::script::tree::Script;
+use crate::snapshot::Snapshot;
+use bstr::{BStr, BString, ByteSlice};
+use indexmap::IndexMap;
+use loader::{KnownObjects, Loader};
+use std::collections::HashMap;
+use std::path::{Path, PathBuf};
+use std::sync::Arc;
+use thiserror::Error;
+
+/// Why the inputs are none of a link.
+#[derive(Clone, PartialEq, Eq, Debug, Error)]
+pub enum InputFault {
+    /// Only another linker can do this; the text says why.
+    #[error("{0}")]
+    OfOtherLinkers(String),
+    /// What is no input; the text says why.
+    #[error("{0}")]
+    Bad(String),
+    /// An input that is not there or cannot be read; the text says which.
+    #[error("{0}")]
+    Missing(String),
+}
+
+/// Reads a text in the place of an object as a script; `None` where it is none. What it includes is read by the snapshot.
+pub type ParseScript = dyn Fn(&[u8], &Path, &mut Snapshot) -> Option<Script>;
+
+/// Whose inputs are wanted.
+#[derive(Clone, Copy)]
+pub struct Request<'a> {
+    /// The command.
+    pub command: &'a Command,
+    /// What the scripts say of files and names: those of `-T` in their order, or the default one.
+    pub scripts: &'a [ScriptInputs],
+    /// Whether they are the user's: else libraries are looked for in the system's folders too.
+    pub has_own_script: bool,
+    /// The names that are undefined before the first object beside those of the command: the entry symbol.
+    pub wanted: &'a [BString],
+    /// Reads a script in the place of an object.
+    pub parse: &'a ParseScript,
+}
+
+/// The inputs of a link.
+#[derive(Clone, Debug)]
+pub struct Loaded {
+    /// The objects, in GNU ld's order.
+    pub objects: Vec<Object>,
+    /// The files that were read, in their order, an archive as one.
+    pub files: Vec<PathBuf>,
+    /// The files that statements of a script name and that are in another folder: their paths.
+    pub renamed: IndexMap<BString, BString>,
+    names: Names,
+    /// By file: its objects, where it is one itself.
+    plain: HashMap<PathBuf, Vec<usize>>,
+    known: KnownObjects,
+    archives: HashMap<PathBuf, Arc<Archive>>,
+    /// The symbol tables of the archives that were gone through.
+    choosing: Vec<Arc<[(BString, u64)]>>,
+}
+
+/// Whether the words or the scripts name an input.
+pub fn has_inputs(command: &Command, scripts: &[ScriptInputs]) -> bool {
+    command.has_inputs() || scripts.iter().any(ScriptInputs::has_inputs)
+}
+
+/// Takes all inputs of a link. What is the same in memory as it was in `before` is not read into tables again.
+///
+/// # Errors
+/// An input is none of a static link, or is not there.
+pub fn load(request: &Request<'_>, snapshot: &mut Snapshot, before: Option<&Loaded>) -> Result<Loaded, InputFault> {
+    Loader::new(request, snapshot, before)?.load()
+}
+
+impl Loaded {
+    /// The first name of `--require-defined` that nothing defines.
+    pub fn missing_required<'a>(&mut self, command: &'a Command) -> Option<&'a BStr> {
+        self.names.ask(&command.required);
+        let is_missing = |name: &&BString| self.names.state(name.as_bstr()) <= Some(NameState::UndefinedWeak);
+        command.required.iter().find(is_missing).map(|name| name.as_bstr())
+    }
+}

@@ -185,7 +185,7 @@ impl Elf {
     }
 
     /// The hashes of the global names with the numbers of their symbols: a quick test before names are compared.
-    pub(super) fn global_hashes(&self) -> impl Iterator<Item = (u32, SymbolIndex)> + '_ {
+    pub(crate) fn global_hashes(&self) -> impl Iterator<Item = (u32, SymbolIndex)> + '_ {
         let first = self.first_of_globals();
         self.hashes.iter().enumerate().map(move |(index, hash)| (*hash, SymbolIndex((first + index) as u32)))
     }

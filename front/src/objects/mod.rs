@@ -1,6 +1,7 @@
 //! Objects: their sections, symbols and relocations; an object made one of the profile.
 
 mod elf;
+mod filter;
 mod names;
 mod profile;
 mod section;
@@ -9,6 +10,7 @@ mod symbol;
 pub(crate) mod tests;
 
 pub use elf::Elf;
+pub(crate) use filter::NameFilter;
 pub use names::{Definition, LinkNames};
 pub use profile::{binary_object, session_name, without_retain, GREATEST_NAME};
 pub use section::{Relocation, Section, SectionFlags, SectionIndex, SectionKind};

@@ -1,7 +1,6 @@
 //! What the objects of a link have of names.
 
-use super::elf::hash_of;
-use super::{Home, Object, ObjectIndex, Rank, SymbolIndex};
+use super::{Home, NameFilter, Object, ObjectIndex, Rank, SymbolIndex};
 use bstr::{BStr, BString, ByteSlice};
 use std::collections::HashMap;
 
@@ -55,7 +54,7 @@ impl LinkNames {
         if new.is_empty() {
             return;
         }
-        let filter = Filter::of(new.keys());
+        let filter = NameFilter::of(new.keys());
         self.known.extend(new);
         for (number, object) in objects.iter().enumerate() {
             for (_, symbol) in object.global_hashes().filter(|(hash, _)| filter.may_have(*hash)) {
@@ -93,29 +92,5 @@ impl LinkNames {
             known.definition = Some(Definition { object: number, symbol: index, home, value, size, rank });
         }
         Some(())
-    }
-}
-
-/// A set of hashes that may say yes of one more: a table of bits.
-struct Filter {
-    bits: Vec<u64>,
-}
-
-impl Filter {
-    fn of<'a>(names: impl ExactSizeIterator<Item = &'a BString>) -> Filter {
-        let words = (names.len() / 4 + 1).next_power_of_two().max(16);
-        let mut bits = vec![0; words];
-        for name in names {
-            let hash = hash_of(name) as usize;
-            if let Some(word) = bits.get_mut(hash >> 6 & (words - 1)) {
-                *word |= 1 << (hash & 63);
-            }
-        }
-        Filter { bits }
-    }
-
-    fn may_have(&self, hash: u32) -> bool {
-        let hash = hash as usize;
-        self.bits.get(hash >> 6 & (self.bits.len() - 1)).map_or(false, |word| word >> (hash & 63) & 1 == 1)
     }
 }

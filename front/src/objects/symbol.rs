@@ -80,6 +80,8 @@ impl SymbolKind {
     pub const COMMON: SymbolKind = SymbolKind(5);
     /// STT_TLS
     pub const TLS: SymbolKind = SymbolKind(6);
+    /// STT_GNU_IFUNC
+    pub const GNU_IFUNC: SymbolKind = SymbolKind(10);
 }
 
 /// Where a symbol is (`st_shndx`).
