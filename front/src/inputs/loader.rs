@@ -5,7 +5,7 @@ use super::names::{NameState, Names};
 use super::script_inputs::{ScriptInput, ScriptInputs};
 use super::{InputFault, Loaded, Request};
 use crate::command::{at_sysroot, path_of, Command, Format, Input, InputFlags};
-use crate::objects::{binary_object, session_name, Binding, Home, Object, Origin, SectionIndex, Symbol, SymbolKind};
+use crate::objects::{binary_object, session_name, Binding, Home, Object, Origin, SectionIndex, SymbolKind};
 use crate::script::tree::InputFile;
 use crate::snapshot::{Bytes, ReadFault, Snapshot};
 use bstr::{BStr, BString, ByteSlice};

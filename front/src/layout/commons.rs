@@ -257,9 +257,8 @@ mod tests {
     /// ldlang.c, `lang_common`: greater alignments first, and those of more than 16 as one.
     #[test]
     fn sorts_of_common_blocks() {
-        let blocks: Vec<(Vec<u8>, Block)> = [(b"a", 1), (b"b", 64), (b"c", 16), (b"d", 4)]
-            .map(|(name, align)| (name.to_vec(), block(align)))
-            .to_vec();
+        let blocks: Vec<(Vec<u8>, Block)> =
+            [(b"a", 1), (b"b", 64), (b"c", 16), (b"d", 4)].map(|(name, align)| (name.to_vec(), block(align))).to_vec();
         let names = |sort| -> Vec<Vec<u8>> { sorted(blocks.clone(), sort).into_iter().map(|(name, _)| name).collect() };
         assert_eq!(names(None), [b"a", b"b", b"c", b"d"]);
         assert_eq!(names(Some(SortCommon::Descending)), [b"b", b"c", b"d", b"a"]);

@@ -6,9 +6,9 @@ use super::ids::{ExprId, OutputId, StatementId};
 use super::program::{Constraint, FillBytes, OutputKind, Program, StepKind, Taking, DEFAULT};
 use super::stop::{not_evaluated, refused, NotEvaluatedReason, RefusedReason, Stop};
 use crate::script::tree::{
-    AssignOperator, Assignment, BinaryOperator, Constraint as TreeConstraint, Expr, ExprKind, Fill, Function, MemoryRegion,
-    Name, OutputSection, Overlay, Provision, Query, Script, SectionStatement, SectionType, SectionsStatement, Setting,
-    Span, Spanned, Statement, UnaryOperator,
+    AssignOperator, Assignment, BinaryOperator, Constraint as TreeConstraint, Expr, ExprKind, Fill, Function,
+    MemoryRegion, Name, OutputSection, Overlay, Provision, Query, Script, SectionStatement, SectionType,
+    SectionsStatement, Setting, Span, Spanned, Statement, UnaryOperator,
 };
 use bstr::ByteSlice;
 
@@ -299,8 +299,7 @@ fn overlay(program: &mut Program, node: &Overlay) -> Result<(), Stop> {
 
 /// `__load_start_NAME` and `__load_stop_NAME` of a section of an OVERLAY.
 fn overlay_symbols(program: &mut Program, section: &Name) -> Result<(), Stop> {
-    let clean: Vec<u8> =
-        section.iter().copied().filter(|byte| byte.is_ascii_alphanumeric() || *byte == b'_').collect();
+    let clean: Vec<u8> = section.iter().copied().filter(|byte| byte.is_ascii_alphanumeric() || *byte == b'_').collect();
     let name = program.names.enter(section);
     for (front, is_end) in [("__load_start_", false), ("__load_stop_", true)] {
         let mut value = program.expressions.enter(Node::OfSection(Query::Loadaddr, name), None)?;

@@ -127,12 +127,10 @@ impl Expressions {
                 (Binary::Min, Some(left), Some(right)) => Ok(Node::Number(left.min(right))),
                 _ => Ok(Node::Binary(word, a, b)),
             },
-            Node::Conditional(test, yes, no) => {
-                match (self.as_number(test), self.as_number(yes), self.as_number(no)) {
-                    (Some(test), Some(yes), Some(no)) => Ok(Node::Number(if test != 0 { yes } else { no })),
-                    _ => Ok(Node::Conditional(test, yes, no)),
-                }
-            }
+            Node::Conditional(test, yes, no) => match (self.as_number(test), self.as_number(yes), self.as_number(no)) {
+                (Some(test), Some(yes), Some(no)) => Ok(Node::Number(if test != 0 { yes } else { no })),
+                _ => Ok(Node::Conditional(test, yes, no)),
+            },
             node => Ok(node),
         }
     }
@@ -155,12 +153,7 @@ pub(crate) fn is_plain(operator: BinaryOperator) -> bool {
 }
 
 /// The value of a binary operator; `None` for a division by 0. Division has a sign (ldexp.c, `fold_binary`).
-pub(crate) fn binary(
-    operator: BinaryOperator,
-    left: u64,
-    right: u64,
-    span: Option<Span>,
-) -> Result<Option<u64>, Stop> {
+pub(crate) fn binary(operator: BinaryOperator, left: u64, right: u64, span: Option<Span>) -> Result<Option<u64>, Stop> {
     use BinaryOperator as Op;
     Ok(Some(match operator {
         Op::Multiply => left.wrapping_mul(right),

@@ -359,13 +359,7 @@ impl Link<'_> {
         }
     }
 
-    fn fold_operator(
-        &self,
-        operator: BinaryOperator,
-        left: Folded,
-        right: Folded,
-        e: ExprId,
-    ) -> Result<Folded, Stop> {
+    fn fold_operator(&self, operator: BinaryOperator, left: Folded, right: Folded, e: ExprId) -> Result<Folded, Stop> {
         let value = match binary(operator, left.value, right.value, self.span(e))? {
             Some(value) => value,
             None if self.phase == Phase::Mark => right.value,

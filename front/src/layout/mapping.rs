@@ -106,9 +106,8 @@ impl Link<'_> {
             _ => None,
         };
         body.iter().filter_map(of).flatten().any(|one| {
-            self.section(one.section).map_or(false, |section| {
-                section.fate == Fate::Open && !section.flags.has(Flags::READONLY)
-            })
+            self.section(one.section)
+                .map_or(false, |section| section.fate == Fate::Open && !section.flags.has(Flags::READONLY))
         })
     }
 
@@ -131,7 +130,8 @@ impl Link<'_> {
             }
             _ => return Ok(()),
         };
-        let found: &[Match] = found.as_deref().or_else(|| rows.matches.get(taking).map(Vec::as_slice)).unwrap_or_default();
+        let found: &[Match] =
+            found.as_deref().or_else(|| rows.matches.get(taking).map(Vec::as_slice)).unwrap_or_default();
         let mut taken = Vec::with_capacity(found.len());
         for one in found {
             if self.add_to(id, one.section, flags)? {
@@ -322,9 +322,8 @@ fn join(place: &mut Place, input: &super::evaluation::InputSection, mut flags: F
 
 /// The type that an output section has by its name alone (elf.c, `special_sections`).
 fn kind_by_name(name: &[u8]) -> u32 {
-    const WHOLE: [&[u8]; 10] = [
-        b".data1", b".rodata1", b".fini", b".init", b".got", b".plt", b".interp", b".line", b".debug", b".comment",
-    ];
+    const WHOLE: [&[u8]; 10] =
+        [b".data1", b".rodata1", b".fini", b".init", b".got", b".plt", b".interp", b".line", b".debug", b".comment"];
     const FRONTS: [(&[u8], u32); 13] = [
         (b".bss", elf::SHT_NOBITS),
         (b".data", elf::SHT_PROGBITS),
@@ -352,7 +351,8 @@ fn kind_by_name(name: &[u8]) -> u32 {
     if name.starts_with(b".note") {
         return if name == b".note.GNU-stack" { elf::SHT_PROGBITS } else { elf::SHT_NOTE };
     }
-    let matches = |front: &[u8]| name.strip_prefix(front).map_or(false, |rest| matches!(rest.first(), None | Some(b'.')));
+    let matches =
+        |front: &[u8]| name.strip_prefix(front).map_or(false, |rest| matches!(rest.first(), None | Some(b'.')));
     FRONTS.iter().find(|(front, _)| matches(front)).map_or(elf::SHT_NULL, |(_, kind)| *kind)
 }
 

@@ -255,7 +255,8 @@ fn by_name(link: &Link<'_>, name: NameId, section: &InputSection) -> (Option<Out
         match &output.place {
             None => unused = Some(*id),
             Some(place) => {
-                let is_same = !(section.flags ^ place.flags).has(Flags::LOAD | Flags::ALLOC) && place.kind == section.kind;
+                let is_same =
+                    !(section.flags ^ place.flags).has(Flags::LOAD | Flags::ALLOC) && place.kind == section.kind;
                 if place.flags == Flags::NONE || is_same {
                     return (Some(*id), true);
                 }
@@ -458,9 +459,8 @@ pub(crate) fn end_of(link: &Link<'_>, after: Option<OutputId>) -> usize {
     for (at, id) in top.iter().enumerate().skip(start) {
         match link.step(*id).map(|step| &step.kind) {
             Some(StepKind::Output(output)) => {
-                let is_allocated = link.place(*output).map_or(true, |place| {
-                    place.inputs.is_empty() || place.flags.has(Flags::ALLOC)
-                });
+                let is_allocated =
+                    link.place(*output).map_or(true, |place| place.inputs.is_empty() || place.flags.has(Flags::ALLOC));
                 return match assign {
                     Some(assign) if is_allocated => assign,
                     _ => at,

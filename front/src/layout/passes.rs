@@ -123,9 +123,11 @@ impl Link<'_> {
     fn set_addresses(&mut self) -> Result<(), Stop> {
         let mut starts: Vec<(Name, u64)> = Vec::new();
         for (segment, address) in &self.settings.segment_starts {
-            let is_used = self.program.expressions.iter().any(|expression| {
-                matches!(&expression.node, Node::SegmentStart(name, _) if name == segment)
-            });
+            let is_used = self
+                .program
+                .expressions
+                .iter()
+                .any(|expression| matches!(&expression.node, Node::SegmentStart(name, _) if name == segment));
             if !is_used && matches!(segment.as_slice(), b"text" | b"data" | b"bss") {
                 let mut name = Name::from(".");
                 name.extend_from_slice(segment);
@@ -159,7 +161,8 @@ impl Link<'_> {
         let is_read_only = self.settings.text_read_only;
         let text = first_made(self, b".text");
         if let Some(place) = text.and_then(|text| self.place_mut(text)) {
-            place.flags = if is_read_only { place.flags | Flags::READONLY } else { place.flags.without(Flags::READONLY) };
+            place.flags =
+                if is_read_only { place.flags | Flags::READONLY } else { place.flags.without(Flags::READONLY) };
         }
     }
 

@@ -41,9 +41,19 @@ pub(crate) struct Step {
 pub(crate) enum StepKind {
     Output(OutputId),
     /// `.` has no symbol.
-    Assign { target: Option<SymbolId>, value: ExprId, provision: Provision },
-    Assert { condition: ExprId, message: Name },
-    Data { width: DataWidth, value: ExprId },
+    Assign {
+        target: Option<SymbolId>,
+        value: ExprId,
+        provision: Provision,
+    },
+    Assert {
+        condition: ExprId,
+        message: Name,
+    },
+    Data {
+        width: DataWidth,
+        value: ExprId,
+    },
     Input(usize),
     Fill,
     CreateObjectSymbols,
@@ -90,9 +100,14 @@ pub(crate) enum OutputKind {
     /// READONLY
     ReadOnly,
     /// `TYPE = e`, perhaps with READONLY
-    Typed { kind: u32, is_read_only: bool },
+    Typed {
+        kind: u32,
+        is_read_only: bool,
+    },
     /// A section of an OVERLAY.
-    Overlay { is_first: bool },
+    Overlay {
+        is_first: bool,
+    },
 }
 
 /// Whether an output section counts.

@@ -130,11 +130,9 @@ impl Link<'_> {
                 }
             }
             StepKind::Assert { .. } => StatementKind::Assert,
-            StepKind::Data { width, .. } => StatementKind::Data {
-                offset: step.start,
-                size: width_of(*width) as u8,
-                value: step.value,
-            },
+            StepKind::Data { width, .. } => {
+                StatementKind::Data { offset: step.start, size: width_of(*width) as u8, value: step.value }
+            }
             StepKind::Input(taking) => self.program.takings.get(*taking).map_or(StatementKind::Other, |taking| {
                 StatementKind::Input { sections: taking.sections.clone(), gaps: taking.gaps.clone() }
             }),
@@ -160,8 +158,8 @@ impl Link<'_> {
 
     fn placed(&self, place: &Place) -> Placed {
         let merging = |section: &InputSection| section.flags.has(Flags::MERGE);
-        let merges = place.flags.has(Flags::MERGE)
-            && place.inputs.iter().filter_map(|id| self.section(*id)).any(merging);
+        let merges =
+            place.flags.has(Flags::MERGE) && place.inputs.iter().filter_map(|id| self.section(*id)).any(merging);
         Placed {
             address: place.address,
             load: place.load,

@@ -315,7 +315,8 @@ impl Link<'_> {
             output.region = chosen;
         }
         let counts = !output.is_ignored && output.place.as_ref().map_or(false, |place| !is_ignored(place));
-        if counts && checks && Some(output.region) == default && has_others && is_first && self.settings.checks_sections {
+        if counts && checks && Some(output.region) == default && has_others && is_first && self.settings.checks_sections
+        {
             return refused(RefusedReason::NoRegion(self.output_name(id)), self.output_span(id));
         }
         Ok(())
@@ -510,13 +511,12 @@ impl Link<'_> {
         let forced = self.forced_align(subalign)?;
         let address = self.place(id).map_or(0, |place| place.address);
         let start = dot.wrapping_sub(address);
-        let size = self.place_inputs(inner, taking, address, Shape {
-            start,
-            phase: 0,
-            forced,
-            is_ignored,
-            fill: fill.clone(),
-        });
+        let size = self.place_inputs(
+            inner,
+            taking,
+            address,
+            Shape { start, phase: 0, forced, is_ignored, fill: fill.clone() },
+        );
         if let Some(taking) = self.program.takings.get(taking) {
             let (greatest, is_used) = (taking.greatest, taking.is_used);
             if let Some(place) = self.place_mut(id) {

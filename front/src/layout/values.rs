@@ -53,7 +53,9 @@ impl Link<'_> {
             match self.step(id).map(|step| step.kind.clone()) {
                 Some(StepKind::Output(output)) => dot = self.values_of(output, dot)?,
                 Some(StepKind::Assign { .. }) => dot = self.assign(id, Base::Absolute, dot)?,
-                Some(StepKind::Assert { condition, message }) => self.check(condition, &message, Base::Absolute, dot)?,
+                Some(StepKind::Assert { condition, message }) => {
+                    self.check(condition, &message, Base::Absolute, dot)?
+                }
                 _ => {}
             }
         }
@@ -179,7 +181,9 @@ impl Link<'_> {
             (false, SymbolKind::New) => Folded::number(0),
             (false, _) => return,
         };
-        if !symbol.of_script && matches!(symbol.kind, SymbolKind::Defined | SymbolKind::DefinedWeak | SymbolKind::Common) {
+        if !symbol.of_script
+            && matches!(symbol.kind, SymbolKind::Defined | SymbolKind::DefinedWeak | SymbolKind::Common)
+        {
             symbol.by_object = true;
         }
         symbol.pass = pass;

@@ -44,7 +44,7 @@ fn retained_sections(data: &[u8]) -> Option<Vec<(SectionIndex, usize, u64)>> {
     let found = headers.iter().enumerate().filter_map(|(index, section)| {
         let flags = section.sh_flags(Little);
         let at = begin + index * std::mem::size_of::<SectionHeader64<Little>>() + FLAGS_AT;
-        (flags & SectionFlags::GNU_RETAIN.0 != 0).then(|| (SectionIndex(index as u32), at, flags))
+        (flags & SectionFlags::GNU_RETAIN.0 != 0).then_some((SectionIndex(index as u32), at, flags))
     });
     Some(found.collect())
 }

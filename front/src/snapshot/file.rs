@@ -46,8 +46,8 @@ impl Stamp {
         Stamp {
             id: FileId { device: found.st_dev, inode: found.st_ino },
             size: found.st_size as u64,
-            modified: time(found.st_mtime as i64, found.st_mtime_nsec as u64),
-            changed: time(found.st_ctime as i64, found.st_ctime_nsec as u64),
+            modified: time(found.st_mtime as i64, found.st_mtime_nsec),
+            changed: time(found.st_ctime as i64, found.st_ctime_nsec),
         }
     }
 
