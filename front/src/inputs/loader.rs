@@ -7,6 +7,7 @@ use super::{InputFault, Loaded, Request};
 use crate::command::{at_sysroot, path_of, Command, Format, Input, InputFlags};
 use crate::objects::{binary_object, session_name, Binding, Home, Object, Origin, SectionIndex, SymbolKind};
 use crate::script::tree::InputFile;
+use crate::script::Reader;
 use crate::snapshot::{Bytes, ReadFault, Snapshot};
 use bstr::{BStr, BString, ByteSlice};
 use indexmap::IndexMap;
@@ -73,7 +74,7 @@ impl KnownObjects {
 /// Takes the inputs in their order.
 pub(super) struct Loader<'a> {
     command: &'a Command,
-    request: &'a Request<'a>,
+    request: Request<'a>,
     snapshot: &'a mut Snapshot,
     before: Option<&'a Loaded>,
     known: KnownObjects,
@@ -110,7 +111,7 @@ impl<'a> Loader<'a> {
         }
         Ok(Loader {
             command,
-            request,
+            request: *request,
             snapshot,
             before,
             known: KnownObjects::default(),
@@ -334,11 +335,9 @@ impl<'a> Loader<'a> {
 
     /// Takes the inputs that a text names, which is then a script of INPUT and GROUP alone.
     fn text(&mut self, path: &Path, text: &[u8], flags: InputFlags) -> Result<Vec<ArchiveIndex>, InputFault> {
-        let script = if text.contains(&0) { None } else { (self.request.parse)(text, path, self.snapshot) };
-        let inputs = script.as_ref().map(ScriptInputs::of);
-        let inputs = inputs
-            .filter(|_| self.depth < GREATEST_DEPTH)
-            .ok_or_else(|| InputFault::Bad(format!("{}: no object, no archive, and no script", shown(path))))?;
+        let inputs = self.implicit_script(path, text).filter(|_| self.depth < GREATEST_DEPTH);
+        let inputs =
+            inputs.ok_or_else(|| InputFault::Bad(format!("{}: no object, no archive, and no script", shown(path))))?;
         if let Some(other) = inputs.other {
             let reason = format!(
                 "{}: a script in the place of an object that has {other}, and not INPUT and GROUP alone (a script is \
@@ -355,6 +354,16 @@ impl<'a> Loader<'a> {
         let archives = self.script(&inputs, flags, Some(folder));
         self.depth -= 1;
         archives
+    }
+
+    /// What a text in the place of an object says of files and names; `None` where it is no script.
+    fn implicit_script(&mut self, path: &Path, text: &[u8]) -> Option<ScriptInputs> {
+        if text.contains(&0) {
+            return None;
+        }
+        let mut reader = Reader::new(self.snapshot, self.command.folders.clone());
+        reader.implicit(path, text.to_vec()).ok()?;
+        Some(ScriptInputs::of(&reader.finish().script))
     }
 
     /// Opens an archive: the one of before where it has the same bytes.

@@ -14,13 +14,12 @@ pub use script_inputs::{ScriptInput, ScriptInputs};
 
 use crate::command::Command;
 use crate::objects::Object;
-use crate::script::tree::Script;
 use crate::snapshot::Snapshot;
 use bstr::{BStr, BString, ByteSlice};
 use indexmap::IndexMap;
 use loader::{KnownObjects, Loader};
 use std::collections::HashMap;
-use std::path::{Path, PathBuf};
+use std::path::PathBuf;
 use std::sync::Arc;
 use thiserror::Error;
 
@@ -38,9 +37,6 @@ pub enum InputFault {
     Missing(String),
 }
 
-/// Reads a text in the place of an object as a script; `None` where it is none. What it includes is read by the snapshot.
-pub type ParseScript = dyn Fn(&[u8], &Path, &mut Snapshot) -> Option<Script>;
-
 /// Whose inputs are wanted.
 #[derive(Clone, Copy)]
 pub struct Request<'a> {
@@ -52,8 +48,6 @@ pub struct Request<'a> {
     pub has_own_script: bool,
     /// The names that are undefined before the first object beside those of the command: the entry symbol.
     pub wanted: &'a [BString],
-    /// Reads a script in the place of an object.
-    pub parse: &'a ParseScript,
 }
 
 /// The inputs of a link.

@@ -3,8 +3,9 @@
 use super::*;
 use crate::command::read_command;
 use crate::objects::tests::{code, object, WrittenSection, WrittenSymbol};
-use crate::script::tree::{InputFile, Span, Spanned, Statement};
+use crate::script::tree::InputFile;
 use std::fs;
+use std::path::Path;
 use std::process::Command as Program;
 
 const SCRIPT: &str =
@@ -79,26 +80,7 @@ impl Drop for Project {
 }
 
 fn request<'a>(command: &'a Command, scripts: &'a [ScriptInputs]) -> Request<'a> {
-    Request { command, scripts, has_own_script: true, wanted: &[], parse: &parse }
-}
-
-/// Reads `INPUT(a b)`, `GROUP(..)` and `SEARCH_DIR(..)` by words that are separated by spaces, and `x = 4;`.
-fn parse(text: &[u8], _: &Path, _: &mut Snapshot) -> Option<Script> {
-    let text = std::str::from_utf8(text).ok()?;
-    let statement = |part: &str| {
-        let (word, inside) = part.split_once('(')?;
-        let files = || inside.split(' ').map(file).map(|file| Spanned::new(file, Span::default())).collect();
-        match word.trim() {
-            "INPUT" => Some(Statement::Input(files())),
-            "GROUP" => Some(Statement::Group(files())),
-            "SEARCH_DIR" => Some(Statement::SearchDir(inside.into())),
-            "ENTRY" => Some(Statement::Entry(inside.into())),
-            _ => None,
-        }
-    };
-    let parts = text.trim().split_terminator(')');
-    let statements = parts.map(|part| Some(Spanned::new(statement(part)?, Span::default()))).collect::<Option<_>>()?;
-    Some(Script { statements })
+    Request { command, scripts, has_own_script: true, wanted: &[] }
 }
 
 fn file(word: &str) -> InputFile {

@@ -96,6 +96,17 @@ impl ReadFault {
     }
 }
 
+impl From<ReadFault> for io::Error {
+    fn from(fault: ReadFault) -> io::Error {
+        match fault {
+            ReadFault::Missing => io::Error::from_raw_os_error(libc::ENOENT),
+            ReadFault::Folder => io::Error::from_raw_os_error(libc::EISDIR),
+            ReadFault::System(fault) => fault,
+            fault => io::Error::new(io::ErrorKind::Other, fault.to_string()),
+        }
+    }
+}
+
 /// What the system says, without the number that Rust adds.
 fn plain(fault: &io::Error) -> String {
     let text = fault.to_string();

@@ -12,10 +12,12 @@ mod tests;
 pub use bytes::Bytes;
 pub use file::{look, open_regular, read_any, read_open, read_regular, FileId, ReadFault, Seen, Stamp};
 
+use crate::script::ScriptFiles;
 use indexmap::IndexMap;
 use looks::Looks;
 use rustix::fs::{FileType, Stat};
 use std::collections::HashMap;
+use std::io;
 use std::path::{Path, PathBuf};
 
 /// What is asked of a path without reading it.
@@ -160,6 +162,13 @@ impl Snapshot {
     pub fn name_of(&self, id: FileId) -> Option<&Path> {
         let stamps = self.files.iter().filter_map(|(path, seen)| Some((path, seen.as_ref()?.stamp?)));
         stamps.into_iter().find(|(_, stamp)| stamp.id == id).map(|(path, _)| path.as_path())
+    }
+}
+
+/// What scripts include is read by the snapshot of their link.
+impl ScriptFiles for Snapshot {
+    fn read(&mut self, path: &Path) -> io::Result<Vec<u8>> {
+        Ok(self.read_any(path)?.to_vec())
     }
 }
 
