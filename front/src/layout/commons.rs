@@ -1,19 +1,19 @@
 //! Common blocks: which object has them, and in what order GNU ld gives them places (ldlang.c, `lang_common`).
 
 use super::evaluation::Base;
-use super::ids::{ObjectId, SectionId};
-use super::input::{LinkObject, LinkPlace};
+use super::ids::SectionId;
 use super::link::Link;
 use super::names::QuickMap;
 use super::rows::Rows;
 use super::settings::SortCommon;
 use super::symbols::SymbolKind;
+use crate::objects::{Object, ObjectIndex, Rank};
 use std::collections::HashSet;
 
 /// A common block that no definition takes the place of.
 #[derive(Clone, Copy, PartialEq, Eq, Debug)]
 struct Block {
-    owner: ObjectId,
+    owner: ObjectIndex,
     size: u64,
     align: u64,
 }
@@ -26,32 +26,27 @@ enum Known {
     Common(Block),
 }
 
-/// Whether an object has common blocks.
-pub(crate) fn has_common(objects: &[LinkObject<'_>], id: ObjectId) -> bool {
-    let is_common = |place: LinkPlace| matches!(place, LinkPlace::Common { .. });
-    objects.get(id.index()).map_or(false, |object| object.symbols.iter().any(|symbol| is_common(symbol.place)))
-}
-
 /// The common blocks, and the objects that have a section for some, of blocks that another took the place of too.
-fn read<'a>(objects: &[LinkObject<'a>]) -> (QuickMap<&'a [u8], Known>, HashSet<ObjectId>) {
+fn read(objects: &[Object]) -> (QuickMap<&[u8], Known>, HashSet<ObjectIndex>) {
     let mut known: QuickMap<&[u8], Known> = QuickMap::default();
     let mut owners = HashSet::new();
-    if !(0..objects.len()).any(|number| has_common(objects, ObjectId::new(number))) {
+    if !objects.iter().any(|object| object.has_commons()) {
         return (known, owners);
     }
     for (number, object) in objects.iter().enumerate() {
-        let owner = ObjectId::new(number);
-        for symbol in &object.symbols {
-            let old = known.get(symbol.name).copied();
-            let new = match (symbol.place, old) {
-                (LinkPlace::Undefined, _) => continue,
+        let owner = ObjectIndex(number as u32);
+        for symbol in object.globals() {
+            let (size, align) = (symbol.size, symbol.value.max(1));
+            let name = <&[u8]>::from(symbol.name);
+            let new = match (symbol.rank(), known.get(name).copied()) {
+                (None, _) | (Some(Rank::Common), Some(Known::Strong)) => continue,
                 // A block of a size that is greater is the one that counts; the greatest alignment does in any case
                 // (linker.c, `link_action`: COM, BIG, CREF; elflink.c, `elf_link_add_object_symbols`).
-                (LinkPlace::Common { size, align }, None | Some(Known::Weak)) => {
+                (Some(Rank::Common), None | Some(Known::Weak)) => {
                     owners.insert(owner);
-                    Known::Common(Block { owner, size, align: align.max(1) })
+                    Known::Common(Block { owner, size, align })
                 }
-                (LinkPlace::Common { size, align }, Some(Known::Common(block))) => {
+                (Some(Rank::Common), Some(Known::Common(block))) => {
                     let align = align.max(block.align);
                     if size > block.size {
                         owners.insert(owner);
@@ -60,25 +55,24 @@ fn read<'a>(objects: &[LinkObject<'a>]) -> (QuickMap<&'a [u8], Known>, HashSet<O
                         Known::Common(Block { align, ..block })
                     }
                 }
-                (LinkPlace::Common { .. }, Some(Known::Strong)) => continue,
-                (_, None) if symbol.is_weak => Known::Weak,
-                (_, Some(_)) if symbol.is_weak => continue,
-                _ => Known::Strong,
+                (Some(Rank::Weak), None) => Known::Weak,
+                (Some(Rank::Weak), Some(_)) => continue,
+                (Some(Rank::Strong), _) => Known::Strong,
             };
-            known.insert(symbol.name, new);
+            known.insert(name, new);
         }
     }
     (known, owners)
 }
 
 /// The objects that have a section for common blocks.
-pub(crate) fn owners(objects: &[LinkObject<'_>]) -> HashSet<ObjectId> {
+pub(crate) fn owners(objects: &[Object]) -> HashSet<ObjectIndex> {
     read(objects).1
 }
 
 impl Link<'_> {
     /// Gives common blocks their places.
-    pub fn place_commons(&mut self, objects: &[LinkObject<'_>], rows: &Rows) {
+    pub fn place_commons(&mut self, objects: &[Object], rows: &Rows) {
         let (known, owners) = read(objects);
         if owners.is_empty() || self.program.inhibits_common || self.settings.inhibits_common {
             return;
@@ -133,9 +127,9 @@ fn sorted(mut blocks: Vec<(Vec<u8>, Block)>, sort: Option<SortCommon>) -> Vec<(V
 }
 
 /// The names in the order of GNU ld's table of symbols, which depends on the order in which they were entered.
-fn table_order<'a>(link: &'a Link<'_>, objects: &[LinkObject<'a>]) -> Vec<&'a [u8]> {
+fn table_order<'a>(link: &'a Link<'_>, objects: &'a [Object]) -> Vec<&'a [u8]> {
     let of_script = link.program.symbols.named().map(|name| name.as_slice());
-    let of_objects = objects.iter().flat_map(|object| object.symbols.iter().map(|symbol| symbol.name));
+    let of_objects = objects.iter().flat_map(|object| object.globals()).map(|symbol| <&[u8]>::from(symbol.name));
     let mut table = Table::default();
     let mut seen: HashSet<&[u8], std::hash::BuildHasherDefault<super::names::QuickHasher>> = HashSet::default();
     for name in of_script.chain(of_objects) {
@@ -239,7 +233,7 @@ mod tests {
     use super::*;
 
     fn block(align: u64) -> Block {
-        Block { owner: ObjectId::new(0), size: 1, align }
+        Block { owner: ObjectIndex(0), size: 1, align }
     }
 
     /// hash.c: a table lists its buckets, and of a bucket the last entry first; a larger one turns chains around.

@@ -327,15 +327,7 @@ fn inner(program: &mut Program, statement: &Spanned<SectionStatement>, output: O
         }
         SectionStatement::Input(node) => {
             let id = program.step(span, output, StepKind::Input(program.takings.len()));
-            program.takings.push(Taking {
-                statement: id,
-                node: node.clone(),
-                sections: Vec::new(),
-                gaps: Vec::new(),
-                shape: None,
-                greatest: 0,
-                is_used: false,
-            });
+            program.takings.push(Taking::new(node.clone()));
             return Ok(id);
         }
         SectionStatement::Data(width, value) => StepKind::Data { width: *width, value: expression(program, value)? },

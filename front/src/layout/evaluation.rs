@@ -1,8 +1,9 @@
 //! What a layout comes to: plain data for those who write a script of the profile, and for the comparison with an image.
 
 use super::flags::Flags;
-use super::ids::{NameId, ObjectId, OutputId, RegionId, SectionId, StatementId, SymbolId};
+use super::ids::{NameId, OutputId, RegionId, SectionId, StatementId, SymbolId};
 use super::names::{Names, QuickMap};
+use crate::objects::{ObjectIndex, SectionIndex};
 use crate::script::tree::{Name, Span};
 use bstr::{BStr, ByteSlice};
 
@@ -216,7 +217,7 @@ impl Placed {
 #[derive(Clone, PartialEq, Eq, Debug)]
 pub struct InputSection {
     /// Its object; of what GNU ld makes itself, the object that it is made in.
-    pub object: ObjectId,
+    pub object: ObjectIndex,
     /// Where it comes from.
     pub origin: Origin,
     /// Its name.
@@ -245,7 +246,7 @@ pub struct InputSection {
 #[derive(Clone, Copy, PartialEq, Eq, Debug)]
 pub enum Origin {
     /// An object's section, by the number of its header.
-    Header(u32),
+    Header(SectionIndex),
     /// The common blocks of an object.
     Common,
     /// GNU ld makes it.
@@ -270,7 +271,7 @@ impl InputSection {
     }
 
     /// The number of its header; `None` of common blocks and of what GNU ld makes itself.
-    pub fn number(&self) -> Option<u32> {
+    pub fn number(&self) -> Option<SectionIndex> {
         match self.origin {
             Origin::Header(number) => Some(number),
             Origin::Common | Origin::Linker => None,

@@ -22,10 +22,6 @@ macro_rules! id {
 }
 
 id!(
-    /// An object of the link, in its order.
-    ObjectId
-);
-id!(
     /// An input section: of an object, the common blocks of an object, or one that GNU ld makes itself.
     SectionId
 );

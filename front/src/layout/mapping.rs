@@ -5,13 +5,14 @@ use super::evaluation::Fate;
 use super::expression::Node;
 use super::flags::Flags;
 use super::ids::{ExprId, OutputId, SectionId, StatementId};
-use super::input::LinkObject;
 use super::link::Link;
 use super::matching::Match;
 use super::program::{Constraint, Output, OutputKind, Place, StepKind};
 use super::rows::Rows;
 use super::sorting::{FileNames, Sorting};
+use super::special;
 use super::stop::{not_evaluated, refused, NotEvaluatedReason, RefusedReason, Stop};
+use crate::objects::Object;
 use crate::script::tree::{Name, Query, Span};
 use bstr::ByteSlice;
 use object::elf;
@@ -36,12 +37,12 @@ const REVERSED: [(&[u8], &[u8]); 2] = [(b".init_array", b".ctors"), (b".fini_arr
 
 impl Link<'_> {
     /// Gives the sections to the statements, and makes the output sections that have something.
-    pub fn map(&mut self, rows: &Rows, objects: &[LinkObject<'_>]) -> Result<(), Stop> {
+    pub fn map(&mut self, rows: &Rows, objects: &[Object]) -> Result<(), Stop> {
         let files: Vec<FileNames<'_>> = objects
             .iter()
-            .map(|object| match object.archive {
-                Some(archive) => (archive, object.name),
-                None => (object.name, &b""[..]),
+            .map(|object| match (&object.origin().archive, object.origin().name.as_slice()) {
+                (Some(archive), name) => (archive.as_slice(), name),
+                (None, name) => (name, &b""[..]),
             })
             .collect();
         self.keep(rows);
@@ -106,8 +107,9 @@ impl Link<'_> {
             _ => None,
         };
         body.iter().filter_map(of).flatten().any(|one| {
-            self.section(one.section)
-                .map_or(false, |section| section.fate == Fate::Open && !section.flags.has(Flags::READONLY))
+            self.section(one.section).map_or(false, |section| {
+                section.fate == Fate::Open && !section.flags.has(Flags::READONLY)
+            })
         })
     }
 
@@ -130,8 +132,7 @@ impl Link<'_> {
             }
             _ => return Ok(()),
         };
-        let found: &[Match] =
-            found.as_deref().or_else(|| rows.matches.get(taking).map(Vec::as_slice)).unwrap_or_default();
+        let found: &[Match] = found.as_deref().or_else(|| rows.matches.get(taking).map(Vec::as_slice)).unwrap_or_default();
         let mut taken = Vec::with_capacity(found.len());
         for one in found {
             if self.add_to(id, one.section, flags)? {
@@ -214,7 +215,7 @@ impl Link<'_> {
         if is_discard {
             return refused(RefusedReason::Discard, self.output_span(id));
         }
-        let kind = kind_by_name(self.program.names.get(name));
+        let (kind, bits) = special::by_name(self.program.names.get(name));
         if let Some(output) = self.output_mut(id) {
             output.place = Some(Place {
                 address: 0,
@@ -227,6 +228,7 @@ impl Link<'_> {
                 has_input: false,
                 inputs: Vec::new(),
                 kind,
+                bits,
                 own_kind: 0,
                 entry_size: 0,
             });
@@ -306,6 +308,7 @@ fn join(place: &mut Place, input: &super::evaluation::InputSection, mut flags: F
     place.flags |= flags.without(Flags::CREATED | Flags::EXCLUDE);
     if !place.has_input {
         place.has_input = true;
+        place.bits = special::of_first(input.bits);
         if flags.has(Flags::MERGE) {
             place.entry_size = input.entry_size;
         }
@@ -318,42 +321,6 @@ fn join(place: &mut Place, input: &super::evaluation::InputSection, mut flags: F
             place.kind = input.kind;
         }
     }
-}
-
-/// The type that an output section has by its name alone (elf.c, `special_sections`).
-fn kind_by_name(name: &[u8]) -> u32 {
-    const WHOLE: [&[u8]; 10] =
-        [b".data1", b".rodata1", b".fini", b".init", b".got", b".plt", b".interp", b".line", b".debug", b".comment"];
-    const FRONTS: [(&[u8], u32); 13] = [
-        (b".bss", elf::SHT_NOBITS),
-        (b".data", elf::SHT_PROGBITS),
-        (b".fini_array", elf::SHT_FINI_ARRAY),
-        (b".init_array", elf::SHT_INIT_ARRAY),
-        (b".preinit_array", elf::SHT_PREINIT_ARRAY),
-        (b".noinit", elf::SHT_NOBITS),
-        (b".rodata", elf::SHT_PROGBITS),
-        (b".text", elf::SHT_PROGBITS),
-        (b".tbss", elf::SHT_NOBITS),
-        (b".tdata", elf::SHT_PROGBITS),
-        (b".persistent", elf::SHT_PROGBITS),
-        (b".persistent.bss", elf::SHT_NOBITS),
-        (b".gnu.linkonce.b", elf::SHT_NOBITS),
-    ];
-    if WHOLE.contains(&name) {
-        return elf::SHT_PROGBITS;
-    }
-    if name.starts_with(b".rela") {
-        return elf::SHT_RELA;
-    }
-    if name.starts_with(b".rel") {
-        return elf::SHT_REL;
-    }
-    if name.starts_with(b".note") {
-        return if name == b".note.GNU-stack" { elf::SHT_PROGBITS } else { elf::SHT_NOTE };
-    }
-    let matches =
-        |front: &[u8]| name.strip_prefix(front).map_or(false, |rest| matches!(rest.first(), None | Some(b'.')));
-    FRONTS.iter().find(|(front, _)| matches(front)).map_or(elf::SHT_NULL, |(_, kind)| *kind)
 }
 
 /// The flags that a section must have, and those that it must not have.

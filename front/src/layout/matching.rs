@@ -3,9 +3,9 @@
 use super::evaluation::InputSection;
 use super::glob;
 use super::ids::{NameId, SectionId};
-use super::input::LinkObject;
 use super::names::Names;
 use super::program::Taking;
+use crate::objects::Object;
 use crate::script::tree::{InputStatement, Name};
 use bstr::ByteSlice;
 
@@ -22,7 +22,7 @@ pub(crate) fn matches_of(
     takings: &[Taking],
     sections: &[InputSection],
     names: &Names,
-    objects: &[LinkObject<'_>],
+    objects: &[Object],
 ) -> Vec<Vec<Match>> {
     let index = Index::new(takings);
     let mut found: Vec<Vec<Match>> = vec![Vec::new(); takings.len()];
@@ -30,7 +30,7 @@ pub(crate) fn matches_of(
     rules.resize_with(names.len(), || None);
     let mut files = Files::new(takings.len());
     for (number, section) in sections.iter().enumerate() {
-        let object = match objects.get(section.object.index()) {
+        let object = match objects.get(section.object.0 as usize) {
             None => continue,
             Some(object) => object,
         };
@@ -40,7 +40,7 @@ pub(crate) fn matches_of(
         };
         let rule = slot.get_or_insert_with(|| Rule::new(&index, takings, section.name, names));
         for candidate in &rule.candidates {
-            let is_taken = !rule.asks_files || files.takes(takings, candidate, section.object.index(), object);
+            let is_taken = !rule.asks_files || files.takes(takings, candidate, section.object.0 as usize, object);
             if let (true, Some(row)) = (is_taken, found.get_mut(candidate.taking as usize)) {
                 row.push(Match { section: SectionId::new(number), pattern: candidate.pattern });
             }
@@ -94,7 +94,7 @@ impl Files {
         Files(vec![(usize::MAX, false); count])
     }
 
-    fn takes(&mut self, takings: &[Taking], candidate: &Candidate, number: usize, object: &LinkObject<'_>) -> bool {
+    fn takes(&mut self, takings: &[Taking], candidate: &Candidate, number: usize, object: &Object) -> bool {
         let at = candidate.taking as usize;
         let (taking, slot) = match (takings.get(at), self.0.get_mut(at)) {
             (Some(taking), Some(slot)) => (taking, slot),
@@ -109,14 +109,14 @@ impl Files {
 }
 
 /// Whether an input statement takes an object by its file: without a wildcard a file, and no member of an archive.
-pub(crate) fn takes_file(node: &InputStatement, object: &LinkObject<'_>) -> bool {
+pub(crate) fn takes_file(node: &InputStatement, object: &Object) -> bool {
     let file = match &node.file {
         None => return true,
         Some(file) => &file.node,
     };
     let pattern = file.glob.as_slice();
     let is_taken = if !glob::has_wildcard(pattern) && pattern.find_byte(b':').is_none() {
-        object.archive.is_none() && pattern == object.name
+        object.origin().archive.is_none() && pattern == object.origin().name
     } else {
         file_matches(pattern, object)
     };
@@ -124,26 +124,26 @@ pub(crate) fn takes_file(node: &InputStatement, object: &LinkObject<'_>) -> bool
 }
 
 /// GNU ld manual, 'Input Section Basics': `archive:file`, `archive:`, `:file`, or a file.
-fn file_matches(pattern: &[u8], object: &LinkObject<'_>) -> bool {
+fn file_matches(pattern: &[u8], object: &Object) -> bool {
     match pattern.find_byte(b':') {
-        None => glob::matches(pattern, object.name),
+        None => glob::matches(pattern, &object.origin().name),
         Some(at) => {
             let (left, right) = (pattern.get(..at).unwrap_or_default(), pattern.get(at + 1..).unwrap_or_default());
-            let is_archive = match object.archive {
+            let is_archive = match &object.origin().archive {
                 None => left.is_empty(),
                 Some(archive) => !left.is_empty() && glob::matches(left, archive),
             };
-            is_archive && (right.is_empty() || glob::matches(right, object.name))
+            is_archive && (right.is_empty() || glob::matches(right, &object.origin().name))
         }
     }
 }
 
 /// Whether EXCLUDE_FILE leaves an object out, which a whole archive may be.
-fn is_excluded(patterns: &[Name], object: &LinkObject<'_>) -> bool {
+fn is_excluded(patterns: &[Name], object: &Object) -> bool {
     patterns.iter().any(|pattern| {
         file_matches(pattern, object)
             || pattern.find_byte(b':').is_none()
-                && object.archive.map_or(false, |archive| glob::matches(pattern, archive))
+                && object.origin().archive.as_ref().map_or(false, |archive| glob::matches(pattern, archive))
     })
 }
 

@@ -1,8 +1,8 @@
 //! The evaluation of a script over objects: the one statement of what GNU ld 2.40 lays out.
 //!
 //! ```text
-//! Script, LinkObjects, Settings --> Layout::new --> rows: which statement matches which input section
-//!                                   Layout::evaluate --> Evaluation (or a Stop: GNU ld refuses it, or it is not known)
+//! Script, Objects, Settings --> Layout::new     --> rows: which statement matches which input section
+//!                               Layout::evaluate --> Evaluation (or a Stop: GNU ld refuses it, or it is not known)
 //! ```
 //!
 //! A rule's test names it as GNU ld's manual does, or by the function of its source that has it.
@@ -17,7 +17,6 @@ mod fold;
 pub mod glob;
 mod headers;
 pub mod ids;
-pub mod input;
 mod insert;
 mod link;
 mod mapping;
@@ -32,18 +31,18 @@ mod rows;
 pub mod settings;
 mod sizing;
 mod sorting;
+mod special;
 pub mod stop;
 mod symbols;
 mod values;
 
 pub use evaluation::Evaluation;
 pub use flags::Flags;
-pub use input::{LinkObject, LinkPlace, LinkSection, LinkSymbol};
 pub use settings::Settings;
 pub use stop::{NotEvaluated, Refused, Stop};
 
-use crate::script::tree::Script;
-use ids::ObjectId;
+use crate::objects::{Object, ObjectIndex};
+use crate::script::tree::{Name, Script, Span};
 use program::Program;
 use rows::Rows;
 
@@ -51,8 +50,17 @@ use rows::Rows;
 ///
 /// # Errors
 /// `Stop::Refused` where GNU ld makes no image, `Stop::NotEvaluated` where something is not evaluated.
-pub fn evaluate(script: &Script, objects: &[LinkObject<'_>], settings: &Settings) -> Result<Evaluation, Stop> {
+pub fn evaluate(script: &Script, objects: &[Object], settings: &Settings) -> Result<Evaluation, Stop> {
     Layout::new(script, objects, settings)?.evaluate(objects)
+}
+
+/// The files that the input statements of a script name without a wildcard, with the first place of each: GNU ld links
+/// them where the script stands, before what the command line has after it (ldlang.c, `lookup_name`).
+///
+/// # Errors
+/// What GNU ld refuses while it reads the script, and what is not evaluated.
+pub fn named_files(script: &Script) -> Result<Vec<(Name, Span)>, Stop> {
+    Ok(compile::files_of(&compile::compile(script)?))
 }
 
 /// A script over the objects of a link: what stays while objects change in sizes alone.
@@ -68,7 +76,7 @@ impl Layout {
     ///
     /// # Errors
     /// What GNU ld refuses while it reads the script, and what is not evaluated.
-    pub fn new(script: &Script, objects: &[LinkObject<'_>], settings: &Settings) -> Result<Layout, Stop> {
+    pub fn new(script: &Script, objects: &[Object], settings: &Settings) -> Result<Layout, Stop> {
         let mut program = compile::compile(script)?;
         let rows = Rows::new(&program.takings, &mut program.names, objects, settings);
         Ok(Layout { program, rows, settings: settings.clone() })
@@ -76,7 +84,7 @@ impl Layout {
 
     /// Takes objects some of which changed; gives whether that is all: their sections have the names, types, flags and
     /// alignments that they had, and `evaluate` may follow. Else a new one must be made.
-    pub fn renew(&mut self, objects: &[LinkObject<'_>], changed: &[ObjectId]) -> bool {
+    pub fn renew(&mut self, objects: &[Object], changed: &[ObjectIndex]) -> bool {
         self.rows.renew(&self.program.names, objects, changed)
     }
 
@@ -84,7 +92,7 @@ impl Layout {
     ///
     /// # Errors
     /// `Stop::Refused` where GNU ld makes no image, `Stop::NotEvaluated` where something is not evaluated.
-    pub fn evaluate(&self, objects: &[LinkObject<'_>]) -> Result<Evaluation, Stop> {
+    pub fn evaluate(&self, objects: &[Object]) -> Result<Evaluation, Stop> {
         passes::run(self.program.clone(), &self.rows, objects, &self.settings)
     }
 }

@@ -85,6 +85,11 @@ impl Names {
         self.all.get(id.index()).map_or_else(|| b"".as_bstr(), |name| name.as_bstr())
     }
 
+    /// The names, by their indices.
+    pub fn iter(&self) -> impl Iterator<Item = &BStr> {
+        self.all.iter().map(|name| name.as_bstr())
+    }
+
     /// How many there are.
     pub fn len(&self) -> usize {
         self.all.len()

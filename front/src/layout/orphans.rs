@@ -236,7 +236,11 @@ fn set_fate(link: &mut Link<'_>, id: SectionId, fate: Fate) {
 }
 
 fn add(link: &mut Link<'_>, output: OutputId, id: SectionId) -> Result<(), Stop> {
-    link.add_to(output, id, (0, 0))?;
+    if link.add_to(output, id, (0, 0))? {
+        if let Some(taking) = link.program.orphans_of(output) {
+            taking.sections.push(id);
+        }
+    }
     if link.section(id).map_or(false, |section| section.size != 0) {
         link.orphans.push(id);
     }

@@ -6,7 +6,6 @@ use super::expression::Node;
 use super::flags::Flags;
 use super::fold::Phase;
 use super::ids::{OutputId, RegionId};
-use super::input::LinkObject;
 use super::link::Link;
 use super::orphans::Orphans;
 use super::program::{Program, StepKind};
@@ -15,17 +14,18 @@ use super::rows::Rows;
 use super::settings::Settings;
 use super::stop::{not_evaluated, refused, NotEvaluatedReason, RefusedReason, Stop};
 use super::symbols::SymbolKind;
+use crate::objects::Object;
 use crate::script::tree::Name;
 
 /// Goes through all passes.
 pub(crate) fn run(
     program: Program,
     rows: &Rows,
-    objects: &[LinkObject<'_>],
+    objects: &[Object],
     settings: &Settings,
 ) -> Result<Evaluation, Stop> {
     for (name, span) in files_of(&program) {
-        if !objects.iter().any(|object| object.archive.is_none() && object.name == name.as_slice()) {
+        if !objects.iter().any(|object| object.origin().archive.is_none() && object.origin().name == name) {
             return not_evaluated(NotEvaluatedReason::OpensFile(name), Some(span));
         }
     }

@@ -65,7 +65,6 @@ pub(crate) enum StepKind {
 /// An input statement with what it takes.
 #[derive(Clone, Debug)]
 pub(crate) struct Taking {
-    pub statement: StatementId,
     pub node: InputStatement,
     /// The input sections in their order.
     pub sections: Vec<SectionId>,
@@ -76,6 +75,23 @@ pub(crate) struct Taking {
     pub greatest: u64,
     /// Whether some of them take room.
     pub is_used: bool,
+    /// Whether it is of orphans, and stands in no script.
+    pub is_of_orphans: bool,
+}
+
+impl Taking {
+    /// A statement that has taken nothing so far.
+    pub fn new(node: InputStatement) -> Taking {
+        Taking {
+            node,
+            sections: Vec::new(),
+            gaps: Vec::new(),
+            shape: None,
+            greatest: 0,
+            is_used: false,
+            is_of_orphans: false,
+        }
+    }
 }
 
 /// What the places of the sections of an input statement depend on.
@@ -171,6 +187,8 @@ pub(crate) struct Place {
     pub inputs: Vec<SectionId>,
     /// Its type in the section header, as far as its name or its first input section says it; else 0.
     pub kind: u32,
+    /// Its flags in the section header, as far as its name or its first input section says them.
+    pub bits: u64,
     /// The type that TYPE gives.
     pub own_kind: u32,
     pub entry_size: u64,
@@ -282,6 +300,28 @@ impl Program {
             assigned: None,
         });
         id
+    }
+
+    /// The statement at the end of an output section that has its orphans.
+    pub fn orphans_of(&mut self, output: OutputId) -> Option<&mut Taking> {
+        let last = self.outputs.get(output.index())?.body.last().and_then(|id| self.steps.get(id.index()));
+        let known = match last.map(|step| &step.kind) {
+            Some(StepKind::Input(taking)) if self.takings.get(*taking)?.is_of_orphans => Some(*taking),
+            _ => None,
+        };
+        let taking = match known {
+            Some(taking) => taking,
+            None => {
+                let taking = self.takings.len();
+                let sections = Some(Vec::new());
+                let node = InputStatement { is_kept: false, section_flags: Vec::new(), file: None, sections };
+                self.takings.push(Taking { is_of_orphans: true, ..Taking::new(node) });
+                let step = self.step(None, Some(output), StepKind::Input(taking));
+                self.outputs.get_mut(output.index())?.body.push(step);
+                taking
+            }
+        };
+        self.takings.get_mut(taking)
     }
 
     /// Enters an output section statement; where it stands among the others the caller says.

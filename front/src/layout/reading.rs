@@ -1,100 +1,63 @@
 //! What the objects say of the names that something has named.
 
 use super::evaluation::Base;
-use super::ids::{ObjectId, SectionId, SymbolId};
-use super::input::{LinkObject, LinkPlace, LinkSymbol};
+use super::ids::{SectionId, SymbolId};
 use super::link::Link;
-use super::rows::Rows;
+use super::rows::{is_identifier, Rows};
 use super::symbols::SymbolKind;
-
-/// What the objects have of a name.
-#[derive(Clone, Copy, Default)]
-struct Found {
-    /// 3: strong; 2: common; 1: weak; 0: undefined.
-    rank: u8,
-    place: Option<(ObjectId, LinkPlace)>,
-    size: u64,
-    is_there: bool,
-    is_hidden: bool,
-}
-
-impl Found {
-    /// Takes what one more object has (linker.c, `link_action`).
-    fn take(&mut self, object: ObjectId, symbol: &LinkSymbol<'_>) {
-        self.is_there = true;
-        self.is_hidden |= symbol.is_hidden;
-        let (rank, size) = match symbol.place {
-            LinkPlace::Undefined => return,
-            LinkPlace::Common { size, .. } => (2, size),
-            _ if symbol.is_weak => (1, 0),
-            _ => (3, 0),
-        };
-        if rank > self.rank || rank == 2 && self.rank == 2 && size > self.size {
-            self.rank = rank;
-            self.size = size;
-            self.place = Some((object, symbol.place));
-        }
-    }
-}
+use crate::objects::{Definition, Home, LinkNames, Object, Rank};
+use bstr::ByteSlice;
 
 const BOUNDS: [&[u8]; 2] = [b"__start_", b"__stop_"];
 
 impl Link<'_> {
     /// Reads the objects: names that are known so far, and those of bounds, get what the objects say of them.
-    pub fn read_objects(&mut self, objects: &[LinkObject<'_>], rows: &Rows) {
-        let mut found: Vec<Found> = vec![Found::default(); self.program.symbols.len()];
-        for (number, object) in objects.iter().enumerate() {
-            for symbol in &object.symbols {
-                let id = match self.program.symbols.find(symbol.name) {
-                    Some(id) => id,
-                    None if BOUNDS.iter().any(|front| symbol.name.starts_with(front)) => {
-                        let id = self.program.symbols.enter(symbol.name);
-                        found.resize(self.program.symbols.len(), Found::default());
-                        id
-                    }
-                    None => continue,
-                };
-                if let Some(found) = found.get_mut(id.index()) {
-                    found.take(ObjectId::new(number), symbol);
-                }
-            }
-        }
+    pub fn read_objects(&mut self, objects: &[Object], rows: &Rows) {
+        let bounds = self.program.names.iter().filter(|name| is_identifier(name)).flat_map(|name| {
+            BOUNDS.iter().map(move |front| [*front, name.as_bytes()].concat())
+        });
+        let own = self.program.symbols.iter().map(|symbol| symbol.name.to_vec());
+        let asked: Vec<Vec<u8>> = own.chain(bounds).collect();
+        let found = LinkNames::look_up(objects, &asked);
         self.program.symbols.objects_are_read();
-        for (number, found) in found.iter().enumerate() {
-            if found.is_there {
-                self.take_found(SymbolId::new(number), found, rows);
+        for name in &asked {
+            let name = name.as_bstr();
+            if found.definition(name).is_some() || found.is_referred(name) {
+                let id = self.program.symbols.enter(name);
+                self.take_found(id, found.definition(name), found.is_hidden(name), rows);
             }
         }
     }
 
-    fn take_found(&mut self, id: SymbolId, found: &Found, rows: &Rows) {
+    fn take_found(&mut self, id: SymbolId, found: Option<&Definition>, is_hidden: bool, rows: &Rows) {
         let symbol = match self.program.symbols.know(id) {
             None => return,
             Some(symbol) => symbol,
         };
         symbol.is_in_objects = true;
-        symbol.is_hidden |= found.is_hidden;
-        if symbol.of_script && found.rank < 3 {
+        symbol.is_hidden |= is_hidden;
+        let rank = found.map(|found| found.rank);
+        if symbol.of_script && rank != Some(Rank::Strong) {
             return;
         }
         symbol.of_script = false;
         symbol.base = Base::Absolute;
         symbol.section = None;
         symbol.value = 0;
-        symbol.kind = match found.rank {
-            0 => SymbolKind::Undefined,
-            1 => SymbolKind::DefinedWeak,
-            2 => SymbolKind::Common,
-            _ => SymbolKind::Defined,
+        symbol.kind = match rank {
+            None => SymbolKind::Undefined,
+            Some(Rank::Weak) => SymbolKind::DefinedWeak,
+            Some(Rank::Common) => SymbolKind::Common,
+            Some(Rank::Strong) => SymbolKind::Defined,
         };
-        match found.place {
-            Some((_, LinkPlace::Absolute(value))) => symbol.value = value,
-            Some((object, LinkPlace::Section { number, value })) => {
-                symbol.value = value;
-                symbol.section = rows.find(object, number);
+        match found.map(|found| (found.home, found)) {
+            Some((Home::Section(number), found)) => {
+                symbol.value = found.value;
+                symbol.section = rows.find(found.object, number);
                 symbol.is_unlinked = symbol.section.is_none();
             }
-            Some((_, LinkPlace::Undefined | LinkPlace::Common { .. })) | None => {}
+            Some((Home::Absolute | Home::Reserved(_), found)) => symbol.value = found.value,
+            Some((Home::Common | Home::Undefined, _)) | None => {}
         }
     }
 
@@ -111,7 +74,7 @@ impl Link<'_> {
             .filter_map(|(number, symbol)| {
                 let is_end = symbol.name.starts_with(b"__stop_");
                 let section = symbol.name.strip_prefix(if is_end { BOUNDS[1] } else { BOUNDS[0] })?;
-                super::rows::is_identifier(section).then(|| (SymbolId::new(number), section.to_vec(), is_end))
+                is_identifier(section).then(|| (SymbolId::new(number), section.to_vec(), is_end))
             })
             .collect();
         for (id, section, is_end) in asked {

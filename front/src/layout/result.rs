@@ -167,7 +167,7 @@ impl Link<'_> {
             align: place.align,
             flags: place.flags,
             kind: kind_of(place),
-            bits: bits_of(place.flags),
+            bits: place.bits | bits_of(place.flags),
             entry_size: if merges { place.entry_size } else { 0 },
             is_gone: place.is_gone,
             inputs: place.inputs.clone(),
@@ -177,10 +177,11 @@ impl Link<'_> {
 
 /// The type in the section header (elf.c, `elf_fake_sections`).
 fn kind_of(place: &Place) -> u32 {
+    // elf.c, `assign_file_positions_for_load_sections`: what has no bytes in a PT_LOAD is SHT_NOBITS.
+    if place.flags.has(Flags::ALLOC) && !place.flags.has(Flags::LOAD | Flags::CONTENTS) {
+        return elf::SHT_NOBITS;
+    }
     let by_flags = match place.own_kind {
-        elf::SHT_NULL if place.flags.has(Flags::ALLOC) && !place.flags.has(Flags::LOAD | Flags::CONTENTS) => {
-            elf::SHT_NOBITS
-        }
         elf::SHT_NULL => elf::SHT_PROGBITS,
         own => own,
     };

@@ -3,12 +3,12 @@
 use super::commons;
 use super::evaluation::{Fate, InputSection, Origin};
 use super::flags::Flags;
-use super::ids::{ObjectId, SectionId};
-use super::input::{LinkObject, LinkSection};
+use super::ids::{NameId, SectionId};
 use super::matching::{matches_of, Match};
 use super::names::{Names, QuickMap};
 use super::program::Taking;
 use super::settings::Settings;
+use crate::objects::{Object, ObjectIndex, Section, SectionIndex};
 use bstr::ByteSlice;
 use object::elf;
 
@@ -21,7 +21,7 @@ pub(crate) struct Rows {
     /// By object: its first section.
     first: Vec<usize>,
     /// By object: the section of its common blocks.
-    commons: QuickMap<ObjectId, SectionId>,
+    commons: QuickMap<ObjectIndex, SectionId>,
 }
 
 /// What GNU ld makes in every link (elf64-x86-64.c, elflink.c), empty in a static one: names, types, flags.
@@ -38,23 +38,23 @@ fn own_sections() -> [(&'static [u8], u32, Flags); 6] {
 
 impl Rows {
     /// The rows of objects; names are entered into `names`.
-    pub fn new(takings: &[Taking], names: &mut Names, objects: &[LinkObject<'_>], settings: &Settings) -> Rows {
+    pub fn new(takings: &[Taking], names: &mut Names, objects: &[Object], settings: &Settings) -> Rows {
         let owners = commons::owners(objects);
-        let count = objects.iter().map(|object| object.sections.len()).sum::<usize>() + 16;
+        let count = objects.iter().map(|object| object.section_count()).sum::<usize>() + 16;
         let mut rows = Rows {
             sections: Vec::with_capacity(count),
             matches: Vec::new(),
             first: Vec::with_capacity(objects.len()),
             commons: QuickMap::default(),
         };
-        let is_properties = |section: &LinkSection<'_>| section.name == b".note.gnu.property";
-        let own = objects.iter().position(|object| object.sections.iter().any(is_properties)).unwrap_or(0);
+        let is_properties = |section: Section<'_>| section.name == ".note.gnu.property";
+        let own = objects.iter().position(|object| linked(object).any(is_properties)).unwrap_or(0);
         for (number, object) in objects.iter().enumerate() {
-            let id = ObjectId::new(number);
+            let id = ObjectIndex(number as u32);
             rows.first.push(rows.sections.len());
-            for section in &object.sections {
+            for section in linked(object) {
                 let name = names.enter(section.name);
-                rows.sections.push(of_object(id, section, name));
+                rows.sections.push(of_object(id, &section, name));
             }
             if owners.contains(&id) {
                 rows.commons.insert(id, SectionId::new(rows.sections.len()));
@@ -79,7 +79,7 @@ impl Rows {
 
     fn add(
         &mut self,
-        object: ObjectId,
+        object: ObjectIndex,
         names: &mut Names,
         name: &[u8],
         kind: u32,
@@ -104,9 +104,9 @@ impl Rows {
     }
 
     /// The section of an object by the number of its header.
-    pub fn find(&self, object: ObjectId, number: u32) -> Option<SectionId> {
-        let first = *self.first.get(object.index())?;
-        let end = self.first.get(object.index() + 1).copied().unwrap_or(self.sections.len());
+    pub fn find(&self, object: ObjectIndex, number: SectionIndex) -> Option<SectionId> {
+        let first = *self.first.get(object.0 as usize)?;
+        let end = self.first.get(object.0 as usize + 1).copied().unwrap_or(self.sections.len());
         let own = self.sections.get(first..end)?;
         let count = own.iter().take_while(|section| section.number().is_some()).count();
         let at = own.get(..count)?.binary_search_by_key(&Some(number), InputSection::number).ok()?;
@@ -114,30 +114,30 @@ impl Rows {
     }
 
     /// The section of an object's common blocks.
-    pub fn common(&self, object: ObjectId) -> Option<SectionId> {
+    pub fn common(&self, object: ObjectIndex) -> Option<SectionId> {
         self.commons.get(&object).copied()
     }
 
     /// Takes the sizes of objects that changed; gives whether the rows stay: names, types, flags, alignments and the
     /// objects with common blocks are as they were.
-    pub fn renew(&mut self, names: &Names, objects: &[LinkObject<'_>], changed: &[ObjectId]) -> bool {
+    pub fn renew(&mut self, names: &Names, objects: &[Object], changed: &[ObjectIndex]) -> bool {
         if objects.len() != self.first.len() || commons::owners(objects).len() != self.commons.len() {
             return false;
         }
         for id in changed {
-            let (object, first) = match (objects.get(id.index()), self.first.get(id.index())) {
+            let (object, first) = match (objects.get(id.0 as usize), self.first.get(id.0 as usize)) {
                 (Some(object), Some(first)) => (object, *first),
                 _ => return false,
             };
-            let end = first + object.sections.len();
+            let end = first + linked(object).count();
             let ends = self.sections.get(end).map_or(true, |next| next.object != *id || next.number().is_none());
             let own = match self.sections.get_mut(first..end) {
                 Some(own) if ends => own,
                 _ => return false,
             };
-            for (old, section) in own.iter_mut().zip(&object.sections) {
+            for (old, section) in own.iter_mut().zip(linked(object)) {
                 let new = match names.find(section.name) {
-                    Some(name) => of_object(*id, section, name),
+                    Some(name) => of_object(*id, &section, name),
                     None => return false,
                 };
                 if new != (InputSection { size: new.size, ..old.clone() }) {
@@ -146,24 +146,26 @@ impl Rows {
                 old.size = new.size;
             }
         }
-        objects.iter().enumerate().all(|(number, _)| {
-            let id = ObjectId::new(number);
-            !commons::has_common(objects, id) || self.commons.contains_key(&id)
-        })
+        commons::owners(objects).iter().all(|id| self.commons.contains_key(id))
     }
 }
 
-fn of_object(object: ObjectId, section: &LinkSection<'_>, name: super::ids::NameId) -> InputSection {
-    let flags = Flags::of_section(section.name, section.kind, section.flags);
+/// The sections of an object that are linked.
+fn linked(object: &Object) -> impl Iterator<Item = Section<'_>> + '_ {
+    object.sections().filter(|section| section.kind.is_linked())
+}
+
+fn of_object(object: ObjectIndex, section: &Section<'_>, name: NameId) -> InputSection {
+    let flags = Flags::of_section(section.name, section.kind.0, section.flags.0);
     let align = 1u64.checked_shl(section.align.trailing_zeros()).unwrap_or(1);
-    let is_out = section.is_dropped || flags.has(Flags::EXCLUDE);
+    let is_out = flags.has(Flags::EXCLUDE);
     InputSection {
         object,
-        origin: Origin::Header(section.number),
+        origin: Origin::Header(section.index),
         name,
-        flags: if is_out { flags | Flags::EXCLUDE } else { flags },
-        kind: section.kind,
-        bits: section.flags,
+        flags,
+        kind: section.kind.0,
+        bits: section.flags.0,
         entry_size: section.entry_size,
         size: section.size,
         own_align: align,

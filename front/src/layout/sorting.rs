@@ -101,7 +101,7 @@ impl Sorting<'_> {
     }
 
     fn file_of(&self, one: &Match) -> FileNames<'_> {
-        let object = self.sections.get(one.section.index()).map(|section| section.object.index());
+        let object = self.sections.get(one.section.index()).map(|section| section.object.0 as usize);
         object.and_then(|object| self.files.get(object)).copied().unwrap_or_default()
     }
 

@@ -132,9 +132,4 @@ impl Symbols {
     pub fn iter(&self) -> impl Iterator<Item = &SymbolState> {
         self.all.iter()
     }
-
-    /// How many there are.
-    pub fn len(&self) -> usize {
-        self.all.len()
-    }
 }
