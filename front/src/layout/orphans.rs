@@ -60,6 +60,8 @@ fn holds() -> [Hold; SORTS] {
 pub(crate) struct Orphans {
     holds: [Hold; SORTS],
     is_ready: bool,
+    /// Whether the last note that was placed found another.
+    has_notes: bool,
     /// By name: the sections that were left at first.
     left: Vec<Vec<SectionId>>,
 }
@@ -67,7 +69,7 @@ pub(crate) struct Orphans {
 impl Orphans {
     /// All input sections that have no place yet.
     pub fn run(link: &mut Link<'_>) -> Result<(), Stop> {
-        let mut orphans = Orphans { holds: holds(), is_ready: false, left: Vec::new() };
+        let mut orphans = Orphans { holds: holds(), is_ready: false, has_notes: false, left: Vec::new() };
         orphans.left.resize_with(link.program.names.len(), Vec::new);
         for (number, section) in link.sections.iter().enumerate() {
             if let (Fate::Open, Some(row)) = (section.fate, orphans.left.get_mut(section.name.index())) {
@@ -213,7 +215,16 @@ impl Orphans {
         match sort.and_then(|sort| self.holds.get_mut(sort as usize)) {
             None => append(link, own),
             Some(hold) => {
-                let (after, is_apart) = match note_place(link, id, after) {
+                let found = if is_note_section(link, id) {
+                    let found = place_of_note(link, id);
+                    self.has_notes = found.is_some();
+                    found
+                } else if self.has_notes {
+                    place_behind_notes(link, hold.last.or(after))
+                } else {
+                    None
+                };
+                let (after, is_apart) = match found {
                     Some(after) => (after, true),
                     None => (after, hold.last.is_none()),
                 };
@@ -387,36 +398,51 @@ fn thread_local(link: &Link<'_>, flags: Flags) -> Option<OutputId> {
 
 // --- insertion ---
 
-/// Notes that are loaded stay together, those of greater alignments first, and nothing else goes among them; `None` where
-/// that says nothing.
+fn is_note_section(link: &Link<'_>, id: SectionId) -> bool {
+    link.section(id).map_or(false, |section| section.flags.has(Flags::LOAD) && section.kind == elf::SHT_NOTE)
+}
+
+fn is_note(link: &Link<'_>, id: OutputId) -> bool {
+    link.place(id).map_or(false, |place| place.flags.has(Flags::LOAD) && place.kind == elf::SHT_NOTE)
+}
+
+/// The output sections that are made, in their order.
+fn made(link: &Link<'_>) -> Vec<OutputId> {
+    link.program.order.iter().copied().filter(|id| link.place(*id).is_some()).collect()
+}
+
+/// The output section behind which a note goes, if there are others: they stay together, those of greater alignments
+/// first; the inner `None` is in front of all.
 #[allow(clippy::option_option)]
-fn note_place(link: &Link<'_>, id: SectionId, after: Option<OutputId>) -> Option<Option<OutputId>> {
-    let section = link.section(id)?;
-    let is_note = |id: &OutputId| {
-        link.place(*id).map_or(false, |place| place.flags.has(Flags::LOAD) && place.kind == elf::SHT_NOTE)
+fn place_of_note(link: &Link<'_>, id: SectionId) -> Option<Option<OutputId>> {
+    let align = link.section(id)?.align;
+    let order = made(link);
+    let first = order.iter().position(|id| is_note(link, *id))?;
+    let group = order.get(first..)?.iter().take_while(|id| is_note(link, **id));
+    let last = group.filter(|id| link.place(**id).map_or(false, |place| place.align >= align)).last().copied();
+    let before = || {
+        let at = link.program.order.iter().position(|id| Some(id) == order.get(first))?;
+        link.program.order.get(at.checked_sub(1)?).copied()
     };
-    let order: Vec<OutputId> = link.program.order.iter().copied().filter(|id| link.place(*id).is_some()).collect();
-    if section.flags.has(Flags::LOAD) && section.kind == elf::SHT_NOTE {
-        let first = order.iter().position(is_note)?;
-        let group = order.get(first..)?.iter().take_while(|id| is_note(id));
-        let fits = |id: &&OutputId| link.place(**id).map_or(false, |place| place.align >= section.align);
-        let last = group.filter(fits).last().copied();
-        let before = || link.program.order.iter().position(|id| Some(id) == order.get(first)).unwrap_or(0);
-        return Some(last.or_else(|| link.program.order.get(before().checked_sub(1)?).copied()));
-    }
+    Some(last.or_else(before))
+}
+
+/// The output section behind which another goes that would be put in front of notes.
+#[allow(clippy::option_option)]
+fn place_behind_notes(link: &Link<'_>, after: Option<OutputId>) -> Option<Option<OutputId>> {
+    let order = made(link);
     let at = match after {
         None => 0,
         Some(after) => {
             let place = link.program.order.iter().position(|id| *id == after)?;
-            let made = link.program.order.get(..=place)?.iter().filter(|id| link.place(**id).is_some());
-            made.count()
+            link.program.order.get(..=place)?.iter().filter(|id| link.place(**id).is_some()).count()
         }
     };
     let rest = order.get(at..)?;
-    if !rest.first().map_or(false, is_note) {
+    if !rest.first().map_or(false, |id| is_note(link, *id)) {
         return None;
     }
-    Some(rest.iter().filter(|id| is_note(id)).last().copied())
+    Some(rest.iter().filter(|id| is_note(link, **id)).last().copied())
 }
 
 /// At the end of all.
