@@ -129,12 +129,8 @@ fn answer(words: &[&str], out: &mut dyn Write) -> Result<(), Failure> {
         }
     }
     let reading = reader.finish();
-    let objects: Vec<Object> = call
-        .objects
-        .iter()
-        .enumerate()
-        .map(|(number, word)| read_object(number, word))
-        .collect::<Result<_, _>>()?;
+    let objects: Vec<Object> =
+        call.objects.iter().enumerate().map(|(number, word)| read_object(number, word)).collect::<Result<_, _>>()?;
     let began = Instant::now();
     let layout = Layout::new(&reading.script, &objects, &call.settings);
     let rows = began.elapsed();

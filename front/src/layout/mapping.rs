@@ -107,9 +107,8 @@ impl Link<'_> {
             _ => None,
         };
         body.iter().filter_map(of).flatten().any(|one| {
-            self.section(one.section).map_or(false, |section| {
-                section.fate == Fate::Open && !section.flags.has(Flags::READONLY)
-            })
+            self.section(one.section)
+                .map_or(false, |section| section.fate == Fate::Open && !section.flags.has(Flags::READONLY))
         })
     }
 
@@ -132,7 +131,8 @@ impl Link<'_> {
             }
             _ => return Ok(()),
         };
-        let found: &[Match] = found.as_deref().or_else(|| rows.matches.get(taking).map(Vec::as_slice)).unwrap_or_default();
+        let found: &[Match] =
+            found.as_deref().or_else(|| rows.matches.get(taking).map(Vec::as_slice)).unwrap_or_default();
         let mut taken = Vec::with_capacity(found.len());
         for one in found {
             if self.add_to(id, one.section, flags)? {

@@ -18,12 +18,7 @@ use crate::objects::Object;
 use crate::script::tree::Name;
 
 /// Goes through all passes.
-pub(crate) fn run(
-    program: Program,
-    rows: &Rows,
-    objects: &[Object],
-    settings: &Settings,
-) -> Result<Evaluation, Stop> {
+pub(crate) fn run(program: Program, rows: &Rows, objects: &[Object], settings: &Settings) -> Result<Evaluation, Stop> {
     for (name, span) in files_of(&program) {
         if !objects.iter().any(|object| object.origin().archive.is_none() && object.origin().name == name) {
             return not_evaluated(NotEvaluatedReason::OpensFile(name), Some(span));

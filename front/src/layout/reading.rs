@@ -13,9 +13,12 @@ const BOUNDS: [&[u8]; 2] = [b"__start_", b"__stop_"];
 impl Link<'_> {
     /// Reads the objects: names that are known so far, and those of bounds, get what the objects say of them.
     pub fn read_objects(&mut self, objects: &[Object], rows: &Rows) {
-        let bounds = self.program.names.iter().filter(|name| is_identifier(name)).flat_map(|name| {
-            BOUNDS.iter().map(move |front| [*front, name.as_bytes()].concat())
-        });
+        let bounds = self
+            .program
+            .names
+            .iter()
+            .filter(|name| is_identifier(name))
+            .flat_map(|name| BOUNDS.iter().map(move |front| [*front, name.as_bytes()].concat()));
         let own = self.program.symbols.iter().map(|symbol| symbol.name.to_vec());
         let asked: Vec<Vec<u8>> = own.chain(bounds).collect();
         let found = LinkNames::look_up(objects, &asked);
