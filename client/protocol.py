@@ -74,6 +74,13 @@ def is_name(name: bytes) -> bool:
     return 1 <= len(name) <= GREATEST_NAME and all(0x21 <= byte <= 0x7E for byte in name)
 
 
+def why_no_name(name: bytes) -> str:
+    """Why the session does not take an object's name."""
+    other = next((byte for byte in name if not 0x21 <= byte <= 0x7E), None)
+    found = f"{len(name)} bytes" if other is None else f"the byte {other:#04x}"
+    return f"its name has {found}: an object's name has 1 to {GREATEST_NAME} bytes, each from `!' to `~'"
+
+
 def find_program(name: str = "ldi") -> str:
     """The path of a program of the linker: $LDI and its neighbours, else the one beside the program that runs, as
     `make install` puts it there, else the one on PATH.

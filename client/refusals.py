@@ -7,7 +7,7 @@ import subprocess
 from collections.abc import Sequence
 
 from client.elf_object import plain
-from client.protocol import GREATEST_PAYLOAD, Refused, find_program, is_name
+from client.protocol import GREATEST_PAYLOAD, Refused, find_program, is_name, why_no_name
 from client.rules import EDITS, LIMIT, NOT_A_SCRIPT, NOT_AN_OBJECT, OBJECTS, SCRIPTS
 from client.script_text import ScriptText
 
@@ -55,11 +55,7 @@ def _of_edit(name: str, refused: Refused, data: bytes | None) -> str:
     if data is not None and len(data) > GREATEST_PAYLOAD:
         return f"it has more than {GREATEST_PAYLOAD} bytes"
     raw = name.encode(errors="surrogateescape")
-    if not is_name(raw):
-        other = next((byte for byte in raw if not 0x21 <= byte <= 0x7E), None)
-        found = f"its name has {len(raw)} bytes" if other is None else f"its name has the byte {other:#04x}"
-        return f"{found}: an object's name has 1 to 255 bytes, each from `!' to `~'"
-    return EDITS[LIMIT]
+    return EDITS[LIMIT] if is_name(raw) else why_no_name(raw)
 
 
 def _form(data: bytes | None) -> str:

@@ -18,6 +18,8 @@ else:
     from client.record import NamedTuple
 
 SCRIPT, EXPRESSION, WILD, FILES = range(4)
+OF_MEMORY = frozenset(("ORIGIN", "org", "o", "LENGTH", "len", "l"))
+"""Words that GNU ld keeps for MEMORY where a script's statements begin: no names there."""
 
 _SPACE = re.compile(r"(?:[ \t\r\n\f\v]+|/\*.*?\*/|#[^\n]*)*", re.DOTALL)
 _COMMENT = re.compile(r"/\*.*?\*/|#[^\n]*", re.DOTALL)
@@ -130,7 +132,7 @@ class Lexer:
         if token.kind == "string":
             self.take(mode)
             return Token("string", token.text[1:-1], token.start, token.end)
-        if token.kind != "name":
+        if token.kind != "name" or mode == SCRIPT and token.text in OF_MEMORY:
             raise self.source.fail(token.start, f"a name is expected, not {token}")
         return self.take(mode)
 

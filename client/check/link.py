@@ -17,6 +17,7 @@ from client.check.fixed import NotFixed, fixed_script
 from client.check.merged import ONCE, merged
 from client.check.state import ALLOC, Settings, Stopped, Unknown
 from client.object_file import ABSOLUTE
+from client.object_file import ALLOC as ALLOCATED
 
 TYPE_CHECKING = False
 if TYPE_CHECKING:
@@ -111,6 +112,9 @@ def _is_special(node: Input) -> bool:
         pattern.exclude or len(pattern.sorts) > 1 or len(patterns) > 1 and pattern.sorts for pattern in patterns)
 
 
+MERGE = 0x10
+"""The flag of sections whose equal parts GNU ld merges."""
+
 SMALL = 5000
 """The sections of the objects of a link that is not large."""
 
@@ -159,7 +163,7 @@ class Checker:
         fault = self.unknown or self.stopped
         if fault is not None:
             return [self.line(fault.offset, f"changed: it is not known whether GNU ld makes the same of it: {fault}")]
-        return [self.line(one.offset, f"changed: {one.text}") for one in found] + self.merged()
+        return [self.difference(one, "changed: ") for one in found] + self.merged()
 
     def fixed(self) -> tuple[bytes, tuple[tuple[str, int], ...]] | None:
         """A script with the places of the evaluation, and the origins of its lines."""
@@ -175,6 +179,13 @@ class Checker:
         if self.done is None:
             return []
         return [self.line(one.offset, f"changed: {one.text}") for one in merged(self.done)]
+
+    def difference(self, one: Difference, before: str = "", after: str = "") -> str:
+        """A line for a difference. The evaluation merges no strings: where GNU ld does, its addresses are others."""
+        merges = any(section.flags & (MERGE | ALLOCATED) == MERGE | ALLOCATED and section.size
+                     for tables in self.known.tables() for section in tables.sections.values())
+        more = " (before GNU ld merges strings)" if merges and "0x" in one.text else ""
+        return self.line(one.offset, f"{before}{one.text}{after}{more}")
 
     def line(self, offset: int, text: str) -> str:
         """A line for people, with its place in the script."""
@@ -231,14 +242,14 @@ class CheckedLink:
             return Outcome(script, result, self._changed())
         changed = self._changed()
         if not changed:
-            return Outcome(script, result, [checker.line(one.offset, one.text) for one in found], True)
+            return Outcome(script, result, [checker.difference(one) for one in found], True)
         return Outcome(script, result, changed + self._consequences(found))
 
     def _consequences(self, found: list[Difference]) -> list[str]:
         """What is another where lines of the report say why: the first, and how much more, or all with --verbose."""
         shown = found if self.checker.command.verbose else found[:1]
         more = f", and {len(found) - 1} more" if len(found) > len(shown) else ""
-        return [self.checker.line(one.offset, f"changed: {one.text}{more}") for one in shown]
+        return [self.checker.difference(one, "changed: ", more) for one in shown]
 
     def _fixed(self) -> Outcome | None:
         """The link by a script of numbers, where that comes to GNU ld's image."""

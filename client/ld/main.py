@@ -81,7 +81,8 @@ def detail(objects: RefusedObjects) -> str:
 
     item, refused = objects[0]
     first = refusal_messages(item.name.decode(), refused, item.data)[0].sentence
-    return first if len(objects) == 1 else f"{first}; {len(objects) - 1} other objects"
+    count = len(objects) - 1
+    return f"{first}; {count} other object{'' if count == 1 else 's'}" if count else first
 
 
 def print_faults(faults: bytes, inputs: Inputs) -> None:

@@ -153,7 +153,7 @@ def _write(path: Path, data: bytes) -> None:
 
 def _run(words: list[str], folder: str) -> str:
     """What a linker says; it links by itself, without another one behind it."""
-    environment = {name: value for name, value in os.environ.items() if name != "LDI_FALLBACK"}
+    environment = {**os.environ, "LDI_FALLBACK": "none"}
     done = subprocess.run(words, cwd=folder, env=environment, capture_output=True, text=True, timeout=1800, check=False)
     if done.returncode:
         reasons = re.sub(r"(?m)^.*(warning|NOTE|changed|no entry symbol): .*\n?", "", done.stderr)

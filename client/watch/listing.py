@@ -4,7 +4,7 @@ from __future__ import annotations
 import os
 from collections.abc import Mapping, Sequence
 
-from client.protocol import GREATEST_NAME, is_name
+from client.protocol import is_name, why_no_name
 from client.watch.here import real
 from client.watch.words import ListFile, Words
 
@@ -38,11 +38,9 @@ def check_names(names: Sequence[str]) -> None:
     """Refuses names that a session refuses, and a name that stands twice."""
     seen = set()
     for name in names:
-        if not is_name(name.encode(errors="surrogateescape")):
-            shown = name.encode(errors="surrogateescape").decode(errors="replace")
-            raise NamesRefused(
-                f"an object's name has 1 to {GREATEST_NAME} bytes from `!` to `~`, no spaces: `{shown}` is none"
-            )
+        raw = name.encode(errors="surrogateescape")
+        if not is_name(raw):
+            raise NamesRefused(f"{raw.decode(errors='replace')}: {why_no_name(raw)}")
         if name in seen:
             raise NamesRefused(f"`{name}` is named twice", "refused 1 0")
         seen.add(name)

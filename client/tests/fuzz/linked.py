@@ -49,6 +49,7 @@ def prepare(one: Case) -> None:
 def by_ldi(words: list[str]) -> tuple[int, str]:
     """The status of `ld.ldi`, and what it says."""
     said = io.StringIO()
+    os.environ["LDI_FALLBACK"] = "none"  # another linker would link in place of this process
     kept = {number: signal.getsignal(number) for number in (signal.SIGTERM, signal.SIGHUP, signal.SIGINT)}
     try:
         with contextlib.redirect_stderr(said), contextlib.redirect_stdout(said):
